@@ -1,0 +1,216 @@
+ghost use Rattle.std.specs.Prelude.{◌≡◌, ◌<◌, ◌≤◌, ◌+◌, ◌/◌, is_some, IsOkUnless, MatchResult, IsTrue, IfSome};
+ghost use Rattle.std.specs.Result.{OkIff};
+ghost use Rattle.model.specs.Layout.{Geometry as Numbers, IsGeometry, block_count, inode_count, header_blocks, group_block, data_address, is_data_address, data_bit, group_of_address, inode_block, inode_byte};
+ghost use Rattle.model.specs.Image.{IsSuper};
+
+use crate::{Block, Refusal, u32_at};
+use std::marker::Model;
+
+/// The first four bytes of a superblock, as a number.
+pub const SUPER_MAGIC: u32 = 0x5355_5631;
+
+/// The version of the layout.
+pub const VERSION: u32 = 1;
+
+/// How many records of inodes a block holds.
+pub const INODES_PER_BLOCK: u32 = 8;
+
+/// How many bytes the record of an inode has.
+pub const INODE_BYTES: u32 = 128;
+
+/// How many cylinder groups a volume has, how many blocks a group and how many inodes a group.
+#[derive(Clone, Copy, Debug, PartialEq, Eq)]
+pub struct Geometry {
+    groups: u32,
+    blocks: u32,
+    inodes: u32,
+}
+
+impl Model for Geometry {
+    ghost use Rattle.model.specs.Layout.{Geometry as Numbers, IsGeometry};
+
+    ghost Value = { Numbers };
+
+    ghost view = { λ g. record { groups = g.groups; blocks = g.blocks; inodes = g.inodes } };
+
+    ghost invariant = { λ g. IsGeometry (record { groups = g.groups; blocks = g.blocks; inodes = g.inodes }) };
+
+    ghost inverse = { λ n. record { groups = n.groups; blocks = n.blocks; inodes = n.inodes } };
+}
+
+/// Where a data block stands: its group, and its bit in the group's map of data blocks.
+#[derive(Clone, Copy, Debug, PartialEq, Eq)]
+pub struct DataPlace {
+    pub group: u32,
+    pub bit: u32,
+}
+
+/// Where the record of an inode stands: its block's address, and the byte of the block where it begins.
+#[derive(Clone, Copy, Debug, PartialEq, Eq)]
+pub struct InodePlace {
+    pub address: u32,
+    pub byte: usize,
+}
+
+impl Geometry {
+    /// The geometry of these numbers: 1 to 64 groups, 8 to 4,096 blocks a group, and 8 to 1,024 inodes a group, a
+    /// multiple of 8, whose blocks and the block of maps leave a data block in each group.
+    pub fn new(groups: u32, blocks: u32, inodes: u32) -> Result<Geometry, Refusal>
+        ensures ok { OkIff result (IsGeometry (record { groups = groups; blocks = blocks; inodes = inodes }))
+            (record { groups = groups; blocks = blocks; inodes = inodes }) }
+        ensures error { IsOkUnless result Refusal.BadGeometry }
+    {
+        let few_groups = 1 <= groups && groups <= 64;
+        let few_blocks = 8 <= blocks && blocks <= 4096;
+        let few_inodes = 8 <= inodes && inodes <= 1024;
+        if !(few_groups && few_blocks && few_inodes) {
+            return Err(Refusal::BadGeometry);
+        }
+        if inodes % INODES_PER_BLOCK != 0 || 1 + inodes / INODES_PER_BLOCK >= blocks {
+            return Err(Refusal::BadGeometry);
+        }
+        Ok(Geometry {
+            groups,
+            blocks,
+            inodes,
+        })
+    }
+
+    /// How many cylinder groups there are.
+    pub fn groups(&self) -> u32
+        ensures count { result ≡ self.now.groups }
+        ensures geometry { IsGeometry self.now }
+    {
+        self.groups
+    }
+
+    /// How many blocks a group has.
+    pub fn blocks_a_group(&self) -> u32
+        ensures count { result ≡ self.now.blocks }
+        ensures geometry { IsGeometry self.now }
+    {
+        self.blocks
+    }
+
+    /// How many inodes a group has.
+    pub fn inodes_a_group(&self) -> u32
+        ensures count { result ≡ self.now.inodes }
+        ensures geometry { IsGeometry self.now }
+    {
+        self.inodes
+    }
+
+    /// How many blocks the volume has.
+    pub fn blocks(&self) -> u32
+        ensures count { result ≡ block_count self.now }
+        ensures few { result ≤ 262_145 }
+    {
+        1 + self.groups * self.blocks
+    }
+
+    /// How many inode numbers there are; 0 and 1 are among them, and are never given out.
+    pub fn inodes(&self) -> u32
+        ensures count { result ≡ inode_count self.now }
+        ensures few { result ≤ 65_536 }
+    {
+        self.groups * self.inodes
+    }
+
+    /// How many blocks of a group come before its data blocks: its block of maps, and its blocks of inodes.
+    pub fn header_blocks(&self) -> u32
+        ensures count { result ≡ header_blocks self.now }
+        ensures room_for_data { result < self.now.blocks }
+    {
+        1 + self.inodes / INODES_PER_BLOCK
+    }
+
+    /// The address of a group's block of maps.
+    pub fn group_block(&self, group: u32) -> u32
+        requires { group < self.now.groups }
+        ensures address { result ≡ group_block self.now group }
+        ensures on_volume { result + self.now.blocks ≤ block_count self.now }
+        ensures few { block_count self.now ≤ 262_145 }
+        ensures geometry { IsGeometry self.now }
+    {
+        1 + group * self.blocks
+    }
+
+    /// The address of the group's first data block.
+    pub fn data_start(&self, group: u32) -> u32
+        requires { group < self.now.groups }
+        ensures address { result ≡ data_address self.now group 0 }
+        ensures on_volume { result < block_count self.now }
+    {
+        self.group_block(group) + self.header_blocks()
+    }
+
+    /// The address of the data block that has this bit in its group's map.
+    pub fn data_address(&self, group: u32, bit: u32) -> u32
+        requires group { group < self.now.groups }
+        requires bit { header_blocks self.now + bit < self.now.blocks }
+        ensures address { result ≡ data_address self.now group bit }
+        ensures is_data { IsTrue (is_data_address self.now result) }
+    {
+        self.group_block(group) + self.header_blocks() + bit
+    }
+
+    /// Which data block has this address: `None` where no data block has it.
+    pub fn place_of(&self, address: u32) -> Option<DataPlace>
+        ensures exactly { is_some result ≡ is_data_address self.now address }
+        ensures group { IfSome result (λ place. (place.group ≡ group_of_address self.now address) × (place.group < self.now.groups)) }
+        ensures bit { IfSome result (λ place. (place.bit ≡ data_bit self.now address) × (header_blocks self.now + place.bit < self.now.blocks)) }
+        ensures place { IfSome result (λ place. data_address self.now place.group place.bit ≡ address) }
+    {
+        if address == 0 || address >= self.blocks() {
+            return None;
+        }
+        let group = (address - 1) / self.blocks;
+        let place = (address - 1) % self.blocks;
+        if place < self.header_blocks() {
+            return None;
+        }
+        Some(DataPlace {
+            group,
+            bit: place - self.header_blocks(),
+        })
+    }
+
+    /// Where the record of an inode stands.
+    pub fn inode_place(&self, number: u32) -> InodePlace
+        requires { number < inode_count self.now }
+        ensures address { result.address ≡ inode_block self.now number }
+        ensures byte { result.byte ≡ inode_byte number }
+        ensures on_volume { result.address < block_count self.now }
+        ensures in_block { result.byte + 128 ≤ 1024 }
+    {
+        let group = number / self.inodes;
+        let place = number % self.inodes;
+        InodePlace {
+            address: self.group_block(group) + 1 + place / INODES_PER_BLOCK,
+            byte: (INODE_BYTES * (number % INODES_PER_BLOCK)) as usize,
+        }
+    }
+
+    /// The group that an inode stands in.
+    pub fn group_of(&self, number: u32) -> u32
+        requires { number < inode_count self.now }
+        ensures group { result ≡ number / self.now.inodes }
+        ensures in_volume { result < self.now.groups }
+    {
+        number / self.inodes
+    }
+}
+
+/// The geometry that a superblock tells.
+pub fn read_super(block: &Block) -> Result<Geometry, Refusal>
+    ensures ok { MatchResult result (λ geo. IsGeometry geo × IsSuper geo block.now) (λ _. (geo : Numbers) → IsGeometry geo → IsSuper geo block.now → ⊥) }
+    ensures error { IsOkUnless result Refusal.BadSuper }
+{
+    if u32_at(block, 0) != SUPER_MAGIC || u32_at(block, 4) != VERSION {
+        return Err(Refusal::BadSuper);
+    }
+    match Geometry::new(u32_at(block, 8), u32_at(block, 12), u32_at(block, 16)) {
+        Ok(geometry) => Ok(geometry),
+        Err(_) => Err(Refusal::BadSuper),
+    }
+}

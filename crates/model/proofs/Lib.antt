@@ -1,0 +1,10 @@
+pub mod UseLemmas
+pub mod SlotLemmas
+pub mod Decide
+pub mod Sums
+pub mod Finite
+pub mod FreshLemmas
+pub mod Same
+pub mod CellLemmas
+pub mod Places
+pub mod Unlink

@@ -1,0 +1,11 @@
+pub mod Layout
+pub mod View
+pub mod Uses
+pub mod Slots
+pub mod Reach
+pub mod Rules
+pub mod Fresh
+pub mod Metadata
+pub mod Cells
+pub mod Image
+pub mod Unlink
