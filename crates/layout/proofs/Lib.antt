@@ -1,1 +1,5 @@
-pub mod PlaceLemmas
+pub mod FreshCases
+pub mod PutLemmas
+pub mod FreshBlocks
+pub mod RootBlocks
+pub mod FreshImage

@@ -1,4 +1,4 @@
-ghost use Rattle.std.specs.Prelude.{◌≡◌, ◌<◌, ◌≤◌, ◌+◌, ◌/◌, is_some, IsOkUnless, MatchResult, IsTrue, IfSome};
+ghost use Rattle.std.specs.Prelude.{◌≡◌, ◌≢◌, ℕ, ◌<◌, ◌≤◌, ◌+◌, ◌/◌, is_some, IsOkUnless, MatchResult, IsTrue, IfSome};
 ghost use Rattle.std.specs.Result.{OkIff};
 ghost use Rattle.model.specs.Layout.{Geometry as Numbers, IsGeometry, block_count, inode_count, header_blocks, group_block, data_address, is_data_address, data_bit, group_of_address, inode_block, inode_byte};
 ghost use Rattle.model.specs.Image.{IsSuper};
@@ -214,3 +214,14 @@ pub fn read_super(block: &Block) -> Result<Geometry, Refusal>
         Err(_) => Err(Refusal::BadSuper),
     }
 }
+
+/// No two data blocks have one address, and no two inodes one place; and blocks of maps, blocks of inodes and data
+/// blocks are different blocks.
+pub fn places_are_one_to_one()
+    ensures data_blocks { (geo : Numbers) → IsGeometry geo → (g bit h other : ℕ) → header_blocks geo + bit < geo.blocks → header_blocks geo + other < geo.blocks
+        → data_address geo g bit ≡ data_address geo h other → (g ≡ h) × (bit ≡ other) }
+    ensures inodes { (geo : Numbers) → IsGeometry geo → (m n : ℕ) → inode_block geo m ≡ inode_block geo n → inode_byte m ≡ inode_byte n → m ≡ n }
+    ensures maps_and_inodes { (geo : Numbers) → IsGeometry geo → (g n : ℕ) → group_block geo g ≢ inode_block geo n }
+    ensures maps_and_data { (geo : Numbers) → IsGeometry geo → (g a : ℕ) → IsTrue (is_data_address geo a) → group_block geo g ≢ a }
+    ensures inodes_and_data { (geo : Numbers) → IsGeometry geo → (n a : ℕ) → IsTrue (is_data_address geo a) → inode_block geo n ≢ a }
+{}

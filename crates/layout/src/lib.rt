@@ -7,9 +7,11 @@ ghost use Rattle.model.specs.View as view;
 
 use byteorder::{ByteOrder, LittleEndian};
 
+mod fresh;
 mod geometry;
 mod refusal;
 
+pub use fresh::{GROUP_MAGIC, fresh_block};
 pub use geometry::{DataPlace, Geometry, InodePlace, read_super};
 pub use refusal::Refusal;
 

@@ -19,7 +19,7 @@ module _ (geo : Geometry) (ok : IsGeometry geo) where
   enough_numbers : 2 < inode_count geo
   enough_numbers = omega (arith, mul-le-mul ok.some_group ok.enough_inodes)
 
-  root_number : IsTrue (is_number geo root)
+  pub root_number : IsTrue (is_number geo root)
   root_number = lt-ltb 2 (inode_count geo) enough_numbers
 
   first_is : first_data geo ≡ 2 + geo.inodes / 8
@@ -34,7 +34,7 @@ module _ (geo : Geometry) (ok : IsGeometry geo) where
   first_below : first_data geo < block_count geo
   first_below = omega (arith, mul-le-mul ok.some_group (le_refl geo.blocks), ok.room_for_data)
 
-  first_is_data : IsTrue (is_data_address geo (first_data geo))
+  pub first_is_data : IsTrue (is_data_address geo (first_data geo))
   first_is_data =
       and_from (ltb 0 (first_data geo) && ltb (first_data geo) (block_count geo)) (leb (header_blocks geo) (place_in_group geo (first_data geo)))
       (and_from (ltb 0 (first_data geo)) (ltb (first_data geo) (block_count geo)) (lt-ltb 0 (first_data geo) (omega arith)) (lt-ltb (first_data geo) (block_count geo) first_below))

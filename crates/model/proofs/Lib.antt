@@ -7,4 +7,5 @@ pub mod FreshLemmas
 pub mod Same
 pub mod CellLemmas
 pub mod Places
+pub mod Addresses
 pub mod Unlink

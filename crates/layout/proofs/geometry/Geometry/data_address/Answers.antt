@@ -1,6 +1,6 @@
 use Rattle.std.proofs.Common.{sym, subst, IsTrue, arith, ◌≡◌, ◌+◌}
 use Rattle.model.specs.Layout.{is_data_address, data_address}
-use Rattle.layout.proofs.PlaceLemmas.{address_is_data}
+use Rattle.model.proofs.Addresses.{address_is_data}
 use Rattle.layout.proofs.geometry.Geometry.data_address.Goals as goal
 
 pub returns-clause-is_data : goal.returns-clause-is_data
