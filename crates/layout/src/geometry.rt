@@ -104,6 +104,7 @@ impl Geometry {
     pub fn blocks(&self) -> u32
         ensures count { result ≡ block_count self.now }
         ensures few { result ≤ 262_145 }
+        ensures geometry { IsGeometry self.now }
     {
         1 + self.groups * self.blocks
     }
@@ -112,6 +113,7 @@ impl Geometry {
     pub fn inodes(&self) -> u32
         ensures count { result ≡ inode_count self.now }
         ensures few { result ≤ 65_536 }
+        ensures geometry { IsGeometry self.now }
     {
         self.groups * self.inodes
     }

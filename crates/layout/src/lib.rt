@@ -11,8 +11,8 @@ mod fresh;
 mod geometry;
 mod refusal;
 
-pub use fresh::{GROUP_MAGIC, fresh_block};
-pub use geometry::{DataPlace, Geometry, InodePlace, read_super};
+pub use fresh::{GROUP_MAGIC, fresh_block, fresh_blocks_are_the_fresh_image};
+pub use geometry::{DataPlace, Geometry, InodePlace, places_are_one_to_one, read_super};
 pub use refusal::Refusal;
 
 /// How many bytes a block has.

@@ -8,4 +8,5 @@ pub mod Same
 pub mod CellLemmas
 pub mod Places
 pub mod Addresses
+pub mod ImageLemmas
 pub mod Unlink

@@ -35,7 +35,7 @@ other_way h = record {
   slots = λ d s. sym (h.slots d s);
 }
 
-same_and : (a b c : Bool) → (a ≡ true → b ≡ c) → (a && b) ≡ (a && c)
+pub same_and : (a b c : Bool) → (a ≡ true → b ≡ c) → (a && b) ≡ (a && c)
 same_and true b c h = h refl
 same_and false b c h = refl
 

@@ -1,0 +1,5 @@
+pub mod WriteLemmas
+pub mod MemoryLemmas
+pub mod FormatLemmas
+pub mod LoadLemmas
+pub mod FrozenLemmas

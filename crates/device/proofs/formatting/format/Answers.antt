@@ -1,0 +1,37 @@
+use Rattle.std.proofs.Common.{◌≡◌, sym, ap, ◌∙◌, subst, arith, length, set as slice_set}
+use Rattle.std.proofs.lemmas.List.{length-set}
+use Rattle.model.specs.Image.{IsImage, image_view}
+use Rattle.model.specs.Rules.{ObeysRules}
+use Rattle.layout.specs.Fresh.{fresh_bytes}
+use Rattle.device.proofs.FormatLemmas.{all_written, one_written}
+use Rattle.device.proofs.formatting.format.Goals as goal
+
+pub returns-clause-image : goal.returns-clause-image
+returns-clause-image g c =
+    all_written c.args.geometry.now (g.D.Device.image c.loop-address.device) (c.loop-address.invariant.count ∙ c.requires)
+    (λ k b. c.loop-address.invariant.written k (omega (arith, b, c.blocks-address-end.ensures.count)))
+
+pub returns-clause-is_image : goal.returns-clause-is_image
+returns-clause-is_image g c =
+    subst (IsImage c.args.geometry.now) (sym (returns-clause-image g c)) (c.fresh_blocks_are_the_fresh_image.ensures.image c.args.geometry.now c.blocks-address-end.ensures.geometry)
+
+pub returns-clause-view : goal.returns-clause-view
+returns-clause-view g c =
+    ap (image_view c.args.geometry.now) (returns-clause-image g c) ∙ c.fresh_blocks_are_the_fresh_image.ensures.view c.args.geometry.now c.blocks-address-end.ensures.geometry
+
+pub returns-clause-rules : goal.returns-clause-rules
+returns-clause-rules g c =
+    subst (λ image. ObeysRules c.args.geometry.now (image_view c.args.geometry.now image)) (sym (returns-clause-image g c))
+    (c.fresh_blocks_are_the_fresh_image.ensures.rules c.args.geometry.now c.blocks-address-end.ensures.geometry)
+
+pub loop-address-preserved : goal.loop-address-preserved
+loop-address-preserved g c =
+    let kept = c.loop-address.invariant in
+    let new : g.D.Device.image c.write.new.self ≡ slice_set (g.D.Device.image c.loop-address.device) c.loop-address.address c.fresh_block.new.block = c.in_ok-write.ensures.written in
+    record {
+      written = one_written (fresh_bytes c.args.geometry.now) (g.D.Device.image c.loop-address.device) (g.D.Device.image c.write.new.self) c.loop-address.address c.fresh_block.new.block
+          (omega (arith, kept.count, c.requires, c.blocks-address-end.ensures.count)) kept.written new c.fresh_block.ensures;
+      count = ap length new ∙ length-set (g.D.Device.image c.loop-address.device) c.loop-address.address c.fresh_block.new.block ∙ kept.count;
+      failures = c.in_ok-write.ensures.cause ∙ kept.failures;
+      honest = λ h. kept.honest (c.in_ok-write.ensures.honest h);
+    }

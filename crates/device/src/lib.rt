@@ -1,0 +1,17 @@
+//! Devices of blocks: what a device answers, one in memory and one over a file; and the frozen metadata of an image,
+//! which a check reads.
+#![tactic(auto)]
+
+mod file;
+mod formatting;
+mod frozen;
+mod interface;
+mod loading;
+mod memory;
+
+pub use file::{Call, FileDevice, Start};
+pub use formatting::format;
+pub use frozen::Frozen;
+pub use interface::{Device, DeviceFault};
+pub use loading::load;
+pub use memory::MemDevice;

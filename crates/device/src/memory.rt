@@ -1,0 +1,107 @@
+ghost use Rattle.std.specs.Prelude.{◌≡◌, ◌≢◌, ◌⊎◌, ℕ, ◌+◌, ◌-◌, ◌<◌, ◌^◌, ◌%◌, ◌/◌, min, [], ◌∷◌, ◌++◌, List, length, All, IfOk, OnOk, OnErr, MatchResult, IsErrOf, slice_set};
+ghost use Rattle.std.specs.List.{flat_map};
+ghost use Rattle.layout.specs.declared.refusal.Refusal.TheVariants.{NoMemory, BadLength};
+ghost use Rattle.model.specs.Image.{IsBlock};
+ghost use Rattle.device.specs.Memory.{IsWholeBlocks};
+ghost use Rattle.device.specs.Writes.{image_after, images_held};
+
+use crate::{Device, DeviceFault};
+use layout::{BLOCK_BYTES, Block, Refusal};
+use std::alloc::{AllocError, Global};
+use std::marker::Model;
+
+/// The most blocks that have an address each.
+const MOST_BLOCKS: usize = u32::MAX as usize;
+
+/// A device in memory. It keeps the blocks that it began with and each write since, so that every image that it held
+/// is there.
+#[derive(Drop)]
+pub struct MemDevice {
+    first: Vec<Block>,
+    now: Vec<Block>,
+    writes: Vec<(u32, Block)>,
+    failures: u64,
+}
+
+impl Model for MemDevice {
+    ghost use Rattle.device.specs.Memory.{Memory, IsMemory};
+
+    ghost Value = { Memory };
+
+    ghost view = { λ d. record { first = d.first.items; writes = d.writes.items; failures = d.failures } };
+
+    ghost invariant = { λ d. IsMemory d.first.items d.now.items d.writes.items };
+}
+
+impl MemDevice {
+    /// The device whose blocks are these bytes.
+    pub fn from_bytes(alloc: Global, bytes: &[u8]) -> Result<MemDevice, Refusal>
+        ensures blocks { IfOk result (λ device. flat_map (λ block. block) device.first ≡ bytes.now) }
+        ensures fresh { IfOk result (λ device. (device.writes ≡ []) × (device.failures ≡ 0)) }
+        ensures whole { IfOk result (λ device. All IsBlock device.first) }
+        ensures length { MatchResult result (λ _. IsWholeBlocks (length bytes.now))
+            (λ refusal. (refusal ≡ NoMemory) ⊎ ((refusal ≡ BadLength) × (IsWholeBlocks (length bytes.now) → ⊥))) }
+    {
+        let count = bytes.len() / BLOCK_BYTES;
+        if count == 0 || bytes.len() % BLOCK_BYTES != 0 || count > MOST_BLOCKS {
+            return Err(Refusal::BadLength);
+        }
+        let first = blocks_of(alloc, bytes)?;
+        let now = Vec::from_slice(alloc, first.as_slice())?;
+        Ok(MemDevice {
+            first,
+            now,
+            writes: Vec::new(alloc),
+            failures: 0,
+        })
+    }
+}
+
+impl Device for MemDevice {
+    ghost honest = { λ _. Unit {0} };
+
+    ghost image = { λ device. image_after device.first device.writes };
+
+    ghost held = { λ device. images_held device.first device.writes };
+
+    ghost failures = { λ device. device.failures };
+
+    fn blocks(&self) -> u32 {
+        self.now.len() as u32
+    }
+
+    fn read(&mut self, address: u32, to: &mut Block) -> Result<(), DeviceFault> {
+        *to = self.now[address as usize];
+        Ok(())
+    }
+
+    fn write(&mut self, address: u32, from: &Block) -> Result<(), DeviceFault> {
+        match self.writes.push((address, *from)) {
+            Ok(()) => {
+                self.now[address as usize] = *from;
+                Ok(())
+            }
+            Err(_) => {
+                self.failures = self.failures.saturating_add(1);
+                Err(DeviceFault)
+            }
+        }
+    }
+}
+
+/// The bytes as blocks.
+fn blocks_of(alloc: Global, bytes: &[u8]) -> Result<Vec<Block>, AllocError>
+    requires { length bytes.now % 1024 ≡ 0 }
+    ensures bytes { IfOk result (λ blocks. flat_map (λ block. block) blocks.items ≡ bytes.now) }
+    ensures whole { IfOk result (λ blocks. All IsBlock blocks.items) }
+    ensures count { IfOk result (λ blocks. length blocks.items ≡ length bytes.now / 1024) }
+{
+    let count = bytes.len() / BLOCK_BYTES;
+    let mut blocks = Vec::with_capacity(alloc, count)?;
+    for i in 0..count {
+        let mut block = [0; BLOCK_BYTES];
+        block.copy_from_slice(&bytes[i * BLOCK_BYTES..(i + 1) * BLOCK_BYTES]);
+        blocks.push(block)?;
+    }
+    Ok(blocks)
+}

@@ -1,0 +1,8 @@
+pub mod Sorted
+pub mod Soft
+pub mod FreshFindings
+pub mod SameFindings
+pub mod FoundBelow
+pub mod Owners
+pub mod DerivedOrder
+pub mod RepairLemmas
