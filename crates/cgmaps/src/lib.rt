@@ -70,7 +70,7 @@ impl GroupMaps {
         requires { bit < 1024 }
         ensures { result ≡ map_bit self.now 32 bit }
     {
-        self.bit(Map::Inodes, bit)
+        bit_of(&self.block, Map::Inodes, bit)
     }
 
     /// Whether the data block of this bit is marked.
@@ -78,7 +78,7 @@ impl GroupMaps {
         requires { bit < 4096 }
         ensures { result ≡ map_bit self.now 160 bit }
     {
-        self.bit(Map::Blocks, bit)
+        bit_of(&self.block, Map::Blocks, bit)
     }
 
     /// Marks the inode or data block of this bit.
@@ -105,15 +105,6 @@ impl GroupMaps {
         *block = self.block;
     }
 
-    /// Whether this bit of a map is set.
-    fn bit(&self, map: Map, bit: u32) -> bool
-        requires { bit < bit_count map }
-        ensures { result ≡ map_bit self.now (first_byte map) bit }
-    {
-        let byte = self.block[map.first_byte() + (bit / 8) as usize];
-        byte >> (bit % 8) & 1 == 1
-    }
-
     /// Gives this bit of a map a value.
     fn put(&mut self, map: Map, bit: u32, value: bool)
         requires { bit < bit_count map }
@@ -122,6 +113,15 @@ impl GroupMaps {
         let place = map.first_byte() + (bit / 8) as usize;
         self.block[place] = with_bit(self.block[place], bit % 8, value);
     }
+}
+
+/// Whether this bit of a map is set, in a group's block of maps that is read where it stands.
+pub fn bit_of(block: &Block, map: Map, bit: u32) -> bool
+    requires { bit < bit_count map }
+    ensures { result ≡ map_bit block.now (first_byte map) bit }
+{
+    let byte = block[map.first_byte() + (bit / 8) as usize];
+    byte >> (bit % 8) & 1 == 1
 }
 
 /// The byte with this value at this bit.

@@ -3,6 +3,7 @@ ghost use Rattle.layout.specs.declared.refusal.Refusal.TheVariants.{BadLength, D
 ghost use Rattle.model.specs.Image.{IsBlock};
 ghost use Rattle.device.specs.Writes.{image_after, images_held};
 ghost use Rattle.device.specs.Calls.{AreHonest, writes_of, image_of};
+ghost use Rattle.device.specs.Memory.{IsWholeBlocks};
 ghost use Rattle.device.specs.Zeroes.{zeroes_are_whole};
 
 use crate::{Device, DeviceFault};
@@ -97,15 +98,12 @@ impl<F: OpenFile, S: Start> FileDevice<F, S> {
     {
         let file = fs::open(rt, path).map_err(|_| Refusal::Device)?;
         let metadata = file.metadata().map_err(|_| Refusal::Device)?;
-        let bytes = metadata.len();
-        let count = bytes / BLOCK_BYTES as u64;
-        if count == 0 || bytes % BLOCK_BYTES as u64 != 0 || count > u64::from(u32::MAX) {
-            return Err(Refusal::BadLength);
-        }
-        Ok(FileDevice::over(file, count as u32))
+        let count = count_of(metadata.len())?;
+        Ok(FileDevice::over(file, count))
     }
 
-    /// Makes a file of this many blocks, all zero. A file that was there is replaced.
+    /// Makes a file of this many blocks, all zero, for writing alone: each read is a fault. A file that was there is
+    /// replaced.
     pub fn create<R: Files<File = F>>(
         rt: &R,
         path: &str,
@@ -115,13 +113,24 @@ impl<F: OpenFile, S: Start> FileDevice<F, S> {
         ensures error { IsOkUnless result Refusal.Device }
     {
         let file = fs::create(rt, path).map_err(|_| Refusal::Device)?;
-        file.set_len(u64::from(blocks) * BLOCK_BYTES as u64)
-            .map_err(|_| Refusal::Device)?;
+        file.set_len(offset(blocks)).map_err(|_| Refusal::Device)?;
         Ok(FileDevice::over(file, blocks))
     }
 }
 
-/// The byte where the block of this address begins.
+/// How many blocks a file of this many bytes has.
+fn count_of(bytes: u64) -> Result<u32, Refusal>
+    ensures count { IfOk result (λ count. (1024 * count ≡ bytes) × (0 < count)) }
+    ensures refused { IfErr result (λ refusal. (refusal ≡ BadLength) × (IsWholeBlocks bytes → ⊥)) }
+{
+    let count = bytes / BLOCK_BYTES as u64;
+    if count == 0 || bytes % BLOCK_BYTES as u64 != 0 || count > u64::from(u32::MAX) {
+        return Err(Refusal::BadLength);
+    }
+    Ok(count as u32)
+}
+
+/// The byte where the block of this address begins, and so the length of the blocks before it.
 fn offset(address: u32) -> u64
     ensures { result ≡ 1024 * address }
 {
@@ -161,3 +170,6 @@ impl<F: FileExt, S: Start> Device for FileDevice<F, S> {
         }
     }
 }
+
+#[cfg(test)]
+mod tests;

@@ -1,7 +1,8 @@
-ghost use Rattle.std.specs.Prelude.{◌≡◌, ℕ, ◌<◌, IsTrue, is_some, true};
+ghost use Rattle.std.specs.Prelude.{◌≡◌, ◌<◌, IsTrue};
 ghost use Rattle.std.specs.Option.{option_copied};
 ghost use Rattle.device.specs.Kept.{KeepsFrame, kept_at, kept_bytes, is_frame};
-ghost use Rattle.model.specs.Image.{IsBlock};
+ghost use Rattle.model.specs.Layout.{inode_count, group_block, inode_block};
+ghost use Rattle.model.specs.Image.{IsGroupBlock};
 
 use layout::{Block, Geometry};
 use std::marker::Model;
@@ -55,8 +56,25 @@ impl Frozen {
         }
     }
 
+    /// The block of maps of a group.
+    pub fn maps_of(&self, group: u32) -> &Block
+        requires { group < self.now.geometry.groups }
+        ensures maps { result.now ≡ kept_bytes self.now.blocks (group_block self.now.geometry group) }
+        ensures is_maps { IsGroupBlock group result.now }
+    {
+        self.frame_block(self.geometry().group_block(group))
+    }
+
+    /// The block that holds the record of an inode.
+    pub fn records_of(&self, number: u32) -> &Block
+        requires { number < inode_count self.now.geometry }
+        ensures { result.now ≡ kept_bytes self.now.blocks (inode_block self.now.geometry number) }
+    {
+        self.frame_block(self.geometry().inode_place(number).address)
+    }
+
     /// A block that each volume has: its superblock, a group's block of maps or a block of inodes.
-    pub fn frame_block(&self, address: u32) -> &Block
+    fn frame_block(&self, address: u32) -> &Block
         requires { IsTrue (is_frame self.now.geometry address) }
         ensures { result.now ≡ kept_bytes self.now.blocks address }
     {

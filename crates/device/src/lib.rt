@@ -8,6 +8,8 @@ mod frozen;
 mod interface;
 mod loading;
 mod memory;
+#[cfg(test)]
+mod tests;
 
 pub use file::{Call, FileDevice, Start};
 pub use formatting::format;

@@ -39,6 +39,7 @@ impl MemDevice {
         ensures blocks { IfOk result (λ device. flat_map (λ block. block) device.first ≡ bytes.now) }
         ensures fresh { IfOk result (λ device. (device.writes ≡ []) × (device.failures ≡ 0)) }
         ensures whole { IfOk result (λ device. All IsBlock device.first) }
+        ensures count { IfOk result (λ device. length device.first ≡ length bytes.now / 1024) }
         ensures length { MatchResult result (λ _. IsWholeBlocks (length bytes.now))
             (λ refusal. (refusal ≡ NoMemory) ⊎ ((refusal ≡ BadLength) × (IsWholeBlocks (length bytes.now) → ⊥))) }
     {

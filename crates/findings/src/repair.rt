@@ -9,7 +9,7 @@ use std::fmt;
 /// What mends a finding of a soft kind.
 #[derive(Clone, Copy, PartialEq, Eq, Debug)]
 pub enum Repair {
-    /// Free the record of this inode.
+    /// Set the links of this inode to 0, which frees it unless it is open.
     DropInode(u32),
     /// Lower the links of an inode: the inode, and by how many.
     LowerCount(u32, u32),

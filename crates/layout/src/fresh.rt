@@ -5,15 +5,12 @@ ghost use Rattle.model.specs.Fresh.{fresh_view, root_bytes};
 ghost use Rattle.model.specs.Rules.{ObeysRules};
 ghost use Rattle.layout.specs.Fresh as fresh;
 
-use crate::geometry::{SUPER_MAGIC, VERSION};
+use crate::geometry::{ROOT, SUPER_MAGIC, VERSION};
 use crate::{BLOCK_BYTES, Block, Geometry};
 use byteorder::{ByteOrder, LittleEndian};
 
 /// The first four bytes of a group's block of maps, as a number.
 pub const GROUP_MAGIC: u32 = 0x5355_4347;
-
-/// The number of the root.
-const ROOT: u32 = 2;
 
 /// The mode of a directory.
 const DIRECTORY: u16 = 2;

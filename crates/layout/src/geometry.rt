@@ -12,6 +12,9 @@ pub const SUPER_MAGIC: u32 = 0x5355_5631;
 /// The version of the layout.
 pub const VERSION: u32 = 1;
 
+/// The number of the root, the least inode number that is given out.
+pub const ROOT: u32 = 2;
+
 /// How many records of inodes a block holds.
 pub const INODES_PER_BLOCK: u32 = 8;
 

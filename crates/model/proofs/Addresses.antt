@@ -78,9 +78,11 @@ module _ (geo : Geometry) (ok : IsGeometry geo) where
   pub address_in_group : (a : ℕ) → a < block_count geo → group_of_address geo a < geo.groups
   address_in_group a b = div_below (a - 1) geo.blocks geo.groups (omega (arith, ok.enough_blocks)) (omega (arith, next_group 0 (omega (arith, ok.some_group)), ok.enough_blocks))
 
+  pub count_in_group : (n : ℕ) → n < inode_count geo → n / geo.inodes < geo.groups
+  count_in_group n b = div_below n geo.inodes geo.groups (omega (arith, ok.enough_inodes)) b
+
   pub number_in_group : (n : ℕ) → IsTrue (is_number geo n) → n / geo.inodes < geo.groups
-  number_in_group n t =
-      div_below n geo.inodes geo.groups (omega (arith, ok.enough_inodes)) (ltb-true n (inode_count geo) (and_parts (leb root n) (ltb n (inode_count geo)) t).1)
+  number_in_group n t = count_in_group n (ltb-true n (inode_count geo) (and_parts (leb root n) (ltb n (inode_count geo)) t).1)
 
   pub data_range : (a : ℕ) → IsTrue (is_data_address geo a) → (0 < a) × (a < block_count geo)
   data_range a t =

@@ -53,6 +53,6 @@ entries_of geo view set i = sum_below (inode_count geo) (λ d. cond (set d) (ent
 abbrev pub IsReachableSet : Geometry → View → (ℕ → Bool) → Type 0
 IsReachableSet geo view set = (d : ℕ) → IsTrue (set d) ↔ IsReachableDirectory geo view d
 
--- n good slots of reachable directories name i, dots among them
+-- n good slots of reachable directories name i, dots among them, where i is a number from 1 on (a slot that names none has number 0)
 abbrev pub HasEntries : Geometry → View → ℕ → ℕ → Type 0
 HasEntries geo view i n = (set : ℕ → Bool) × IsReachableSet geo view set × (n ≡ entries_of geo view set i)

@@ -1,0 +1,188 @@
+use super::FileDevice;
+use crate::tests::{format_groups, read_block, set_byte};
+use crate::{Device, DeviceFault, load};
+use layout::{BLOCK_BYTES, Refusal};
+use std::cell::{Cell, RefCell};
+use std::io;
+use std::marker::Brand;
+use std::os::unix::fs::FileExt;
+use std::test::Fail;
+
+/// A file in memory, whose calls fail from one on and up to another.
+#[derive(Drop)]
+struct FakeFile {
+    bytes: RefCell<Vec<u8>>,
+    calls: Cell<u64>,
+    first_failing: Cell<u64>,
+    last_failing: Cell<u64>,
+}
+
+impl FakeFile {
+    fn new(bytes: Vec<u8>) -> FakeFile {
+        FakeFile {
+            bytes: RefCell::new(bytes),
+            calls: Cell::new(0),
+            first_failing: Cell::new(u64::MAX),
+            last_failing: Cell::new(u64::MAX),
+        }
+    }
+
+    /// From now on the calls of these numbers fail, the next being number 0.
+    fn fail(&self, first: u64, last: u64) {
+        self.calls.set(0);
+        self.first_failing.set(first);
+        self.last_failing.set(last);
+    }
+
+    /// Counts a call, and fails if it is one that has to.
+    fn call(&self) -> io::Result<()> {
+        let number = self.calls.get();
+        self.calls.set(number.wrapping_add(1));
+        if self.first_failing.get() <= number && number <= self.last_failing.get() {
+            return Err(io::Error::from(io::ErrorKind::Other));
+        }
+        Ok(())
+    }
+
+    /// The byte that stands here.
+    fn byte(&self, at: usize) -> Option<u8> {
+        match self.bytes.try_borrow() {
+            Ok(bytes) => bytes.get(at).copied(),
+            Err(_) => None,
+        }
+    }
+}
+
+impl FileExt for FakeFile {
+    fn read_at(&self, buf: &mut [u8], offset: u64) -> io::Result<usize> {
+        self.call()?;
+        match self.bytes.try_borrow() {
+            Ok(bytes) => {
+                let bytes = bytes.as_slice();
+                let start = bytes.len().min(offset as usize);
+                let count = buf.len().min(bytes.len() - start);
+                buf[..count].copy_from_slice(&bytes[start..start + count]);
+                Ok(count)
+            }
+            Err(_) => Err(io::Error::from(io::ErrorKind::Other)),
+        }
+    }
+
+    fn write_at(&self, buf: &[u8], offset: u64) -> io::Result<usize> {
+        self.call()?;
+        match self.bytes.try_borrow_mut() {
+            Ok(mut bytes) => {
+                let bytes = &mut *bytes;
+                let start = bytes.len().min(offset as usize);
+                let count = buf.len().min(bytes.len() - start);
+                bytes[start..start + count].copy_from_slice(&buf[..count]);
+                Ok(count)
+            }
+            Err(_) => Err(io::Error::from(io::ErrorKind::Other)),
+        }
+    }
+}
+
+type FakeDevice = FileDevice<FakeFile, Brand>;
+
+#[test]
+fn a_block_stands_at_its_byte(rt: HostRuntime) -> Result<(), Fail> {
+    let bytes = vec![in rt.alloc(); 0xAA; 17 * BLOCK_BYTES]?;
+    let mut device: FakeDevice = FileDevice::over(FakeFile::new(bytes), 17);
+    set_byte(&mut device, 3, 0, 7)?;
+    set_byte(&mut device, 3, 1023, 8)?;
+    for (at, want) in [
+        (3071, 0xAA),
+        (3072, 7),
+        (3073, 0xAA),
+        (4094, 0xAA),
+        (4095, 8),
+        (4096, 0xAA),
+    ] {
+        assert_eq!(rt; device.file.byte(at), Some(want), "byte {at}");
+    }
+    let block = read_block(&mut device, 3).ok_or("no block")?;
+    assert_eq!(rt; (block[0], block[1], block[1023]), (7, 0xAA, 8));
+    assert_eq!(rt; device.failures, 0);
+    Ok(())
+}
+
+#[test]
+fn a_call_that_fails_changes_nothing(rt: HostRuntime) -> Result<(), Fail> {
+    let bytes = vec![in rt.alloc(); 0xAA; 3 * BLOCK_BYTES]?;
+    let mut device: FakeDevice = FileDevice::over(FakeFile::new(bytes), 3);
+    let mut block = [1; BLOCK_BYTES];
+    assert_eq!(rt; device.blocks(), 3);
+    device.file.fail(0, 1);
+    assert_eq!(rt; device.write(2, &block), Err(DeviceFault));
+    assert_eq!(rt; device.blocks(), 3);
+    assert_eq!(rt; device.read(2, &mut block), Err(DeviceFault));
+    assert_eq!(rt; device.failures, 2);
+    assert_eq!(rt; read_block(&mut device, 2), Some([0xAA; BLOCK_BYTES]));
+    Ok(())
+}
+
+#[test]
+fn a_short_file_is_a_fault(rt: HostRuntime) -> Result<(), Fail> {
+    let bytes = vec![in rt.alloc(); 0xAA; 3583]?;
+    let mut device: FakeDevice = FileDevice::over(FakeFile::new(bytes), 5);
+    for (address, is_there) in [(2, true), (3, false), (4, false)] {
+        assert_eq!(rt;
+            read_block(&mut device, address).is_some(),
+            is_there,
+            "block {address}"
+        );
+    }
+    assert_eq!(rt; device.failures, 2);
+    Ok(())
+}
+
+#[test]
+fn a_load_with_a_fault_answers_device(rt: HostRuntime) -> Result<(), Fail> {
+    let alloc = rt.alloc();
+    let bytes = vec![in alloc; 0xAA; 17 * BLOCK_BYTES]?;
+    let mut device: FakeDevice = FileDevice::over(FakeFile::new(bytes), 17);
+    format_groups(&mut device, 1)?;
+    // Block 0, the block of maps and two blocks of inodes are read.
+    for number in 0..4 {
+        for last in [number, u64::MAX] {
+            device.file.fail(number, last);
+            assert_eq!(rt;
+                load(alloc, &mut device).err(),
+                Some(Refusal::Device),
+                "call {number}"
+            );
+        }
+    }
+    assert_eq!(rt; device.failures, 8);
+    device.file.fail(4, u64::MAX);
+    assert_eq!(rt; load(alloc, &mut device).err(), None);
+    Ok(())
+}
+
+#[test]
+fn a_format_with_a_fault_stops_there(rt: HostRuntime) -> Result<(), Fail> {
+    let alloc = rt.alloc();
+    for number in 0..17 {
+        let bytes = vec![in alloc; 0xAA; 17 * BLOCK_BYTES]?;
+        let mut device: FakeDevice = FileDevice::over(FakeFile::new(bytes), 17);
+        device.file.fail(number, number);
+        assert_eq!(rt;
+            format_groups(&mut device, 1),
+            Err(Refusal::Device),
+            "call {number}"
+        );
+        // The block before is written, and this one is not.
+        let start = number as usize * BLOCK_BYTES;
+        assert_eq!(rt; device.file.byte(start), Some(0xAA), "block {number}");
+        if number > 0 {
+            assert_ne!(rt;
+                device.file.byte(start - BLOCK_BYTES),
+                Some(0xAA),
+                "before block {number}"
+            );
+        }
+        assert_eq!(rt; device.file.calls.get(), number + 1);
+    }
+    Ok(())
+}

@@ -1,0 +1,93 @@
+//! A line carried out, from its words to its output.
+ghost use Rattle.std.specs.Prelude.{◌≡◌, ◌<◌, IfOk};
+
+use crate::failure::{Failure, GAVE_OUT};
+use crate::jobs::{Answer, bits, check_numbers, check_sample, make};
+use crate::line::{Job, parse};
+use device::FileDevice;
+use layout::Geometry;
+use std::convert::AsStr;
+use std::io;
+use std::io::Write;
+use std::marker::Brand;
+use std::os::unix::fs::FileExt;
+use std::rt::Files;
+
+/// Carries out the line of these words, which are those after the program's name. Its output is written to `out` once
+/// all else is done; a refusal is written to `err`, and then nothing to `out`. Gives the status that the program ends
+/// with.
+pub fn perform<R: Files + AllocGlobal, S: AsStr, W: Write, E: Write>(
+    rt: &R,
+    words: &[S],
+    out: &mut W,
+    err: &mut E,
+) -> u8
+where
+    R::File: FileExt,
+    ensures refused { result ≡ 3 → out.new ≡ out.old }
+    ensures done { result < 2 → err.new ≡ err.old }
+{
+    match answer(rt, words) {
+        Ok(answer) => match print(out, &answer) {
+            Ok(()) => answer.status,
+            Err(_) => GAVE_OUT,
+        },
+        Err(failure) => failure.report(err),
+    }
+}
+
+/// Does what the words ask for.
+fn answer<R: Files + AllocGlobal, S: AsStr>(rt: &R, words: &[S]) -> Result<Answer, Failure>
+where
+    R::File: FileExt,
+    ensures { IfOk result (λ answer. answer.status < 3) }
+{
+    match parse(rt.alloc(), words)? {
+        Job::Mkfs {
+            image,
+            groups,
+            blocks,
+            inodes,
+        } => make_file(rt, image, &Geometry::new(groups, blocks, inodes)?),
+        Job::Bits { image } => check_file(rt, image),
+        Job::Sample => {
+            let findings = check_sample(rt.alloc())?;
+            Ok(bits(rt.alloc(), findings.as_slice())?)
+        }
+    }
+}
+
+/// Makes a file with a fresh image, in place of what was there.
+fn make_file<R: Files + AllocGlobal>(
+    rt: &R,
+    image: &str,
+    geometry: &Geometry,
+) -> Result<Answer, Failure>
+where
+    R::File: FileExt,
+    ensures { IfOk result (λ answer. answer.status ≡ 0) }
+{
+    let mut device: FileDevice<R::File, Brand> = FileDevice::create(rt, image, geometry.blocks())?;
+    make(&mut device, geometry)?;
+    Ok(Answer {
+        text: String::new(rt.alloc()),
+        status: 0,
+    })
+}
+
+/// Checks the number maps of a file's image.
+fn check_file<R: Files + AllocGlobal>(rt: &R, image: &str) -> Result<Answer, Failure>
+where
+    R::File: FileExt,
+    ensures { IfOk result (λ answer. answer.status < 3) }
+{
+    let mut device: FileDevice<R::File, Brand> = FileDevice::open(rt, image)?;
+    let findings = check_numbers(rt.alloc(), &mut device)?;
+    Ok(bits(rt.alloc(), findings.as_slice())?)
+}
+
+/// Writes what a line prints.
+fn print<W: Write>(out: &mut W, answer: &Answer) -> io::Result<()> {
+    out.write_all(answer.text.as_bytes())?;
+    out.flush()
+}

@@ -1,0 +1,131 @@
+//! What the words of a line ask for.
+ghost use Rattle.std.specs.Prelude.{◌≡◌, ◌≢◌, ◌↔◌, [], Ok, IfOk, IfSome};
+
+use crate::failure::Failure;
+use clap::error::ErrorKind;
+use clap::{Arg, ArgMatches, Command, value_parser};
+use layout::Refusal;
+use std::alloc::{AllocError, Global};
+use std::convert::AsStr;
+use std::env::Env;
+use std::{env, io};
+
+/// What a line asks for.
+#[derive(Clone, Copy, Debug, PartialEq, Eq)]
+pub enum Job<'a> {
+    /// A fresh image of this geometry.
+    Mkfs {
+        image: &'a str,
+        groups: u32,
+        blocks: u32,
+        inodes: u32,
+    },
+    /// The findings of an image's number maps.
+    Bits {
+        image: &'a str,
+    },
+    /// No words at all: the findings of a small fresh image in memory.
+    Sample,
+}
+
+/// The words that the program was started with, without its name.
+pub fn words_given(rt: &(impl Env + AllocGlobal)) -> Result<Vec<String>, Failure> {
+    match env::args(rt) {
+        Ok(words) => Ok(words.skip(1).collect(rt.alloc())?),
+        Err(error) if error.kind() == io::ErrorKind::OutOfMemory => Err(Failure::Refused(
+            Refusal::NoMemory,
+        )),
+        Err(_) => Err(Failure::Line(String::from_str(
+            rt.alloc(),
+            "error: a word is not written in UTF-8\n",
+        )?)),
+    }
+}
+
+/// Reads the words of a line, without the program's name.
+pub fn parse<'a, S: AsStr>(alloc: Global, words: &'a [S]) -> Result<Job<'a>, Failure>
+    ensures { (result ≡ Ok Job.Sample) ↔ (words.now ≡ []) }
+{
+    if words.is_empty() {
+        return Ok(Job::Sample);
+    }
+    match parse_words(alloc, words) {
+        Ok(job) => Ok(job),
+        Err(error) => Err(Failure::of_line(alloc, &error)),
+    }
+}
+
+fn parse_words<'a, S: AsStr>(alloc: Global, words: &'a [S]) -> Result<Job<'a>, clap::Error>
+    ensures { IfOk result (λ job. job ≢ Job.Sample) }
+{
+    let mut command = program(alloc)?;
+    let matches = command.try_get_matches_from_mut(words)?;
+    match job_of(&matches) {
+        Some(job) => Ok(job),
+        // Each argument is required, so the parse has refused such a line.
+        None => Err(command.error(ErrorKind::MissingRequiredArgument, "an argument is missing")?),
+    }
+}
+
+/// What the matches of the program's command ask for.
+fn job_of<'a>(matches: &ArgMatches<'a>) -> Option<Job<'a>>
+    ensures { IfSome result (λ job. job ≢ Job.Sample) }
+{
+    match matches.subcommand()? {
+        ("mkfs", options) => Some(Job::Mkfs {
+            image: options.get_str("image")?,
+            groups: options.get_one("groups")?,
+            blocks: options.get_one("blocks")?,
+            inodes: options.get_one("inodes")?,
+        }),
+        ("bits", options) => Some(Job::Bits {
+            image: options.get_str("image")?,
+        }),
+        _ => None,
+    }
+}
+
+fn program<'a>(alloc: Global) -> Result<Command<'a>, AllocError> {
+    Command::new(alloc, "fsvol")
+        .about("Makes and reads the images of volumes")
+        .bin_name("fsvol")?
+        .no_binary_name(true)
+        .subcommand_required(true)
+        .subcommand(mkfs(alloc)?)?
+        .subcommand(bits(alloc)?)
+}
+
+fn mkfs<'a>(alloc: Global) -> Result<Command<'a>, AllocError> {
+    Command::new(alloc, "mkfs")
+        .about("Writes a fresh image")
+        .arg(image(alloc))?
+        .arg(number(alloc, "groups").help("How many cylinder groups"))?
+        .arg(number(alloc, "blocks").help("How many blocks a group"))?
+        .arg(number(alloc, "inodes").help("How many inodes a group"))
+}
+
+fn bits<'a>(alloc: Global) -> Result<Command<'a>, AllocError> {
+    Command::new(alloc, "bits")
+        .about("Prints the findings of an image's number maps")
+        .arg(image(alloc))
+}
+
+/// The file of an image.
+fn image<'a>(alloc: Global) -> Arg<'a> {
+    Arg::new(alloc, "image")
+        .value_name("IMAGE")
+        .required(true)
+        .help("The file of the image")
+}
+
+/// A required option with a number.
+fn number<'a>(alloc: Global, name: &'a str) -> Arg<'a> {
+    Arg::new(alloc, name)
+        .long(name)
+        .value_name("NUMBER")
+        .required(true)
+        .value_parser(value_parser!(u32))
+}
+
+#[cfg(test)]
+mod tests;

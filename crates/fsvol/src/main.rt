@@ -1,0 +1,23 @@
+//! `fsvol` makes and checks the images of volumes.
+#![tactic(auto)]
+
+mod entry;
+mod failure;
+mod jobs;
+mod line;
+mod numbers;
+#[cfg(test)]
+mod rows;
+
+use entry::perform;
+use line::words_given;
+use std::process::ExitCode;
+
+fn main(rt: HostRuntime) -> ExitCode {
+    let mut out = rt.stdout();
+    let mut err = rt.stderr();
+    match words_given(&rt) {
+        Ok(words) => ExitCode::from(perform(&rt, words.as_slice(), &mut out, &mut err)),
+        Err(failure) => ExitCode::from(failure.report(&mut err)),
+    }
+}

@@ -1,0 +1,403 @@
+//! What the lines print and give, on files of the tests' own.
+use crate::entry::perform;
+use std::io::Write;
+use std::os::unix::fs::FileExt;
+use std::process::Abort;
+use std::rt::Files;
+use std::test::Fail;
+use std::{fs, io};
+
+/// How many bytes an image of 1 group, 16 blocks and 16 inodes has.
+const SMALL: usize = 17_408;
+
+/// How many bytes an image of 2 groups, 16 blocks and 16 inodes has.
+const TWO_GROUPS: usize = 33_792;
+
+/// All that is not 0 on a fresh image of 1 group, 16 blocks and 16 inodes.
+const SMALL_IMAGE: &[(usize, &[u8])] = &[
+    (0, b"1VUS\x01\0\0\0\x01\0\0\0\x10\0\0\0\x10\0\0\0"),
+    (1_024, b"GCUS\0\0\0\0"),
+    (1_056, b"\x04"),
+    (1_184, b"\x01"),
+    (2_304, b"\x02\0\x02\0\0\x04\0\0\x04\0\0\0"),
+    (4_096, b"\x02\0\0\0\x01\0\0\0."),
+    (4_160, b"\x02\0\0\0\x02\0\0\0.."),
+];
+
+/// What a line is to give.
+#[derive(Clone, Copy)]
+struct Wanted<'a> {
+    out: &'a str,
+    err: &'a str,
+    status: u8,
+}
+
+const NOTHING_PRINTED: Wanted<'static> = Wanted {
+    out: "",
+    err: "",
+    status: 0,
+};
+
+/// What a line is to give that is refused with this text.
+fn refused(err: &str, status: u8) -> Wanted<'_> {
+    Wanted {
+        out: "",
+        err,
+        status,
+    }
+}
+
+/// What a line is to give that prints this text.
+fn printed(out: &str, status: u8) -> Wanted<'_> {
+    Wanted {
+        out,
+        err: "",
+        status,
+    }
+}
+
+/// Carries out a line that starts with these words, and ends with the image's name.
+fn gives<R: Files + AllocGlobal + Abort>(
+    rt: &R,
+    start: &str,
+    image: &str,
+    wanted: Wanted<'_>,
+) -> Result<(), Fail>
+where
+    R::File: FileExt,
+{
+    let mut words: Vec<&str> = start.split(' ').collect(rt.alloc())?;
+    words.push(image)?;
+    let mut out = Vec::new(rt.alloc());
+    let mut err = Vec::new(rt.alloc());
+    let status = perform(rt, words.as_slice(), &mut out, &mut err);
+    assert_eq!(rt; out.as_slice(), wanted.out.as_bytes(), "{start} {image}");
+    assert_eq!(rt; err.as_slice(), wanted.err.as_bytes(), "{start} {image}");
+    assert_eq!(rt; status, wanted.status, "{start} {image}");
+    Ok(())
+}
+
+/// Makes a fresh image in this file, and gives its bytes.
+fn made<R: Files + AllocGlobal + Abort>(
+    rt: &R,
+    geometry: &str,
+    image: &str,
+) -> Result<Vec<u8>, Fail>
+where
+    R::File: FileExt,
+{
+    let start = format!(in rt.alloc(); "mkfs {geometry}")?;
+    gives(rt, start.as_str(), image, NOTHING_PRINTED)?;
+    Ok(fs::read(rt, image)?)
+}
+
+/// A fresh image of 1 group, 16 blocks and 16 inodes, in this file.
+fn made_small<R: Files + AllocGlobal + Abort>(rt: &R, image: &str) -> Result<Vec<u8>, Fail>
+where
+    R::File: FileExt,
+{
+    made(rt, "--groups 1 --blocks 16 --inodes 16", image)
+}
+
+/// Checks the number maps of an image of these bytes, which stand in this file, and that they stand there still.
+fn bits_gives<R: Files + AllocGlobal + Abort>(
+    rt: &R,
+    image: &str,
+    bytes: &[u8],
+    wanted: Wanted<'_>,
+) -> Result<(), Fail>
+where
+    R::File: FileExt,
+{
+    fs::write(rt, image, bytes)?;
+    gives(rt, "bits", image, wanted)?;
+    assert!(rt; fs::read(rt, image)?.as_slice() == bytes, "{image}");
+    Ok(())
+}
+
+/// Sets a byte.
+fn set(bytes: &mut [u8], place: usize, value: u8) {
+    if let Some(byte) = bytes.get_mut(place) {
+        *byte = value;
+    }
+}
+
+/// Sets each of these bytes.
+fn set_all(bytes: &mut [u8], values: &[(usize, u8)]) {
+    for &(place, value) in values {
+        set(bytes, place, value);
+    }
+}
+
+/// Whether the file stands there.
+fn stands<R: Files>(rt: &R, path: &str) -> bool {
+    fs::metadata(rt, path).is_ok()
+}
+
+#[test]
+fn mkfs_writes_these_bytes(rt: HostRuntime) -> Result<(), Fail> {
+    let image = "rows_these_bytes.img";
+    let bytes = made_small(&rt, image)?;
+    let mut wanted = vec![in rt.alloc(); 0u8; SMALL]?;
+    for &(place, values) in SMALL_IMAGE {
+        for (index, &value) in values.iter().enumerate() {
+            set(wanted.as_mut_slice(), place.saturating_add(index), value);
+        }
+    }
+    assert_eq!(rt; bytes.len(), SMALL);
+    assert!(rt; bytes == wanted);
+    fs::remove_file(&rt, image)?;
+    Ok(())
+}
+
+#[test]
+fn mkfs_replaces_an_older_file(rt: HostRuntime) -> Result<(), Fail> {
+    let image = "rows_older_file.img";
+    let fresh = made_small(&rt, image)?;
+    for length in [0, 100, SMALL, 40_000] {
+        let older = vec![in rt.alloc(); 0xffu8; length]?;
+        fs::write(&rt, image, older.as_slice())?;
+        assert!(rt; made_small(&rt, image)? == fresh, "{length}");
+    }
+    fs::remove_file(&rt, image)?;
+    Ok(())
+}
+
+#[test]
+fn bits_tells_the_numbers_of_a_small_image(rt: HostRuntime) -> Result<(), Fail> {
+    let image = "rows_small.img";
+    let fresh = made_small(&rt, image)?;
+    assert_eq!(rt; fresh.len(), SMALL);
+    let clean = printed("verdict clean\n", 0);
+    bits_gives(&rt, image, fresh.as_slice(), clean)?;
+    for (place, value, wanted) in [
+        (1_056, 36, printed("lost number 5\nverdict soft\n", 1)),
+        (
+            1_056,
+            32,
+            printed("lost number 5\nunmarked inode 2\nverdict damaged\n", 2),
+        ),
+        (1_056, 0, printed("unmarked inode 2\nverdict damaged\n", 2)),
+        // The second byte of record 3's mode.
+        (2_433, 1, printed("unmarked inode 3\nverdict damaged\n", 2)),
+        // Numbers 0 and 1 are not given out, and there is no number 16.
+        (1_056, 7, clean),
+        (2_048, 1, clean),
+        (2_176, 1, clean),
+        (1_058, 1, clean),
+    ] {
+        let mut bytes = fresh.clone()?;
+        set(bytes.as_mut_slice(), place, value);
+        bits_gives(&rt, image, bytes.as_slice(), wanted)?;
+    }
+    fs::remove_file(&rt, image)?;
+    Ok(())
+}
+
+#[test]
+fn bits_refuses_what_is_no_image(rt: HostRuntime) -> Result<(), Fail> {
+    let image = "rows_no_image.img";
+    let fresh = made_small(&rt, image)?;
+    for (place, value, err) in [
+        (0, 0, "refused 4 BadSuper\n"),
+        (4, 2, "refused 4 BadSuper\n"),
+        (1_024, 0, "refused 5 BadGroup 0\n"),
+        (1_028, 1, "refused 5 BadGroup 0\n"),
+    ] {
+        let mut bytes = fresh.clone()?;
+        set(bytes.as_mut_slice(), place, value);
+        bits_gives(&rt, image, bytes.as_slice(), refused(err, 3))?;
+    }
+    // No blocks, a byte too few, a block too few and a block too many.
+    for length in [0, SMALL - 1, SMALL - 1_024, SMALL + 1_024] {
+        let mut bytes = fresh.clone()?;
+        bytes.resize(length, 0)?;
+        bits_gives(
+            &rt,
+            image,
+            bytes.as_slice(),
+            refused("refused 3 BadLength\n", 3),
+        )?;
+    }
+    fs::remove_file(&rt, image)?;
+    Ok(())
+}
+
+#[test]
+fn bits_tells_the_numbers_of_two_groups(rt: HostRuntime) -> Result<(), Fail> {
+    let image = "rows_two_groups.img";
+    let fresh = made(&rt, "--groups 2 --blocks 16 --inodes 16", image)?;
+    assert_eq!(rt; fresh.len(), TWO_GROUPS);
+    bits_gives(&rt, image, fresh.as_slice(), printed("verdict clean\n", 0))?;
+    let changes: &[(&[(usize, u8)], Wanted<'_>)] = &[
+        (&[(17_440, 1)], printed("lost number 16\nverdict soft\n", 1)),
+        (
+            &[(17_441, 128)],
+            printed("lost number 31\nverdict soft\n", 1),
+        ),
+        (
+            &[(20_352, 1)],
+            printed("unmarked inode 31\nverdict damaged\n", 2),
+        ),
+        // Number 31 is marked, and its record is not free.
+        (&[(17_441, 128), (20_352, 1)], printed("verdict clean\n", 0)),
+        (
+            &[
+                (1_056, 36),
+                (17_440, 1),
+                (17_441, 128),
+                (2_432, 1),
+                (20_224, 1),
+            ],
+            printed(
+                "lost number 5\nlost number 16\nlost number 31\nunmarked inode 3\nunmarked inode 30\nverdict damaged\n",
+                2,
+            ),
+        ),
+        (&[(17_408, 0)], refused("refused 5 BadGroup 1\n", 3)),
+        (
+            &[(1_024, 0), (17_408, 0)],
+            refused("refused 5 BadGroup 0\n", 3),
+        ),
+    ];
+    for &(values, wanted) in changes {
+        let mut bytes = fresh.clone()?;
+        set_all(bytes.as_mut_slice(), values);
+        bits_gives(&rt, image, bytes.as_slice(), wanted)?;
+    }
+    fs::remove_file(&rt, image)?;
+    Ok(())
+}
+
+#[test]
+fn mkfs_refuses_numbers_of_no_geometry(rt: HostRuntime) -> Result<(), Fail> {
+    let image = "rows_no_geometry.img";
+    let wanted = refused("refused 29 BadGeometry\n", 3);
+    let _ = fs::remove_file(&rt, image);
+    for numbers in [
+        "--groups 0 --blocks 16 --inodes 16",
+        "--groups 65 --blocks 16 --inodes 16",
+        "--groups 1 --blocks 4097 --inodes 16",
+        "--groups 1 --blocks 16 --inodes 12",
+        "--groups 1 --blocks 8 --inodes 56",
+    ] {
+        let start = format!(in rt.alloc(); "mkfs {numbers}")?;
+        gives(&rt, start.as_str(), image, wanted)?;
+        assert!(rt; !stands(&rt, image), "{numbers}");
+        fs::write(&rt, image, "as it was")?;
+        gives(&rt, start.as_str(), image, wanted)?;
+        assert_eq!(rt;
+            fs::read(&rt, image)?.as_slice(),
+            b"as it was".as_slice(),
+            "{numbers}"
+        );
+        fs::remove_file(&rt, image)?;
+    }
+    Ok(())
+}
+
+#[test]
+fn an_image_that_cannot_be_opened_is_a_failed_device(rt: HostRuntime) -> Result<(), Fail> {
+    let wanted = refused("refused 2 Device\n", 4);
+    let mkfs = "mkfs --groups 1 --blocks 16 --inodes 16";
+    gives(&rt, "bits", "rows_no_such_file.img", wanted)?;
+    gives(&rt, "bits", "", wanted)?;
+    gives(&rt, mkfs, "rows_no_such_folder/a.img", wanted)?;
+    gives(&rt, mkfs, ".", wanted)?;
+    Ok(())
+}
+
+#[test]
+fn no_words_check_the_sample(rt: HostRuntime) {
+    let words: &[&str] = &[];
+    let mut out = Vec::new(rt.alloc());
+    let mut err = Vec::new(rt.alloc());
+    let status = perform(&rt, words, &mut out, &mut err);
+    assert_eq!(rt; out.as_slice(), b"verdict clean\n".as_slice());
+    assert!(rt; err.is_empty());
+    assert_eq!(rt; status, 0);
+}
+
+#[test]
+fn a_wrong_line_is_refused_with_a_text(rt: HostRuntime) -> Result<(), Fail> {
+    let image = "rows_wrong_line.img";
+    let _ = fs::remove_file(&rt, image);
+    for line in [
+        "frob rows_wrong_line.img",
+        "mkfs rows_wrong_line.img --groups 1 --blocks 16",
+        "mkfs rows_wrong_line.img --groups 1 --blocks 16 --inodes x",
+        "bits",
+        "--help",
+    ] {
+        let words: Vec<&str> = line.split(' ').collect(rt.alloc())?;
+        let mut out = Vec::new(rt.alloc());
+        let mut err = Vec::new(rt.alloc());
+        let status = perform(&rt, words.as_slice(), &mut out, &mut err);
+        assert!(rt; out.is_empty(), "{line}");
+        assert!(rt; !err.is_empty(), "{line}");
+        assert_eq!(rt; status, 3, "{line}");
+        assert!(rt; !stands(&rt, image), "{line}");
+    }
+    Ok(())
+}
+
+/// A writer that takes so many bytes, and then fails.
+#[derive(Drop)]
+struct Failing(usize);
+
+impl Write for Failing {
+    fn write(&mut self, buf: &[u8]) -> io::Result<usize> {
+        let taken = buf.len().min(self.0);
+        if taken == 0 {
+            return Err(io::Error::from(io::ErrorKind::StorageFull));
+        }
+        self.0 -= taken;
+        Ok(taken)
+    }
+
+    fn flush(&mut self) -> io::Result<()> {
+        Ok(())
+    }
+}
+
+/// A writer that takes all bytes, and fails where they are to reach their end.
+#[derive(Drop)]
+struct Unflushed;
+
+impl Write for Unflushed {
+    fn write(&mut self, buf: &[u8]) -> io::Result<usize> {
+        Ok(buf.len())
+    }
+
+    fn flush(&mut self) -> io::Result<()> {
+        Err(io::Error::from(io::ErrorKind::StorageFull))
+    }
+}
+
+#[test]
+fn a_failed_write_is_told_by_the_status(rt: HostRuntime) {
+    let words: &[&str] = &[];
+    for taken in 0..14 {
+        let mut err = Vec::new(rt.alloc());
+        let status = perform(&rt, words, &mut Failing(taken), &mut err);
+        assert_eq!(rt; status, 4, "{taken}");
+        assert!(rt; err.is_empty(), "{taken}");
+    }
+    let mut err = Vec::new(rt.alloc());
+    assert_eq!(rt; perform(&rt, words, &mut Failing(14), &mut err), 0);
+    assert_eq!(rt; perform(&rt, words, &mut Unflushed, &mut err), 4);
+    assert!(rt; err.is_empty());
+}
+
+#[test]
+fn a_refusal_keeps_its_status_where_it_cannot_be_printed(rt: HostRuntime) {
+    for (words, status) in [
+        (["frob", "rows_unprinted.img"], 3),
+        (["bits", "rows_unprinted.img"], 4),
+    ] {
+        let mut out = Vec::new(rt.alloc());
+        let given = perform(&rt, words.as_slice(), &mut out, &mut Failing(3));
+        assert_eq!(rt; given, status);
+        assert!(rt; out.is_empty());
+    }
+}
