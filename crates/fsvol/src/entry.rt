@@ -1,5 +1,6 @@
 //! A line carried out, from its words to its output.
-ghost use Rattle.std.specs.Prelude.{◌≡◌, ◌<◌, IfOk};
+ghost use Rattle.std.specs.Prelude.{◌≡◌, ◌<◌, ◌≤◌, [], IfOk};
+ghost use Rattle.std.specs.String.{string_bytes};
 
 use crate::failure::{Failure, GAVE_OUT};
 use crate::jobs::{Answer, bits, check_numbers, check_sample, make};
@@ -24,6 +25,7 @@ pub fn perform<R: Files + AllocGlobal, S: AsStr, W: Write, E: Write>(
 ) -> u8
 where
     R::File: FileExt,
+    ensures few { result ≤ 4 }
     ensures refused { result ≡ 3 → out.new ≡ out.old }
     ensures done { result < 2 → err.new ≡ err.old }
 {
@@ -65,7 +67,8 @@ fn make_file<R: Files + AllocGlobal>(
 ) -> Result<Answer, Failure>
 where
     R::File: FileExt,
-    ensures { IfOk result (λ answer. answer.status ≡ 0) }
+    ensures status { IfOk result (λ answer. answer.status ≡ 0) }
+    ensures silent { IfOk result (λ answer. string_bytes answer.text ≡ []) }
 {
     let mut device: FileDevice<R::File, Brand> = FileDevice::create(rt, image, geometry.blocks())?;
     make(&mut device, geometry)?;
