@@ -1,8 +1,30 @@
--- A block of zeroes is a block.
-use Rattle.std.specs.Prelude.{replicate}
-use Rattle.std.proofs.Common.{refl, arith, ◌<◌}
+-- Blocks of zeroes.
+use Rattle.std.specs.Prelude.{◌≡◌, ℕ, ◌<◌, List, [], length}
+use Rattle.std.proofs.Common.{refl, arith, ap, ◌∙◌}
 use Rattle.std.proofs.lemmas.List.Elements.{All-replicate}
-use Rattle.model.specs.Image.{IsBlock}
+use Rattle.std.proofs.lemmas.List.FromFn.{get_or-map-range_with_len, length-map-range_with_len}
+use Rattle.model.specs.Image.{IsBlock, block_at}
+use Rattle.layout.specs.Fresh.{zero_block}
+use Rattle.device.specs.Writes.{image_after}
+use Rattle.device.specs.Calls.{Calls, image_of, writes_of}
 
-pub zeroes_are_whole : IsBlock (replicate 1024 0)
+-- each block of the image is zeroes
+abbrev pub AreZeroes : List (List ℕ) → Type 0
+AreZeroes image = (a : ℕ) → a < length image → block_at image a ≡ zero_block
+
+pub zeroes_are_whole : IsBlock zero_block
 zeroes_are_whole = record { length = refl; bytes = All-replicate (λ b. b < 256) 1024 0 (omega arith) }
+
+-- ---- a file that held zeroes before its first call, and none was made
+
+abbrev image : Calls → List (List ℕ)
+image calls = image_after (image_of (λ _. zero_block) calls.count) (writes_of calls.answered)
+
+module _ (calls : Calls) (count : ℕ) (new : calls ≡ record { count = count; answered = []; failures = 0 }) where
+  pub new_file_count : length (image_after (image_of (λ _. zero_block) calls.count) (writes_of calls.answered)) ≡ count
+  new_file_count = ap (λ c. length (image c)) new ∙ length-map-range_with_len (λ _. zero_block) 0 count
+
+  pub new_file_zeroes : AreZeroes (image_after (image_of (λ _. zero_block) calls.count) (writes_of calls.answered))
+  new_file_zeroes a b =
+      ap (λ c. block_at (image c) a) new
+      ∙ get_or-map-range_with_len (λ _. zero_block) 0 count a a [] (omega (arith, b, new_file_count, length-map-range_with_len (λ _. zero_block) 0 count)) (omega arith)

@@ -1,18 +1,32 @@
-ghost use Rattle.std.specs.Prelude.{◌≡◌, length, OnOk, IsErrOf, IsOkUnless};
+ghost use Rattle.std.specs.Prelude.{◌≡◌, ◌<◌, length, slice_set, OnOk, OnErr, IsErrOf, IsOkUnless};
 ghost use Rattle.model.specs.Layout.{block_count};
-ghost use Rattle.model.specs.Image.{IsImage, image_view};
+ghost use Rattle.model.specs.Image.{IsImage, block_at, image_view};
 ghost use Rattle.model.specs.Fresh.{fresh_view};
 ghost use Rattle.model.specs.Rules.{ObeysRules};
 ghost use Rattle.layout.specs.Fresh as fresh;
-ghost use Rattle.device.specs.Writes.{HasFailed};
+ghost use Rattle.layout.specs.Fresh.{zero_block};
+ghost use Rattle.device.specs.Zeroes.{AreZeroes};
+ghost use Rattle.device.specs.Writes.{CountsFaults, HasFailed};
 
-use crate::Device;
-use layout::{BLOCK_BYTES, Geometry, Refusal, fresh_block, fresh_blocks_are_the_fresh_image};
+use crate::{Device, DeviceFault};
+use layout::{
+    BLOCK_BYTES, Block, Geometry, Refusal, fresh_block, fresh_blocks_are_the_fresh_image,
+};
 
-/// Writes a fresh image over all blocks of a device, in the order of their addresses. `Device` where a write failed:
-/// then the blocks before that one are written.
-pub fn format<D: Device>(device: &mut D, geometry: &Geometry) -> Result<(), Refusal>
-    requires { length (D.image device.old) ≡ block_count geometry.now }
+/// What the blocks of a device are known to hold before it is formatted.
+#[derive(Clone, Copy, Debug, PartialEq, Eq)]
+pub enum Before {
+    /// Anything: each block is written.
+    Anything,
+    /// Zeroes: the blocks that stay zero are not written.
+    Zeroes,
+}
+
+/// Makes a fresh image of all blocks of a device, writing in the order of their addresses. `Device` where a write
+/// failed: then the blocks before that one are those of the fresh image.
+pub fn format<D: Device>(device: &mut D, geometry: &Geometry, before: Before) -> Result<(), Refusal>
+    requires count { length (D.image device.old) ≡ block_count geometry.now }
+    requires zeroes { before ≡ Before.Zeroes → AreZeroes (D.image device.old) }
 
     ensures image { OnOk result (D.image device.new ≡ fresh.fresh_image geometry.now) }
     ensures is_image { OnOk result (IsImage geometry.now (D.image device.new)) }
@@ -28,7 +42,27 @@ pub fn format<D: Device>(device: &mut D, geometry: &Geometry) -> Result<(), Refu
     let mut block = [0; BLOCK_BYTES];
     for address in 0..geometry.blocks() {
         fresh_block(geometry, address, &mut block);
-        device.write(address, &block)?;
+        put(device, address, &block, before)?;
     }
     Ok(())
+}
+
+/// Gives an address its block, by a write unless that would put zeroes over zeroes.
+fn put<D: Device>(
+    device: &mut D,
+    address: u32,
+    block: &Block,
+    before: Before,
+) -> Result<(), DeviceFault>
+    requires address { address < length (D.image device.old) }
+    requires zeroes { before ≡ Before.Zeroes → block_at (D.image device.old) address ≡ zero_block }
+    ensures put { OnOk result (D.image device.new ≡ slice_set (D.image device.old) address block.now) }
+    ensures fault { OnErr result (D.image device.new ≡ D.image device.old) }
+    ensures honest { D.honest device.new → D.honest device.old }
+    ensures cause { CountsFaults result (D.failures device.old) (D.failures device.new) }
+{
+    match before {
+        Before::Zeroes if *block == [0; BLOCK_BYTES] => Ok(()),
+        _ => device.write(address, block),
+    }
 }

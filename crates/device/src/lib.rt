@@ -12,7 +12,7 @@ mod memory;
 mod tests;
 
 pub use file::{Call, FileDevice, Start};
-pub use formatting::format;
+pub use formatting::{Before, format};
 pub use frozen::Frozen;
 pub use interface::{Device, DeviceFault};
 pub use loading::load;

@@ -1,4 +1,4 @@
-use crate::{Device, FileDevice, MemDevice, format, load};
+use crate::{Before, Device, FileDevice, MemDevice, format, load};
 use layout::{BLOCK_BYTES, Block, Geometry, Refusal};
 use std::alloc::Global;
 use std::fs;
@@ -56,7 +56,7 @@ pub(crate) fn format_groups<D: Device>(device: &mut D, groups: u32) -> Result<()
     if device.blocks() != geometry.blocks() {
         return Err(Refusal::BadLength);
     }
-    format(device, &geometry)
+    format(device, &geometry, Before::Anything)
 }
 
 /// A device of zeroes in memory.

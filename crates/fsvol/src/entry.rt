@@ -5,7 +5,7 @@ ghost use Rattle.std.specs.String.{string_bytes};
 use crate::failure::{Failure, GAVE_OUT};
 use crate::jobs::{Answer, bits, check_numbers, check_sample, make};
 use crate::line::{Job, parse};
-use device::FileDevice;
+use device::{Before, FileDevice};
 use layout::Geometry;
 use std::convert::AsStr;
 use std::io;
@@ -71,7 +71,7 @@ where
     ensures silent { IfOk result (λ answer. string_bytes answer.text ≡ []) }
 {
     let mut device: FileDevice<R::File, Brand> = FileDevice::create(rt, image, geometry.blocks())?;
-    make(&mut device, geometry)?;
+    make(&mut device, geometry, Before::Zeroes)?;
     Ok(Answer {
         text: String::new(rt.alloc()),
         status: 0,

@@ -6,13 +6,14 @@ ghost use Rattle.model.specs.Image.{IsImage, image_view};
 ghost use Rattle.findings.specs.Findings.{AreFindings, AreFindingsOf, is_of_numbers};
 ghost use Rattle.findings.specs.Report.{verdict_of};
 ghost use Rattle.device.specs.Writes.{HasFailed};
+ghost use Rattle.device.specs.Zeroes.{AreZeroes};
 ghost use Rattle.device.specs.Loading.{LoadRefuses};
 ghost use Rattle.fsvol.specs.Bits.{bits_text, finding_lines};
 ghost use Rattle.fsvol.specs.Status.{status_of_verdict};
 ghost use Rattle.layout.specs.Fresh.{fresh_image};
 
 use crate::numbers::number_findings;
-use device::{Device, MemDevice, format, load};
+use device::{Before, Device, MemDevice, format, load};
 use findings::{Finding, Verdict, nothing_is_found_on_the_fresh_image, verdict};
 use layout::{BLOCK_BYTES, Geometry, Refusal};
 use std::alloc::{AllocError, Global};
@@ -24,9 +25,10 @@ pub struct Answer {
     pub status: u8,
 }
 
-/// Makes a fresh image over all blocks of a device. Nothing is found on it.
-pub fn make<D: Device>(device: &mut D, geometry: &Geometry) -> Result<(), Refusal>
-    requires { length (D.image device.old) ≡ block_count geometry.now }
+/// Makes a fresh image of all blocks of a device. Nothing is found on it.
+pub fn make<D: Device>(device: &mut D, geometry: &Geometry, before: Before) -> Result<(), Refusal>
+    requires count { length (D.image device.old) ≡ block_count geometry.now }
+    requires zeroes { before ≡ Before.Zeroes → AreZeroes (D.image device.old) }
 
     ensures image { OnOk result (D.image device.new ≡ fresh_image geometry.now) }
     ensures is_image { OnOk result (IsImage geometry.now (D.image device.new)) }
@@ -36,7 +38,7 @@ pub fn make<D: Device>(device: &mut D, geometry: &Geometry) -> Result<(), Refusa
     ensures cause { IsErrOf result Refusal.Device → HasFailed (D.failures device.old) (D.failures device.new) }
 {
     nothing_is_found_on_the_fresh_image();
-    format(device, geometry)?;
+    format(device, geometry, before)?;
     Ok(())
 }
 
@@ -99,6 +101,6 @@ pub fn check_sample(alloc: Global) -> Result<Vec<Finding>, Refusal>
     let geometry = Geometry::new(1, 16, 16)?;
     let bytes = vec![in alloc; 0u8; geometry.blocks() as usize * BLOCK_BYTES]?;
     let mut device = MemDevice::from_bytes(alloc, bytes.as_slice())?;
-    make(&mut device, &geometry)?;
+    make(&mut device, &geometry, Before::Anything)?;
     check_numbers(alloc, &mut device)
 }

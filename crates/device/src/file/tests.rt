@@ -1,7 +1,7 @@
 use super::FileDevice;
 use crate::tests::{format_groups, read_block, set_byte};
-use crate::{Device, DeviceFault, load};
-use layout::{BLOCK_BYTES, Refusal};
+use crate::{Before, Device, DeviceFault, format, load};
+use layout::{BLOCK_BYTES, Geometry, Refusal};
 use std::cell::{Cell, RefCell};
 use std::io;
 use std::marker::Brand;
@@ -183,6 +183,31 @@ fn a_format_with_a_fault_stops_there(rt: HostRuntime) -> Result<(), Fail> {
             );
         }
         assert_eq!(rt; device.file.calls.get(), number + 1);
+    }
+    Ok(())
+}
+
+#[test]
+fn zeroes_are_not_written_over_zeroes(rt: HostRuntime) -> Result<(), Fail> {
+    let alloc = rt.alloc();
+    let mut written: FakeDevice = FileDevice::over(
+        FakeFile::new(vec![in alloc; 0xAA; 33 * BLOCK_BYTES]?),
+        33,
+    );
+    format_groups(&mut written, 2)?;
+    let mut known: FakeDevice = FileDevice::over(
+        FakeFile::new(vec![in alloc; 0; 33 * BLOCK_BYTES]?),
+        33,
+    );
+    format(&mut known, &Geometry::new(2, 16, 16)?, Before::Zeroes)?;
+    // The superblock, two blocks of maps, the root's record and its block with the dots.
+    assert_eq!(rt; known.file.calls.get(), 5);
+    for address in 0..33 {
+        assert_eq!(rt;
+            read_block(&mut known, address),
+            read_block(&mut written, address),
+            "block {address}"
+        );
     }
     Ok(())
 }

@@ -1,6 +1,6 @@
-use Rattle.std.proofs.Common.{◌≡◌, sym, ap, ◌∙◌, subst, arith, length, set as slice_set}
+use Rattle.std.proofs.Common.{◌≡◌, [], get_or-set_other, sym, ap, ◌∙◌, subst, arith, length, set as slice_set}
 use Rattle.std.proofs.lemmas.List.{length-set}
-use Rattle.model.specs.Image.{IsImage, image_view}
+use Rattle.model.specs.Image.{IsImage, block_at, image_view}
 use Rattle.model.specs.Rules.{ObeysRules}
 use Rattle.layout.specs.Fresh.{fresh_bytes}
 use Rattle.device.proofs.FormatLemmas.{all_written, one_written}
@@ -8,7 +8,7 @@ use Rattle.device.proofs.formatting.format.Goals as goal
 
 pub returns-clause-image : goal.returns-clause-image
 returns-clause-image g c =
-    all_written c.args.geometry.now (g.D.Device.image c.loop-address.device) (c.loop-address.invariant.count ∙ c.requires)
+    all_written c.args.geometry.now (g.D.Device.image c.loop-address.device) (c.loop-address.invariant.count ∙ c.requires.count)
     (λ k b. c.loop-address.invariant.written k (omega (arith, b, c.blocks-address-end.ensures.count)))
 
 pub returns-clause-is_image : goal.returns-clause-is_image
@@ -24,14 +24,24 @@ returns-clause-rules g c =
     subst (λ image. ObeysRules c.args.geometry.now (image_view c.args.geometry.now image)) (sym (returns-clause-image g c))
     (c.fresh_blocks_are_the_fresh_image.ensures.rules c.args.geometry.now c.blocks-address-end.ensures.geometry)
 
+pub put-requires-clause-address : goal.put-requires-clause-address
+put-requires-clause-address g c = omega (arith, c.loop-address.invariant.count, c.requires.count, c.blocks-address-end.ensures.count)
+
+pub put-requires-clause-zeroes : goal.put-requires-clause-zeroes
+put-requires-clause-zeroes g c zeroes = c.loop-address.invariant.zeroes zeroes c.loop-address.address (omega arith) (omega (arith, c.loop-address.invariant.count, c.requires.count, c.blocks-address-end.ensures.count))
+
 pub loop-address-preserved : goal.loop-address-preserved
 loop-address-preserved g c =
     let kept = c.loop-address.invariant in
-    let new : g.D.Device.image c.write.new.self ≡ slice_set (g.D.Device.image c.loop-address.device) c.loop-address.address c.fresh_block.new.block = c.in_ok-write.ensures.written in
+    let old = g.D.Device.image c.loop-address.device in
+    let new : g.D.Device.image c.put.new.device ≡ slice_set old c.loop-address.address c.fresh_block.new.block = c.in_ok-put.ensures.put in
     record {
-      written = one_written (fresh_bytes c.args.geometry.now) (g.D.Device.image c.loop-address.device) (g.D.Device.image c.write.new.self) c.loop-address.address c.fresh_block.new.block
-          (omega (arith, kept.count, c.requires, c.blocks-address-end.ensures.count)) kept.written new c.fresh_block.ensures;
-      count = ap length new ∙ length-set (g.D.Device.image c.loop-address.device) c.loop-address.address c.fresh_block.new.block ∙ kept.count;
-      failures = c.in_ok-write.ensures.cause ∙ kept.failures;
-      honest = λ h. kept.honest (c.in_ok-write.ensures.honest h);
+      written = one_written (fresh_bytes c.args.geometry.now) old (g.D.Device.image c.put.new.device) c.loop-address.address c.fresh_block.new.block
+          (omega (arith, kept.count, c.requires.count, c.blocks-address-end.ensures.count)) kept.written new c.fresh_block.ensures;
+      zeroes = λ zeroes k after b.
+          ap (λ image. block_at image k) new ∙ get_or-set_other old c.loop-address.address k c.fresh_block.new.block [] (λ e. omega (arith, after, e))
+          ∙ kept.zeroes zeroes k (omega (arith, after)) (omega (arith, b, ap length new ∙ length-set old c.loop-address.address c.fresh_block.new.block));
+      count = ap length new ∙ length-set old c.loop-address.address c.fresh_block.new.block ∙ kept.count;
+      failures = c.in_ok-put.ensures.cause ∙ kept.failures;
+      honest = λ h. kept.honest (c.in_ok-put.ensures.honest h);
     }

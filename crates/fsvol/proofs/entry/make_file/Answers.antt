@@ -1,11 +1,9 @@
-use Rattle.std.proofs.Common.{length, ap, ◌∙◌, replicate}
-use Rattle.std.proofs.lemmas.List.FromFn.{length-map-range_with_len}
-use Rattle.device.specs.Writes.{image_after}
-use Rattle.device.specs.Calls.{Calls, image_of, writes_of}
+use Rattle.std.proofs.Common.{◌∙◌}
+use Rattle.device.specs.Zeroes.{new_file_count, new_file_zeroes}
 use Rattle.fsvol.proofs.entry.make_file.Goals as goal
 
-pub make-requires : goal.make-requires
-make-requires g c =
-    ap (λ (calls : Calls). length (image_after (image_of (λ _. replicate 1024 0) calls.count) (writes_of calls.answered))) c.in_ok-device.ensures.new
-    ∙ length-map-range_with_len (λ _. replicate 1024 0) 0 c.blocks-2.result
-    ∙ c.blocks-2.ensures.count
+pub make-requires-clause-count : goal.make-requires-clause-count
+make-requires-clause-count g c = new_file_count _ _ c.in_ok-device.ensures.new ∙ c.blocks-2.ensures.count
+
+pub make-requires-clause-zeroes : goal.make-requires-clause-zeroes
+make-requires-clause-zeroes g c _ = new_file_zeroes _ _ c.in_ok-device.ensures.new

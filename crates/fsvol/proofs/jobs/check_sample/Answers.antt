@@ -6,8 +6,8 @@ use Rattle.findings.specs.Findings.{is_of_numbers}
 use Rattle.fsvol.proofs.NumberLemmas.{none_on_clean}
 use Rattle.fsvol.proofs.jobs.check_sample.Goals as goal
 
-pub make-requires : goal.make-requires
-make-requires c =
+pub make-requires-clause-count : goal.make-requires-clause-count
+make-requires-clause-count c =
     let device = c.in_ok-device.device in
     let blocks : length device.first ≡ block_count c.in_ok-geometry.geometry =
     c.in_ok-device.ensures.count ∙ ap (λ n. n / 1024) (c.as_slice.ensures.len ∙ c.in_ok-bytes.ensures.len) ∙ omega (arith, c.blocks-2.ensures.count) in

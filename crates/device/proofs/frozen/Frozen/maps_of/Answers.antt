@@ -1,4 +1,4 @@
-use Rattle.std.proofs.Common.{◌≡◌, ◌∙◌, sym, ap, subst, IsTrue}
+use Rattle.std.proofs.Common.{◌∙◌, sym, ap, subst, IsTrue}
 use Rattle.model.specs.Layout.{Geometry, group_block}
 use Rattle.model.specs.Image.{IsGroupBlock}
 use Rattle.device.specs.Kept.{is_frame, kept_bytes}
