@@ -3,3 +3,4 @@ pub mod MemoryLemmas
 pub mod FormatLemmas
 pub mod LoadLemmas
 pub mod FrozenLemmas
+pub mod IndirectLemmas

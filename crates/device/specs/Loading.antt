@@ -44,6 +44,10 @@ LoadRefuses honest image _ = ⊥
 
 -- ---- the steps of loading
 
+-- the machine gave out: there was no memory, or the device failed
+abbrev pub GivesOut : Refusal → Type 0
+GivesOut refusal = (refusal ≡ NoMemory) ⊎ (refusal ≡ Device)
+
 -- A block behind the superblock is kept unless it is a data block; a group's block of maps has its magic and number.
 abbrev pub IsKeptBlock : Geometry → ℕ → Option (List ℕ) → Type 0
 IsKeptBlock geo a None = IsTrue (is_data_address geo a)

@@ -1,15 +1,16 @@
 ghost use Rattle.std.specs.Prelude.{◌≡◌, ◌<◌, ℕ, List, length, IfOk, IfErr, OnOk, IsErrOf, Some};
 ghost use Rattle.std.specs.Option.{option_map};
 ghost use Rattle.std.specs.Arc.{arc_value};
-ghost use Rattle.model.specs.Layout.{block_count, group_block};
+ghost use Rattle.model.specs.Layout.{block_count, group_block, inode_count};
 ghost use Rattle.model.specs.Image.{IsBlock, IsSuper, IsGroupBlock, block_at};
-ghost use Rattle.device.specs.Kept.{KeepsFrame, IsKeptOf};
+ghost use Rattle.device.specs.Kept.{KeepsFrame, KeepsIndirect, KeepsIndirectOf, KeepsMore, IsKeptOf};
 ghost use Rattle.device.specs.Shared.{shared_blocks};
 ghost use Rattle.device.specs.Writes.{HasFailed};
-ghost use Rattle.device.specs.Loading.{LoadRefuses, FrameRefuses, BlockRefuses, MapsRefuse, IsKeptBlock, AreBlocksOf};
+ghost use Rattle.device.specs.Loading.{LoadRefuses, GivesOut, FrameRefuses, BlockRefuses, MapsRefuse, IsKeptBlock, AreBlocksOf};
 
 use crate::{Device, Frozen};
 use cgmaps::read_group;
+use inode::INDIRECT_POSITION;
 use layout::{BLOCK_BYTES, Block, Geometry, Refusal, read_super};
 use std::alloc::Global;
 use std::sync::Arc;
@@ -39,7 +40,68 @@ pub fn load<D: Device>(alloc: Global, device: &mut D) -> Result<Frozen, Refusal>
         return Err(Refusal::BadLength);
     }
     let blocks = read_frame(alloc, device, &geometry, &first)?;
-    Ok(Frozen::new(geometry, blocks))
+    let mut frozen = Frozen::new(geometry, blocks);
+    read_indirect(alloc, device, &mut frozen)?;
+    Ok(frozen)
+}
+
+/// Reads the indirect blocks that sound inodes claim, each once.
+fn read_indirect<D: Device>(
+    alloc: Global,
+    device: &mut D,
+    frozen: &mut Frozen,
+) -> Result<(), Refusal>
+    requires { length (D.image device.old) ≡ block_count frozen.old.geometry }
+
+    ensures frame { OnOk result (KeepsFrame frozen.new) }
+    ensures more { OnOk result (KeepsMore frozen.old frozen.new) }
+    ensures indirect { OnOk result (KeepsIndirect frozen.new (inode_count frozen.new.geometry)) }
+    ensures blocks { OnOk result (D.honest device.new → AreBlocksOf frozen.old.blocks (D.image device.old)
+        → AreBlocksOf frozen.new.blocks (D.image device.old)) }
+    ensures refused { IfErr result GivesOut }
+    ensures cause { IsErrOf result Refusal.Device → HasFailed (D.failures device.old) (D.failures device.new) }
+
+    ensures same { D.image device.new ≡ D.image device.old }
+    ensures held { D.held device.new ≡ D.held device.old }
+    ensures honest { D.honest device.new → D.honest device.old }
+{
+    for number in 0..frozen.geometry().inodes() {
+        keep_indirect(alloc, device, frozen, number)?;
+    }
+    Ok(())
+}
+
+/// Reads the indirect block that an inode claims, unless it is there already.
+fn keep_indirect<D: Device>(
+    alloc: Global,
+    device: &mut D,
+    frozen: &mut Frozen,
+    number: u32,
+) -> Result<(), Refusal>
+    requires { length (D.image device.old) ≡ block_count frozen.old.geometry }
+
+    ensures frame { OnOk result (KeepsFrame frozen.old → KeepsFrame frozen.new) }
+    ensures more { OnOk result (KeepsMore frozen.old frozen.new) }
+    ensures indirect { OnOk result (KeepsIndirectOf frozen.new number) }
+    ensures blocks { OnOk result (D.honest device.new → AreBlocksOf frozen.old.blocks (D.image device.old)
+        → AreBlocksOf frozen.new.blocks (D.image device.old)) }
+    ensures refused { IfErr result GivesOut }
+    ensures cause { IsErrOf result Refusal.Device → HasFailed (D.failures device.old) (D.failures device.new) }
+    ensures failures { OnOk result (D.failures device.new ≡ D.failures device.old) }
+
+    ensures same { D.image device.new ≡ D.image device.old }
+    ensures held { D.held device.new ≡ D.held device.old }
+    ensures honest { D.honest device.new → D.honest device.old }
+{
+    match frozen.claim_at(number, INDIRECT_POSITION) {
+        Some(address) if frozen.block(address).is_none() => {
+            let mut pointers = [0; BLOCK_BYTES];
+            device.read(address, &mut pointers)?;
+            frozen.keep(alloc, address, &pointers)?;
+            Ok(())
+        }
+        _ => Ok(()),
+    }
 }
 
 /// Reads the blocks that each volume has, behind its superblock, which was read before.
@@ -57,6 +119,7 @@ fn read_frame<D: Device>(
         → AreBlocksOf (shared_blocks blocks.items) (D.image device.old)) }
     ensures refused { IfErr result (λ refusal. FrameRefuses (D.honest device.new) geometry.now (D.image device.old) refusal) }
     ensures cause { IsErrOf result Refusal.Device → HasFailed (D.failures device.old) (D.failures device.new) }
+    ensures failures { OnOk result (D.failures device.new ≡ D.failures device.old) }
 
     ensures same { D.image device.new ≡ D.image device.old }
     ensures held { D.held device.new ≡ D.held device.old }

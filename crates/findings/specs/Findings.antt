@@ -98,6 +98,21 @@ is_of_numbers (LostNumber i) = true
 is_of_numbers (UnmarkedInode i) = true
 is_of_numbers _ = false
 
+-- the kinds of phase 1: records and the blocks that they use
+abbrev pub is_of_blocks : Finding → Bool
+is_of_blocks (BadInode i) = true
+is_of_blocks (BadPointer i k v) = true
+is_of_blocks (Duplicate i k a) = true
+is_of_blocks _ = false
+
+-- the kinds of phase 5: the maps of the groups
+abbrev pub is_of_maps : Finding → Bool
+is_of_maps (LostBlock a) = true
+is_of_maps (UnmarkedBlock a) = true
+is_of_maps (LostNumber i) = true
+is_of_maps (UnmarkedInode i) = true
+is_of_maps _ = false
+
 -- every finding is of a soft kind
 abbrev pub AllSoft : Geometry → View → Type 0
 AllSoft geo view = (f : Finding) → IsFinding geo view f → IsTrue (is_soft f)

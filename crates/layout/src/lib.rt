@@ -14,7 +14,9 @@ mod refusal;
 mod tests;
 
 pub use fresh::{GROUP_MAGIC, fresh_block, fresh_blocks_are_the_fresh_image};
-pub use geometry::{DataPlace, Geometry, InodePlace, ROOT, places_are_one_to_one, read_super};
+pub use geometry::{
+    DataPlace, Geometry, INODES_PER_BLOCK, InodePlace, ROOT, places_are_one_to_one, read_super,
+};
 pub use refusal::Refusal;
 
 /// How many bytes a block has.

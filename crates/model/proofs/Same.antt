@@ -65,25 +65,26 @@ claims_indirect_of geo v i k sound low high used =
     let many : 12 < blocks_of (v.inode i).size = omega (arith, ltb-true k (blocks_of (v.inode i).size) parts.0, ltb-false k direct_positions low) in
     (use_from geo v i indirect_position (v.inode i).indirect (record { sound = sound; used = lt-ltb 12 (blocks_of (v.inode i).size) many; value = refl }), parts.1)
 
-module _ (geo : Geometry) (v w : View) (m : SameMetadata geo v w) where
+module _ (geo : Geometry) (v w : View) (inode : (i : ℕ) → IsTrue (is_number geo i) → v.inode i ≡ w.inode i) (indirect : (i a : ℕ) → IsClaim geo v i indirect_position a → v.bytes a ≡ w.bytes a) where
   same_sound : (i : ℕ) → is_sound_at geo v i ≡ is_sound_at geo w i
-  same_sound i = same_and (is_number geo i) (is_sound (v.inode i)) (is_sound (w.inode i)) (λ n. ap is_sound (m.inode i n))
+  same_sound i = same_and (is_number geo i) (is_sound (v.inode i)) (is_sound (w.inode i)) (λ n. ap is_sound (inode i n))
 
   sound_number : (i : ℕ) → IsTrue (is_sound_at geo v i) → IsTrue (is_number geo i)
   sound_number i h = (and_parts (is_number geo i) (is_sound (v.inode i)) h).0
 
   same_directory : (i : ℕ) → is_directory_at geo v i ≡ is_directory_at geo w i
   same_directory i =
-      same_and (is_sound_at geo v i) (is_directory (v.inode i)) (is_directory (w.inode i)) (λ h. ap is_directory (m.inode i (sound_number i h)))
+      same_and (is_sound_at geo v i) (is_directory (v.inode i)) (is_directory (w.inode i)) (λ h. ap is_directory (inode i (sound_number i h)))
       ∙ ap (λ b. b && is_directory (w.inode i)) (same_sound i)
 
   same_value : (i k : ℕ) → IsTrue (is_sound_at geo v i) → IsTrue (is_used geo (v.inode i) k) → value_at v (v.inode i) k ≡ value_at w (v.inode i) k
   same_value i k sound used =
       same_else (ltb k direct_positions) _ _ (get_or (v.inode i).direct k 0) (λ low.
       same_cond (ltb k indirect_position) _ _ (v.inode i).indirect (λ high.
-      ap (λ bytes. u32_at bytes (4 * (k - direct_positions))) (m.indirect_blocks i (v.inode i).indirect (claims_indirect_of geo v i k sound low high used))))
+      ap (λ bytes. u32_at bytes (4 * (k - direct_positions))) (indirect i (v.inode i).indirect (claims_indirect_of geo v i k sound low high used))))
 
-  same_use : (i k : ℕ) → use_at geo v i k ≡ use_at geo w i k
+  -- the same records, and the same bytes of the indirect blocks that are claimed, make the same uses
+  pub same_use : (i k : ℕ) → use_at geo v i k ≡ use_at geo w i k
   unfolding use_at
   same_use i k =
       same_then (is_sound_at geo v i && is_used geo (v.inode i) k) (value_at v (v.inode i) k) (value_at w (v.inode i) k)
@@ -93,7 +94,7 @@ module _ (geo : Geometry) (v w : View) (m : SameMetadata geo v w) where
       by_sound : (b : Bool) → is_sound_at geo v i ≡ b → then_some (is_sound_at geo v i && is_used geo (v.inode i) k) (value_at w (v.inode i) k) ≡ then_some (is_sound_at geo w i && is_used geo (w.inode i) k) (value_at w (w.inode i) k)
       by_sound true e =
           ap (λ b. then_some (b && is_used geo (v.inode i) k) (value_at w (v.inode i) k)) (same_sound i)
-          ∙ ap (λ r. then_some (is_sound_at geo w i && is_used geo r k) (value_at w r k)) (m.inode i (sound_number i e))
+          ∙ ap (λ r. then_some (is_sound_at geo w i && is_used geo r k) (value_at w r k)) (inode i (sound_number i e))
       by_sound false e =
           ap (λ b. then_some (b && is_used geo (v.inode i) k) (value_at w (v.inode i) k)) e
           ∙ ap (λ b. then_some (b && is_used geo (w.inode i) k) (value_at w (w.inode i) k)) (sym e ∙ same_sound i)
@@ -102,22 +103,24 @@ module _ (geo : Geometry) (v w : View) (m : SameMetadata geo v w) where
   unfolding claim_at
   same_claim i k = ap (option_and_then (λ a. then_some (is_data_address geo a) a)) (same_use i k)
 
+module _ (geo : Geometry) (v w : View) (m : SameMetadata geo v w) where
   same_slot : (d s : ℕ) → slot geo v d s ≡ slot geo w d s
   unfolding slot
   same_slot d s =
       same_cond (is_directory_at geo v d && ltb (s / 16) indirect_position) _ _ Absent (λ h.
       same_map_or (λ a. slot_in geo (v.bytes a) s) (λ a. slot_in geo (w.bytes a) s) Absent (claim_at geo v d (s / 16)) (λ a c.
       ap (λ bytes. slot_in geo bytes s) (m.directory_blocks d (s / 16) a (and_parts (is_directory_at geo v d) (ltb (s / 16) indirect_position) h).0 (claim_parts geo v d (s / 16) a c))))
-      ∙ ap₂ (λ b o. cond (b && ltb (s / 16) indirect_position) (option_map_or (λ a. slot_in geo (w.bytes a) s) o Absent) Absent) (same_directory d) (same_claim d (s / 16))
+      ∙ ap₂ (λ b o. cond (b && ltb (s / 16) indirect_position) (option_map_or (λ a. slot_in geo (w.bytes a) s) o Absent) Absent)
+      (same_directory geo v w m.inode m.indirect_blocks d) (same_claim geo v w m.inode m.indirect_blocks d (s / 16))
 
   pub same_facts : SameFacts geo v w
   same_facts = record {
     inode = m.inode;
     number_marked = m.number_marked;
     block_marked = m.block_marked;
-    sound_at = same_sound;
-    directory_at = same_directory;
-    uses = same_use;
+    sound_at = same_sound geo v w m.inode m.indirect_blocks;
+    directory_at = same_directory geo v w m.inode m.indirect_blocks;
+    uses = same_use geo v w m.inode m.indirect_blocks;
     slots = same_slot;
   }
 

@@ -9,3 +9,4 @@ pub mod Metadata
 pub mod Cells
 pub mod Image
 pub mod Unlink
+pub mod Units

@@ -46,6 +46,10 @@ value_at view inode k =
     else (if nat_lt k indirect_position then u32_at (view.bytes inode.indirect) (4 * (k - direct_positions))
     else inode.indirect)
 
+-- the value that a record uses at position k, if it is sound and uses that position
+abbrev pub record_use : Geometry → View → Inode → ℕ → Option ℕ
+record_use geo view inode k = then_some (is_sound inode && is_used geo inode k) (value_at view inode k)
+
 -- the value that inode i uses at position k, if it uses that position
 unfoldable pub use_at : Geometry → View → ℕ → ℕ → Option ℕ
 use_at geo view i k = then_some (is_sound_at geo view i && is_used geo (view.inode i) k) (value_at view (view.inode i) k)

@@ -1,0 +1,154 @@
+//! The record of an inode: its mode, links, size and block pointers, as they stand in its 128 bytes of a block of
+//! inodes. Numbers stand the least byte first: the mode in bytes 0 and 1, the links in 2 and 3, the size in 4 to 7, the
+//! twelve direct pointers in 8 to 55 and the indirect pointer in 56 to 59. Bytes 60 to 127 are neither looked at nor
+//! changed. No call takes memory.
+#![tactic(auto)]
+
+ghost use Rattle.std.specs.Prelude.{◌≡◌, ◌≢◌, ℕ, ◌+◌, ◌*◌, ◌≤◌, ◌<◌, ◌⊎◌, List, length, take, drop, slice_index, slice_index_or};
+ghost use Rattle.std.specs.Simd.{first_chunks};
+ghost use Rattle.layout.specs.Fresh.{put};
+ghost use Rattle.model.specs.View.{inode_at, u32s_at};
+ghost use Rattle.model.specs.Uses as uses;
+
+use byteorder::{ByteOrder, LittleEndian};
+use std::marker::Model;
+
+#[cfg(test)]
+mod tests;
+
+/// How many bytes a record has.
+pub const RECORD_BYTES: usize = 128;
+
+/// How many pointers to blocks stand in the record itself.
+pub const DIRECT_POINTERS: usize = 12;
+
+/// How many blocks a file may have, which is the position of the indirect pointer.
+pub const INDIRECT_POSITION: u32 = 268;
+
+/// The mode of a free record.
+pub const FREE: u16 = 0;
+
+/// The mode of a file.
+pub const FILE: u16 = 1;
+
+/// The mode of a directory.
+pub const DIRECTORY: u16 = 2;
+
+/// How many bytes a block has.
+const BLOCK_BYTES: u32 = 1024;
+
+/// The record of an inode.
+#[derive(Clone, Copy, Debug, PartialEq, Eq)]
+pub struct Record {
+    /// `FREE`, `FILE` or `DIRECTORY`; a record of any other mode is not sound.
+    pub mode: u16,
+    /// How many entries name the inode.
+    pub links: u16,
+    /// How many bytes the file or directory has.
+    pub size: u32,
+    /// The addresses of the first blocks.
+    pub direct: [u32; DIRECT_POINTERS],
+    /// The address of the block that holds the addresses of the blocks after those.
+    pub indirect: u32,
+}
+
+impl Model for Record {
+    ghost use Rattle.model.specs.View.{Inode};
+
+    ghost Value = { Inode };
+
+    ghost view = { λ r. record { mode = r.mode; links = r.links; size = r.size; direct = r.direct; indirect = r.indirect } };
+
+    ghost inverse = { λ n. record { mode = n.mode; links = n.links; size = n.size; direct = n.direct; indirect = n.indirect } };
+}
+
+impl Record {
+    /// Reads a record from its bytes.
+    pub fn read(bytes: &[u8; RECORD_BYTES]) -> Record
+        ensures { result ≡ inode_at bytes.now 0 }
+    {
+        let mut direct = [0; DIRECT_POINTERS];
+        LittleEndian::read_u32_into(&bytes[8..56], &mut direct);
+        Record {
+            mode: LittleEndian::read_u16(&bytes[0..]),
+            links: LittleEndian::read_u16(&bytes[2..]),
+            size: LittleEndian::read_u32(&bytes[4..]),
+            direct,
+            indirect: LittleEndian::read_u32(&bytes[56..]),
+        }
+    }
+
+    /// Writes the record over bytes 0 to 59; the others stay as they were.
+    pub fn write(&self, bytes: &mut [u8; RECORD_BYTES])
+        ensures read { inode_at bytes.new 0 ≡ self.now }
+        ensures rest { drop 60 bytes.new ≡ drop 60 bytes.old }
+    {
+        let Record {
+            mode,
+            links,
+            size,
+            direct,
+            indirect,
+        } = *self;
+        LittleEndian::write_u16(&mut bytes[0..2], mode);
+        LittleEndian::write_u16(&mut bytes[2..4], links);
+        LittleEndian::write_u32(&mut bytes[4..8], size);
+        write_direct(&direct, bytes);
+        LittleEndian::write_u32(&mut bytes[56..60], indirect);
+    }
+
+    /// Whether the record is a file's, or a directory's with a size of one or more whole blocks, and its blocks are
+    /// few enough.
+    pub fn is_sound(&self) -> bool
+        ensures { result ≡ uses.is_sound self.now }
+    {
+        let is_whole = self.size > 0 && self.size % BLOCK_BYTES == 0;
+        (self.mode == FILE || self.is_directory() && is_whole) && self.blocks() <= INDIRECT_POSITION
+    }
+
+    /// Whether the record has the mode of a directory.
+    pub fn is_directory(&self) -> bool
+        ensures { result ≡ uses.is_directory self.now }
+    {
+        self.mode == DIRECTORY
+    }
+
+    /// How many blocks the record's size takes.
+    pub fn blocks(&self) -> u32
+        ensures { result ≡ uses.blocks_of self.now.size }
+    {
+        blocks_of_size(self.size)
+    }
+}
+
+/// How many blocks a size in bytes takes: it is rounded up.
+pub fn blocks_of_size(size: u32) -> u32
+    ensures { result ≡ uses.blocks_of size }
+{
+    size.div_ceil(BLOCK_BYTES)
+}
+
+/// Writes the direct pointers over bytes 8 to 55.
+fn write_direct(pointers: &[u32; DIRECT_POINTERS], bytes: &mut [u8; RECORD_BYTES])
+    ensures read { u32s_at bytes.new 8 12 ≡ pointers.now }
+    ensures rest { (k : ℕ) → (k < 8) ⊎ (56 ≤ k) → slice_index bytes.new k ≡ slice_index bytes.old k }
+{
+    LittleEndian::write_u32_into(pointers, &mut bytes[8..56]);
+}
+
+/// A record's bytes say the same in their block as alone, also where the block is seen as its chunks.
+pub fn a_record_is_read_from_its_bytes()
+    ensures bytes { (block : List ℕ) (byte : ℕ) → byte + 128 ≤ length block → inode_at (take 128 (drop byte block)) 0 ≡ inode_at block byte }
+    ensures chunks { (block : List ℕ) (count j : ℕ) (d : List ℕ) → j < count → inode_at (slice_index_or (first_chunks 128 count block) j d) 0 ≡ inode_at block (128 * j) }
+{}
+
+/// A record's bytes that are put into its block say there what they say alone, and no other record and no other byte
+/// changes. Where the bytes that are not looked at are those that stood there, they stay too.
+pub fn a_record_is_written_into_its_block()
+    ensures length { (block bytes : List ℕ) (byte : ℕ) → length bytes ≡ 128 → byte + 128 ≤ length block → length (put byte bytes block) ≡ length block }
+    ensures written { (block bytes : List ℕ) (byte : ℕ) → length bytes ≡ 128 → byte + 128 ≤ length block → inode_at (put byte bytes block) byte ≡ inode_at bytes 0 }
+    ensures others { (block bytes : List ℕ) (j k : ℕ) → length bytes ≡ 128 → 128 * j + 128 ≤ length block → j ≢ k
+        → inode_at (put (128 * j) bytes block) (128 * k) ≡ inode_at block (128 * k) }
+    ensures rest { (block bytes : List ℕ) (byte : ℕ) → length bytes ≡ 128 → byte + 128 ≤ length block → drop 60 bytes ≡ drop 60 (take 128 (drop byte block))
+        → (k : ℕ) → (k < byte) ⊎ (byte + 60 ≤ k) → slice_index (put byte bytes block) k ≡ slice_index block k }
+{}

@@ -1,0 +1,74 @@
+use crate::{DIRECT_POINTERS, DIRECTORY, FILE, FREE, RECORD_BYTES, Record, blocks_of_size};
+
+/// A free record.
+const ZERO: Record = Record {
+    mode: FREE,
+    links: 0,
+    size: 0,
+    direct: [0; DIRECT_POINTERS],
+    indirect: 0,
+};
+
+#[test]
+fn a_written_record_has_its_bytes_and_is_read_back(rt: HostRuntime) {
+    let record = Record {
+        mode: DIRECTORY,
+        links: 0x0102,
+        size: 0x0304_0506,
+        direct: [0x1112_1314, 2, 3, 4, 5, 6, 7, 8, 9, 10, 11, 0x2122_2324],
+        indirect: 0x3132_3334,
+    };
+    let mut bytes = [0xaa; RECORD_BYTES];
+    record.write(&mut bytes);
+
+    let mut wanted = [0xaa; RECORD_BYTES];
+    wanted[..60].copy_from_slice(&[0; 60]);
+    wanted[..12].copy_from_slice(&[2, 0, 2, 1, 6, 5, 4, 3, 0x14, 0x13, 0x12, 0x11]);
+    for place in 1..11 {
+        wanted[8 + 4 * place] = 1 + place as u8;
+    }
+    wanted[52..60].copy_from_slice(&[0x24, 0x23, 0x22, 0x21, 0x34, 0x33, 0x32, 0x31]);
+    assert!(rt; bytes == wanted, "the record's bytes");
+    assert_eq!(rt; Record::read(&bytes), record);
+}
+
+#[test]
+fn sizes_take_whole_blocks(rt: HostRuntime) {
+    let table = [
+        (0, 0),
+        (1, 1),
+        (1024, 1),
+        (1025, 2),
+        (274_432, 268),
+        (274_433, 269),
+        (u32::MAX, 4_194_304),
+    ];
+    for (size, blocks) in table {
+        assert_eq!(rt; blocks_of_size(size), blocks, "size {size}");
+        assert_eq!(rt; Record { size, ..ZERO }.blocks(), blocks, "size {size}");
+    }
+}
+
+#[test]
+fn sound_records_are_told_apart(rt: HostRuntime) {
+    let table = [
+        (FREE, 0, false),
+        (FILE, 0, true),
+        (FILE, 1, true),
+        (FILE, 274_432, true),
+        (FILE, 274_433, false),
+        (FILE, u32::MAX, false),
+        (DIRECTORY, 0, false),
+        (DIRECTORY, 1023, false),
+        (DIRECTORY, 1024, true),
+        (DIRECTORY, 274_432, true),
+        (DIRECTORY, 275_456, false),
+        (3, 1024, false),
+        (0x0101, 1024, false),
+    ];
+    for (mode, size, is_sound) in table {
+        let record = Record { mode, size, ..ZERO };
+        assert_eq!(rt; record.is_sound(), is_sound, "mode {mode} size {size}");
+        assert_eq!(rt; record.is_directory(), mode == DIRECTORY, "mode {mode}");
+    }
+}
