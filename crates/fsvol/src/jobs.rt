@@ -12,10 +12,10 @@ ghost use Rattle.fsvol.specs.Bits.{bits_text, finding_lines};
 ghost use Rattle.fsvol.specs.Status.{status_of_verdict};
 ghost use Rattle.layout.specs.Fresh.{fresh_image};
 
-use crate::numbers::number_findings;
 use device::{Before, Device, MemDevice, format, load};
 use findings::{Finding, Verdict, nothing_is_found_on_the_fresh_image, verdict};
 use layout::{BLOCK_BYTES, Geometry, Refusal};
+use phase_maps::number_findings;
 use std::alloc::{AllocError, Global};
 
 /// What a line prints, and the status that the program then ends with.

@@ -5,7 +5,6 @@ mod entry;
 mod failure;
 mod jobs;
 mod line;
-mod numbers;
 #[cfg(test)]
 mod rows;
 

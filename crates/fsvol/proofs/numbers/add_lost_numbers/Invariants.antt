@@ -1,7 +1,0 @@
-use Rattle.std.proofs.Common.{◌≡◌, ◌++◌}
-use Rattle.findings.specs.Numbers.{lost_below}
-use Rattle.device.specs.Kept.{frozen_view}
-use Rattle.fsvol.proofs.numbers.add_lost_numbers.Given as goal
-
-abbrev pub invariant-loop-number : goal.invariant-loop-number
-invariant-loop-number l = l.found.items ≡ l.fn.found.items ++ lost_below l.frozen.geometry (frozen_view l.frozen) l.number

@@ -1,0 +1,73 @@
+-- Claims in their order, and sets that grow by one.
+use Rattle.std.proofs.Common.{◌≡◌, ◌<◌, ◌*◌, ◌/◌, ℕ, zero, suc, false, rules, ◌&&◌, eqb, leb, ltb, ◌⊎◌, inl, inr, refl, sym, ◌∙◌, subst, arith, IsTrue}
+use Rattle.std.proofs.lemmas.Bool.{cases_order, or_cases, or_left, or_right, and_parts, and_from, eqb-true, eq-eqb, ltb-true}
+use Rattle.std.proofs.lemmas.Nat.{div_below}
+use Rattle.std.proofs.lemmas.Option.{same_Some}
+use Rattle.model.specs.Layout.{Geometry, inode_count, is_number}
+use Rattle.model.specs.View.{View}
+use Rattle.model.specs.Uses.{IsUse, IsClaim, Before}
+use Rattle.std.specs.BTreeMap.{is_at}
+use Rattle.std.specs.Ordering.{nat_cmp}
+use Rattle.phase_blocks.specs.Parts.{Uses, with_use}
+
+-- a number stands in some group
+pub group_of_number : (geo : Geometry) (i : ℕ) → IsTrue (is_number geo i) → i / geo.inodes < geo.groups
+group_of_number geo i t =
+    let low : i < inode_count geo = ltb-true i (inode_count geo) (and_parts (leb 2 i) (ltb i (inode_count geo)) t).1 in
+    div_below i geo.inodes geo.groups (some_inode geo.inodes low) low
+  where
+    some_inode : (inodes : ℕ) → i < geo.groups * inodes → 0 < inodes
+    some_inode zero low = absurd (omega (arith, low))
+    some_inode (suc inodes) low = omega arith
+
+-- a use has one value
+pub use_value : (geo : Geometry) (view : View) (i k v w : ℕ) → IsUse geo view i k v → IsUse geo view i k w → v ≡ w
+use_value geo view i k v w u x = same_Some v w (sym u ∙ x)
+
+pub same_block : (geo : Geometry) (view : View) (i k j l a b : ℕ) → IsClaim geo view i k a → IsClaim geo view j l b → j ≡ i → l ≡ k → b ≡ a
+same_block geo view i k j l a b c d e f =
+    use_value geo view i k b a (subst (λ x. IsUse geo view x k b) e (subst (λ x. IsUse geo view j x b) f d.0)) c.0
+
+-- one comes before the other, or they are the same
+pub data Compared (j l i k : ℕ) : Type 0 where
+  first : Before j l i k → Compared j l i k
+  same : j ≡ i → l ≡ k → Compared j l i k
+  second : Before i k j l → Compared j l i k
+
+pub compared : (j l i k : ℕ) → Compared j l i k
+compared j l i k =
+    elim (cases_order j i) [
+      | inl e ↦ elim (cases_order l k) [
+        | inl f ↦ same e f
+        | inr h ↦ elim h [ inl lt ↦ first (inr (e, lt)) | inr gt ↦ second (inr (sym e, gt)) ]
+      ]
+      | inr h ↦ elim h [ inl lt ↦ first (inl lt) | inr gt ↦ second (inl gt) ]
+    ]
+
+pub not_before_itself : (i k j l : ℕ) → j ≡ i → l ≡ k → Before j l i k → ⊥
+not_before_itself i k j l e f b = omega (arith, b)
+
+pub before_trans : (i k j l m n : ℕ) → Before i k j l → Before j l m n → Before i k m n
+before_trans i k j l m n (inl a) (inl b) = inl (omega arith)
+before_trans i k j l m n (inl a) (inr b) = inl (omega (arith, b.0))
+before_trans i k j l m n (inr a) (inl b) = inl (omega (arith, a.0))
+before_trans i k j l m n (inr a) (inr b) = inr (a.0 ∙ b.0, omega (arith, a.1, b.1))
+
+-- t has the uses of s, and the use of position k by inode i
+pub record AddsUse (s t : Uses) (i k : ℕ) : Type 0 where
+  pub keeps : (j l : ℕ) → IsTrue (s j l) → IsTrue (t j l)
+  pub has : IsTrue (t i k)
+  pub only : (j l : ℕ) → IsTrue (t j l) → IsTrue (s j l) ⊎ ((j ≡ i) × (l ≡ k))
+
+pub with_use_adds : (s : Uses) (i k : ℕ) → AddsUse s (with_use s i k) i k
+with_use_adds s i k = record {
+  keeps = λ j l u. or_left (s j l) (eqb j i && eqb l k) u;
+  has = or_right (s i k) (eqb i i && eqb k k) (and_from (eqb i i) (eqb k k) (eq-eqb i i refl) (eq-eqb k k refl));
+  only = λ j l u. elim (or_cases (s j l) (eqb j i && eqb l k) u) [
+    | inl h ↦ inl h
+    | inr h ↦ inr (let p = and_parts (eqb j i) (eqb l k) h in (eqb-true j i p.0, eqb-true l k p.1))
+  ];
+}
+
+pub elsewhere : (a q : ℕ) → (q ≡ a → ⊥) → is_at (nat_cmp a) q ≡ false
+elsewhere a q apart = search rules

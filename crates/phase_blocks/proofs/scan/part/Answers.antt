@@ -1,0 +1,67 @@
+-- The loop goes over the numbers that stand in the group.
+use Rattle.std.proofs.Common.{◌≡◌, ◌≤◌, ◌<◌, ◌/◌, ℕ, ◌↔◌, IsTrue, inl, inr, subst, ap, sym, ◌∙◌, arith}
+use Rattle.std.proofs.lemmas.Bool.{cases_lt}
+use Rattle.std.specs.declared.ops.Range.{Range}
+use Rattle.model.specs.Layout.{Geometry, is_number}
+use Rattle.device.specs.Kept.{frozen_view}
+use Rattle.phase_blocks.specs.Parts.{IsGathered, with_inode, with_uses}
+use Rattle.phase_blocks.proofs.Scanning.{AreNumbersFrom, group_below, no_numbers, none_yet, one_more, whole_group}
+use Rattle.phase_blocks.proofs.scan.part.Goals as goal
+
+-- a range of the group's numbers, and what is left of it
+abbrev AreNumbers : Geometry → ℕ → Range ℕ → Type 0
+AreNumbers geo group range = (i : ℕ) → ((range.start ≤ i) × (i < range.end)) ↔ (IsTrue (is_number geo i) × (i / geo.inodes ≡ group))
+
+numbers : {geo other : Geometry} {group : ℕ} {range items : Range ℕ} → geo ≡ other → items ≡ range → AreNumbers geo group range → AreNumbers other group items
+numbers {geo} {other} {group} {range} {items} e f h =
+    subst (λ (r : Range ℕ). AreNumbers other group r) (sym f) (subst (λ (g : Geometry). AreNumbers g group range) e h)
+
+pub returns-then-unit-groups-clause-part : goal.returns-then-unit-groups-clause-part
+returns-then-unit-groups-clause-part c =
+    let geo = c.args.frozen.now.geometry in
+    let view = frozen_view c.args.frozen.now in
+    let count : c.groups.result ≡ geo.groups = c.groups.ensures.count ∙ ap (λ (g : Geometry). g.groups) c.geometry-geometry.ensures.geometry in
+    no_numbers geo view c.args.unit c.new-part.result (omega (arith, c.if-unit-groups.true)) (c.new-part.ensures.part geo view)
+
+pub returns-then-unit-groups-clause-no_group : goal.returns-then-unit-groups-clause-no_group
+returns-then-unit-groups-clause-no_group c = λ past. c.new-part.ensures.empty
+
+pub loop-number-init : goal.loop-number-init
+loop-number-init c =
+    let geo = c.args.frozen.now.geometry in
+    let view = frozen_view c.args.frozen.now in
+    let all : AreNumbers geo c.args.unit c.into_iter-number-iterator.result =
+    numbers c.geometry-geometry.ensures.geometry c.into_iter-number-iterator.ensures.into_iter_gives c.numbers_of-number-items.ensures in (
+      none_yet geo view c.args.unit c.new-part.result c.into_iter-number-iterator.result.start (λ i t e. ((all i).1 (t, e)).0) (c.new-part.ensures.part geo view),
+      λ i from. ((λ lt. (all i).0 (from, lt)), (λ h. ((all i).1 h).1)),
+    )
+
+pub look_at_inode-requires : goal.look_at_inode-requires
+look_at_inode-requires c =
+    let e = c.in-Some.ensures.steps in
+    ((c.loop-number.invariant.1 c.in-Some.number (omega (arith, e.1.1))).0 (omega (arith, e.1.0, e.1.1))).0
+
+pub loop-number-preserved : goal.loop-number-preserved
+loop-number-preserved c =
+    let geo = c.args.frozen.now.geometry in
+    let view = frozen_view c.args.frozen.now in
+    let e = c.in-Some.ensures.steps in
+    let start = c.loop-number.number-iterator.start in
+    let here = (c.loop-number.invariant.1 start (omega arith)).0 (omega (arith, e.1.0)) in
+    let looked = c.in_ok-look_at_inode.ensures.looked (group_below geo c.args.unit start) (λ i l. group_below geo c.args.unit start i) c.loop-number.invariant.0 in (
+      one_more geo view c.args.unit c.look_at_inode.new.part start c.next.new.self.start e.1.2 here.1
+          (subst (λ n. IsGathered geo view (with_inode (group_below geo c.args.unit start) n) (with_uses (λ i l. group_below geo c.args.unit start i) n) c.look_at_inode.new.part) e.1.1 looked),
+      λ i from. subst (λ past. (i < past) ↔ (IsTrue (is_number geo i) × (i / geo.inodes ≡ c.args.unit))) (sym e.0) (c.loop-number.invariant.1 i (omega (arith, from, e.1.2))),
+    )
+
+pub returns-clause-part : goal.returns-clause-part
+returns-clause-part c =
+    let geo = c.args.frozen.now.geometry in
+    let view = frozen_view c.args.frozen.now in
+    let e = c.in-None.ensures.steps in
+    let start = c.loop-number.number-iterator.start in
+    whole_group geo view c.args.unit c.loop-number.part start
+    (λ i t g. elim (cases_lt i start) [
+      | inl lt ↦ lt
+      | inr from ↦ (let lt = (c.loop-number.invariant.1 i from).1 (t, g) in omega (arith, lt, e.1.0))
+    ]) c.loop-number.invariant.0

@@ -1,0 +1,10 @@
+use Rattle.std.proofs.Common.{◌≡◌, ◌≤◌, ◌<◌, ◌/◌, ℕ, ◌↔◌, IsTrue}
+use Rattle.model.specs.Layout.{is_number}
+use Rattle.device.specs.Kept.{frozen_view}
+use Rattle.phase_blocks.proofs.Scanning.{AreNumbersFrom, IsGatheredBelow}
+use Rattle.phase_blocks.proofs.scan.part.Given as goal
+
+abbrev pub invariant-loop-number : goal.invariant-loop-number
+invariant-loop-number l =
+    IsGatheredBelow l.frozen.geometry (frozen_view l.frozen) l.unit l.part l.number-iterator.start
+    × AreNumbersFrom l.frozen.geometry l.unit l.number-iterator.start l.number-iterator.end

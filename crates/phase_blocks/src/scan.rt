@@ -1,0 +1,105 @@
+ghost use Rattle.std.specs.Prelude.{◌≡◌, ◌<◌, ◌≤◌, ◌/◌, ◌↔◌, ℕ, IfOk, OnOk, IsOkUnless, IsTrue};
+ghost use Rattle.model.specs.Layout.{is_number};
+ghost use Rattle.model.specs.Units.{only};
+ghost use Rattle.device.specs.Kept.{frozen_view};
+ghost use Rattle.phase_blocks.specs.Parts.{Inodes, Uses, IsGathered, IsPart, nothing_gathered, with_inode, with_use, with_uses};
+
+use crate::parts::{Claim, Part};
+use device::Frozen;
+use findings::Finding;
+use inode::{FREE, INDIRECT_POSITION, Record};
+use layout::{Geometry, ROOT, Refusal};
+use std::alloc::Global;
+use std::ops::Range;
+
+/// What the inodes of a cylinder group claim, and what is wrong with them and with what they use. A unit that is no
+/// group has no inodes.
+pub fn part(alloc: Global, frozen: &Frozen, unit: u32) -> Result<Part, Refusal>
+    ensures part { IfOk result (λ part. IsPart frozen.now.geometry (frozen_view frozen.now) (only unit) part) }
+    ensures no_group { IfOk result (λ part. frozen.now.geometry.groups ≤ unit → part ≡ nothing_gathered) }
+    ensures error { IsOkUnless result Refusal.NoMemory }
+{
+    let mut part = Part::new(alloc);
+    let geometry = frozen.geometry();
+    if unit >= geometry.groups() {
+        return Ok(part);
+    }
+    for number in numbers_of(&geometry, unit) {
+        look_at_inode(&mut part, frozen, number)?;
+    }
+    Ok(part)
+}
+
+/// The numbers of the inodes of a group, without those that are never given out.
+fn numbers_of(geometry: &Geometry, group: u32) -> Range<u32>
+    requires { group < geometry.now.groups }
+    ensures { (i : ℕ) → ((result.start ≤ i) × (i < result.end)) ↔ (IsTrue (is_number geometry.now i) × (i / geometry.now.inodes ≡ group)) }
+{
+    let first = group * geometry.inodes_a_group();
+    first.max(ROOT)..first + geometry.inodes_a_group()
+}
+
+/// Looks at the record of an inode, and at all that it uses.
+fn look_at_inode(part: &mut Part, frozen: &Frozen, number: u32) -> Result<(), Refusal>
+    requires { IsTrue (is_number frozen.now.geometry number) }
+    ensures looked { OnOk result ((inodes : Inodes) (uses : Uses) → IsGathered frozen.now.geometry (frozen_view frozen.now) inodes uses part.old
+        → IsGathered frozen.now.geometry (frozen_view frozen.now) (with_inode inodes number) (with_uses uses number) part.new) }
+    ensures error { IsOkUnless result Refusal.NoMemory }
+{
+    let record = frozen.record(number);
+    if record.is_sound() {
+        look_at_uses(part, frozen, number, &record)
+    } else if record.mode != FREE {
+        part.add_finding(Finding::BadInode(number))
+    } else {
+        Ok(())
+    }
+}
+
+/// Looks at each position of a sound inode: those of its blocks, and that of its indirect pointer.
+fn look_at_uses(
+    part: &mut Part,
+    frozen: &Frozen,
+    number: u32,
+    inode: &Record,
+) -> Result<(), Refusal>
+    requires number { IsTrue (is_number frozen.now.geometry number) }
+    requires inode { inode.now ≡ (frozen_view frozen.now).inode number }
+    ensures looked { OnOk result ((inodes : Inodes) (uses : Uses) → IsGathered frozen.now.geometry (frozen_view frozen.now) inodes uses part.old
+        → IsGathered frozen.now.geometry (frozen_view frozen.now) inodes (with_uses uses number) part.new) }
+    ensures error { IsOkUnless result Refusal.NoMemory }
+{
+    for position in 0..inode.blocks() {
+        look_at_use(part, frozen, number, inode, position)?;
+    }
+    look_at_use(part, frozen, number, inode, INDIRECT_POSITION)
+}
+
+/// Looks at what an inode uses at a position, if it uses the position.
+fn look_at_use(
+    part: &mut Part,
+    frozen: &Frozen,
+    number: u32,
+    inode: &Record,
+    position: u32,
+) -> Result<(), Refusal>
+    requires number { IsTrue (is_number frozen.now.geometry number) }
+    requires inode { inode.now ≡ (frozen_view frozen.now).inode number }
+    ensures looked { OnOk result ((inodes : Inodes) (uses : Uses) → IsGathered frozen.now.geometry (frozen_view frozen.now) inodes uses part.old
+        → IsGathered frozen.now.geometry (frozen_view frozen.now) inodes (with_use uses number position) part.new) }
+    ensures error { IsOkUnless result Refusal.NoMemory }
+{
+    let Some(value) = frozen.use_of(inode, position) else {
+        return Ok(());
+    };
+    if frozen.geometry().place_of(value).is_none() {
+        return part.add_finding(Finding::BadPointer(number, position, value));
+    }
+    part.add_claim(
+        value,
+        Claim {
+            inode: number,
+            position,
+        },
+    )
+}

@@ -1,0 +1,7 @@
+pub mod Adding
+mod FindingOrder
+mod ClaimLemmas
+mod NumberCases
+mod PartLemmas
+mod UnitLemmas
+mod WalkLemmas

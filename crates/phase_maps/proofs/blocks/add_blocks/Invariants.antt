@@ -1,0 +1,7 @@
+use Rattle.device.specs.Kept.{frozen_view}
+use Rattle.phase_maps.specs.Walks.{Adds, IsFoundAt}
+use Rattle.phase_maps.proofs.Adding.{AtBelow}
+use Rattle.phase_maps.proofs.blocks.add_blocks.Given as goal
+
+abbrev pub invariant-loop-bit : goal.invariant-loop-bit
+invariant-loop-bit l = Adds (AtBelow (IsFoundAt l.frozen.geometry (frozen_view l.frozen) l.claimed.keys l.group) l.bit) l.fn.found.items l.found.items

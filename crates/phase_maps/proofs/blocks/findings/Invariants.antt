@@ -1,0 +1,8 @@
+use Rattle.std.proofs.Common.{[]}
+use Rattle.device.specs.Kept.{frozen_view}
+use Rattle.phase_maps.specs.Walks.{Adds, IsFoundInGroup}
+use Rattle.phase_maps.proofs.Adding.{AtBelow}
+use Rattle.phase_maps.proofs.blocks.findings.Given as goal
+
+abbrev pub invariant-loop-group : goal.invariant-loop-group
+invariant-loop-group l = Adds (AtBelow (IsFoundInGroup l.frozen.geometry (frozen_view l.frozen) l.whole.claimed) l.group) [] l.found.items

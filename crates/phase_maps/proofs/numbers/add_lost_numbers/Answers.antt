@@ -1,0 +1,30 @@
+-- Each turn adds what the test says.
+use Rattle.std.proofs.Common.{◌≡◌, ◌++◌, sym, ap, ◌∙◌, arith}
+use Rattle.model.specs.Layout.{inode_count}
+use Rattle.findings.specs.declared.finding.Finding.TheVariants.{LostNumber}
+use Rattle.findings.specs.Numbers.{is_lost_number, lost_below}
+use Rattle.findings.proofs.FoundBelow.{found_none, found_more_yes, found_more_no}
+use Rattle.device.specs.Kept.{frozen_view}
+use Rattle.phase_maps.proofs.numbers.add_lost_numbers.Goals as goal
+use Rattle.phase_maps.proofs.numbers.add_lost_numbers.Goals.{then-is_lost+in_ok-push, else-is_lost}
+
+pub loop-number-init : goal.loop-number-init
+loop-number-init c = found_none c.args.found.now.items (is_lost_number c.args.frozen.now.geometry (frozen_view c.args.frozen.now)) LostNumber
+
+pub loop-number-preserved : goal.loop-number-preserved
+loop-number-preserved c =
+    let test = is_lost_number c.args.frozen.now.geometry (frozen_view c.args.frozen.now) in
+    elim c.if-is_lost.branch [
+      | then-is_lost+in_ok-push w ↦
+          found_more_yes c.args.found.now.items test LostNumber c.loop-number.number c.loop-number.found.items c.if-is_lost.found.items
+          c.loop-number.invariant (sym c.is_lost.ensures ∙ w.if-is_lost.true) (cc (w.in_ok-push.ensures.items))
+      | else-is_lost w ↦
+          found_more_no c.args.found.now.items test LostNumber c.loop-number.number c.loop-number.found.items c.if-is_lost.found.items
+          c.loop-number.invariant (sym c.is_lost.ensures ∙ w.if-is_lost.false) (cc)
+    ]
+
+pub returns : goal.returns
+returns c =
+    let geo = c.args.frozen.now.geometry in
+    let last : c.loop-number.number ≡ inode_count geo = omega (arith, c.inodes-number-end.ensures.count, ap inode_count c.geometry.ensures.geometry) in
+    c.loop-number.invariant ∙ ap (λ n. c.args.found.now.items ++ lost_below geo (frozen_view c.args.frozen.now) n) last

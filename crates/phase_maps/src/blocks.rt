@@ -1,0 +1,77 @@
+ghost use Rattle.std.specs.Prelude.{◌≡◌, ◌<◌, ◌+◌, ◌++◌, IfOk, OnOk, IsOkUnless};
+ghost use Rattle.model.specs.Layout.{header_blocks};
+ghost use Rattle.model.specs.Units.{Units, IsEveryGroup};
+ghost use Rattle.findings.specs.Findings.{AreFindingsOf, is_of_maps};
+ghost use Rattle.device.specs.Kept.{frozen_view};
+ghost use Rattle.phase_maps.specs.Parts.{IsPart};
+ghost use Rattle.phase_maps.specs.Walks.{Adds, IsFoundInGroup, block_finding};
+
+use crate::gathering::Part;
+use cgmaps::{Map, bit_of};
+use device::Frozen;
+use findings::{Finding, in_order};
+use layout::{Geometry, Refusal};
+use std::alloc::{AllocError, Global};
+use std::collections::BTreeSet;
+
+/// The findings of the maps, in order: each bit of a data block of the volume is compared with the claims of all
+/// groups.
+pub fn findings(alloc: Global, frozen: &Frozen, whole: &Part) -> Result<Vec<Finding>, Refusal>
+    ensures found { IfOk result (λ found. (units : Units) → IsPart frozen.now.geometry (frozen_view frozen.now) units whole.now
+        → IsEveryGroup frozen.now.geometry units → AreFindingsOf is_of_maps frozen.now.geometry (frozen_view frozen.now) found.items) }
+    ensures error { IsOkUnless result Refusal.NoMemory }
+{
+    let mut found = Vec::new(alloc);
+    for group in 0..frozen.geometry().groups() {
+        add_blocks(frozen, group, whole.claimed(), &mut found)?;
+    }
+    add_all(whole.numbers(), &mut found)?;
+    in_order(found)
+}
+
+/// Adds these findings.
+fn add_all(findings: &BTreeSet<Finding>, found: &mut Vec<Finding>) -> Result<(), AllocError>
+    ensures { OnOk result (found.new.items ≡ found.old.items ++ findings.now.keys) }
+{
+    found.extend(findings.iter().copied())
+}
+
+/// Adds what is found of the data blocks of a group, where these blocks are claimed.
+fn add_blocks(
+    frozen: &Frozen,
+    group: u32,
+    claimed: &BTreeSet<u32>,
+    found: &mut Vec<Finding>,
+) -> Result<(), AllocError>
+    requires { group < frozen.now.geometry.groups }
+    ensures { OnOk result (Adds (IsFoundInGroup frozen.now.geometry (frozen_view frozen.now) claimed.now.keys group) found.old.items found.new.items) }
+{
+    let geometry = frozen.geometry();
+    let maps = frozen.maps_of(group);
+    for bit in 0..data_blocks(&geometry) {
+        let address = geometry.data_address(group, bit);
+        let is_marked = bit_of(maps, Map::Blocks, bit);
+        if let Some(finding) = block_finding(is_marked, claimed.contains(&address), address) {
+            found.push(finding)?;
+        }
+    }
+    Ok(())
+}
+
+/// How many data blocks a group has.
+fn data_blocks(geometry: &Geometry) -> u32
+    ensures { header_blocks geometry.now + result ≡ geometry.now.blocks }
+{
+    geometry.blocks_a_group() - geometry.header_blocks()
+}
+
+/// What is found of a data block.
+fn block_finding(is_marked: bool, is_claimed: bool, address: u32) -> Option<Finding>
+    ensures { result ≡ block_finding is_marked is_claimed address }
+{
+    match (is_marked, is_claimed) {
+        (true, false) => Some(Finding::LostBlock(address)),
+        (false, true) => Some(Finding::UnmarkedBlock(address)),
+        _ => None,
+    }
+}

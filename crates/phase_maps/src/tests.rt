@@ -1,0 +1,80 @@
+use crate::{Part, findings, merge, number_findings, part};
+use device::{Before, Device, Frozen, MemDevice, format, load};
+use findings::Finding;
+use layout::{BLOCK_BYTES, Geometry, Refusal};
+use std::alloc::Global;
+
+/// The bytes that differ from a fresh image of two groups of 16 blocks and 16 inodes: the block, the byte, the value.
+/// Block 16 is marked, which is the last one of group 0, and number 31, which is the last one of group 1. Inode 18 has
+/// 13 blocks: it claims 20, the indirect block 21 and through it 22.
+const CHANGES: [(u32, usize, u8); 8] = [
+    (1, 161, 0x10),
+    (17, 33, 0x80),
+    (18, 256, 1),
+    (18, 261, 0x34),
+    (18, 264, 20),
+    (18, 312, 21),
+    (21, 0, 22),
+    (21, 4, 3),
+];
+
+/// The metadata of an image of two groups, fresh but for these changes.
+fn image_with(alloc: Global, changes: &[(u32, usize, u8)]) -> Result<Frozen, Refusal> {
+    let geometry = Geometry::new(2, 16, 16)?;
+    let bytes = vec![in alloc; 0u8; geometry.blocks() as usize * BLOCK_BYTES]?;
+    let mut device = MemDevice::from_bytes(alloc, bytes.as_slice())?;
+    if device.blocks() != geometry.blocks() {
+        return Err(Refusal::BadLength);
+    }
+    format(&mut device, &geometry, Before::Anything)?;
+    for (address, byte, value) in changes {
+        set_byte(&mut device, *address, *byte, *value)?;
+    }
+    load(alloc, &mut device)
+}
+
+/// Changes one byte of a block.
+fn set_byte(device: &mut MemDevice, address: u32, byte: usize, value: u8) -> Result<(), Refusal> {
+    if address >= device.blocks() || byte >= BLOCK_BYTES {
+        return Err(Refusal::BadIndex);
+    }
+    let mut block = [0; BLOCK_BYTES];
+    device.read(address, &mut block)?;
+    block[byte] = value;
+    device.write(address, &block)?;
+    Ok(())
+}
+
+#[test]
+fn nothing_is_found_on_a_fresh_image(rt: HostRuntime) -> Result<(), Refusal> {
+    let alloc = rt.alloc();
+    let frozen = image_with(alloc, &[])?;
+    let whole = merge(part(alloc, &frozen, 0)?, part(alloc, &frozen, 1)?)?;
+    assert_eq!(rt; findings(alloc, &frozen, &whole)?.len(), 0);
+    assert_eq!(rt; number_findings(alloc, &frozen)?.len(), 0);
+    Ok(())
+}
+
+#[test]
+fn parts_are_merged_in_any_order(rt: HostRuntime) -> Result<(), Refusal> {
+    let alloc = rt.alloc();
+    let frozen = image_with(alloc, &CHANGES)?;
+    let wanted = [
+        Finding::LostBlock(16),
+        Finding::UnmarkedBlock(20),
+        Finding::UnmarkedBlock(21),
+        Finding::UnmarkedBlock(22),
+        Finding::LostNumber(31),
+        Finding::UnmarkedInode(18),
+    ];
+    for units in [[0, 1, 2], [2, 1, 0], [1, 0, 63]] {
+        let mut whole = Part::new(alloc);
+        for unit in units {
+            whole = merge(whole, part(alloc, &frozen, unit)?)?;
+        }
+        let found = findings(alloc, &frozen, &whole)?;
+        assert_eq!(rt; found.as_slice(), &wanted[..]);
+    }
+    assert_eq!(rt; number_findings(alloc, &frozen)?.as_slice(), &wanted[4..]);
+    Ok(())
+}

@@ -1,0 +1,38 @@
+ghost use Rattle.std.specs.Prelude.{◌≡◌, ◌<◌, ◌≤◌, ◌+◌, ◌*◌, IfOk, IsOkUnless, []};
+ghost use Rattle.model.specs.Layout.{inode_count};
+ghost use Rattle.model.specs.Units.{only};
+ghost use Rattle.device.specs.Kept.{frozen_view};
+ghost use Rattle.phase_maps.specs.Parts.{IsPart};
+
+use crate::gathering::Part;
+use device::Frozen;
+use layout::{Geometry, ROOT, Refusal};
+use std::alloc::Global;
+
+/// What the inodes of this group claim, and what is wrong with their numbers. A unit that is no group has none.
+pub fn part(alloc: Global, frozen: &Frozen, unit: u32) -> Result<Part, Refusal>
+    ensures part { IfOk result (λ part. IsPart frozen.now.geometry (frozen_view frozen.now) (only unit) part) }
+    ensures no_group { frozen.now.geometry.groups ≤ unit → IfOk result (λ part. (part.claimed ≡ []) × (part.numbers ≡ [])) }
+    ensures error { IsOkUnless result Refusal.NoMemory }
+{
+    let mut part = Part::new(alloc);
+    let geometry = frozen.geometry();
+    if unit >= geometry.groups() {
+        return Ok(part);
+    }
+    let first = first_number(&geometry, unit);
+    for number in first.max(ROOT)..first + geometry.inodes_a_group() {
+        part.add_inode(frozen, number)?;
+    }
+    Ok(part)
+}
+
+/// The number of a group's first inode.
+fn first_number(geometry: &Geometry, group: u32) -> u32
+    requires { group < geometry.now.groups }
+    ensures number { result ≡ group * geometry.now.inodes }
+    ensures on_volume { result + geometry.now.inodes ≤ inode_count geometry.now }
+    ensures few { inode_count geometry.now ≤ 65_536 }
+{
+    group * geometry.inodes_a_group()
+}

@@ -1,0 +1,237 @@
+//! Small images, made by changes of a fresh one.
+use device::{Before, MemDevice, format, load};
+use fsck::check_one;
+use inode::{DIRECT_POINTERS, FILE, RECORD_BYTES, Record};
+use layout::{BLOCK_BYTES, Block, Geometry, Refusal, fresh_block};
+use std::alloc::Global;
+use std::sync::Arc;
+
+/// A change of an image.
+#[derive(Clone, Copy)]
+pub(crate) enum Change {
+    /// An inode has a record of this mode and size. Its first pointers are these, and the others are 0.
+    Inode {
+        number: u32,
+        mode: u16,
+        size: u32,
+        direct: &'static [u32],
+        indirect: u32,
+    },
+    /// An inode is a file: its number, size and first direct pointers.
+    File(u32, u32, &'static [u32]),
+    /// An inode is a file of 13 blocks: its number, direct pointers and indirect pointer.
+    LargeFile(u32, &'static [u32], u32),
+    /// A slot of an indirect block has this value: the block, the slot and the value.
+    Pointer(u32, usize, u32),
+    /// Slots of an indirect block have these values, from this one on, each one more than the one before.
+    Pointers {
+        block: u32,
+        slot: usize,
+        first: u32,
+        count: u32,
+    },
+    /// Data blocks are marked, from the first address to the last.
+    Marked(u32, u32),
+    /// A data block is not marked.
+    Unmarked(u32),
+    /// An inode is marked.
+    Number(u32),
+    /// An inode is not marked.
+    NoNumber(u32),
+    /// A byte of the image has this value.
+    Byte(usize, u8),
+}
+
+/// A fresh image with these changes, and what a check finds on it: a line for each finding.
+pub(crate) fn found(
+    alloc: Global,
+    geometry: &Geometry,
+    changes: &[Change],
+) -> Result<String, Refusal> {
+    let mut bytes = fresh_bytes(alloc, geometry)?;
+    for change in changes {
+        apply(&mut bytes, geometry, change)?;
+    }
+    let mut device = MemDevice::from_bytes(alloc, bytes.as_slice())?;
+    let frozen = Arc::new(alloc, load(alloc, &mut device)?)?;
+    let checked = check_one(alloc, &frozen)?;
+    let mut lines = String::new(alloc);
+    for finding in checked.findings() {
+        writeln!(lines, "{finding}")?;
+    }
+    Ok(lines)
+}
+
+/// The bytes of a fresh image.
+fn fresh_bytes(alloc: Global, geometry: &Geometry) -> Result<Vec<u8>, Refusal> {
+    let mut bytes = Vec::new(alloc);
+    let mut block: Block = [0; BLOCK_BYTES];
+    for address in 0..geometry.blocks() {
+        fresh_block(geometry, address, &mut block);
+        bytes.extend_from_slice(&block)?;
+    }
+    Ok(bytes)
+}
+
+/// Makes one change.
+fn apply(bytes: &mut Vec<u8>, geometry: &Geometry, change: &Change) -> Result<(), Refusal> {
+    match *change {
+        Change::Inode {
+            number,
+            mode,
+            size,
+            direct,
+            indirect,
+        } => set_record(
+            bytes,
+            geometry,
+            number,
+            &record(mode, size, direct, indirect),
+        ),
+        Change::File(number, size, direct) => {
+            set_record(bytes, geometry, number, &record(FILE, size, direct, 0))
+        }
+        Change::LargeFile(number, direct, indirect) => set_record(
+            bytes,
+            geometry,
+            number,
+            &record(FILE, 13_312, direct, indirect),
+        ),
+        Change::Pointer(block, slot, value) => set_pointers(bytes, slot_at(block, slot), value, 1),
+        Change::Pointers {
+            block,
+            slot,
+            first,
+            count,
+        } => set_pointers(bytes, slot_at(block, slot), first, count),
+        Change::Marked(first, last) => mark_blocks(bytes, geometry, first, last),
+        Change::Unmarked(address) => mark_block(bytes, geometry, address, false),
+        Change::Number(number) => mark_number(bytes, geometry, number, true),
+        Change::NoNumber(number) => mark_number(bytes, geometry, number, false),
+        Change::Byte(at, value) => put(bytes, at, &[value]),
+    }
+}
+
+/// A record with one link, these first pointers, and zeroes for the other direct ones.
+fn record(mode: u16, size: u32, direct: &[u32], indirect: u32) -> Record {
+    Record {
+        mode,
+        links: 1,
+        size,
+        direct: pointers(direct),
+        indirect,
+    }
+}
+
+/// The byte of an image where a slot of an indirect block begins.
+fn slot_at(block: u32, slot: usize) -> usize {
+    byte_of(block).saturating_add(slot.saturating_mul(4))
+}
+
+/// The byte of an image where a block begins.
+fn byte_of(block: u32) -> usize {
+    block as usize * BLOCK_BYTES
+}
+
+/// These pointers, and zeroes.
+fn pointers(first: &[u32]) -> [u32; DIRECT_POINTERS] {
+    let mut all = [0; DIRECT_POINTERS];
+    for (to, from) in all.iter_mut().zip(first) {
+        *to = *from;
+    }
+    all
+}
+
+/// Puts bytes into an image.
+fn put(bytes: &mut Vec<u8>, at: usize, values: &[u8]) -> Result<(), Refusal> {
+    for (index, value) in values.iter().enumerate() {
+        let Some(byte) = bytes.get_mut(at.saturating_add(index)) else {
+            return Err(Refusal::BadIndex);
+        };
+        *byte = *value;
+    }
+    Ok(())
+}
+
+/// Puts the record of an inode.
+fn set_record(
+    bytes: &mut Vec<u8>,
+    geometry: &Geometry,
+    number: u32,
+    inode: &Record,
+) -> Result<(), Refusal> {
+    if number >= geometry.inodes() {
+        return Err(Refusal::BadIndex);
+    }
+    let place = geometry.inode_place(number);
+    let mut record = [0; RECORD_BYTES];
+    inode.write(&mut record);
+    put(
+        bytes,
+        byte_of(place.address).saturating_add(place.byte),
+        &record,
+    )
+}
+
+/// Puts numbers of four bytes that count up.
+fn set_pointers(bytes: &mut Vec<u8>, at: usize, first: u32, count: u32) -> Result<(), Refusal> {
+    for step in 0..count {
+        let value = first.saturating_add(step);
+        put(
+            bytes,
+            at.saturating_add(4 * step as usize),
+            &value.to_le_bytes(),
+        )?;
+    }
+    Ok(())
+}
+
+/// Marks data blocks.
+fn mark_blocks(
+    bytes: &mut Vec<u8>,
+    geometry: &Geometry,
+    first: u32,
+    last: u32,
+) -> Result<(), Refusal> {
+    for address in first..=last {
+        mark_block(bytes, geometry, address, true)?;
+    }
+    Ok(())
+}
+
+/// Marks a data block, or takes its mark.
+fn mark_block(
+    bytes: &mut Vec<u8>,
+    geometry: &Geometry,
+    address: u32,
+    is_set: bool,
+) -> Result<(), Refusal> {
+    let place = geometry.place_of(address).ok_or(Refusal::BadIndex)?;
+    let maps = geometry.group_block(place.group);
+    set_bit(bytes, byte_of(maps).saturating_add(160), place.bit, is_set)
+}
+
+/// Marks an inode, or takes its mark.
+fn mark_number(
+    bytes: &mut Vec<u8>,
+    geometry: &Geometry,
+    number: u32,
+    is_set: bool,
+) -> Result<(), Refusal> {
+    if number >= geometry.inodes() {
+        return Err(Refusal::BadIndex);
+    }
+    let maps = geometry.group_block(geometry.group_of(number));
+    let bit = number % geometry.inodes_a_group();
+    set_bit(bytes, byte_of(maps).saturating_add(32), bit, is_set)
+}
+
+/// Sets or clears a bit of the map that begins at this byte.
+fn set_bit(bytes: &mut Vec<u8>, map: usize, bit: u32, is_set: bool) -> Result<(), Refusal> {
+    let Some(byte) = bytes.get_mut(map.saturating_add(bit as usize / 8)) else {
+        return Err(Refusal::BadIndex);
+    };
+    let mask = 1 << (bit % 8);
+    *byte = if is_set { *byte | mask } else { *byte & !mask };
+    Ok(())
+}

@@ -1,0 +1,8 @@
+//! Worked examples across crates: small images that are made by hand, and what a check finds on them. The crate has
+//! nothing but tests.
+#![tactic(auto)]
+
+#[cfg(test)]
+mod image;
+#[cfg(test)]
+mod used_blocks;
