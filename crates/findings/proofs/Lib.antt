@@ -6,3 +6,4 @@ pub mod FoundBelow
 pub mod Owners
 pub mod DerivedOrder
 pub mod RepairLemmas
+pub mod FindingOrder

@@ -16,7 +16,7 @@ use Rattle.findings.specs.declared.finding.Finding.TheVariants.{BadInode, BadPoi
 use Rattle.findings.specs.Findings.{IsFinding, AreFindingsOf, is_of_blocks, finding_cmp}
 use Rattle.findings.proofs.Sorted.{Contains-here, Contains-there, Contains-cases, Contains-none, same_sorted}
 use Rattle.std.proofs.lemmas.Map.Keys.{sorted_head, sorted_tail}
-use Rattle.phase_blocks.proofs.FindingOrder.{finding_total}
+use Rattle.findings.proofs.FindingOrder.{finding_total}
 use Rattle.model.specs.Layout.{Geometry, is_number}
 use Rattle.model.specs.View.{View}
 use Rattle.model.specs.Uses.{IsUse, IsClaim, Before, is_sound}

@@ -1,6 +1,6 @@
 pub mod Claims
 pub mod ClaimOrder
-pub mod FindingOrder
+pub mod FindingSets
 pub mod Gathering
 pub mod Joining
 pub mod Scanning

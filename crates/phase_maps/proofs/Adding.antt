@@ -1,5 +1,5 @@
 -- How lists and sets grow by what is added to them.
-use Rattle.std.proofs.Common.{◌≡◌, ◌<◌, ◌+◌, ℕ, Bool, true, false, cond, ◌||◌, List, [], ◌∷◌, ◌++◌, Option, Some, Result, Ok, Err, IfOk, Ordering, ◌⊎◌, inl, inr, ◌↔◌, refl, sym, ap, ◌∙◌, subst, arith, Contains}
+use Rattle.std.proofs.Common.{◌≡◌, ◌<◌, ◌+◌, ℕ, Bool, true, false, cond, ◌||◌, List, [], ◌∷◌, ◌++◌, Option, Some, Result, Ok, Err, IfOk, Ordering, ◌⊎◌, inl, inr, ◌↔◌, refl, sym, ap, ◌∙◌, subst, arith, Contains, IsTrue}
 use Rattle.std.specs.Cmp.{IsTotalOrder, eq_by_cmp_equiv}
 use Rattle.std.specs.Ordering.{eq_by_cmp}
 use Rattle.std.specs.List.{list_any}
@@ -11,6 +11,17 @@ use Rattle.std.proofs.lemmas.List.Elements.{Contains-append_left, Contains-push,
 use Rattle.std.proofs.lemmas.Map.Lookups.{CmpEqualImpliesEq}
 use Rattle.std.proofs.lemmas.Map.Views.{btree_set_contains_iff, Contains-from_any, list_any-from_Contains, tells_apart}
 use Rattle.phase_maps.specs.Walks.{Adds}
+
+pub or_parts : (a b : Bool) → IsTrue (a || b) → IsTrue a ⊎ IsTrue b
+or_parts true b t = inl refl
+or_parts false b t = inr t
+
+pub or_left : (a b : Bool) → IsTrue a → IsTrue (a || b)
+or_left a b t = ap (λ c. c || b) t
+
+pub or_right : (a b : Bool) → IsTrue b → IsTrue (a || b)
+or_right true b t = refl
+or_right false b t = t
 
 -- P holds of x at a number below n
 abbrev pub AtBelow : {K : Type 0} → (ℕ → K → Type 0) → ℕ → K → Type 0
@@ -105,13 +116,6 @@ module _ {K : Type 0} {cmp : K → K → Ordering} (o : IsTotalOrder cmp) (exact
       | inr k ↦ Contains-from_any (tells_apart exact) x zs (union x ∙ or_right (list_any (eq_by_cmp cmp x) xs) (list_any (eq_by_cmp cmp x) ys) (list_any-from_Contains (eq_by_cmp_equiv o) x ys k))
     ]),
   )
-    where
-      or_left : (a b : Bool) → a ≡ true → (a || b) ≡ true
-      or_left a b t = ap (λ c. c || b) t
-
-      or_right : (a b : Bool) → b ≡ true → (a || b) ≡ true
-      or_right true b t = refl
-      or_right false b t = t
 
 -- what follows from two clauses at `Ok`
 pub IfOk-both : {X E : Type 0} (r : Result X E) (P Q R : X → Type 0) → ((x : X) → P x → Q x → R x) → IfOk r P → IfOk r Q → IfOk r R

@@ -1,5 +1,4 @@
 pub mod Adding
-mod FindingOrder
 mod ClaimLemmas
 mod NumberCases
 mod PartLemmas

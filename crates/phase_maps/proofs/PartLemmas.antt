@@ -1,5 +1,5 @@
 -- Parts: what is gathered of no inode, of more inodes, and of the same inodes.
-use Rattle.std.proofs.Common.{◌≡◌, ◌<◌, ◌/◌, ℕ, Bool, true, false, ◌||◌, [], ◌⊎◌, inl, inr, refl, sym, ap, ◌∙◌, subst, IsTrue, Contains}
+use Rattle.std.proofs.Common.{◌≡◌, ◌<◌, ◌/◌, ℕ, Bool, false, ◌||◌, [], ◌⊎◌, inl, inr, sym, ◌∙◌, subst, IsTrue, Contains}
 use Rattle.std.specs.List.Sorted.{IsStrictlySortedBy}
 use Rattle.std.specs.Ordering.{nat_cmp, eq_by_cmp}
 use Rattle.std.specs.Set.{IsUnion}
@@ -19,19 +19,8 @@ use Rattle.model.proofs.UseLemmas.{use_parts}
 use Rattle.model.proofs.Addresses.{number_in_group}
 use Rattle.phase_maps.specs.Parts.{Gathered, IsClaimedBy, is_of_number_in, IsFoundOfNumbers, IsGathered, IsPart}
 use Rattle.phase_maps.specs.Walks.{Adds}
-use Rattle.phase_maps.proofs.Adding.{adds_same, adds_union}
-use Rattle.phase_maps.proofs.FindingOrder.{finding_cmp_total, finding_cmp_exact}
-
-or_parts : (a b : Bool) → IsTrue (a || b) → IsTrue a ⊎ IsTrue b
-or_parts true b t = inl refl
-or_parts false b t = inr t
-
-or_left : (a b : Bool) → IsTrue a → IsTrue (a || b)
-or_left a b t = ap (λ c. c || b) t
-
-or_right : (a b : Bool) → IsTrue b → IsTrue (a || b)
-or_right true b t = refl
-or_right false b t = t
+use Rattle.phase_maps.proofs.Adding.{adds_same, adds_union, or_parts, or_left, or_right}
+use Rattle.findings.proofs.FindingOrder.{finding_total, finding_exact}
 
 module _ (geo : Geometry) (view : View) where
   pub claim_number : (i k a : ℕ) → IsClaim geo view i k a → IsTrue (is_number geo i)
@@ -139,14 +128,14 @@ module _ (geo : Geometry) (view : View) where
         gathered_more left whole g sorted
         (adds_same (Contains right.claimed) (IsClaimedBy geo view n) left.claimed whole.claimed h.claimed (adds_union nat_cmp_total exact_unsigned left.claimed right.claimed whole.claimed claims))
         sorted_numbers
-        (adds_same (Contains right.numbers) (IsFoundOfNumbers geo view n) left.numbers whole.numbers h.numbers (adds_union finding_cmp_total finding_cmp_exact left.numbers right.numbers whole.numbers numbers))
+        (adds_same (Contains right.numbers) (IsFoundOfNumbers geo view n) left.numbers whole.numbers h.numbers (adds_union finding_total finding_exact left.numbers right.numbers whole.numbers numbers))
 
   -- one list each was gathered of some inodes
   pub gathered_once : (inodes : ℕ → Bool) (left right : Gathered) → IsGathered geo view inodes left → IsGathered geo view inodes right → left ≡ right
   gathered_once inodes left right g h =
       let claims : left.claimed ≡ right.claimed = same_sorted nat_cmp nat_cmp_total left.claimed right.claimed g.claimed_in_order h.claimed_in_order
       (λ a c. (h.claimed a).1 ((g.claimed a).0 c)) (λ a c. (g.claimed a).1 ((h.claimed a).0 c)) in
-      let found : left.numbers ≡ right.numbers = same_sorted finding_cmp finding_cmp_total left.numbers right.numbers g.numbers_in_order h.numbers_in_order
+      let found : left.numbers ≡ right.numbers = same_sorted finding_cmp finding_total left.numbers right.numbers g.numbers_in_order h.numbers_in_order
       (λ f c. (h.numbers f).1 ((g.numbers f).0 c)) (λ f c. (g.numbers f).1 ((h.numbers f).0 c)) in
       λ i. record { claimed = claims i; numbers = found i }
 

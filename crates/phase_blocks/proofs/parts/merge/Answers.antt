@@ -2,7 +2,8 @@
 use Rattle.std.proofs.Common.{ℕ, sym, subst}
 use Rattle.model.specs.Units.{stands_in}
 use Rattle.phase_blocks.specs.Parts.{IsGathered, IsPart, with_owners}
-use Rattle.phase_blocks.proofs.FindingOrder.{sorted_findings, appended}
+use Rattle.findings.proofs.FindingOrder.{sorted_findings}
+use Rattle.phase_blocks.proofs.FindingSets.{appended}
 use Rattle.phase_blocks.proofs.Joining.{gathered_both, owners_are_claims}
 use Rattle.phase_blocks.proofs.parts.merge.Goals as goal
 

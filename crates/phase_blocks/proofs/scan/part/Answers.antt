@@ -5,7 +5,7 @@ use Rattle.std.specs.declared.ops.Range.{Range}
 use Rattle.model.specs.Layout.{Geometry, is_number}
 use Rattle.device.specs.Kept.{frozen_view}
 use Rattle.phase_blocks.specs.Parts.{IsGathered, with_inode, with_uses}
-use Rattle.phase_blocks.proofs.Scanning.{AreNumbersFrom, group_below, no_numbers, none_yet, one_more, whole_group}
+use Rattle.phase_blocks.proofs.Scanning.{group_below, no_numbers, none_yet, one_more, whole_group}
 use Rattle.phase_blocks.proofs.scan.part.Goals as goal
 
 -- a range of the group's numbers, and what is left of it

@@ -1,5 +1,3 @@
-use Rattle.std.proofs.Common.{◌≡◌, ◌≤◌, ◌<◌, ◌/◌, ℕ, ◌↔◌, IsTrue}
-use Rattle.model.specs.Layout.{is_number}
 use Rattle.device.specs.Kept.{frozen_view}
 use Rattle.phase_blocks.proofs.Scanning.{AreNumbersFrom, IsGatheredBelow}
 use Rattle.phase_blocks.proofs.scan.part.Given as goal

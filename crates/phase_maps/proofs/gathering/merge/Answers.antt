@@ -4,7 +4,7 @@ use Rattle.std.specs.Ordering.{eq_by_cmp}
 use Rattle.std.specs.Set.{IsUnion}
 use Rattle.model.specs.Units.{stands_in}
 use Rattle.phase_maps.specs.Parts.{IsGathered}
-use Rattle.phase_maps.proofs.FindingOrder.{cmp_is, sorted_findings}
+use Rattle.findings.proofs.FindingOrder.{same_order, sorted_findings}
 use Rattle.phase_maps.proofs.PartLemmas.{gathered_union}
 use Rattle.phase_maps.proofs.gathering.merge.Goals as goal
 
@@ -16,4 +16,4 @@ returns-clause-merged c geo view units others left right =
     c.in_ok-union.ensures.ordered
     c.in_ok-union.ensures.members
     (sorted_findings c.in_ok-union-2.field-0.keys c.in_ok-union-2.ensures.ordered)
-    (subst (λ cmp. IsUnion (eq_by_cmp cmp) c.left.inside.numbers.keys c.right.inside.numbers.keys c.in_ok-union-2.field-0.keys) cmp_is c.in_ok-union-2.ensures.members)
+    (subst (λ cmp. IsUnion (eq_by_cmp cmp) c.left.inside.numbers.keys c.right.inside.numbers.keys c.in_ok-union-2.field-0.keys) same_order c.in_ok-union-2.ensures.members)

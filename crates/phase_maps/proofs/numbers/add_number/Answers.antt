@@ -6,7 +6,7 @@ use Rattle.model.specs.View.{Inode}
 use Rattle.device.specs.Kept.{frozen_view, kept_bytes}
 use Rattle.phase_maps.specs.Parts.{IsFoundOfNumbers}
 use Rattle.phase_maps.proofs.Adding.{adds_insert, adds_nothing, adds_same}
-use Rattle.phase_maps.proofs.FindingOrder.{cmp_is, finding_cmp_exact, finding_cmp_total, sorted_findings}
+use Rattle.findings.proofs.FindingOrder.{same_order, finding_exact, finding_total, sorted_findings}
 use Rattle.phase_maps.proofs.NumberCases.{number_found, number_marked_at}
 use Rattle.phase_maps.proofs.numbers.add_number.Goals as goal
 
@@ -18,7 +18,7 @@ returns-in_ok-insert-clause-finding c =
     (ap (λ (r : Inode). eqb r.mode 0) (c.inode.view_is ∙ c.requires.inode)) in
     adds_same (λ f. c.in-Some.finding ≡ f) (IsFoundOfNumbers kept.geometry (frozen_view kept) (λ i. eqb i c.args.number)) c.args.numbers.now.keys c.insert.new.self.keys
     (λ f. ((λ e. (same f).0 (c.in-Some.is ∙ ap Some e)), (λ h. same_Some c.in-Some.finding f (sym c.in-Some.is ∙ (same f).1 h))))
-    (adds_insert finding_cmp_total finding_cmp_exact c.args.numbers.now c.insert.new.self c.in-Some.finding (subst (λ cmp. Updates cmp c.args.numbers.now c.insert.new.self c.in-Some.finding true) cmp_is c.in_ok-insert.ensures.updates))
+    (adds_insert finding_total finding_exact c.args.numbers.now c.insert.new.self c.in-Some.finding (subst (λ cmp. Updates cmp c.args.numbers.now c.insert.new.self c.in-Some.finding true) same_order c.in_ok-insert.ensures.updates))
 
 pub returns-in_ok-insert-clause-ordered : goal.returns-in_ok-insert-clause-ordered
 returns-in_ok-insert-clause-ordered c = λ _. sorted_findings c.insert.new.self.keys c.in_ok-insert.ensures.ordered

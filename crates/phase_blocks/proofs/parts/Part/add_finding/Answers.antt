@@ -1,6 +1,7 @@
 use Rattle.std.proofs.Common.{refl, subst}
 use Rattle.phase_blocks.specs.Parts.{Gathered, AddsFinding}
-use Rattle.phase_blocks.proofs.FindingOrder.{sorted_findings, inserted}
+use Rattle.findings.proofs.FindingOrder.{sorted_findings}
+use Rattle.phase_blocks.proofs.FindingSets.{inserted}
 use Rattle.phase_blocks.proofs.parts.Part.add_finding.Goals as goal
 
 pub returns-clause-added : goal.returns-clause-added

@@ -1,4 +1,4 @@
-use Rattle.phase_blocks.proofs.FindingOrder.{sorted_findings}
+use Rattle.findings.proofs.FindingOrder.{sorted_findings}
 use Rattle.phase_blocks.proofs.Gathering.{gathered_none}
 use Rattle.phase_blocks.proofs.parts.Part.new.Goals as goal
 

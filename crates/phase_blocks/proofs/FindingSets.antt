@@ -1,47 +1,34 @@
--- The order in which a set holds findings is that of a report.
+-- What a set of findings has after one more, and after those of another set.
 use Rattle.std.proofs.Common.{◌≡◌, sym, ◌∙◌, subst, rules, Bool, List, true, ◌⊎◌, inl, inr, ◌↔◌, Contains}
-use mathlib.Core.Path.{fun_ext}
 use Rattle.std.specs.BTreeSet.{BTreeSet, InsertsAll, Updates, contains}
 use Rattle.std.specs.Set.{is_member}
-use Rattle.std.specs.Cmp.{IsTotalOrder, eq_by_cmp_equiv, on_total}
+use Rattle.std.specs.Cmp.{IsTotalOrder, eq_by_cmp_equiv}
 use Rattle.std.specs.Ordering.{eq_by_cmp, is_eq}
 use Rattle.std.proofs.lemmas.Bool.{cases_Bool, cond-true, cond-false, or_cases, or_left, or_right}
 use Rattle.std.proofs.lemmas.Map.Views.{Contains-from_any, btree_set_contains_iff, list_any-from_Contains, tells_apart}
-use Rattle.std.specs.List.Sorted.{IsStrictlySortedBy}
-use Rattle.std.proofs.lemmas.Cmp.{nat_list_cmp_total}
 use Rattle.std.proofs.lemmas.Map.Lookups.{CmpEqualImpliesEq}
 use Rattle.findings.specs.declared.finding.Finding.{Finding}
-use Rattle.findings.specs.Findings.{finding_cmp, finding_key}
 use Rattle.findings.specs.contracts.finding.FindingOrd.TheImpl as derived
-use Rattle.findings.proofs.DerivedOrder.{cmp_at}
-
-pub same_order : derived.ghosts.cmp ≡ finding_cmp
-same_order = fun_ext (λ x. fun_ext (λ y. cmp_at x y))
-
-pub finding_total : IsTotalOrder finding_cmp
-finding_total = on_total finding_key nat_list_cmp_total
+use Rattle.findings.proofs.FindingOrder.{same_order, finding_total, finding_exact}
 
 pub derived_total : IsTotalOrder derived.ghosts.cmp
 derived_total = subst (λ c. IsTotalOrder c) (sym same_order) finding_total
 
-pub finding_exact : CmpEqualImpliesEq derived.ghosts.cmp
-finding_exact x y e = search rules
-
-pub sorted_findings : (fs : List Finding) → IsStrictlySortedBy derived.ghosts.cmp fs → IsStrictlySortedBy finding_cmp fs
-sorted_findings fs s = subst (λ c. IsStrictlySortedBy c fs) same_order s
+pub derived_exact : CmpEqualImpliesEq derived.ghosts.cmp
+derived_exact = subst (λ c. CmpEqualImpliesEq c) (sym same_order) finding_exact
 
 -- one more finding in a set
 pub inserted : (s n : BTreeSet Finding) (key : Finding) → Updates derived.ghosts.cmp s n key true
     → (f : Finding) → Contains n.keys f ↔ (Contains s.keys f ⊎ (f ≡ key))
 inserted s n key u f = (
   (λ h. elim (cases_Bool (is_eq (derived.ghosts.cmp key f))) [
-    | inl e ↦ inr (sym (tells_apart finding_exact key f e))
-    | inr e ↦ inl ((btree_set_contains_iff derived_total finding_exact s f).0 (sym (u.2 f e) ∙ (btree_set_contains_iff derived_total finding_exact n f).1 h))
+    | inl e ↦ inr (sym (tells_apart derived_exact key f e))
+    | inr e ↦ inl ((btree_set_contains_iff derived_total derived_exact s f).0 (sym (u.2 f e) ∙ (btree_set_contains_iff derived_total derived_exact n f).1 h))
   ]),
-  (λ h. (btree_set_contains_iff derived_total finding_exact n f).0 (elim h [
+  (λ h. (btree_set_contains_iff derived_total derived_exact n f).0 (elim h [
     | inl there ↦ u.0 f ∙ elim (cases_Bool (is_eq (derived.ghosts.cmp key f))) [
       | inl e ↦ cond-true (is_eq (derived.ghosts.cmp key f)) true (contains derived.ghosts.cmp s f) e
-      | inr e ↦ cond-false (is_eq (derived.ghosts.cmp key f)) true (contains derived.ghosts.cmp s f) e ∙ (btree_set_contains_iff derived_total finding_exact s f).1 there
+      | inr e ↦ cond-false (is_eq (derived.ghosts.cmp key f)) true (contains derived.ghosts.cmp s f) e ∙ (btree_set_contains_iff derived_total derived_exact s f).1 there
     ]
     | inr e ↦ subst (λ k. contains derived.ghosts.cmp n k ≡ true) (sym e) u.1
   ])),
@@ -65,7 +52,7 @@ appended s n others h f = (
 )
   where
     found : (fs : List Finding) → is_member equal fs f ≡ true → Contains fs f
-    found fs x = Contains-from_any (tells_apart finding_exact) f fs x
+    found fs x = Contains-from_any (tells_apart derived_exact) f fs x
 
     member : (fs : List Finding) → Contains fs f → is_member equal fs f ≡ true
     member fs x = list_any-from_Contains (eq_by_cmp_equiv derived_total) f fs x
