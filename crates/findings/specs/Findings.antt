@@ -105,6 +105,28 @@ is_of_blocks (BadPointer i k v) = true
 is_of_blocks (Duplicate i k a) = true
 is_of_blocks _ = false
 
+-- the kinds of phase 2: the slots of reachable directories
+abbrev pub is_of_names : Finding → Bool
+is_of_names RootBad = true
+is_of_names (BadSlot d s) = true
+is_of_names (DupName d s) = true
+is_of_names (BadDot d) = true
+is_of_names (BadDotDot d) = true
+is_of_names (ToUnsound d s) = true
+is_of_names (ExtraName d s) = true
+is_of_names _ = false
+
+-- the kind of phase 3: what nothing reaches
+abbrev pub is_of_connectivity : Finding → Bool
+is_of_connectivity (LostInode i) = true
+is_of_connectivity _ = false
+
+-- the kinds of phase 4: links that are not as many as the entries
+abbrev pub is_of_counts : Finding → Bool
+is_of_counts (CountHigh i l e) = true
+is_of_counts (CountLow i l e) = true
+is_of_counts _ = false
+
 -- the kinds of phase 5: the maps of the groups
 abbrev pub is_of_maps : Finding → Bool
 is_of_maps (LostBlock a) = true

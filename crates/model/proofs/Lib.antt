@@ -10,3 +10,4 @@ pub mod Places
 pub mod Addresses
 pub mod ImageLemmas
 pub mod Unlink
+pub mod Counting

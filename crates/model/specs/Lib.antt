@@ -10,3 +10,6 @@ pub mod Cells
 pub mod Image
 pub mod Unlink
 pub mod Units
+pub mod Named
+pub mod Tables
+pub mod Reached

@@ -1,4 +1,4 @@
-ghost use Rattle.std.specs.Prelude.{◌≡◌, ◌<◌, ◌≤◌, ◌/◌, ◌↔◌, ℕ, IfOk, OnOk, IsOkUnless, IsTrue};
+ghost use Rattle.std.specs.Prelude.{◌≡◌, ◌<◌, ◌≤◌, IfOk, OnOk, IsOkUnless, IsTrue};
 ghost use Rattle.model.specs.Layout.{is_number};
 ghost use Rattle.model.specs.Units.{only};
 ghost use Rattle.device.specs.Kept.{frozen_view};
@@ -8,9 +8,8 @@ use crate::parts::{Claim, Part};
 use device::Frozen;
 use findings::Finding;
 use inode::{FREE, INDIRECT_POSITION, Record};
-use layout::{Geometry, ROOT, Refusal};
+use layout::Refusal;
 use std::alloc::Global;
-use std::ops::Range;
 
 /// What the inodes of a cylinder group claim, and what is wrong with them and with what they use. A unit that is no
 /// group has no inodes.
@@ -24,19 +23,10 @@ pub fn part(alloc: Global, frozen: &Frozen, unit: u32) -> Result<Part, Refusal>
     if unit >= geometry.groups() {
         return Ok(part);
     }
-    for number in numbers_of(&geometry, unit) {
+    for number in geometry.numbers_of(unit) {
         look_at_inode(&mut part, frozen, number)?;
     }
     Ok(part)
-}
-
-/// The numbers of the inodes of a group, without those that are never given out.
-fn numbers_of(geometry: &Geometry, group: u32) -> Range<u32>
-    requires { group < geometry.now.groups }
-    ensures { (i : ℕ) → ((result.start ≤ i) × (i < result.end)) ↔ (IsTrue (is_number geometry.now i) × (i / geometry.now.inodes ≡ group)) }
-{
-    let first = group * geometry.inodes_a_group();
-    first.max(ROOT)..first + geometry.inodes_a_group()
 }
 
 /// Looks at the record of an inode, and at all that it uses.

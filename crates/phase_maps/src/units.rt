@@ -1,12 +1,11 @@
-ghost use Rattle.std.specs.Prelude.{◌≡◌, ◌<◌, ◌≤◌, ◌+◌, ◌*◌, IfOk, IsOkUnless, []};
-ghost use Rattle.model.specs.Layout.{inode_count};
+ghost use Rattle.std.specs.Prelude.{◌≡◌, ◌≤◌, IfOk, IsOkUnless, []};
 ghost use Rattle.model.specs.Units.{only};
 ghost use Rattle.device.specs.Kept.{frozen_view};
 ghost use Rattle.phase_maps.specs.Parts.{IsPart};
 
 use crate::gathering::Part;
 use device::Frozen;
-use layout::{Geometry, ROOT, Refusal};
+use layout::Refusal;
 use std::alloc::Global;
 
 /// What the inodes of this group claim, and what is wrong with their numbers. A unit that is no group has none.
@@ -20,19 +19,8 @@ pub fn part(alloc: Global, frozen: &Frozen, unit: u32) -> Result<Part, Refusal>
     if unit >= geometry.groups() {
         return Ok(part);
     }
-    let first = first_number(&geometry, unit);
-    for number in first.max(ROOT)..first + geometry.inodes_a_group() {
+    for number in geometry.numbers_of(unit) {
         part.add_inode(frozen, number)?;
     }
     Ok(part)
-}
-
-/// The number of a group's first inode.
-fn first_number(geometry: &Geometry, group: u32) -> u32
-    requires { group < geometry.now.groups }
-    ensures number { result ≡ group * geometry.now.inodes }
-    ensures on_volume { result + geometry.now.inodes ≤ inode_count geometry.now }
-    ensures few { inode_count geometry.now ≤ 65_536 }
-{
-    group * geometry.inodes_a_group()
 }

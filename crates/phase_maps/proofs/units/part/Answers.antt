@@ -1,10 +1,21 @@
 -- The numbers of the group, one after another.
-use Rattle.std.proofs.Common.{◌≡◌, ◌≤◌, ◌*◌, ap, ◌∙◌, arith}
-use Rattle.model.specs.Layout.{Geometry}
+use Rattle.std.proofs.Common.{◌≡◌, ◌≤◌, ◌<◌, ◌/◌, ◌||◌, ◌&&◌, eqb, ltb, ℕ, ◌↔◌, IsTrue, inl, inr, subst, ap, sym, arith}
+use Rattle.std.proofs.lemmas.Bool.{cases_lt}
+use Rattle.std.specs.declared.ops.Range.{Range}
+use Rattle.model.specs.Layout.{Geometry, is_number}
+use Rattle.model.specs.Units.{only, stands_in}
 use Rattle.device.specs.Kept.{frozen_view}
-use Rattle.phase_maps.specs.Parts.{Gathered}
+use Rattle.phase_maps.specs.Parts.{Gathered, IsGathered}
 use Rattle.phase_maps.proofs.UnitLemmas.{gathered_first, gathered_next, gathered_all, no_group, of_no_group}
 use Rattle.phase_maps.proofs.units.part.Goals as goal
+
+-- a range of the group's numbers
+abbrev AreNumbers : Geometry → ℕ → Range ℕ → Type 0
+AreNumbers geo group range = (i : ℕ) → ((range.start ≤ i) × (i < range.end)) ↔ (IsTrue (is_number geo i) × (i / geo.inodes ≡ group))
+
+numbers : {geo other : Geometry} {group : ℕ} {range items : Range ℕ} → geo ≡ other → items ≡ range → AreNumbers geo group range → AreNumbers other group items
+numbers {geo} {other} {group} {range} {items} e f h =
+    subst (λ (r : Range ℕ). AreNumbers other group r) (sym f) (subst (λ (g : Geometry). AreNumbers g group range) e h)
 
 pub returns-then-unit-groups-clause-part : goal.returns-then-unit-groups-clause-part
 returns-then-unit-groups-clause-part c =
@@ -20,22 +31,39 @@ returns-then-unit-groups-clause-no_group c none =
 pub loop-number-init : goal.loop-number-init
 loop-number-init c =
     let geo = c.args.frozen.now.geometry in
-    let first : c.first_number-first.result ≡ c.args.unit * geo.inodes = c.first_number-first.ensures.number ∙ ap (λ (g : Geometry). c.args.unit * g.inodes) c.geometry-geometry.ensures.geometry in
-    gathered_first geo c.geometry-geometry.ensures.frame.geometry (frozen_view c.args.frozen.now) c.args.unit c.max-number.result c.new-part.result
-    (λ i two from. omega (arith, first, c.max-number.ensures, two, from)) (c.new-part.ensures geo (frozen_view c.args.frozen.now))
+    let all : AreNumbers geo c.args.unit c.into_iter-number-iterator.result =
+    numbers c.geometry-geometry.ensures.geometry c.into_iter-number-iterator.ensures.into_iter_gives c.numbers_of-number-items.ensures in (
+      gathered_first geo c.geometry-geometry.ensures.frame.geometry (frozen_view c.args.frozen.now) c.args.unit c.into_iter-number-iterator.result.start c.new-part.result
+          (λ i t e. ((all i).1 (t, e)).0) (c.new-part.ensures geo (frozen_view c.args.frozen.now)),
+      λ i from. ((λ lt. (all i).0 (from, lt)), (λ h. ((all i).1 h).1)),
+    )
+
+pub add_inode-requires : goal.add_inode-requires
+add_inode-requires c =
+    let e = c.in-Some.ensures.steps in
+    ((c.loop-number.invariant.1 c.in-Some.number (omega (arith, e.1.1))).0 (omega (arith, e.1.0, e.1.1))).0
 
 pub loop-number-preserved : goal.loop-number-preserved
 loop-number-preserved c =
     let geo = c.args.frozen.now.geometry in
-    let first : c.first_number-first.result ≡ c.args.unit * geo.inodes = c.first_number-first.ensures.number ∙ ap (λ (g : Geometry). c.args.unit * g.inodes) c.geometry-geometry.ensures.geometry in
-    let count : c.inodes_a_group.result ≡ geo.inodes = c.inodes_a_group.ensures.count ∙ ap (λ (g : Geometry). g.inodes) c.geometry-geometry.ensures.geometry in
-    gathered_next geo c.geometry-geometry.ensures.frame.geometry (frozen_view c.args.frozen.now) c.args.unit c.loop-number.number _
-    (omega (arith, first)) (omega (arith, first, count)) (c.in_ok-add_inode.ensures.gathered _ c.loop-number.invariant)
+    let view = frozen_view c.args.frozen.now in
+    let e = c.in-Some.ensures.steps in
+    let start = c.loop-number.number-iterator.start in
+    let here = (c.loop-number.invariant.1 start (omega arith)).0 (omega (arith, e.1.0)) in
+    let added = c.in_ok-add_inode.ensures.gathered (λ i. stands_in geo (only c.args.unit) i && ltb i start) c.loop-number.invariant.0 in (
+      subst (λ n. IsGathered geo view (λ i. stands_in geo (only c.args.unit) i && ltb i n) c.add_inode.new.self) (sym e.1.2)
+          (gathered_next geo c.geometry-geometry.ensures.frame.geometry view c.args.unit start c.add_inode.new.self here.1
+          (subst (λ n. IsGathered geo view (λ i. (stands_in geo (only c.args.unit) i && ltb i start) || eqb i n) c.add_inode.new.self) e.1.1 added)),
+      λ i from. subst (λ past. (i < past) ↔ (IsTrue (is_number geo i) × (i / geo.inodes ≡ c.args.unit))) (sym e.0) (c.loop-number.invariant.1 i (omega (arith, from, e.1.2))),
+    )
 
 pub returns-clause-part : goal.returns-clause-part
 returns-clause-part c =
     let geo = c.args.frozen.now.geometry in
-    let first : c.first_number-first.result ≡ c.args.unit * geo.inodes = c.first_number-first.ensures.number ∙ ap (λ (g : Geometry). c.args.unit * g.inodes) c.geometry-geometry.ensures.geometry in
-    let count : c.inodes_a_group.result ≡ geo.inodes = c.inodes_a_group.ensures.count ∙ ap (λ (g : Geometry). g.inodes) c.geometry-geometry.ensures.geometry in
-    gathered_all geo c.geometry-geometry.ensures.frame.geometry (frozen_view c.args.frozen.now) c.args.unit c.loop-number.number c.loop-number.part
-    (omega (arith, first, count)) c.loop-number.invariant
+    let e = c.in-None.ensures.steps in
+    let start = c.loop-number.number-iterator.start in
+    gathered_all geo c.geometry-geometry.ensures.frame.geometry (frozen_view c.args.frozen.now) c.args.unit start c.loop-number.part
+    (λ i t g. elim (cases_lt i start) [
+      | inl lt ↦ lt
+      | inr from ↦ (let lt = (c.loop-number.invariant.1 i from).1 (t, g) in omega (arith, lt, e.1.0))
+    ]) c.loop-number.invariant.0
