@@ -6,13 +6,8 @@ use Rattle.model.specs.Layout.{Geometry, IsGeometry, inode_count}
 use Rattle.model.specs.View.{View}
 use Rattle.model.specs.Slots.{Slot, Absent, Empty, Good, Bad, slot, number_in}
 use Rattle.model.specs.Reach.{sum_below, slot_count, names_once, entries_in, entries_of}
-use Rattle.model.specs.Named.{number_of, named_below, named_from}
+use Rattle.model.specs.Named.{number_of, named_below, named_from, times}
 use Rattle.model.proofs.Sums.{sum-small}
-
--- how often i stands in a list
-unfoldable pub times : ℕ → List ℕ → ℕ
-times i [] = 0
-times i (x ∷ xs) = cond (eqb x i) 1 0 + times i xs
 
 pub times-append : (i : ℕ) (xs ys : List ℕ) → times i (xs ++ ys) ≡ times i xs + times i ys
 unfolding times

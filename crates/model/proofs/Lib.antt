@@ -10,4 +10,8 @@ pub mod Places
 pub mod Addresses
 pub mod ImageLemmas
 pub mod Unlink
+pub mod Tables
+pub mod NamedLemmas
+pub mod ReachLemmas
 pub mod Counting
+pub mod Adding

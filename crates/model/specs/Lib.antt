@@ -13,3 +13,4 @@ pub mod Units
 pub mod Named
 pub mod Tables
 pub mod Reached
+pub mod Growth

@@ -8,8 +8,9 @@ use Rattle.model.specs.View.{View, Inode}
 use Rattle.model.specs.Uses.{IsClaim, is_sound, is_used, value_at, record_use, blocks_of, indirect_position}
 use Rattle.model.proofs.UseLemmas.{then_some_parts, use_of_record}
 use Rattle.phase_maps.specs.Parts.{IsClaimedBy}
-use Rattle.phase_maps.specs.Walks.{Adds, RecordClaims, IsClaimedByRecord}
-use Rattle.phase_maps.proofs.Adding.{AtBelow, adds_same, adds_both}
+use Rattle.model.specs.Growth.{Adds}
+use Rattle.phase_maps.specs.Walks.{RecordClaims, IsClaimedByRecord}
+use Rattle.model.proofs.Adding.{AtBelow, adds_same, adds_both}
 
 used_positions : (k blocks : ℕ) (is_data : Bool) → cond (ltb k 12) (ltb k blocks) (cond (ltb k 268) (ltb k blocks && is_data) (eqb k 268 && ltb 12 blocks)) ≡ true → (k < blocks) ⊎ (k ≡ 268)
 used_positions k blocks is_data h = grind (arith, nat_tests)

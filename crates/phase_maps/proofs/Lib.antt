@@ -1,4 +1,3 @@
-pub mod Adding
 mod ClaimLemmas
 mod NumberCases
 mod PartLemmas

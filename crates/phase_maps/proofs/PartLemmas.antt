@@ -18,8 +18,8 @@ use Rattle.model.specs.Units.{Units, stands_in}
 use Rattle.model.proofs.UseLemmas.{use_parts}
 use Rattle.model.proofs.Addresses.{number_in_group}
 use Rattle.phase_maps.specs.Parts.{Gathered, IsClaimedBy, is_of_number_in, IsFoundOfNumbers, IsGathered, IsPart}
-use Rattle.phase_maps.specs.Walks.{Adds}
-use Rattle.phase_maps.proofs.Adding.{adds_same, adds_union, or_parts, or_left, or_right}
+use Rattle.model.specs.Growth.{Adds}
+use Rattle.model.proofs.Adding.{adds_same, adds_union, or_parts, or_left, or_right}
 use Rattle.findings.proofs.FindingOrder.{finding_total, finding_exact}
 
 module _ (geo : Geometry) (view : View) where

@@ -17,8 +17,9 @@ use Rattle.model.specs.Uses.{IsClaimed}
 use Rattle.model.specs.Units.{Units, stands_in, IsEveryGroup}
 use Rattle.model.proofs.Addresses.{address_is_data, address_group, address_place, address_in_group, data_range, number_in_group}
 use Rattle.phase_maps.specs.Parts.{Gathered, IsPart, is_of_number_in}
-use Rattle.phase_maps.specs.Walks.{Adds, block_finding, is_among, IsFoundInGroup, IsFoundInVolume}
-use Rattle.phase_maps.proofs.Adding.{AtBelow}
+use Rattle.model.specs.Growth.{Adds}
+use Rattle.phase_maps.specs.Walks.{block_finding, is_among, IsFoundInGroup, IsFoundInVolume}
+use Rattle.model.proofs.Adding.{AtBelow}
 use Rattle.phase_maps.proofs.PartLemmas.{claim_number}
 
 module _ (geo : Geometry) (ok : IsGeometry geo) (a : ℕ) (t : IsTrue (is_data_address geo a)) where

@@ -1,6 +1,5 @@
 -- What the walks over inodes, positions and blocks add to a list or a set.
-use Rattle.std.specs.Prelude.{◌≡◌, ℕ, ◌<◌, ◌+◌, Bool, true, false, List, Option, Some, None, ◌⊎◌, ◌↔◌, IsTrue}
-use Rattle.std.specs.List.{Contains}
+use Rattle.std.specs.Prelude.{◌≡◌, ℕ, ◌<◌, ◌+◌, Bool, true, false, List, Option, Some, None, IsTrue}
 use Rattle.std.specs.Ordering.{nat_cmp}
 use Rattle.std.specs.BTreeSet.{contains}
 use Rattle.findings.specs.declared.finding.Finding.{Finding}
@@ -8,10 +7,6 @@ use Rattle.findings.specs.declared.finding.Finding.TheVariants.{LostBlock, Unmar
 use Rattle.model.specs.Layout.{Geometry, data_address, header_blocks, is_data_address}
 use Rattle.model.specs.View.{View, Inode}
 use Rattle.model.specs.Uses.{record_use}
-
--- the new list has what the old one has, and what P holds of
-abbrev pub Adds : {K : Type 0} → (K → Type 0) → List K → List K → Type 0
-Adds {K} P old new = (x : K) → Contains new x ↔ (Contains old x ⊎ P x)
 
 -- a record claims block a at position k
 abbrev pub RecordClaims : Geometry → View → Inode → ℕ → ℕ → Type 0

@@ -4,7 +4,8 @@ ghost use Rattle.model.specs.Units.{Units, IsEveryGroup};
 ghost use Rattle.findings.specs.Findings.{AreFindingsOf, is_of_maps};
 ghost use Rattle.device.specs.Kept.{frozen_view};
 ghost use Rattle.phase_maps.specs.Parts.{IsPart};
-ghost use Rattle.phase_maps.specs.Walks.{Adds, IsFoundInGroup, block_finding};
+ghost use Rattle.model.specs.Growth.{Adds};
+ghost use Rattle.phase_maps.specs.Walks.{IsFoundInGroup, block_finding};
 
 use crate::gathering::Part;
 use cgmaps::{Map, bit_of};

@@ -2,7 +2,8 @@ ghost use Rattle.std.specs.Prelude.{◌≡◌, OnOk, IsOkUnless};
 ghost use Rattle.std.specs.Ordering.{nat_cmp};
 ghost use Rattle.std.specs.BTreeSet.{IsOrdered};
 ghost use Rattle.device.specs.Kept.{frozen_view};
-ghost use Rattle.phase_maps.specs.Walks.{Adds, RecordClaims, IsClaimedByRecord};
+ghost use Rattle.model.specs.Growth.{Adds};
+ghost use Rattle.phase_maps.specs.Walks.{RecordClaims, IsClaimedByRecord};
 
 use device::Frozen;
 use inode::{INDIRECT_POSITION, Record};

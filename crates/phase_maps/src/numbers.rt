@@ -7,7 +7,8 @@ ghost use Rattle.findings.specs.Findings.{AreFindingsOf, finding_cmp, is_of_numb
 ghost use Rattle.findings.specs.Numbers.{is_lost_number, is_unmarked_number, lost_below, unmarked_below};
 ghost use Rattle.device.specs.Kept.{frozen_view, kept_bytes};
 ghost use Rattle.phase_maps.specs.Parts.{IsFoundOfNumbers};
-ghost use Rattle.phase_maps.specs.Walks.{Adds, number_finding};
+ghost use Rattle.model.specs.Growth.{Adds};
+ghost use Rattle.phase_maps.specs.Walks.{number_finding};
 
 use cgmaps::{Map, bit_of};
 use device::Frozen;

@@ -4,7 +4,7 @@ use Rattle.device.specs.Kept.{frozen_view, kept_bytes}
 use Rattle.model.specs.Layout.{Geometry, header_blocks, data_address}
 use Rattle.model.specs.View.{map_bit}
 use Rattle.phase_maps.specs.Walks.{IsFoundAt, IsFoundInGroup}
-use Rattle.phase_maps.proofs.Adding.{AtBelow, adds_below_more, adds_element, adds_no_element, adds_same}
+use Rattle.model.proofs.Adding.{AtBelow, adds_below_more, adds_element, adds_no_element, adds_same}
 use Rattle.phase_maps.proofs.WalkLemmas.{found_at}
 use Rattle.phase_maps.proofs.blocks.add_blocks.Goals as goal
 use Rattle.phase_maps.proofs.blocks.add_blocks.Goals.{in-Some+in_ok-push, in_default}

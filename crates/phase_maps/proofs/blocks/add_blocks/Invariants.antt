@@ -1,6 +1,7 @@
 use Rattle.device.specs.Kept.{frozen_view}
-use Rattle.phase_maps.specs.Walks.{Adds, IsFoundAt}
-use Rattle.phase_maps.proofs.Adding.{AtBelow}
+use Rattle.model.specs.Growth.{Adds}
+use Rattle.phase_maps.specs.Walks.{IsFoundAt}
+use Rattle.model.proofs.Adding.{AtBelow}
 use Rattle.phase_maps.proofs.blocks.add_blocks.Given as goal
 
 abbrev pub invariant-loop-bit : goal.invariant-loop-bit

@@ -2,8 +2,9 @@
 use Rattle.std.proofs.Common.{◌≡◌, [], ◌++◌, ◌∙◌, sym, ap, arith, subst}
 use Rattle.model.specs.Layout.{Geometry}
 use Rattle.device.specs.Kept.{frozen_view}
-use Rattle.phase_maps.specs.Walks.{Adds, IsFoundInGroup}
-use Rattle.phase_maps.proofs.Adding.{adds_below_none, adds_below_more, AtBelow, IfOk-both}
+use Rattle.model.specs.Growth.{Adds}
+use Rattle.phase_maps.specs.Walks.{IsFoundInGroup}
+use Rattle.model.proofs.Adding.{adds_below_none, adds_below_more, AtBelow, IfOk-both}
 use Rattle.phase_maps.proofs.WalkLemmas.{whole_found}
 use Rattle.phase_maps.proofs.blocks.findings.Goals as goal
 

@@ -1,7 +1,8 @@
 use Rattle.std.proofs.Common.{[]}
 use Rattle.device.specs.Kept.{frozen_view}
-use Rattle.phase_maps.specs.Walks.{Adds, IsFoundInGroup}
-use Rattle.phase_maps.proofs.Adding.{AtBelow}
+use Rattle.model.specs.Growth.{Adds}
+use Rattle.phase_maps.specs.Walks.{IsFoundInGroup}
+use Rattle.model.proofs.Adding.{AtBelow}
 use Rattle.phase_maps.proofs.blocks.findings.Given as goal
 
 abbrev pub invariant-loop-group : goal.invariant-loop-group

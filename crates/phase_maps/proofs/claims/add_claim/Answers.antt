@@ -5,7 +5,7 @@ use Rattle.std.proofs.lemmas.Map.Lookups.{exact_unsigned}
 use Rattle.model.specs.Layout.{Geometry, is_data_address}
 use Rattle.device.specs.Kept.{frozen_view}
 use Rattle.phase_maps.specs.Walks.{RecordClaims}
-use Rattle.phase_maps.proofs.Adding.{adds_insert, adds_same}
+use Rattle.model.proofs.Adding.{adds_insert, adds_same}
 use Rattle.phase_maps.proofs.ClaimLemmas.{claim_at_use}
 use Rattle.phase_maps.proofs.claims.add_claim.Goals as goal
 

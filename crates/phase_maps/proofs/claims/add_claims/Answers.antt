@@ -3,7 +3,7 @@ use Rattle.std.proofs.Common.{arith}
 use Rattle.std.proofs.lemmas.Result.{IfOk-weaker}
 use Rattle.device.specs.Kept.{frozen_view}
 use Rattle.phase_maps.specs.Walks.{RecordClaims}
-use Rattle.phase_maps.proofs.Adding.{adds_below_none, adds_below_more}
+use Rattle.model.proofs.Adding.{adds_below_none, adds_below_more}
 use Rattle.phase_maps.proofs.ClaimLemmas.{adds_claims}
 use Rattle.phase_maps.proofs.claims.add_claims.Goals as goal
 

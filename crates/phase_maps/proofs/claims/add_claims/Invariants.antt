@@ -1,8 +1,9 @@
 use Rattle.std.specs.Ordering.{nat_cmp}
 use Rattle.std.specs.BTreeSet.{IsOrdered}
 use Rattle.device.specs.Kept.{frozen_view}
-use Rattle.phase_maps.specs.Walks.{Adds, RecordClaims}
-use Rattle.phase_maps.proofs.Adding.{AtBelow}
+use Rattle.model.specs.Growth.{Adds}
+use Rattle.phase_maps.specs.Walks.{RecordClaims}
+use Rattle.model.proofs.Adding.{AtBelow}
 use Rattle.phase_maps.proofs.claims.add_claims.Given as goal
 
 abbrev pub invariant-loop-position : goal.invariant-loop-position

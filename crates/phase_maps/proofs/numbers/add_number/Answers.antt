@@ -5,7 +5,7 @@ use Rattle.std.specs.BTreeSet.{Updates}
 use Rattle.model.specs.View.{Inode}
 use Rattle.device.specs.Kept.{frozen_view, kept_bytes}
 use Rattle.phase_maps.specs.Parts.{IsFoundOfNumbers}
-use Rattle.phase_maps.proofs.Adding.{adds_insert, adds_nothing, adds_same}
+use Rattle.model.proofs.Adding.{adds_insert, adds_nothing, adds_same}
 use Rattle.findings.proofs.FindingOrder.{same_order, finding_exact, finding_total, sorted_findings}
 use Rattle.phase_maps.proofs.NumberCases.{number_found, number_marked_at}
 use Rattle.phase_maps.proofs.numbers.add_number.Goals as goal

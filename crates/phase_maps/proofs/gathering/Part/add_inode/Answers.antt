@@ -2,8 +2,9 @@
 use Rattle.std.proofs.Common.{eqb, sym, subst, ℕ}
 use Rattle.device.specs.Kept.{frozen_view}
 use Rattle.phase_maps.specs.Parts.{IsGathered, IsClaimedBy}
-use Rattle.phase_maps.specs.Walks.{Adds, IsClaimedByRecord}
-use Rattle.phase_maps.proofs.Adding.{adds_same, IfOk-both}
+use Rattle.model.specs.Growth.{Adds}
+use Rattle.phase_maps.specs.Walks.{IsClaimedByRecord}
+use Rattle.model.proofs.Adding.{adds_same, IfOk-both}
 use Rattle.phase_maps.proofs.ClaimLemmas.{claimed_by_record}
 use Rattle.phase_maps.proofs.PartLemmas.{gathered_more}
 use Rattle.phase_maps.proofs.gathering.Part.add_inode.Goals as goal

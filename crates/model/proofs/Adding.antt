@@ -10,7 +10,7 @@ use Rattle.std.proofs.lemmas.Option.{same_Some}
 use Rattle.std.proofs.lemmas.List.Elements.{Contains-append_left, Contains-push, Contains-push_cases}
 use Rattle.std.proofs.lemmas.Map.Lookups.{CmpEqualImpliesEq}
 use Rattle.std.proofs.lemmas.Map.Views.{btree_set_contains_iff, Contains-from_any, list_any-from_Contains, tells_apart}
-use Rattle.phase_maps.specs.Walks.{Adds}
+use Rattle.model.specs.Growth.{Adds}
 
 pub or_parts : (a b : Bool) → IsTrue (a || b) → IsTrue a ⊎ IsTrue b
 or_parts true b t = inl refl
