@@ -4,10 +4,10 @@ use Rattle.std.proofs.lemmas.Bool.{and_from, and_parts, both_ways, cases_eq, fal
 use Rattle.std.proofs.lemmas.List.{length-set}
 use Rattle.std.proofs.lemmas.Option.{same_Some}
 use Rattle.model.specs.Layout.{Geometry, block_count, group_block, group_of_address, inode_block, inode_byte, is_data_address, is_number, data_bit}
-use Rattle.model.specs.Uses.{IsClaim, indirect_position}
+use Rattle.model.specs.Uses.{is_directory_at, IsClaim, indirect_position}
 use Rattle.model.specs.View.{inode_at, map_bit, free_inode}
 use Rattle.model.specs.Image.{IsBlock, IsSuper, IsGroupBlock, block_at, image_view}
-use Rattle.model.proofs.Same.{same_and, same_cond, same_use}
+use Rattle.model.proofs.Same.{same_and, same_cond}
 use Rattle.model.proofs.Places.{maps_are_no_data, inodes_are_no_data}
 use Rattle.model.proofs.Addresses.{maps_below, inode_below, number_in_group, address_in_group, data_range}
 use Rattle.device.specs.Kept.{Kept, KeepsFrame, IsKeptOf, frozen_view, kept_at, kept_bytes, is_frame}
@@ -46,10 +46,12 @@ module _ (kept : Kept) (frame : KeepsFrame kept) where
         same_cond (is_number kept.geometry n) (inode_at (kept_bytes kept.blocks (inode_block kept.geometry n)) (inode_byte n)) (inode_at (block_at image (inode_block kept.geometry n)) (inode_byte n)) free_inode
         (λ t. ap (λ b. inode_at b (inode_byte n)) (same_block (inode_block kept.geometry n) (records_are_frame n (number_in_group kept.geometry frame.geometry n t))))
 
-    -- with the bytes of the indirect blocks that are claimed, the uses are the image's too
+    -- with the bytes of the claimed indirect blocks and of the directories' blocks, they have its metadata
     pub kept_of : length image ≡ block_count kept.geometry → All IsBlock image
-        → ((i a : ℕ) → IsClaim kept.geometry (frozen_view kept) i indirect_position a → (frozen_view kept).bytes a ≡ (image_view kept.geometry image).bytes a) → IsKeptOf kept image
-    kept_of count whole indirect = record {
+        → ((i a : ℕ) → IsClaim kept.geometry (frozen_view kept) i indirect_position a → (frozen_view kept).bytes a ≡ (image_view kept.geometry image).bytes a)
+        → ((d k a : ℕ) → IsTrue (is_directory_at kept.geometry (frozen_view kept) d) → IsClaim kept.geometry (frozen_view kept) d k a → (frozen_view kept).bytes a ≡ (image_view kept.geometry image).bytes a)
+        → IsKeptOf kept image
+    kept_of count whole indirect directories = record {
       is_image = record {
         geometry = frame.geometry;
         count = count;
@@ -58,15 +60,17 @@ module _ (kept : Kept) (frame : KeepsFrame kept) where
         group_blocks = λ g b. subst (IsGroupBlock g) (same_maps g b) (frame.group_blocks g b);
       };
       blocks = are;
-      inode = same_inode;
-      number_marked = λ n. same_and (is_number kept.geometry n) (map_bit (kept_bytes kept.blocks (group_block kept.geometry (n / kept.geometry.inodes))) 32 (n % kept.geometry.inodes))
-          (map_bit (block_at image (group_block kept.geometry (n / kept.geometry.inodes))) 32 (n % kept.geometry.inodes))
-          (λ t. ap (λ b. map_bit b 32 (n % kept.geometry.inodes)) (same_maps (n / kept.geometry.inodes) (number_in_group kept.geometry frame.geometry n t)));
-      block_marked = λ a. same_and (is_data_address kept.geometry a) (map_bit (kept_bytes kept.blocks (group_block kept.geometry (group_of_address kept.geometry a))) 160 (data_bit kept.geometry a))
-          (map_bit (block_at image (group_block kept.geometry (group_of_address kept.geometry a))) 160 (data_bit kept.geometry a))
-          (λ t. ap (λ b. map_bit b 160 (data_bit kept.geometry a)) (same_maps (group_of_address kept.geometry a) (address_in_group kept.geometry frame.geometry a (data_range kept.geometry frame.geometry a t).1)));
-      indirect_blocks = indirect;
-      uses = same_use kept.geometry (frozen_view kept) (image_view kept.geometry image) (λ i _. same_inode i) indirect;
+      metadata = record {
+        inode = λ n _. same_inode n;
+        number_marked = λ n _. same_and (is_number kept.geometry n) (map_bit (kept_bytes kept.blocks (group_block kept.geometry (n / kept.geometry.inodes))) 32 (n % kept.geometry.inodes))
+            (map_bit (block_at image (group_block kept.geometry (n / kept.geometry.inodes))) 32 (n % kept.geometry.inodes))
+            (λ t. ap (λ b. map_bit b 32 (n % kept.geometry.inodes)) (same_maps (n / kept.geometry.inodes) (number_in_group kept.geometry frame.geometry n t)));
+        block_marked = λ a _. same_and (is_data_address kept.geometry a) (map_bit (kept_bytes kept.blocks (group_block kept.geometry (group_of_address kept.geometry a))) 160 (data_bit kept.geometry a))
+            (map_bit (block_at image (group_block kept.geometry (group_of_address kept.geometry a))) 160 (data_bit kept.geometry a))
+            (λ t. ap (λ b. map_bit b 160 (data_bit kept.geometry a)) (same_maps (group_of_address kept.geometry a) (address_in_group kept.geometry frame.geometry a (data_range kept.geometry frame.geometry a t).1)));
+        indirect_blocks = indirect;
+        directory_blocks = directories;
+      };
     }
 
 -- one more data block leaves the frame as it is

@@ -3,4 +3,6 @@ pub mod MemoryLemmas
 pub mod FormatLemmas
 pub mod LoadLemmas
 pub mod FrozenLemmas
-pub mod IndirectLemmas
+pub mod ClaimLemmas
+pub mod KeepingLemmas
+pub mod SlotLemmas

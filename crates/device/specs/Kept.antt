@@ -2,7 +2,8 @@
 use Rattle.std.specs.Prelude.{◌≡◌, ℕ, ◌<◌, Bool, not, ◌&&◌, nat_lt, List, [], length, Option, Some, None, IsTrue, IsSome, slice_index_or, unwrap_or}
 use Rattle.model.specs.Layout.{Geometry, IsGeometry, block_count, group_block, is_data_address}
 use Rattle.model.specs.View.{View, view_of}
-use Rattle.model.specs.Uses.{IsClaim, indirect_position, use_at}
+use Rattle.model.specs.Uses.{IsClaim, indirect_position, is_directory_at}
+use Rattle.model.specs.Metadata.{SameMetadata}
 use Rattle.model.specs.Image.{IsBlock, IsSuper, IsGroupBlock, IsImage, block_at, image_view}
 
 pub record Kept : Type 0 where
@@ -34,24 +35,31 @@ pub record KeepsFrame (kept : Kept) : Type 0 where
   pub first : IsSuper kept.geometry (kept_bytes kept.blocks 0)
   pub group_blocks : (g : ℕ) → g < kept.geometry.groups → IsGroupBlock g (kept_bytes kept.blocks (group_block kept.geometry g))
 
--- the indirect block that inode i claims is kept, and so are those of all inodes below n
-abbrev pub KeepsIndirectOf : Kept → ℕ → Type 0
-KeepsIndirectOf kept i = (a : ℕ) → IsClaim kept.geometry (frozen_view kept) i indirect_position a → IsSome (kept_at kept.blocks a)
+-- the block that inode i claims at position k is kept
+abbrev pub KeepsClaim : Kept → ℕ → ℕ → Type 0
+KeepsClaim kept i k = (a : ℕ) → IsClaim kept.geometry (frozen_view kept) i k a → IsSome (kept_at kept.blocks a)
 
-abbrev pub KeepsIndirect : Kept → ℕ → Type 0
-KeepsIndirect kept n = (i : ℕ) → i < n → KeepsIndirectOf kept i
+-- the indirect blocks that inodes claim are kept
+abbrev pub KeepsIndirect : Kept → Type 0
+KeepsIndirect kept = (i : ℕ) → KeepsClaim kept i indirect_position
+
+-- the blocks that d claims are kept, if it is a sound directory
+abbrev pub KeepsDirectory : Kept → ℕ → Type 0
+KeepsDirectory kept d = IsTrue (is_directory_at kept.geometry (frozen_view kept) d) → (k : ℕ) → KeepsClaim kept d k
+
+-- All that a check reads is kept: the frame, the claimed indirect blocks, and the claimed blocks of sound directories.
+pub record KeepsMetadata (kept : Kept) : Type 0 where
+  pub frame : KeepsFrame kept
+  pub indirect_blocks : KeepsIndirect kept
+  pub directory_blocks : (d : ℕ) → KeepsDirectory kept d
 
 -- The second one keeps all blocks that the first one keeps.
 pub record KeepsMore (kept more : Kept) : Type 0 where
   pub geometry : more.geometry ≡ kept.geometry
   pub blocks : (a : ℕ) (b : List ℕ) → kept_at kept.blocks a ≡ Some b → kept_at more.blocks a ≡ Some b
 
--- The kept blocks are those of an image, and hold its records, bits and uses.
+-- The kept blocks are those of an image, and hold its metadata.
 pub record IsKeptOf (kept : Kept) (image : List (List ℕ)) : Type 0 where
   pub is_image : IsImage kept.geometry image
   pub blocks : (a : ℕ) (b : List ℕ) → kept_at kept.blocks a ≡ Some b → b ≡ block_at image a
-  pub inode : (n : ℕ) → (frozen_view kept).inode n ≡ (image_view kept.geometry image).inode n
-  pub number_marked : (n : ℕ) → (frozen_view kept).number_marked n ≡ (image_view kept.geometry image).number_marked n
-  pub block_marked : (a : ℕ) → (frozen_view kept).block_marked a ≡ (image_view kept.geometry image).block_marked a
-  pub indirect_blocks : (i a : ℕ) → IsClaim kept.geometry (frozen_view kept) i indirect_position a → (frozen_view kept).bytes a ≡ (image_view kept.geometry image).bytes a
-  pub uses : (i k : ℕ) → use_at kept.geometry (frozen_view kept) i k ≡ use_at kept.geometry (image_view kept.geometry image) i k
+  pub metadata : SameMetadata kept.geometry (frozen_view kept) (image_view kept.geometry image)

@@ -1,46 +1,40 @@
-ghost use Rattle.std.specs.Prelude.{◌≡◌, ◌<◌, ◌*◌, IsTrue, Some, OnOk, OnErr, slice_set};
-ghost use Rattle.std.specs.Option.{option_copied};
-ghost use Rattle.device.specs.Kept.{KeepsFrame, frozen_view, kept_at, kept_bytes, is_frame};
-ghost use Rattle.model.specs.Layout.{inode_count, group_block, inode_block, is_data_address, is_number};
-ghost use Rattle.model.specs.Uses.{record_use, is_used, value_at, use_at, claim_at};
-ghost use Rattle.model.specs.View.{u32_at};
+ghost use Rattle.std.specs.Prelude.{◌≡◌, ℕ, ◌/◌, ◌<◌, IsTrue};
+ghost use Rattle.std.specs.Option.{option_copied, option_map_or};
+ghost use Rattle.device.specs.Kept.{KeepsFrame, KeepsMetadata, frozen_view, kept_at, kept_bytes};
+ghost use Rattle.model.specs.Layout.{inode_count, group_block, inode_block, is_number};
+ghost use Rattle.model.specs.Uses.{record_use, use_at, claim_at, is_sound_at, is_directory_at};
+ghost use Rattle.model.specs.Slots.{Absent, slot, slot_in};
 ghost use Rattle.model.specs.Image.{IsGroupBlock};
 
-use inode::{
-    DIRECT_POINTERS, INDIRECT_POSITION, RECORD_BYTES, Record, a_record_is_read_from_its_bytes,
-};
-use layout::{Block, Geometry, INODES_PER_BLOCK, ROOT, u32_at};
-use std::alloc::{AllocError, Global};
+use crate::Held;
+use inode::{INDIRECT_POSITION, Record};
+use layout::{Block, Geometry};
 use std::marker::Model;
-use std::sync::Arc;
 
-/// The metadata of an image as it was at one moment: its blocks by address, shared, of those that a check reads.
+/// The metadata of an image as it was at one moment: its superblock, its blocks of maps and of inodes, the indirect
+/// blocks that sound inodes claim, and the blocks that sound directories claim. None of them is missing.
 #[derive(Drop)]
 pub struct Frozen {
-    geometry: Geometry,
-    blocks: Vec<Option<Arc<Block>>>,
+    held: Held,
 }
 
 impl Model for Frozen {
-    ghost use Rattle.device.specs.Kept.{Kept, KeepsFrame};
-    ghost use Rattle.device.specs.Shared.{shared_blocks};
+    ghost use Rattle.device.specs.Kept.{Kept, KeepsMetadata};
 
     ghost Value = { Kept };
 
-    ghost view = { λ f. record { geometry = f.geometry; blocks = shared_blocks f.blocks.items } };
+    ghost view = { λ frozen. frozen.held };
 
-    ghost invariant = { λ f. KeepsFrame (record { geometry = f.geometry; blocks = shared_blocks f.blocks.items }) };
+    ghost invariant = { λ frozen. KeepsMetadata frozen.held };
 }
 
 impl Frozen {
-    ghost use Rattle.device.specs.Shared.{shared_blocks};
-
-    /// The frozen image of these blocks.
-    pub(crate) fn new(geometry: Geometry, blocks: Vec<Option<Arc<Block>>>) -> Frozen
-        requires { KeepsFrame (record { geometry = geometry; blocks = shared_blocks blocks.items }) }
-        ensures { result ≡ record { geometry = geometry; blocks = shared_blocks blocks.items } }
+    /// The frozen image of these blocks, of which none is missing.
+    pub(crate) fn new(held: Held) -> Frozen
+        requires { KeepsMetadata held }
+        ensures { result ≡ held }
     {
-        Frozen { geometry, blocks }
+        Frozen { held }
     }
 
     /// Its geometry.
@@ -48,7 +42,7 @@ impl Frozen {
         ensures geometry { result ≡ self.now.geometry }
         ensures frame { KeepsFrame self.now }
     {
-        self.geometry
+        self.held.geometry()
     }
 
     /// The block of this address, or `None` where it does not hold it.
@@ -56,10 +50,7 @@ impl Frozen {
         ensures block { option_copied result ≡ kept_at self.now.blocks address }
         ensures frame { KeepsFrame self.now }
     {
-        match self.blocks.get(address as usize) {
-            Some(Some(block)) => Some(block),
-            _ => None,
-        }
+        self.held.block(address)
     }
 
     /// The block of maps of a group.
@@ -68,7 +59,7 @@ impl Frozen {
         ensures maps { result.now ≡ kept_bytes self.now.blocks (group_block self.now.geometry group) }
         ensures is_maps { IsGroupBlock group result.now }
     {
-        self.frame_block(self.geometry().group_block(group))
+        self.held.maps_of(group)
     }
 
     /// The block that holds the record of an inode.
@@ -76,7 +67,7 @@ impl Frozen {
         requires { number < inode_count self.now.geometry }
         ensures { result.now ≡ kept_bytes self.now.blocks (inode_block self.now.geometry number) }
     {
-        self.frame_block(self.geometry().inode_place(number).address)
+        self.held.records_of(number)
     }
 
     /// The record of an inode. Numbers 0 and 1 are not looked at.
@@ -84,9 +75,21 @@ impl Frozen {
         requires { IsTrue (is_number self.now.geometry number) }
         ensures { result ≡ (frozen_view self.now).inode number }
     {
-        a_record_is_read_from_its_bytes();
-        let (records, _) = self.records_of(number).as_chunks::<RECORD_BYTES>();
-        Record::read(&records[(number % INODES_PER_BLOCK) as usize])
+        self.held.record(number)
+    }
+
+    /// Whether the number is that of a sound inode: false for 0, 1 and numbers past the last.
+    pub fn is_sound_at(&self, number: u32) -> bool
+        ensures { result ≡ is_sound_at self.now.geometry (frozen_view self.now) number }
+    {
+        self.held.is_sound_at(number)
+    }
+
+    /// Whether the number is that of a sound directory: false for 0, 1 and numbers past the last.
+    pub fn is_directory_at(&self, number: u32) -> bool
+        ensures { result ≡ is_directory_at self.now.geometry (frozen_view self.now) number }
+    {
+        self.held.is_directory_at(number)
     }
 
     /// The value that an inode uses at a position: below 12 one of its record's pointers, below 268 one of its
@@ -95,20 +98,14 @@ impl Frozen {
     pub fn use_at(&self, inode: u32, position: u32) -> Option<u32>
         ensures { result ≡ use_at self.now.geometry (frozen_view self.now) inode position }
     {
-        if !self.is_number(inode) {
-            return None;
-        }
-        self.use_of(&self.record(inode), position)
+        self.held.use_at(inode, position)
     }
 
     /// The value that a record uses at a position, as `use_at` has it.
     pub fn use_of(&self, inode: &Record, position: u32) -> Option<u32>
         ensures { result ≡ record_use self.now.geometry (frozen_view self.now) inode.now position }
     {
-        if !inode.is_sound() || !self.is_used(inode, position) {
-            return None;
-        }
-        Some(self.value_at(inode, position))
+        self.held.use_of(inode, position)
     }
 
     /// The block that an inode claims at a position: the value that it uses there, if that is the address of a data
@@ -116,83 +113,21 @@ impl Frozen {
     pub fn claim_at(&self, inode: u32, position: u32) -> Option<u32>
         ensures { result ≡ claim_at self.now.geometry (frozen_view self.now) inode position }
     {
-        match self.use_at(inode, position) {
-            Some(address) if self.geometry().place_of(address).is_some() => Some(address),
-            _ => None,
+        self.held.claim_at(inode, position)
+    }
+
+    /// The block of a directory's slots at this position, which holds its slots `16 * position` to
+    /// `16 * position + 15`. `None` where the slots are left out: the number is no sound directory's, or it claims no
+    /// block there. Position 268, the indirect pointer, has no slots.
+    #[tactic(auto, using(crate::proofs::SlotLemmas::no_slot_past, crate::proofs::SlotLemmas::no_slot_of))]
+    pub fn directory_block(&self, directory: u32, position: u32) -> Option<&Block>
+        ensures slots { (s : ℕ) → s / 16 ≡ position → slot self.now.geometry (frozen_view self.now) directory s
+            ≡ option_map_or (λ block. slot_in self.now.geometry block s) (option_copied result) Absent }
+    {
+        if position >= INDIRECT_POSITION || !self.held.is_directory_at(directory) {
+            return None;
         }
-    }
-
-    /// Keeps one more data block.
-    pub(crate) fn keep(
-        &mut self,
-        alloc: Global,
-        address: u32,
-        block: &Block,
-    ) -> Result<(), AllocError>
-        requires { IsTrue (is_data_address self.old.geometry address) }
-        ensures ok { OnOk result (self.new ≡ record self.old { blocks = slice_set self.old.blocks address (Some block.now) }) }
-        ensures frame { OnOk result (KeepsFrame self.new) }
-        ensures error { OnErr result (self.new ≡ self.old) }
-    {
-        let shared = Arc::new(alloc, *block)?;
-        self.blocks[address as usize] = Some(shared);
-        Ok(())
-    }
-
-    /// Whether the number is that of an inode that is looked at.
-    fn is_number(&self, number: u32) -> bool
-        ensures { result ≡ is_number self.now.geometry number }
-    {
-        ROOT <= number && number < self.geometry().inodes()
-    }
-
-    /// Whether a sound record uses a position.
-    fn is_used(&self, inode: &Record, position: u32) -> bool
-        ensures { result ≡ is_used self.now.geometry inode.now position }
-    {
-        let blocks = inode.blocks();
-        if position < DIRECT_POINTERS as u32 {
-            position < blocks
-        } else if position < INDIRECT_POSITION {
-            position < blocks && self.geometry().place_of(inode.indirect).is_some()
-        } else {
-            position == INDIRECT_POSITION && blocks > DIRECT_POINTERS as u32
-        }
-    }
-
-    /// The value at a position that the record uses.
-    fn value_at(&self, inode: &Record, position: u32) -> u32
-        requires { IsTrue (is_used self.now.geometry inode.now position) }
-        ensures { result ≡ value_at (frozen_view self.now) inode.now position }
-    {
-        if position < DIRECT_POINTERS as u32 {
-            inode.direct[position as usize]
-        } else if position < INDIRECT_POSITION {
-            self.pointer(inode.indirect, position as usize - DIRECT_POINTERS)
-        } else {
-            inode.indirect
-        }
-    }
-
-    /// The pointer in this slot of an indirect block, and 0 where the block is not held.
-    fn pointer(&self, indirect: u32, slot: usize) -> u32
-        requires { slot < 256 }
-        ensures { result ≡ u32_at (kept_bytes self.now.blocks indirect) (4 * slot) }
-    {
-        match self.block(indirect) {
-            Some(block) => u32_at(block, 4 * slot),
-            None => 0,
-        }
-    }
-
-    /// A block that each volume has: its superblock, a group's block of maps or a block of inodes.
-    fn frame_block(&self, address: u32) -> &Block
-        requires { IsTrue (is_frame self.now.geometry address) }
-        ensures { result.now ≡ kept_bytes self.now.blocks address }
-    {
-        match self.block(address) {
-            Some(block) => block,
-            None => unreachable!(),
-        }
+        let claimed = self.held.claim_at(directory, position)?;
+        self.held.block(claimed)
     }
 }

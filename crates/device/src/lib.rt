@@ -5,6 +5,7 @@
 mod file;
 mod formatting;
 mod frozen;
+mod held;
 mod interface;
 mod loading;
 mod memory;
@@ -14,6 +15,7 @@ mod tests;
 pub use file::{Call, FileDevice, Start};
 pub use formatting::{Before, format};
 pub use frozen::Frozen;
+pub(crate) use held::Held;
 pub use interface::{Device, DeviceFault};
 pub use loading::load;
 pub use memory::MemDevice;

@@ -1,4 +1,4 @@
-use crate::{Before, Device, FileDevice, MemDevice, format, load};
+use crate::{Before, Device, FileDevice, Frozen, MemDevice, format, load};
 use layout::{BLOCK_BYTES, Block, Geometry, Refusal};
 use std::alloc::Global;
 use std::fs;
@@ -19,6 +19,33 @@ const SUPERBLOCK: [(usize, u8); 8] = [
     (8, 1),
     (12, 16),
     (16, 16),
+];
+
+/// Bytes of an image of two groups, each of 16 blocks and 16 inodes, whose root has 13 blocks, 4 to 15 and 20, and whose
+/// inode 3 is a directory with block 4, the root's first, and inode 4 a file with it: an address, a byte and its value.
+const TWO_DIRECTORIES: [(u32, usize, u8); 22] = [
+    (2, 261, 52),
+    (2, 268, 5),
+    (2, 272, 6),
+    (2, 276, 7),
+    (2, 280, 8),
+    (2, 284, 9),
+    (2, 288, 10),
+    (2, 292, 11),
+    (2, 296, 12),
+    (2, 300, 13),
+    (2, 304, 14),
+    (2, 308, 15),
+    (2, 312, 16),
+    (16, 0, 20),
+    (20, 1023, 7),
+    (15, 1023, 8),
+    (2, 384, 2),
+    (2, 389, 4),
+    (2, 392, 4),
+    (2, 512, 1),
+    (2, 517, 4),
+    (2, 520, 4),
 ];
 
 /// The block of this address; `None` where there is none, or the device failed.
@@ -108,7 +135,8 @@ fn a_fresh_image_is_loaded(rt: HostRuntime) -> Result<(), Fail> {
         (1, true),
         (2, true),
         (3, true),
-        (4, false),
+        (4, true),
+        (5, false),
         (16, false),
         (17, false),
     ] {
@@ -116,6 +144,43 @@ fn a_fresh_image_is_loaded(rt: HostRuntime) -> Result<(), Fail> {
     }
     assert!(rt; geometry.groups() == 1);
     assert_eq!(rt; &frozen.maps_of(0)[..4], b"GCUS".as_slice());
+    Ok(())
+}
+
+/// A frozen image of a root and a second directory, as `TWO_DIRECTORIES` has them.
+fn two_directories(alloc: Global) -> Result<Frozen, Refusal> {
+    let mut device = zeroes(alloc, 33)?;
+    format_groups(&mut device, 2)?;
+    for (address, byte, value) in TWO_DIRECTORIES {
+        set_byte(&mut device, address, byte, value)?;
+    }
+    load(alloc, &mut device)
+}
+
+#[test]
+fn the_blocks_of_directories_are_loaded(rt: HostRuntime) -> Result<(), Fail> {
+    let frozen = two_directories(rt.alloc())?;
+    for (directory, position, last_byte) in [
+        (2, 0, Some(0)),
+        (2, 10, Some(0)),
+        (2, 11, Some(8)),
+        (2, 12, Some(7)),
+        (2, 13, None),
+        (2, 268, None),
+        (3, 0, Some(0)),
+        (3, 1, None),
+        (4, 0, None),
+        (5, 0, None),
+    ] {
+        let block = frozen.directory_block(directory, position);
+        assert_eq!(rt;
+            block.map(|block| block[1023]),
+            last_byte,
+            "position {position} of inode {directory}"
+        );
+    }
+    assert!(rt; frozen.is_directory_at(3) && !frozen.is_directory_at(4));
+    assert!(rt; frozen.is_sound_at(4) && !frozen.is_sound_at(5));
     Ok(())
 }
 

@@ -1,13 +1,13 @@
 -- All groups were looked at, and two phases' findings are those of both.
-use Rattle.std.proofs.Common.{◌≡◌, ◌≤◌, ◌+◌, ℕ, Bool, ◌||◌, eqb, ltb, List, ◌++◌, ◌↔◌, inl, inr, sym, ◌∙◌, arith, IsTrue}
+use Rattle.std.proofs.Common.{◌≡◌, ◌≤◌, ◌+◌, ℕ, Bool, ◌||◌, eqb, ltb, List, ◌++◌, ◌↔◌, inl, inr, sym, ◌∙◌, arith}
 use mathlib.Core.Path.{fun_ext}
 use Rattle.std.proofs.lemmas.Bool.{cases_order, eq-eqb, ne_eqb, lt-ltb, le-ltb, or_cases, or_from, or_left, or_right}
 use Rattle.std.proofs.lemmas.List.Elements.{Contains-append_left, Contains-append_right, Contains-append_cases}
 use Rattle.std.specs.List.{Contains}
 use Rattle.std.specs.List.Sorted.{IsStrictlySortedBy}
 use Rattle.findings.specs.declared.finding.Finding.{Finding}
-use Rattle.findings.specs.Findings.{AreFindingsOf, IsFinding, finding_cmp}
-use Rattle.findings.proofs.SameFindings.{same_used_findings}
+use Rattle.findings.specs.Findings.{AreFindingsOf, finding_cmp}
+use Rattle.findings.proofs.SameFindings.{same_findings}
 use Rattle.model.specs.Layout.{Geometry}
 use Rattle.model.specs.View.{View}
 use Rattle.model.specs.Units.{IsEveryGroup, either, no_unit, only}
@@ -58,16 +58,9 @@ pub image_findings : (kept : Kept) (image : List (List ℕ)) (fs : List Finding)
     → AreFindingsOf is_checked kept.geometry (image_view kept.geometry image) fs
 image_findings kept image fs of are = record {
   in_order = are.in_order;
-  exactly = λ f. (
-    λ c. let h = (are.exactly f).0 c in (h.0, (same f h.0).0 h.1),
-    λ h. (are.exactly f).1 (h.0, (same f h.0).1 h.1),
-  );
+  exactly = λ f.
+      let same = same_findings kept.geometry (frozen_view kept) (image_view kept.geometry image) of.metadata f in (
+        λ c. let h = (are.exactly f).0 c in (h.0, same.0 h.1),
+        λ h. (are.exactly f).1 (h.0, same.1 h.1),
+      );
 }
-  where
-    same : (f : Finding) → IsTrue (is_checked f) → IsFinding kept.geometry (frozen_view kept) f ↔ IsFinding kept.geometry (image_view kept.geometry image) f
-    same f t = same_used_findings kept.geometry (frozen_view kept) (image_view kept.geometry image) (record {
-      inode = λ i _. of.inode i;
-      number_marked = λ i _. of.number_marked i;
-      block_marked = λ a _. of.block_marked a;
-      uses = of.uses;
-    }) f t

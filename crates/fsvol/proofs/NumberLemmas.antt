@@ -1,30 +1,22 @@
--- The findings of the numbers look at the records and at the numbers' bits alone, and there are none on a clean image.
-use Rattle.std.proofs.Common.{◌≡◌, ℕ, Bool, List, [], ◌∷◌, IsTrue, refl, sym, ap, ◌∙◌, subst}
+-- Views with the same metadata have the same findings of the numbers, and there are none on a clean image.
+use Rattle.std.proofs.Common.{◌≡◌, ℕ, Bool, List, [], ◌∷◌, refl, sym, ◌∙◌, subst}
 use Rattle.findings.specs.declared.finding.Finding.{Finding}
-use Rattle.findings.specs.declared.finding.Finding.TheVariants.{LostNumber, UnmarkedInode}
 use Rattle.model.specs.Layout.{Geometry}
-use Rattle.model.specs.View.{View, Inode}
+use Rattle.model.specs.View.{View}
+use Rattle.model.specs.Metadata.{SameMetadata}
 use Rattle.model.specs.Image.{IsImage, image_view}
-use Rattle.findings.specs.Findings.{IsFinding, AreFindings, AreFindingsOf, is_of_numbers}
+use Rattle.findings.specs.Findings.{AreFindings, AreFindingsOf, is_of_numbers}
+use Rattle.findings.proofs.SameFindings.{same_findings}
 use Rattle.findings.proofs.Sorted.{Contains-here, Contains-none}
 
-module _ (geo : Geometry) (v w : View) (inode : (n : ℕ) → v.inode n ≡ w.inode n) (marked : (n : ℕ) → v.number_marked n ≡ w.number_marked n) where
-  same_mode : (n : ℕ) → (w.inode n).mode ≡ (v.inode n).mode
-  same_mode n = ap (λ (r : Inode). r.mode) (sym (inode n))
-
-  number_there : (f : Finding) → IsTrue (is_of_numbers f) → IsFinding geo v f → IsFinding geo w f
-  number_there (LostNumber i) t h = (h.0, sym (marked i) ∙ h.1, same_mode i ∙ h.2)
-  number_there (UnmarkedInode i) t h = (h.0, (λ z. h.1 (sym (same_mode i) ∙ z)), sym (marked i) ∙ h.2)
-  number_there _ t h = absurd cc
-
-pub numbers_there : (geo : Geometry) (v w : View) (fs : List Finding) → ((n : ℕ) → v.inode n ≡ w.inode n) → ((n : ℕ) → v.number_marked n ≡ w.number_marked n)
-    → AreFindingsOf is_of_numbers geo v fs → AreFindingsOf is_of_numbers geo w fs
-numbers_there geo v w fs inode marked are = record {
+pub numbers_there : (geo : Geometry) (v w : View) (fs : List Finding) → SameMetadata geo v w → AreFindingsOf is_of_numbers geo v fs → AreFindingsOf is_of_numbers geo w fs
+numbers_there geo v w fs metadata are = record {
   in_order = are.in_order;
-  exactly = λ f. (
-    (λ c. let h = (are.exactly f).0 c in (h.0, number_there geo v w inode marked f h.0 h.1)),
-    (λ h. (are.exactly f).1 (h.0, number_there geo w v (λ n. sym (inode n)) (λ n. sym (marked n)) f h.0 h.1)),
-  );
+  exactly = λ f.
+      let same = same_findings geo v w metadata f in (
+        λ c. let h = (are.exactly f).0 c in (h.0, same.0 h.1),
+        λ h. (are.exactly f).1 (h.0, same.1 h.1),
+      );
 }
 
 -- where nothing is found, nothing of these kinds is found

@@ -9,5 +9,5 @@ returns-clause-found g c =
     IfOk-weaker c.number_findings.result _ _ (λ found are honest.
     let frozen = c.in_ok-frozen.frozen in
     let kept = c.in_ok-frozen.ensures.ok honest in
-    (frozen.geometry, kept.is_image, numbers_there frozen.geometry (frozen_view frozen) (image_view frozen.geometry (g.D.Device.image c.args.device.now)) found.items kept.inode kept.number_marked are))
+    (frozen.geometry, kept.is_image, numbers_there frozen.geometry (frozen_view frozen) (image_view frozen.geometry (g.D.Device.image c.args.device.now)) found.items kept.metadata are))
     c.number_findings.ensures.found

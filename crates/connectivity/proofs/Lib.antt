@@ -1,0 +1,3 @@
+mod LostLemmas
+mod VisitLemmas
+mod WalkLemmas

@@ -1,0 +1,3 @@
+mod GroupLemmas
+mod SlotLemmas
+mod TableLemmas

@@ -1,0 +1,24 @@
+//! What the slots of directories name, by directory. The work is split by cylinder group: `named` reads the directories
+//! of one group, and `merge` joins what was read, in any order and any grouping.
+#![tactic(auto)]
+
+ghost use Rattle.std.specs.Prelude.{◌≡◌, ◌<◌, ℕ, List};
+ghost use Rattle.model.specs.Layout.{Geometry, IsGeometry};
+ghost use Rattle.model.specs.View.{View};
+ghost use Rattle.model.specs.Units.{Units};
+ghost use Rattle.directories.specs.Named.{IsNamed};
+
+mod reading;
+mod table;
+#[cfg(test)]
+mod tests;
+
+pub use reading::named;
+pub use table::{Named, merge};
+
+/// Two tables of the same groups of an image are equal, and so a table knows nothing of the order and the grouping in
+/// which it was merged.
+pub fn tables_are_told_by_their_units()
+    ensures { (geo : Geometry) → IsGeometry geo → (view : View) (first : ℕ) (units others : Units) (left right : List (ℕ × List ℕ))
+        → ((g : ℕ) → g < geo.groups → units g ≡ others g) → IsNamed geo view first units left → IsNamed geo view first others right → left ≡ right }
+{}
