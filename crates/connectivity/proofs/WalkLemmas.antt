@@ -1,27 +1,23 @@
 -- What holds between the rounds of the walk, and where no directory is left.
-use Rattle.std.proofs.Common.{◌≡◌, ◌<◌, ◌≤◌, ◌+◌, ◌-◌, ◌/◌, ℕ, true, List, [], ◌∷◌, length, Option, Some, None, IsSome, unwrap_or, Contains, inl, inr, refl, sym, ap, ◌∙◌, subst, arith, IsTrue, IsFalse, eqb, rules}
+use Rattle.std.proofs.Common.{◌≡◌, ◌<◌, ◌≤◌, ◌+◌, ◌-◌, ℕ, true, List, [], ◌∷◌, length, Contains, inl, inr, sym, subst, arith, IsTrue, IsFalse, eqb, rules}
 use mathlib.Core.Path.{fun_ext}
 use Rattle.std.specs.List.{list_any, IsDistinct}
 use Rattle.std.specs.Ordering.{nat_cmp, eq_by_cmp}
-use Rattle.std.proofs.lemmas.Bool.{and_from, and_parts, both_ways, false≢true, eqb-true}
+use Rattle.std.proofs.lemmas.Bool.{and_parts, both_ways, eqb-true}
 use Rattle.std.proofs.lemmas.List.Elements.{Contains-append_left, Contains-append_right, Contains-append_cases}
 use Rattle.std.proofs.lemmas.Map.Keys.{IsDistinct-from_sorted}
 use Rattle.std.proofs.lemmas.Map.Steps.{length-le_from_distinct_below}
 use Rattle.std.proofs.lemmas.Map.Views.{Contains-from_any}
 use Rattle.findings.proofs.FoundBelow.{sorted-none}
 use Rattle.findings.proofs.Sorted.{Contains-here, Contains-there, Contains-cases, Contains-none}
-use Rattle.directories.specs.Named.{IsNamed, numbers_in}
+use Rattle.directories.specs.Named.{numbers_in}
 use Rattle.model.specs.Layout.{Geometry, inode_count, is_number, root}
 use Rattle.model.specs.View.{View}
 use Rattle.model.specs.Uses.{is_sound, is_sound_at, is_directory_at}
-use Rattle.model.specs.Named.{named_from}
 use Rattle.model.specs.Reached.{AreReached}
-use Rattle.model.specs.Units.{Units, IsEveryGroup}
-use Rattle.model.specs.Tables.{value_in}
 use Rattle.model.proofs.NamedLemmas.{named_are_names}
 use Rattle.model.proofs.ReachLemmas.{sound_directory, entry_reached, IsClosed, closed_reachable}
-use Rattle.model.proofs.SlotLemmas.{directory_number, number_below}
-use Rattle.model.proofs.Tables.{group_of_number}
+use Rattle.model.proofs.SlotLemmas.{number_below}
 use Rattle.connectivity.specs.Walk.{Visits, IsWalk, HasAllEntries, numbers_of}
 use Rattle.connectivity.proofs.VisitLemmas.{member_or_not}
 
@@ -44,14 +40,6 @@ numbers_to table (e ∷ es) d i c k = elim (Contains-cases e es d c) [
 ]
 
 module _ (geo : Geometry) (view : View) (table : List (ℕ × List ℕ)) where
-  -- a table of all groups has the entries of every sound directory
-  pub all_entries : (units : Units) → IsNamed geo view 2 units table → IsEveryGroup geo units → HasAllEntries geo view table
-  all_entries units named every d t = of_value (value_in table d) refl (named.all d (and_from (is_directory_at geo view d) (units (d / geo.inodes)) t (every (d / geo.inodes) (group_of_number geo d (directory_number geo view d t)))))
-    where
-      of_value : (o : Option (List ℕ)) → value_in table d ≡ o → IsSome o → numbers_in table d ≡ named_from geo view 2 d
-      of_value None e s = absurd (false≢true s)
-      of_value (Some numbers) e s = ap (λ o. unwrap_or o []) e ∙ (named.each d numbers e).1
-
   -- ---- before the first round
   walk_empty : IsFalse (is_directory_at geo view root) → IsWalk geo view table [] []
   walk_empty f = record {

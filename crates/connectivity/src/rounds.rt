@@ -7,6 +7,7 @@ ghost use Rattle.connectivity.specs.Walk.{Visits, numbers_of};
 
 use crate::Part;
 use device::Frozen;
+use directories::whole_tables_have_every_directory;
 use layout::{ROOT, Refusal};
 use std::alloc::Global;
 use std::collections::BTreeSet;
@@ -21,6 +22,7 @@ pub fn walk(alloc: Global, frozen: &Frozen, whole: &Part) -> Result<BTreeSet<u32
         → AreReached frozen.now.geometry (frozen_view frozen.now) reached.keys) }
     ensures error { IsOkUnless result Refusal.NoMemory }
 {
+    whole_tables_have_every_directory();
     let mut reached = BTreeSet::new(alloc);
     let mut round = Vec::new(alloc);
     if frozen.is_directory_at(ROOT) {

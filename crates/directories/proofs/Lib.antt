@@ -1,3 +1,4 @@
 mod GroupLemmas
 mod SlotLemmas
 mod TableLemmas
+mod WholeLemmas

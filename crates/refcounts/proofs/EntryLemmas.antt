@@ -1,23 +1,20 @@
 -- What the reachable directories name, as often as it is named, are the entries.
-use Rattle.std.proofs.Common.{◌≡◌, ◌<◌, ◌≤◌, ◌/◌, ℕ, min, Bool, true, false, cond, ◌&&◌, List, [], Option, Some, None, IsSome, unwrap_or, Contains, inl, inr, refl, sym, ap, ◌∙◌, subst, arith, IsTrue, length}
-use Rattle.std.proofs.lemmas.Bool.{and_from, and_parts, both_ways, cases_Bool, false≢true}
+use Rattle.std.proofs.Common.{◌≡◌, ◌<◌, ◌≤◌, ℕ, min, Bool, true, false, cond, ◌&&◌, List, [], Contains, inl, inr, refl, sym, ap, ◌∙◌, arith, IsTrue, IsFalse, length}
+use Rattle.std.proofs.lemmas.Bool.{and_from, and_parts, cases_Bool}
 use Rattle.std.proofs.lemmas.Cmp.{nat_cmp_total}
 use Rattle.std.proofs.lemmas.Map.Lookups.{exact_unsigned}
 use Rattle.std.proofs.lemmas.Map.Views.{btree_set_contains_iff}
 use Rattle.model.specs.Layout.{Geometry, IsGeometry, inode_count, is_number}
 use Rattle.model.specs.View.{View}
 use Rattle.model.specs.Uses.{is_directory_at}
-use Rattle.model.specs.Units.{Units, IsEveryGroup, stands_in}
 use Rattle.model.specs.Named.{named_from, times}
-use Rattle.model.specs.Tables.{is_directory_in, value_in}
 use Rattle.model.specs.Reach.{HasEntries, IsReachableSet, entries_in, entries_of}
 use Rattle.model.specs.Reached.{AreReached}
-use Rattle.model.proofs.Addresses.{number_in_group}
 use Rattle.model.proofs.Counting.{times_are_entries, entries_few}
 use Rattle.model.proofs.ReachLemmas.{directory_reached}
-use Rattle.model.proofs.SlotLemmas.{directory_number, number_low, number_below, reachable_directory}
+use Rattle.model.proofs.SlotLemmas.{number_low, number_below, reachable_directory}
 use Rattle.model.proofs.Sums.{sum-same}
-use Rattle.directories.specs.Named.{IsNamed, numbers_in}
+use Rattle.directories.specs.Named.{numbers_in}
 use Rattle.refcounts.specs.Counts.{count_at, is_among, most, named_by, times_below}
 use Rattle.refcounts.proofs.CountLemmas.{AreBelow}
 
@@ -28,25 +25,8 @@ module _ (numbers : List ℕ) where
   pub there : (i : ℕ) → is_among numbers i ≡ true → Contains numbers i
   there i t = (btree_set_contains_iff nat_cmp_total exact_unsigned (record { keys = numbers }) i).0 t
 
-module _ (geo : Geometry) (ok : IsGeometry geo) (view : View) (units : Units) (table : List (ℕ × List ℕ)) (named : IsNamed geo view 0 units table) (every : IsEveryGroup geo units) where
-  -- what the table has at a directory, and at any other number
-  named_there : (d : ℕ) → is_directory_at geo view d ≡ true → numbers_in table d ≡ named_from geo view 0 d
-  named_there d t = go (value_in table d) refl
-    where
-      in_table : IsTrue (is_directory_in geo view units d)
-      in_table = and_from (is_directory_at geo view d) (stands_in geo units d) t (every (d / geo.inodes) (number_in_group geo ok d (directory_number geo view d t)))
-
-      go : (o : Option (List ℕ)) → value_in table d ≡ o → numbers_in table d ≡ named_from geo view 0 d
-      go None e = absurd (false≢true (subst (λ o. IsSome o) e (named.all d in_table)))
-      go (Some numbers) e = ap (λ o. unwrap_or o []) e ∙ (named.each d numbers e).1
-
-  none_elsewhere : (d : ℕ) → is_directory_at geo view d ≡ false → numbers_in table d ≡ []
-  none_elsewhere d f = go (value_in table d) refl
-    where
-      go : (o : Option (List ℕ)) → value_in table d ≡ o → numbers_in table d ≡ []
-      go None e = ap (λ o. unwrap_or o []) e
-      go (Some numbers) e = absurd (both_ways (is_directory_at geo view d) f (and_parts (is_directory_at geo view d) (stands_in geo units d) (named.each d numbers e).0).0)
-
+module _ (geo : Geometry) (ok : IsGeometry geo) (view : View) (table : List (ℕ × List ℕ)) (named_there : (d : ℕ) → IsTrue (is_directory_at geo view d) → numbers_in table d ≡ named_from geo view 0 d)
+    (none_elsewhere : (d : ℕ) → IsFalse (is_directory_at geo view d) → numbers_in table d ≡ []) where
   module _ (reached : List ℕ) (are : AreReached geo view reached) where
     -- the reachable directories
     abbrev set : ℕ → Bool

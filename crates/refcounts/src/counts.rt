@@ -8,7 +8,7 @@ ghost use Rattle.directories.specs.Named.{IsNamed};
 ghost use Rattle.refcounts.specs.Counts.{AreCounts, Counted, CountsOne, count_at, named_by};
 
 use device::Frozen;
-use directories::Named;
+use directories::{Named, whole_tables_have_every_directory};
 use layout::Refusal;
 use std::alloc::{AllocError, Global};
 use std::collections::BTreeSet;
@@ -86,6 +86,7 @@ pub fn count(
         → (i : ℕ) → IsTrue (is_number frozen.now.geometry i) → HasEntries frozen.now.geometry (frozen_view frozen.now) i (count_at counts i)) }
     ensures error { IsOkUnless result Refusal.NoMemory }
 {
+    whole_tables_have_every_directory();
     let inodes = frozen.geometry().inodes();
     let mut counts = Counts::none(alloc, inodes)?;
     for directory in 0..inodes {

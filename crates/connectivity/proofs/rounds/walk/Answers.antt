@@ -6,7 +6,7 @@ use Rattle.std.proofs.lemmas.Result.{err_from_is_err_and}
 use Rattle.device.specs.Kept.{frozen_view}
 use Rattle.model.specs.Layout.{inode_count}
 use Rattle.connectivity.specs.Walk.{IsWalk, Visits, numbers_of}
-use Rattle.connectivity.proofs.WalkLemmas.{walk_from_nothing, walk_from_root, walk_round, walk_done, walk_small, all_entries, round_smaller}
+use Rattle.connectivity.proofs.WalkLemmas.{walk_from_nothing, walk_from_root, walk_round, walk_done, walk_small, round_smaller}
 use Rattle.connectivity.proofs.rounds.walk.Goals as goal
 use Rattle.connectivity.proofs.rounds.walk.Goals.{then-is_directory_at+in_ok-visit, else-is_directory_at}
 
@@ -52,7 +52,7 @@ returns-clause-reached c = λ units named every.
     nil_from_length c.loop-alloc.round.items (sym c.loop-alloc.round.ok.0 ∙ eqb-true c.loop-alloc.round.len 0 (sym c.is_empty.ensures ∙ c.loop-alloc-test.false)) in
     walk_done kept.geometry (frozen_view kept) c.args.whole.now c.loop-alloc.reached.keys
     (subst (λ round. IsWalk kept.geometry (frozen_view kept) c.args.whole.now c.loop-alloc.reached.keys round) none c.loop-alloc.invariant)
-    (all_entries kept.geometry (frozen_view kept) c.args.whole.now units named every)
+    (c.whole_tables_have_every_directory.ensures.directory kept.geometry (frozen_view kept) 2 units c.args.whole.now named every)
 
 pub returns-in_err-visit-clause-reached : goal.returns-in_err-visit-clause-reached
 returns-in_err-visit-clause-reached c =

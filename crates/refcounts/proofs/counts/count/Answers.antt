@@ -25,5 +25,7 @@ returns-clause-counts c = λ units named every are.
     let geo = c.args.frozen.now.geometry in
     let count : c.inodes-inodes.result ≡ inode_count geo = c.inodes-inodes.ensures.count ∙ ap (λ (g : Geometry). inode_count g) c.geometry.ensures.geometry in
     let i = c.loop-directory.invariant in
-    all_counted geo c.geometry.ensures.frame.geometry (frozen_view c.args.frozen.now) units c.args.whole.now named every c.args.reached.now.keys are
+    all_counted geo c.geometry.ensures.frame.geometry (frozen_view c.args.frozen.now) c.args.whole.now
+    (c.whole_tables_have_every_directory.ensures.directory geo (frozen_view c.args.frozen.now) 0 units c.args.whole.now named every)
+    (c.whole_tables_have_every_directory.ensures.other geo (frozen_view c.args.frozen.now) 0 units c.args.whole.now named) c.args.reached.now.keys are
     c.loop-directory.directory c.loop-directory.counts (omega (arith, c.loop-directory-test.false, c.loop-directory.auto.directory-end, count)) (i.all ∙ count) i.below
