@@ -1,1 +1,2 @@
+mod FindingLemmas
 pub mod UnitLemmas

@@ -1,18 +1,19 @@
 -- What a check of an image gives.
-use Rattle.std.specs.Prelude.{ℕ, Bool, ◌||◌, nat_lt, List}
+use Rattle.std.specs.Prelude.{ℕ, nat_lt, List, ◌↔◌}
+use Rattle.std.specs.List.{Contains}
 use Rattle.findings.specs.declared.finding.Finding.{Finding}
-use Rattle.findings.specs.Findings.{is_of_blocks, is_of_maps}
+use Rattle.findings.specs.Findings.{IsFinding}
 use Rattle.model.specs.Units.{Units}
-use Rattle.device.specs.Kept.{Kept}
+use Rattle.device.specs.Kept.{Kept, frozen_view}
 
 -- the image and the findings
 pub record CheckedImage : Type 0 where
   pub frozen : Kept
   pub findings : List Finding
 
--- the kinds that are looked for
-abbrev pub is_checked : Finding → Bool
-is_checked f = is_of_blocks f || is_of_maps f
+-- f is among the found ones exactly where it is a finding of the image
+abbrev pub IsFoundIn : Kept → Finding → List Finding → Type 0
+IsFoundIn kept f found = Contains found f ↔ IsFinding kept.geometry (frozen_view kept) f
 
 -- the units below n
 abbrev pub units_below : ℕ → Units

@@ -1,7 +1,9 @@
 //! Small images, made by changes of a fresh one.
 use device::{Before, MemDevice, format, load};
+use dirent::SLOT_BYTES;
+use findings::Finding;
 use fsck::check_one;
-use inode::{DIRECT_POINTERS, FILE, RECORD_BYTES, Record};
+use inode::{DIRECT_POINTERS, DIRECTORY, FILE, RECORD_BYTES, Record};
 use layout::{BLOCK_BYTES, Block, Geometry, Refusal, fresh_block};
 use std::alloc::Global;
 use std::sync::Arc;
@@ -38,15 +40,35 @@ pub(crate) enum Change {
     Number(u32),
     /// An inode is not marked.
     NoNumber(u32),
+    /// An inode is a directory: its number, links, and the blocks that it has.
+    Directory(u32, u16, &'static [u32]),
+    /// An inode is a directory of 13 blocks: its number, links, direct pointers and indirect pointer.
+    LargeDirectory(u32, u16, &'static [u32], u32),
+    /// An inode has this many links.
+    Links(u32, u16),
+    /// The first two slots of a block are the dots: the block, the directory's number and its parent's.
+    Dots(u32, u32, u32),
+    /// A slot is an entry: the block, the slot in it, the number and the name.
+    Entry(u32, usize, u32, &'static [u8]),
     /// A byte of the image has this value.
     Byte(usize, u8),
 }
 
-/// A fresh image with these changes, and what a check finds on it: a line for each finding.
+/// Which findings are asked for.
+#[derive(Clone, Copy, PartialEq, Eq)]
+pub(crate) enum Wanted {
+    /// Those of all phases.
+    All,
+    /// Those of the blocks that inodes use and of the maps, which are phases 1 and 5.
+    UsedBlocks,
+}
+
+/// A fresh image with these changes, and what a check finds on it: a line for each finding that is wanted.
 pub(crate) fn found(
     alloc: Global,
     geometry: &Geometry,
     changes: &[Change],
+    wanted: Wanted,
 ) -> Result<String, Refusal> {
     let mut bytes = fresh_bytes(alloc, geometry)?;
     for change in changes {
@@ -57,9 +79,25 @@ pub(crate) fn found(
     let checked = check_one(alloc, &frozen)?;
     let mut lines = String::new(alloc);
     for finding in checked.findings() {
-        writeln!(lines, "{finding}")?;
+        if wanted == Wanted::All || is_of_used_blocks(finding) {
+            writeln!(lines, "{finding}")?;
+        }
     }
     Ok(lines)
+}
+
+/// Whether a finding is of phase 1 or of phase 5.
+fn is_of_used_blocks(finding: &Finding) -> bool {
+    matches!(
+        finding,
+        Finding::BadInode(_)
+            | Finding::BadPointer(..)
+            | Finding::Duplicate(..)
+            | Finding::LostBlock(_)
+            | Finding::UnmarkedBlock(_)
+            | Finding::LostNumber(_)
+            | Finding::UnmarkedInode(_)
+    )
 }
 
 /// The bytes of a fresh image.
@@ -76,27 +114,6 @@ fn fresh_bytes(alloc: Global, geometry: &Geometry) -> Result<Vec<u8>, Refusal> {
 /// Makes one change.
 fn apply(bytes: &mut Vec<u8>, geometry: &Geometry, change: &Change) -> Result<(), Refusal> {
     match *change {
-        Change::Inode {
-            number,
-            mode,
-            size,
-            direct,
-            indirect,
-        } => set_record(
-            bytes,
-            geometry,
-            number,
-            &record(mode, size, direct, indirect),
-        ),
-        Change::File(number, size, direct) => {
-            set_record(bytes, geometry, number, &record(FILE, size, direct, 0))
-        }
-        Change::LargeFile(number, direct, indirect) => set_record(
-            bytes,
-            geometry,
-            number,
-            &record(FILE, 13_312, direct, indirect),
-        ),
         Change::Pointer(block, slot, value) => set_pointers(bytes, slot_at(block, slot), value, 1),
         Change::Pointers {
             block,
@@ -108,15 +125,71 @@ fn apply(bytes: &mut Vec<u8>, geometry: &Geometry, change: &Change) -> Result<()
         Change::Unmarked(address) => mark_block(bytes, geometry, address, false),
         Change::Number(number) => mark_number(bytes, geometry, number, true),
         Change::NoNumber(number) => mark_number(bytes, geometry, number, false),
+        Change::Links(number, links) => set_links(bytes, geometry, number, links),
+        Change::Dots(block, directory, parent) => {
+            set_entry(bytes, block, 0, directory, b".")?;
+            set_entry(bytes, block, 1, parent, b"..")
+        }
+        Change::Entry(block, slot, number, name) => set_entry(bytes, block, slot, number, name),
         Change::Byte(at, value) => put(bytes, at, &[value]),
+        _ => apply_record(bytes, geometry, change),
     }
 }
 
-/// A record with one link, these first pointers, and zeroes for the other direct ones.
-fn record(mode: u16, size: u32, direct: &[u32], indirect: u32) -> Record {
+/// Makes a change of a whole record.
+fn apply_record(bytes: &mut Vec<u8>, geometry: &Geometry, change: &Change) -> Result<(), Refusal> {
+    match *change {
+        Change::Inode {
+            number,
+            mode,
+            size,
+            direct,
+            indirect,
+        } => set_record(
+            bytes,
+            geometry,
+            number,
+            &record(mode, 1, size, direct, indirect),
+        ),
+        Change::File(number, size, direct) => {
+            set_record(bytes, geometry, number, &record(FILE, 1, size, direct, 0))
+        }
+        Change::LargeFile(number, direct, indirect) => set_record(
+            bytes,
+            geometry,
+            number,
+            &record(FILE, 1, 13_312, direct, indirect),
+        ),
+        Change::Directory(number, links, direct) => set_record(
+            bytes,
+            geometry,
+            number,
+            &record(DIRECTORY, links, size_of_blocks(direct), direct, 0),
+        ),
+        Change::LargeDirectory(number, links, direct, indirect) => set_record(
+            bytes,
+            geometry,
+            number,
+            &record(DIRECTORY, links, 13_312, direct, indirect),
+        ),
+        _ => Ok(()),
+    }
+}
+
+/// How many bytes these blocks have.
+fn size_of_blocks(blocks: &[u32]) -> u32 {
+    let mut size: u32 = 0;
+    for _ in blocks {
+        size = size.saturating_add(1024);
+    }
+    size
+}
+
+/// A record with these first pointers, and zeroes for the other direct ones.
+fn record(mode: u16, links: u16, size: u32, direct: &[u32], indirect: u32) -> Record {
     Record {
         mode,
-        links: 1,
+        links,
         size,
         direct: pointers(direct),
         indirect,
@@ -171,6 +244,36 @@ fn set_record(
         byte_of(place.address).saturating_add(place.byte),
         &record,
     )
+}
+
+/// Puts the links of an inode into its record.
+fn set_links(
+    bytes: &mut Vec<u8>,
+    geometry: &Geometry,
+    number: u32,
+    links: u16,
+) -> Result<(), Refusal> {
+    if number >= geometry.inodes() {
+        return Err(Refusal::BadIndex);
+    }
+    let place = geometry.inode_place(number);
+    let at = byte_of(place.address).saturating_add(place.byte);
+    put(bytes, at.saturating_add(2), &links.to_le_bytes())
+}
+
+/// Puts an entry into a slot of a block: its number, the length of its name, and the name.
+fn set_entry(
+    bytes: &mut Vec<u8>,
+    block: u32,
+    slot: usize,
+    number: u32,
+    name: &[u8],
+) -> Result<(), Refusal> {
+    let at = byte_of(block).saturating_add(slot.saturating_mul(SLOT_BYTES));
+    let length = u8::try_from(name.len()).map_err(|_| Refusal::BadName)?;
+    put(bytes, at, &number.to_le_bytes())?;
+    put(bytes, at.saturating_add(4), &[length])?;
+    put(bytes, at.saturating_add(8), name)
 }
 
 /// Puts numbers of four bytes that count up.

@@ -5,4 +5,6 @@
 #[cfg(test)]
 mod image;
 #[cfg(test)]
+mod names;
+#[cfg(test)]
 mod used_blocks;

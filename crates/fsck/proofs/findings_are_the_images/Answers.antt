@@ -1,4 +1,4 @@
-use Rattle.fsck.proofs.UnitLemmas.{image_findings}
+use Rattle.fsck.proofs.FindingLemmas.{image_findings}
 use Rattle.fsck.proofs.findings_are_the_images.Goals as goal
 
 pub returns : goal.returns

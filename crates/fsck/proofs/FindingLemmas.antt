@@ -1,0 +1,78 @@
+-- What the five phases find is all that there is to find.
+use Rattle.std.proofs.Common.{ℕ, Bool, ◌||◌, List, ◌++◌, ◌↔◌, Contains, refl, IsTrue, inl, inr}
+use Rattle.std.proofs.lemmas.Bool.{or_cases, or_left, or_right}
+use Rattle.std.proofs.lemmas.List.Elements.{Contains-append_left, Contains-append_right, Contains-append_cases}
+use Rattle.std.specs.List.Sorted.{IsStrictlySortedBy}
+use Rattle.findings.specs.declared.finding.Finding.{Finding}
+use Rattle.findings.specs.declared.finding.Finding.TheVariants.{BadInode, BadPointer, Duplicate, RootBad, BadSlot, DupName, BadDot, BadDotDot, ToUnsound, ExtraName, LostInode, CountHigh, CountLow, LostBlock, UnmarkedBlock, LostNumber, UnmarkedInode}
+use Rattle.findings.specs.Findings.{IsFinding, AreFindings, AreFindingsOf, finding_cmp, is_of_blocks, is_of_names, is_of_connectivity, is_of_counts, is_of_maps}
+use Rattle.findings.proofs.SameFindings.{same_findings}
+use Rattle.model.specs.Layout.{Geometry}
+use Rattle.model.specs.View.{View}
+use Rattle.model.specs.Image.{image_view}
+use Rattle.device.specs.Kept.{Kept, IsKeptOf, frozen_view}
+use Rattle.fsck.specs.Checked.{IsFoundIn}
+
+module _ (geo : Geometry) (view : View) where
+  -- the list has the findings of these kinds
+  abbrev Tells : (Finding → Bool) → List Finding → Type 0
+  Tells kinds fs = (f : Finding) → Contains fs f ↔ (IsTrue (kinds f) × IsFinding geo view f)
+
+  both : (kinds others : Finding → Bool) (fs gs : List Finding) → Tells kinds fs → Tells others gs → Tells (λ f. kinds f || others f) (fs ++ gs)
+  both kinds others fs gs are more f = (
+    λ c. elim (Contains-append_cases fs gs f c) [
+      | inl d ↦ let is = (are f).0 d in (or_left (kinds f) (others f) is.0, is.1)
+      | inr d ↦ let is = (more f).0 d in (or_right (kinds f) (others f) is.0, is.1)
+    ],
+    λ is. elim (or_cases (kinds f) (others f) is.0) [
+      | inl k ↦ Contains-append_left fs gs f ((are f).1 (k, is.1))
+      | inr k ↦ Contains-append_right fs gs f ((more f).1 (k, is.1))
+    ],
+  )
+
+  -- each finding is of one of the five phases
+  of_some_phase : (f : Finding) → IsTrue ((((is_of_blocks f || is_of_names f) || is_of_connectivity f) || is_of_counts f) || is_of_maps f)
+  of_some_phase (BadInode i) = refl
+  of_some_phase (BadPointer i k v) = refl
+  of_some_phase (Duplicate i k a) = refl
+  of_some_phase RootBad = refl
+  of_some_phase (BadSlot d s) = refl
+  of_some_phase (DupName d s) = refl
+  of_some_phase (BadDot d) = refl
+  of_some_phase (BadDotDot d) = refl
+  of_some_phase (ToUnsound d s) = refl
+  of_some_phase (ExtraName d s) = refl
+  of_some_phase (LostInode i) = refl
+  of_some_phase (CountHigh i l e) = refl
+  of_some_phase (CountLow i l e) = refl
+  of_some_phase (LostBlock a) = refl
+  of_some_phase (UnmarkedBlock a) = refl
+  of_some_phase (LostNumber i) = refl
+  of_some_phase (UnmarkedInode i) = refl
+
+  pub all_phases : (blocks names lost counts maps : List Finding) → AreFindingsOf is_of_blocks geo view blocks → AreFindingsOf is_of_names geo view names
+      → AreFindingsOf is_of_connectivity geo view lost → AreFindingsOf is_of_counts geo view counts → AreFindingsOf is_of_maps geo view maps
+      → (f : Finding) → Contains ((((blocks ++ names) ++ lost) ++ counts) ++ maps) f ↔ IsFinding geo view f
+  all_phases blocks names lost counts maps one two three four five f =
+      let told = both (λ g. ((is_of_blocks g || is_of_names g) || is_of_connectivity g) || is_of_counts g) is_of_maps (((blocks ++ names) ++ lost) ++ counts) maps
+      (both (λ g. (is_of_blocks g || is_of_names g) || is_of_connectivity g) is_of_counts ((blocks ++ names) ++ lost) counts
+      (both (λ g. is_of_blocks g || is_of_names g) is_of_connectivity (blocks ++ names) lost
+      (both is_of_blocks is_of_names blocks names one.exactly two.exactly) three.exactly) four.exactly) five.exactly f in
+      ((λ c. (told.0 c).1), (λ is. told.1 (of_some_phase f, is)))
+
+-- all that was found, in order
+pub in_order_are : (kept : Kept) (found fs : List Finding) → ((f : Finding) → IsFoundIn kept f found) → IsStrictlySortedBy finding_cmp fs → ((f : Finding) → Contains fs f ↔ Contains found f)
+    → AreFindings kept.geometry (frozen_view kept) fs
+in_order_are kept found fs all sorted same = record {
+  in_order = sorted;
+  exactly = λ f. ((λ c. (all f).0 ((same f).0 c)), (λ is. (same f).1 ((all f).1 is)));
+}
+
+-- the findings of what is kept of an image are the image's
+pub image_findings : (kept : Kept) (image : List (List ℕ)) (fs : List Finding) → IsKeptOf kept image → AreFindings kept.geometry (frozen_view kept) fs
+    → AreFindings kept.geometry (image_view kept.geometry image) fs
+image_findings kept image fs of are = record {
+  in_order = are.in_order;
+  exactly = λ f.
+      let same = same_findings kept.geometry (frozen_view kept) (image_view kept.geometry image) of.metadata f in ((λ c. same.0 ((are.exactly f).0 c)), (λ h. (are.exactly f).1 (same.1 h)));
+}

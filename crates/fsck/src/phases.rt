@@ -1,0 +1,81 @@
+//! The five phases, each over the groups of a volume one after another.
+ghost use Rattle.std.specs.Prelude.{◌≡◌, IfOk, IsOkUnless};
+ghost use Rattle.findings.specs.Findings.{AreFindingsOf, is_of_blocks, is_of_names, is_of_counts, is_of_maps};
+ghost use Rattle.model.specs.Reached.{AreReached};
+ghost use Rattle.device.specs.Kept.{frozen_view};
+
+use device::Frozen;
+use findings::Finding;
+use layout::Refusal;
+use std::alloc::Global;
+use std::collections::BTreeSet;
+
+/// Phase 1: what is found of the records, and of the blocks that they use.
+pub(crate) fn check_blocks(alloc: Global, frozen: &Frozen) -> Result<Vec<Finding>, Refusal>
+    ensures findings { IfOk result (λ found. AreFindingsOf is_of_blocks frozen.now.geometry (frozen_view frozen.now) found.items) }
+    ensures error { IsOkUnless result Refusal.NoMemory }
+{
+    let mut whole = phase_blocks::Part::new(alloc);
+    for unit in 0..frozen.geometry().groups() {
+        whole = phase_blocks::merge(whole, phase_blocks::part(alloc, frozen, unit)?)?;
+    }
+    whole.findings(alloc)
+}
+
+/// Phase 2: what is found of the slots of reachable directories.
+pub(crate) fn check_names(
+    alloc: Global,
+    frozen: &Frozen,
+    reached: &BTreeSet<u32>,
+) -> Result<Vec<Finding>, Refusal>
+    ensures findings { IfOk result (λ found. AreReached frozen.now.geometry (frozen_view frozen.now) reached.now.keys
+        → AreFindingsOf is_of_names frozen.now.geometry (frozen_view frozen.now) found.items) }
+    ensures error { IsOkUnless result Refusal.NoMemory }
+{
+    let mut whole = phase_names::Part::new(alloc);
+    for unit in 0..frozen.geometry().groups() {
+        whole = phase_names::merge(whole, phase_names::part(alloc, frozen, unit)?)?;
+    }
+    phase_names::finish(alloc, frozen, &whole, reached)
+}
+
+/// The first half of phase 3: the reachable inodes.
+pub(crate) fn reach(alloc: Global, frozen: &Frozen) -> Result<BTreeSet<u32>, Refusal>
+    ensures reached { IfOk result (λ reached. AreReached frozen.now.geometry (frozen_view frozen.now) reached.keys) }
+    ensures error { IsOkUnless result Refusal.NoMemory }
+{
+    let mut whole = connectivity::Part::new(alloc);
+    for unit in 0..frozen.geometry().groups() {
+        whole = connectivity::merge(whole, connectivity::part(alloc, frozen, unit)?)?;
+    }
+    connectivity::walk(alloc, frozen, &whole)
+}
+
+/// Phase 4: what is found of the links of reachable inodes.
+pub(crate) fn check_counts(
+    alloc: Global,
+    frozen: &Frozen,
+    reached: &BTreeSet<u32>,
+) -> Result<Vec<Finding>, Refusal>
+    ensures findings { IfOk result (λ found. AreReached frozen.now.geometry (frozen_view frozen.now) reached.now.keys
+        → AreFindingsOf is_of_counts frozen.now.geometry (frozen_view frozen.now) found.items) }
+    ensures error { IsOkUnless result Refusal.NoMemory }
+{
+    let mut whole = refcounts::Part::new(alloc);
+    for unit in 0..frozen.geometry().groups() {
+        whole = refcounts::merge(whole, refcounts::part(alloc, frozen, unit)?)?;
+    }
+    refcounts::finish(alloc, frozen, &whole, reached)
+}
+
+/// Phase 5: what is found of the maps.
+pub(crate) fn check_maps(alloc: Global, frozen: &Frozen) -> Result<Vec<Finding>, Refusal>
+    ensures findings { IfOk result (λ found. AreFindingsOf is_of_maps frozen.now.geometry (frozen_view frozen.now) found.items) }
+    ensures error { IsOkUnless result Refusal.NoMemory }
+{
+    let mut whole = phase_maps::Part::new(alloc);
+    for unit in 0..frozen.geometry().groups() {
+        whole = phase_maps::merge(whole, phase_maps::part(alloc, frozen, unit)?)?;
+    }
+    phase_maps::findings(alloc, frozen, &whole)
+}

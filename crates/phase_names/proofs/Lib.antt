@@ -1,0 +1,9 @@
+mod AddLemmas
+mod EntryLemmas
+mod ReachedLemmas
+mod FoundLemmas
+mod ToldLemmas
+mod StepLemmas
+mod NameLemmas
+mod WalkLemmas
+mod UnitLemmas

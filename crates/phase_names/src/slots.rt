@@ -1,0 +1,260 @@
+ghost use Rattle.std.specs.Prelude.{◌≡◌, ◌≤◌, ◌<◌, ◌+◌, ◌*◌, ◌/◌, ◌++◌, ℕ, IfOk, OnOk, IsOkUnless, IsTrue, IsFalse, length};
+ghost use Rattle.std.specs.List.{Contains};
+ghost use Rattle.std.specs.List.Sorted.{IsStrictlySortedBy};
+ghost use Rattle.findings.specs.declared.finding.Finding.TheVariants.{DupName, ToUnsound};
+ghost use Rattle.findings.specs.Findings.{finding_cmp};
+ghost use Rattle.model.specs.Growth.{Adds};
+ghost use Rattle.model.specs.Uses.{indirect_position, is_directory_at, is_sound_at};
+ghost use Rattle.model.specs.Slots as model;
+ghost use Rattle.device.specs.Kept.{frozen_view};
+ghost use Rattle.dirent.specs.Seen.{seen};
+ghost use Rattle.phase_names.specs.Told.{IsTold, naming_of};
+ghost use Rattle.phase_names.specs.Walks.{IsWalked, padded};
+
+use crate::look::{Look, Naming};
+use device::Frozen;
+use dirent::{NAME_BYTES, SLOTS, Slot, slot_in};
+use findings::Finding;
+use layout::{Block, ROOT, Refusal};
+use std::alloc::{AllocError, Global};
+use std::collections::BTreeSet;
+use std::marker::Model;
+
+/// The slot of a directory's name for itself.
+const DOT: u32 = 0;
+
+/// The slot of a directory's name for its parent.
+const DOT_DOT: u32 = 1;
+
+/// The first slot that has an entry.
+const FIRST_ENTRY: u32 = 2;
+
+/// The name of an entry, with zeroes after it. No name has a zero, so different names stay different.
+type Name = [u8; NAME_BYTES];
+
+/// What a walk over the slots of a directory has so far: the names, the findings, and the slots that name the root or
+/// a sound directory.
+#[derive(Drop)]
+struct Walk {
+    names: BTreeSet<Name>,
+    findings: BTreeSet<Finding>,
+    directories: Vec<Naming>,
+}
+
+impl Model for Walk {
+    ghost use Rattle.phase_names.specs.Walks.{Walked};
+
+    ghost Value = { Walked };
+
+    ghost view = { λ w. record { names = w.names.keys; findings = w.findings.keys; directories = w.directories.items } };
+}
+
+impl Walk {
+    /// The walk before the first slot, with what is found of slot 0.
+    fn begin(alloc: Global, frozen: &Frozen, directory: u32) -> Result<Walk, Refusal>
+        requires { 1 ≤ directory }
+        ensures walked { IfOk result (IsWalked frozen.now.geometry (frozen_view frozen.now) directory 0) }
+        ensures error { IsOkUnless result Refusal.NoMemory }
+    {
+        let mut findings = BTreeSet::new(alloc);
+        if number_in(frozen, directory, DOT) != directory {
+            findings.insert(Finding::BadDot(directory))?;
+        }
+        Ok(Walk {
+            names: BTreeSet::new(alloc),
+            findings,
+            directories: Vec::new(alloc),
+        })
+    }
+
+    /// Looks at the slots of the block at this position.
+    fn add_position(
+        &mut self,
+        frozen: &Frozen,
+        directory: u32,
+        position: u32,
+    ) -> Result<(), Refusal>
+        requires { position < indirect_position }
+        ensures walked { OnOk result (IsWalked frozen.now.geometry (frozen_view frozen.now) directory (16 * position) self.old
+            → IsWalked frozen.now.geometry (frozen_view frozen.now) directory (16 * (position + 1)) self.new) }
+        ensures error { IsOkUnless result Refusal.NoMemory }
+    {
+        match frozen.directory_block(directory, position) {
+            Some(block) => self.add_block(frozen, directory, position, block),
+            None => Ok(()),
+        }
+    }
+
+    /// Looks at the slots of this block, which is the one at this position.
+    fn add_block(
+        &mut self,
+        frozen: &Frozen,
+        directory: u32,
+        position: u32,
+        block: &Block,
+    ) -> Result<(), Refusal>
+        requires position { position < indirect_position }
+        requires block { (s : ℕ) → s / 16 ≡ position → model.slot frozen.now.geometry (frozen_view frozen.now) directory s ≡ model.slot_in frozen.now.geometry block.now s }
+        ensures walked { OnOk result (IsWalked frozen.now.geometry (frozen_view frozen.now) directory (16 * position) self.old
+            → IsWalked frozen.now.geometry (frozen_view frozen.now) directory (16 * (position + 1)) self.new) }
+        ensures error { IsOkUnless result Refusal.NoMemory }
+    {
+        let inodes = frozen.geometry().inodes();
+        let first = SLOTS as u32 * position;
+        for slot in first..first + SLOTS as u32 {
+            self.add_slot(frozen, directory, slot, slot_in(block, slot, inodes))?;
+        }
+        Ok(())
+    }
+
+    /// Looks at one slot. What is found of the dots is found elsewhere.
+    fn add_slot(
+        &mut self,
+        frozen: &Frozen,
+        directory: u32,
+        slot: u32,
+        content: Slot<'_>,
+    ) -> Result<(), Refusal>
+        requires { seen content ≡ model.slot frozen.now.geometry (frozen_view frozen.now) directory slot }
+        ensures walked { OnOk result (IsWalked frozen.now.geometry (frozen_view frozen.now) directory slot self.old
+            → IsWalked frozen.now.geometry (frozen_view frozen.now) directory (slot + 1) self.new) }
+        ensures error { IsOkUnless result Refusal.NoMemory }
+    {
+        match content {
+            _ if slot < FIRST_ENTRY => Ok(()),
+            Slot::Empty => Ok(()),
+            Slot::Bad => add_finding(&mut self.findings, Finding::BadSlot(directory, slot)),
+            Slot::Good { number, name } => self.add_entry(frozen, directory, slot, number, name),
+        }
+    }
+
+    /// Looks at an entry.
+    fn add_entry(
+        &mut self,
+        frozen: &Frozen,
+        directory: u32,
+        slot: u32,
+        number: u32,
+        name: &[u8],
+    ) -> Result<(), Refusal>
+        requires after_dots { 2 ≤ slot }
+        requires good { model.slot frozen.now.geometry (frozen_view frozen.now) directory slot ≡ model.Good number name.now }
+        ensures walked { OnOk result (IsWalked frozen.now.geometry (frozen_view frozen.now) directory slot self.old
+            → IsWalked frozen.now.geometry (frozen_view frozen.now) directory (slot + 1) self.new) }
+        ensures error { IsOkUnless result Refusal.NoMemory }
+    {
+        let repeated = Finding::DupName(directory, slot);
+        add_name(&mut self.names, name, &mut self.findings, repeated)?;
+        add_to_unsound(&mut self.findings, frozen, directory, slot, number)?;
+        add_naming(&mut self.directories, frozen, slot, number)?;
+        Ok(())
+    }
+}
+
+/// What the slots of a sound directory tell.
+pub(crate) fn look_at(alloc: Global, frozen: &Frozen, directory: u32) -> Result<Look, Refusal>
+    requires { IsTrue (is_directory_at frozen.now.geometry (frozen_view frozen.now) directory) }
+    ensures told { IfOk result (IsTold frozen.now.geometry (frozen_view frozen.now) directory) }
+    ensures error { IsOkUnless result Refusal.NoMemory }
+{
+    let mut walk = Walk::begin(alloc, frozen, directory)?;
+    for position in 0..frozen.record(directory).blocks() {
+        walk.add_position(frozen, directory, position)?;
+    }
+    let Walk {
+        findings,
+        directories,
+        ..
+    } = walk;
+    let parent = number_in(frozen, directory, DOT_DOT);
+    Ok(Look::new(findings, parent, directories))
+}
+
+/// The number that a slot names, 0 where it names none.
+fn number_in(frozen: &Frozen, directory: u32, slot: u32) -> u32
+    ensures { result ≡ model.number_in (model.slot frozen.now.geometry (frozen_view frozen.now) directory slot) }
+{
+    let Some(block) = frozen.directory_block(directory, slot / SLOTS as u32) else {
+        return 0;
+    };
+    match slot_in(block, slot, frozen.geometry().inodes()) {
+        Slot::Good { number, .. } => number,
+        _ => 0,
+    }
+}
+
+/// Adds the name of an entry, and `repeated` where the name is there already.
+fn add_name(
+    names: &mut BTreeSet<Name>,
+    name: &[u8],
+    findings: &mut BTreeSet<Finding>,
+    repeated: Finding,
+) -> Result<(), Refusal>
+    requires { length name.now ≤ 56 }
+    ensures named { OnOk result (Adds (λ x. padded name.now ≡ x) names.old.keys names.new.keys) }
+    ensures found { OnOk result (Adds (λ f. Contains names.old.keys (padded name.now) × (repeated ≡ f)) findings.old.keys findings.new.keys) }
+    ensures ordered { OnOk result (IsStrictlySortedBy finding_cmp findings.old.keys → IsStrictlySortedBy finding_cmp findings.new.keys) }
+    ensures error { IsOkUnless result Refusal.NoMemory }
+{
+    if names.insert(padded(name))? {
+        return Ok(());
+    }
+    add_finding(findings, repeated)
+}
+
+/// Adds that an entry names an inode that is not sound, where it does.
+fn add_to_unsound(
+    findings: &mut BTreeSet<Finding>,
+    frozen: &Frozen,
+    directory: u32,
+    slot: u32,
+    number: u32,
+) -> Result<(), Refusal>
+    ensures found { OnOk result (Adds (λ f. IsFalse (is_sound_at frozen.now.geometry (frozen_view frozen.now) number) × (ToUnsound directory slot ≡ f)) findings.old.keys findings.new.keys) }
+    ensures ordered { OnOk result (IsStrictlySortedBy finding_cmp findings.old.keys → IsStrictlySortedBy finding_cmp findings.new.keys) }
+    ensures error { IsOkUnless result Refusal.NoMemory }
+{
+    if frozen.is_sound_at(number) {
+        return Ok(());
+    }
+    add_finding(findings, Finding::ToUnsound(directory, slot))
+}
+
+/// Adds a slot and the number that it names, where that is the root's or a sound directory's.
+fn add_naming(
+    directories: &mut Vec<Naming>,
+    frozen: &Frozen,
+    slot: u32,
+    number: u32,
+) -> Result<(), AllocError>
+    ensures { OnOk result (directories.new.items ≡ directories.old.items ++ naming_of frozen.now.geometry (frozen_view frozen.now) slot number) }
+{
+    if number != ROOT && !frozen.is_directory_at(number) {
+        return Ok(());
+    }
+    directories.push(Naming {
+        slot,
+        inode: number,
+    })?;
+    Ok(())
+}
+
+/// Adds a finding.
+fn add_finding(findings: &mut BTreeSet<Finding>, finding: Finding) -> Result<(), Refusal>
+    ensures found { OnOk result (Adds (λ f. finding ≡ f) findings.old.keys findings.new.keys) }
+    ensures ordered { OnOk result (IsStrictlySortedBy finding_cmp findings.new.keys) }
+    ensures error { IsOkUnless result Refusal.NoMemory }
+{
+    findings.insert(finding)?;
+    Ok(())
+}
+
+/// A name with zeroes after it.
+fn padded(name: &[u8]) -> Name
+    requires { length name.now ≤ 56 }
+    ensures { result ≡ padded name.now }
+{
+    let mut bytes = [0; NAME_BYTES];
+    bytes[..name.len()].copy_from_slice(name);
+    bytes
+}
