@@ -3,16 +3,17 @@
 //! that an image obeys.
 #![tactic(auto)]
 
-ghost use Rattle.std.specs.Prelude.{◌≡◌, ◌++◌, ◌↔◌, ℕ, List, []};
+ghost use Rattle.std.specs.Prelude.{◌≡◌, ◌≤◌, ◌++◌, ◌↔◌, ℕ, List, []};
 ghost use Rattle.model.specs.Layout.{Geometry, IsGeometry, inode_count};
 ghost use Rattle.model.specs.View.{View};
 ghost use Rattle.model.specs.Fresh.{fresh_view};
 ghost use Rattle.model.specs.Metadata.{SameMetadata};
-ghost use Rattle.model.specs.Rules.{ObeysRules};
+ghost use Rattle.model.specs.Rules.{ObeysRules, Rule};
 ghost use Rattle.model.specs.Uses.{IsClaim, IsOwner};
 ghost use Rattle.findings.specs.declared.finding.Finding.TheVariants.{Duplicate};
 ghost use Rattle.findings.specs.Findings.{AllSoft, AreFindings, AreFindingsOf, IsFinding, finding_cmp, is_of_numbers};
 ghost use Rattle.findings.specs.Numbers.{lost_below, unmarked_below};
+ghost use Rattle.findings.specs.Rules.{NoneBreaksUpTo, rule_of};
 
 mod finding;
 mod order;
@@ -36,6 +37,12 @@ pub fn findings_are_unique()
 /// The order of findings is that of their kinds, and then of their numbers from left to right.
 pub fn order_is_by_kind_and_numbers()
     ensures { (x y : Finding) → ⟦<Finding as Ord>⟧.cmp x y ≡ finding_cmp x y }
+{}
+
+/// A finding breaks its rule, and a rule holds where no finding breaks it or one before it.
+pub fn a_rule_is_broken_where_its_findings_are()
+    ensures broken { (geo : Geometry) (view : View) (f : Finding) → IsFinding geo view f → 1 ≤ rule_of f → Rule geo view (rule_of f) → ⊥ }
+    ensures holds { (geo : Geometry) (view : View) (n : ℕ) → NoneBreaksUpTo geo view n → Rule geo view n }
 {}
 
 /// An image obeys the rules exactly where each finding is of a soft kind.

@@ -11,7 +11,7 @@ use Rattle.model.specs.Layout.{Geometry}
 use Rattle.model.specs.View.{View}
 use Rattle.model.specs.Image.{image_view}
 use Rattle.device.specs.Kept.{Kept, IsKeptOf, frozen_view}
-use Rattle.fsck.specs.Checked.{IsFoundIn}
+use Rattle.fsck.specs.Checked.{CheckedImage, IsChecked, IsFoundIn}
 
 module _ (geo : Geometry) (view : View) where
   -- the list has the findings of these kinds
@@ -75,4 +75,14 @@ image_findings kept image fs of are = record {
   in_order = are.in_order;
   exactly = λ f.
       let same = same_findings kept.geometry (frozen_view kept) (image_view kept.geometry image) of.metadata f in ((λ c. same.0 ((are.exactly f).0 c)), (λ h. (are.exactly f).1 (same.1 h)));
+}
+
+-- and so is all else that a check gives
+pub image_checked : (image : List (List ℕ)) (checked : CheckedImage) → IsKeptOf checked.frozen image → IsChecked checked.frozen.geometry (frozen_view checked.frozen) checked
+    → IsChecked checked.frozen.geometry (image_view checked.frozen.geometry image) checked
+image_checked image checked of is = record {
+  findings = image_findings checked.frozen image checked.findings of is.findings;
+  report = is.report;
+  verdict = is.verdict;
+  repairs = is.repairs;
 }

@@ -1,2 +1,4 @@
 mod FindingLemmas
+mod VerdictLemmas
+mod OrderLemmas
 pub mod UnitLemmas

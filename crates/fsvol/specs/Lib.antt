@@ -1,2 +1,3 @@
 pub mod Bits
 pub mod Status
+pub mod Workers

@@ -1,9 +1,10 @@
 //! A line carried out, from its words to its output.
-ghost use Rattle.std.specs.Prelude.{◌≡◌, ◌<◌, ◌≤◌, [], IfOk};
-ghost use Rattle.std.specs.String.{string_bytes};
+ghost use Rattle.std.specs.Prelude.{◌≡◌, ◌<◌, ◌≤◌, [], Err, IfOk, IsFalse};
+ghost use Rattle.layout.specs.declared.refusal.Refusal.TheVariants.{BadWorkers};
+ghost use Rattle.fsvol.specs.Workers.{may_work};
 
 use crate::failure::{Failure, GAVE_OUT};
-use crate::jobs::{Answer, bits, check_numbers, check_sample, make};
+use crate::jobs::{Answer, allow_workers, bits, check, check_numbers, check_sample, make, told};
 use crate::line::{Job, parse};
 use device::{Before, FileDevice};
 use layout::Geometry;
@@ -13,11 +14,12 @@ use std::io::Write;
 use std::marker::Brand;
 use std::os::unix::fs::FileExt;
 use std::rt::Files;
+use std::thread::Threads;
 
 /// Carries out the line of these words, which are those after the program's name. Its output is written to `out` once
 /// all else is done; a refusal is written to `err`, and then nothing to `out`. Gives the status that the program ends
 /// with.
-pub fn perform<R: Files + AllocGlobal, S: AsStr, W: Write, E: Write>(
+pub fn perform<R: Files + AllocGlobal + Threads + Sync, S: AsStr, W: Write, E: Write>(
     rt: &R,
     words: &[S],
     out: &mut W,
@@ -39,7 +41,10 @@ where
 }
 
 /// Does what the words ask for.
-fn answer<R: Files + AllocGlobal, S: AsStr>(rt: &R, words: &[S]) -> Result<Answer, Failure>
+fn answer<R: Files + AllocGlobal + Threads + Sync, S: AsStr>(
+    rt: &R,
+    words: &[S],
+) -> Result<Answer, Failure>
 where
     R::File: FileExt,
     ensures { IfOk result (λ answer. answer.status < 3) }
@@ -51,7 +56,8 @@ where
             blocks,
             inodes,
         } => make_file(rt, image, &Geometry::new(groups, blocks, inodes)?),
-        Job::Bits { image } => check_file(rt, image),
+        Job::Check { image, workers } => check_file(rt, image, workers),
+        Job::Bits { image } => bits_of_file(rt, image),
         Job::Sample => {
             let findings = check_sample(rt.alloc())?;
             Ok(bits(rt.alloc(), findings.as_slice())?)
@@ -68,18 +74,35 @@ fn make_file<R: Files + AllocGlobal>(
 where
     R::File: FileExt,
     ensures status { IfOk result (λ answer. answer.status ≡ 0) }
-    ensures silent { IfOk result (λ answer. string_bytes answer.text ≡ []) }
+    ensures silent { IfOk result (λ answer. answer.text.items ≡ []) }
 {
     let mut device: FileDevice<R::File, Brand> = FileDevice::create(rt, image, geometry.blocks())?;
     make(&mut device, geometry, Before::Zeroes)?;
     Ok(Answer {
-        text: String::new(rt.alloc()),
+        text: Vec::new(rt.alloc()),
         status: 0,
     })
 }
 
+/// Checks a file's image. The number of workers is looked at before the file.
+fn check_file<R: Files + AllocGlobal + Threads + Sync>(
+    rt: &R,
+    image: &str,
+    workers: u32,
+) -> Result<Answer, Failure>
+where
+    R::File: FileExt,
+    ensures status { IfOk result (λ answer. answer.status < 3) }
+    ensures workers { IsFalse (may_work workers) → result ≡ Err (Failure.Refused BadWorkers) }
+{
+    allow_workers(workers)?;
+    let mut device: FileDevice<R::File, Brand> = FileDevice::open(rt, image)?;
+    let checked = check(rt, rt.alloc(), &mut device, workers)?;
+    Ok(told(rt.alloc(), &checked)?)
+}
+
 /// Checks the number maps of a file's image.
-fn check_file<R: Files + AllocGlobal>(rt: &R, image: &str) -> Result<Answer, Failure>
+fn bits_of_file<R: Files + AllocGlobal>(rt: &R, image: &str) -> Result<Answer, Failure>
 where
     R::File: FileExt,
     ensures { IfOk result (λ answer. answer.status < 3) }
@@ -91,6 +114,6 @@ where
 
 /// Writes what a line prints.
 fn print<W: Write>(out: &mut W, answer: &Answer) -> io::Result<()> {
-    out.write_all(answer.text.as_bytes())?;
+    out.write_all(answer.text.as_slice())?;
     out.flush()
 }

@@ -1,5 +1,5 @@
 //! What the lines do, on any device.
-ghost use Rattle.std.specs.Prelude.{◌≡◌, ◌++◌, length, IfOk, IfErr, OnOk, IsErrOf, IsOkUnless, []};
+ghost use Rattle.std.specs.Prelude.{◌≡◌, ◌++◌, ◌↔◌, length, IfOk, IfErr, IsFalse, IsTrue, OkIff, OnOk, IsErrOf, IsOkUnless, []};
 ghost use Rattle.std.specs.String.{string_bytes};
 ghost use Rattle.model.specs.Layout.{Geometry as Numbers, block_count};
 ghost use Rattle.model.specs.Image.{IsImage, image_view};
@@ -9,19 +9,27 @@ ghost use Rattle.device.specs.Writes.{HasFailed};
 ghost use Rattle.device.specs.Zeroes.{AreZeroes};
 ghost use Rattle.device.specs.Loading.{LoadRefuses};
 ghost use Rattle.fsvol.specs.Bits.{bits_text, finding_lines};
+ghost use Rattle.fsck.specs.Checked.{IsChecked};
 ghost use Rattle.fsvol.specs.Status.{status_of_verdict};
+ghost use Rattle.fsvol.specs.Workers.{may_work};
 ghost use Rattle.layout.specs.Fresh.{fresh_image};
 
 use device::{Before, Device, MemDevice, format, load};
 use findings::{Finding, Verdict, nothing_is_found_on_the_fresh_image, verdict};
+use fsck::{Checked, check_one};
 use layout::{BLOCK_BYTES, Geometry, Refusal};
 use phase_maps::number_findings;
 use std::alloc::{AllocError, Global};
+use std::sync::Arc;
+use std::thread::Threads;
+
+/// The most workers that a check may have.
+const MOST_WORKERS: u32 = 64;
 
 /// What a line prints, and the status that the program then ends with.
 #[derive(Debug, Drop)]
 pub struct Answer {
-    pub text: String,
+    pub text: Vec<u8>,
     pub status: u8,
 }
 
@@ -57,9 +65,55 @@ pub fn check_numbers<D: Device>(alloc: Global, device: &mut D) -> Result<Vec<Fin
     number_findings(alloc, &frozen)
 }
 
+/// Refuses, with `BadWorkers`, other than 1 to 64 workers.
+pub fn allow_workers(workers: u32) -> Result<(), Refusal>
+    ensures allowed { OkIff result (IsTrue (may_work workers)) tt }
+    ensures error { IsOkUnless result Refusal.BadWorkers }
+{
+    match workers {
+        1..=MOST_WORKERS => Ok(()),
+        _ => Err(Refusal::BadWorkers),
+    }
+}
+
+/// Checks a device's image with this many workers. It writes nothing.
+pub fn check<D: Device>(
+    rt: &(impl Threads + Sync),
+    alloc: Global,
+    device: &mut D,
+    workers: u32,
+) -> Result<Checked, Refusal>
+    // Where each read gave what stood there, the blocks are an image, and the findings, the report, the verdict and the
+    // repairs are those of this image.
+    ensures checked { IfOk result (λ checked. D.honest device.new → (geo : Numbers) × IsImage geo (D.image device.old)
+        × IsChecked geo (image_view geo (D.image device.old)) checked) }
+    ensures workers { IsErrOf result Refusal.BadWorkers ↔ IsFalse (may_work workers) }
+    ensures refused { IsTrue (may_work workers) → IfErr result (λ refusal. LoadRefuses (D.honest device.new) (D.image device.old) refusal) }
+    ensures cause { IsErrOf result Refusal.Device → HasFailed (D.failures device.old) (D.failures device.new) }
+
+    ensures same { D.image device.new ≡ D.image device.old }
+    ensures held { D.held device.new ≡ D.held device.old }
+{
+    allow_workers(workers)?;
+    let frozen = Arc::new(alloc, load(alloc, device)?)?;
+    check_one(rt, alloc, &frozen)
+}
+
+/// What is printed of a checked image: its report.
+pub fn told(alloc: Global, checked: &Checked) -> Result<Answer, Refusal>
+    ensures text { IfOk result (λ answer. answer.text.items ≡ checked.now.report) }
+    ensures status { IfOk result (λ answer. answer.status ≡ status_of_verdict checked.now.verdict) }
+    ensures error { IsOkUnless result Refusal.NoMemory }
+{
+    Ok(Answer {
+        text: checked.report().to_vec(alloc)?,
+        status: status_of_verdict(checked.verdict()),
+    })
+}
+
 /// What is printed of the findings of the number maps.
 pub fn bits(alloc: Global, findings: &[Finding]) -> Result<Answer, Refusal>
-    ensures text { IfOk result (λ answer. string_bytes answer.text ≡ bits_text findings.now) }
+    ensures text { IfOk result (λ answer. answer.text.items ≡ bits_text findings.now) }
     ensures status { IfOk result (λ answer. answer.status ≡ status_of_verdict (verdict_of findings.now)) }
     ensures error { IsOkUnless result Refusal.NoMemory }
 {
@@ -68,7 +122,7 @@ pub fn bits(alloc: Global, findings: &[Finding]) -> Result<Answer, Refusal>
     let verdict = verdict(findings);
     writeln!(text, "verdict {verdict}")?;
     Ok(Answer {
-        text,
+        text: text.into_bytes(),
         status: status_of_verdict(verdict),
     })
 }

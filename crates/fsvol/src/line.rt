@@ -20,6 +20,11 @@ pub enum Job<'a> {
         blocks: u32,
         inodes: u32,
     },
+    /// The findings of an image, by this many workers.
+    Check {
+        image: &'a str,
+        workers: u32,
+    },
     /// The findings of an image's number maps.
     Bits {
         image: &'a str,
@@ -78,6 +83,10 @@ fn job_of<'a>(matches: &ArgMatches<'a>) -> Option<Job<'a>>
             blocks: options.get_one("blocks")?,
             inodes: options.get_one("inodes")?,
         }),
+        ("check", options) => Some(Job::Check {
+            image: options.get_str("image")?,
+            workers: options.get_one("workers")?,
+        }),
         ("bits", options) => Some(Job::Bits {
             image: options.get_str("image")?,
         }),
@@ -92,6 +101,7 @@ fn program<'a>(alloc: Global) -> Result<Command<'a>, AllocError> {
         .no_binary_name(true)
         .subcommand_required(true)
         .subcommand(mkfs(alloc)?)?
+        .subcommand(check(alloc)?)?
         .subcommand(bits(alloc)?)
 }
 
@@ -102,6 +112,13 @@ fn mkfs<'a>(alloc: Global) -> Result<Command<'a>, AllocError> {
         .arg(number(alloc, "groups").help("How many cylinder groups"))?
         .arg(number(alloc, "blocks").help("How many blocks a group"))?
         .arg(number(alloc, "inodes").help("How many inodes a group"))
+}
+
+fn check<'a>(alloc: Global) -> Result<Command<'a>, AllocError> {
+    Command::new(alloc, "check")
+        .about("Prints the report of an image")
+        .arg(image(alloc))?
+        .arg(number(alloc, "workers").help("How many workers, 1 to 64"))
 }
 
 fn bits<'a>(alloc: Global) -> Result<Command<'a>, AllocError> {

@@ -5,6 +5,7 @@ use std::os::unix::fs::FileExt;
 use std::process::Abort;
 use std::rt::Files;
 use std::test::Fail;
+use std::thread::Threads;
 use std::{fs, io};
 
 /// How many bytes an image of 1 group, 16 blocks and 16 inodes has.
@@ -23,6 +24,18 @@ const SMALL_IMAGE: &[(usize, &[u8])] = &[
     (4_096, b"\x02\0\0\0\x01\0\0\0."),
     (4_160, b"\x02\0\0\0\x02\0\0\0.."),
 ];
+
+/// The report of a fresh image.
+const CLEAN_REPORT: &str =
+    "phase 1 blocks and sizes\nphase 2 names\nphase 3 connectivity\nphase 4 reference counts\nphase 5 maps\nfindings 0\nrepairs 0\nverdict clean\n";
+
+/// The report of one whose block 9 is marked.
+const SOFT_REPORT: &str =
+    "phase 1 blocks and sizes\nphase 2 names\nphase 3 connectivity\nphase 4 reference counts\nphase 5 maps\n  lost block 9\nfindings 1\nrepairs 1\nverdict soft\n";
+
+/// And of one whose number 2, the root's, is not marked.
+const DAMAGED_REPORT: &str =
+    "phase 1 blocks and sizes\nphase 2 names\nphase 3 connectivity\nphase 4 reference counts\nphase 5 maps\n  unmarked inode 2\nfindings 1\nrepairs 0\nverdict damaged\n";
 
 /// What a line is to give.
 #[derive(Clone, Copy)]
@@ -57,7 +70,7 @@ fn printed(out: &str, status: u8) -> Wanted<'_> {
 }
 
 /// Carries out a line that starts with these words, and ends with the image's name.
-fn gives<R: Files + AllocGlobal + Abort>(
+fn gives<R: Files + AllocGlobal + Threads + Sync + Abort>(
     rt: &R,
     start: &str,
     image: &str,
@@ -78,7 +91,7 @@ where
 }
 
 /// Makes a fresh image in this file, and gives its bytes.
-fn made<R: Files + AllocGlobal + Abort>(
+fn made<R: Files + AllocGlobal + Threads + Sync + Abort>(
     rt: &R,
     geometry: &str,
     image: &str,
@@ -92,16 +105,20 @@ where
 }
 
 /// A fresh image of 1 group, 16 blocks and 16 inodes, in this file.
-fn made_small<R: Files + AllocGlobal + Abort>(rt: &R, image: &str) -> Result<Vec<u8>, Fail>
+fn made_small<R: Files + AllocGlobal + Threads + Sync + Abort>(
+    rt: &R,
+    image: &str,
+) -> Result<Vec<u8>, Fail>
 where
     R::File: FileExt,
 {
     made(rt, "--groups 1 --blocks 16 --inodes 16", image)
 }
 
-/// Checks the number maps of an image of these bytes, which stand in this file, and that they stand there still.
-fn bits_gives<R: Files + AllocGlobal + Abort>(
+/// Carries out a line of these words on an image of these bytes, which stand in this file, and then stand there still.
+fn gives_of_bytes<R: Files + AllocGlobal + Threads + Sync + Abort>(
     rt: &R,
+    start: &str,
     image: &str,
     bytes: &[u8],
     wanted: Wanted<'_>,
@@ -110,9 +127,22 @@ where
     R::File: FileExt,
 {
     fs::write(rt, image, bytes)?;
-    gives(rt, "bits", image, wanted)?;
-    assert!(rt; fs::read(rt, image)?.as_slice() == bytes, "{image}");
+    gives(rt, start, image, wanted)?;
+    assert!(rt; fs::read(rt, image)?.as_slice() == bytes, "{start} {image}");
     Ok(())
+}
+
+/// Checks the number maps of an image of these bytes, which stand in this file.
+fn bits_gives<R: Files + AllocGlobal + Threads + Sync + Abort>(
+    rt: &R,
+    image: &str,
+    bytes: &[u8],
+    wanted: Wanted<'_>,
+) -> Result<(), Fail>
+where
+    R::File: FileExt,
+{
+    gives_of_bytes(rt, "bits", image, bytes, wanted)
 }
 
 /// Sets a byte.
@@ -265,6 +295,65 @@ fn bits_tells_the_numbers_of_two_groups(rt: HostRuntime) -> Result<(), Fail> {
         set_all(bytes.as_mut_slice(), values);
         bits_gives(&rt, image, bytes.as_slice(), wanted)?;
     }
+    fs::remove_file(&rt, image)?;
+    Ok(())
+}
+
+#[test]
+fn check_prints_the_report_of_an_image(rt: HostRuntime) -> Result<(), Fail> {
+    let image = "rows_check.img";
+    let fresh = made_small(&rt, image)?;
+    assert_eq!(rt; CLEAN_REPORT.len(), 133);
+    assert_eq!(rt; SOFT_REPORT.len(), 147);
+    for start in ["check --workers 1", "check --workers 64"] {
+        for (place, value, wanted) in [
+            (1_184, 1, printed(CLEAN_REPORT, 0)),
+            (1_184, 33, printed(SOFT_REPORT, 1)),
+            (1_056, 0, printed(DAMAGED_REPORT, 2)),
+        ] {
+            let mut bytes = fresh.clone()?;
+            set(bytes.as_mut_slice(), place, value);
+            gives_of_bytes(&rt, start, image, bytes.as_slice(), wanted)?;
+        }
+    }
+    fs::remove_file(&rt, image)?;
+    Ok(())
+}
+
+#[test]
+fn check_refuses_other_than_1_to_64_workers(rt: HostRuntime) -> Result<(), Fail> {
+    let image = "rows_workers.img";
+    let fresh = made_small(&rt, image)?;
+    let wanted = refused("refused 6 BadWorkers\n", 3);
+    for start in [
+        "check --workers 0",
+        "check --workers 65",
+        "check --workers 4294967295",
+    ] {
+        gives_of_bytes(&rt, start, image, fresh.as_slice(), wanted)?;
+        gives(&rt, start, "rows_no_such_file.img", wanted)?;
+    }
+    fs::remove_file(&rt, image)?;
+    Ok(())
+}
+
+#[test]
+fn check_refuses_what_is_no_image(rt: HostRuntime) -> Result<(), Fail> {
+    let image = "rows_check_no_image.img";
+    let fresh = made_small(&rt, image)?;
+    let start = "check --workers 4";
+    for length in [0, SMALL - 1, SMALL - 1_024, SMALL + 1_024] {
+        let mut bytes = fresh.clone()?;
+        bytes.resize(length, 0)?;
+        let wanted = refused("refused 3 BadLength\n", 3);
+        gives_of_bytes(&rt, start, image, bytes.as_slice(), wanted)?;
+    }
+    let mut bytes = fresh.clone()?;
+    set(bytes.as_mut_slice(), 1_028, 1);
+    let wanted = refused("refused 5 BadGroup 0\n", 3);
+    gives_of_bytes(&rt, start, image, bytes.as_slice(), wanted)?;
+    let wanted = refused("refused 2 Device\n", 4);
+    gives(&rt, start, "rows_no_such_file.img", wanted)?;
     fs::remove_file(&rt, image)?;
     Ok(())
 }

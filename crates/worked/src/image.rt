@@ -7,6 +7,7 @@ use inode::{DIRECT_POINTERS, DIRECTORY, FILE, RECORD_BYTES, Record};
 use layout::{BLOCK_BYTES, Block, Geometry, Refusal, fresh_block};
 use std::alloc::Global;
 use std::sync::Arc;
+use std::thread::Threads;
 
 /// A change of an image.
 #[derive(Clone, Copy)]
@@ -64,19 +65,20 @@ pub(crate) enum Wanted {
 }
 
 /// A fresh image with these changes, and what a check finds on it: a line for each finding that is wanted.
-pub(crate) fn found(
-    alloc: Global,
+pub(crate) fn found<R: Threads + AllocGlobal + Sync>(
+    rt: &R,
     geometry: &Geometry,
     changes: &[Change],
     wanted: Wanted,
 ) -> Result<String, Refusal> {
+    let alloc = rt.alloc();
     let mut bytes = fresh_bytes(alloc, geometry)?;
     for change in changes {
         apply(&mut bytes, geometry, change)?;
     }
     let mut device = MemDevice::from_bytes(alloc, bytes.as_slice())?;
     let frozen = Arc::new(alloc, load(alloc, &mut device)?)?;
-    let checked = check_one(alloc, &frozen)?;
+    let checked = check_one(rt, alloc, &frozen)?;
     let mut lines = String::new(alloc);
     for finding in checked.findings() {
         if wanted == Wanted::All || is_of_used_blocks(finding) {

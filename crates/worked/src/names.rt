@@ -4,6 +4,7 @@ use crate::image::{Change, Wanted, found};
 use layout::Geometry;
 use std::process::Abort;
 use std::test::Fail;
+use std::thread::Threads;
 
 /// An example: what it shows, the changes of a fresh image, and the lines of its findings.
 type Example = (&'static str, &'static [Change], &'static str);
@@ -14,14 +15,14 @@ const TWELVE: &[u32] = &[5, 6, 7, 8, 9, 10, 11, 12, 13, 14, 15, 16];
 const LONGEST: &[u8] = b"aaaaaaaaaaaaaaaaaaaaaaaaaaaaaaaaaaaaaaaaaaaaaaaaaaaaaaaa";
 
 /// Checks each example on an image of this many groups.
-fn check_all<R: AllocGlobal + Abort>(
+fn check_all<R: Threads + AllocGlobal + Abort + Sync>(
     rt: &R,
     groups: u32,
     examples: &[Example],
 ) -> Result<(), Fail> {
     let geometry = Geometry::new(groups, 32, 16)?;
     for (name, changes, wanted) in examples {
-        let lines = found(rt.alloc(), &geometry, changes, Wanted::All)?;
+        let lines = found(rt, &geometry, changes, Wanted::All)?;
         assert_eq!(rt; lines.as_str(), *wanted, "{name}");
     }
     Ok(())

@@ -5,6 +5,7 @@ use crate::image::{Change, Wanted, found};
 use layout::Geometry;
 use std::process::Abort;
 use std::test::Fail;
+use std::thread::Threads;
 
 /// An example: what it shows, the changes of a fresh image, and the lines of its findings.
 type Example = (&'static str, &'static [Change], &'static str);
@@ -14,13 +15,13 @@ const TWELVE: &[u32] = &[5, 6, 7, 8, 9, 10, 11, 12, 13, 14, 15, 16];
 const NEXT_TWELVE: &[u32] = &[17, 18, 19, 20, 21, 22, 23, 24, 25, 26, 27, 28];
 
 /// Checks each example on an image of these numbers.
-fn check_all<R: AllocGlobal + Abort>(
+fn check_all<R: Threads + AllocGlobal + Abort + Sync>(
     rt: &R,
     geometry: &Geometry,
     examples: &[Example],
 ) -> Result<(), Fail> {
     for (name, changes, wanted) in examples {
-        let lines = found(rt.alloc(), geometry, changes, Wanted::UsedBlocks)?;
+        let lines = found(rt, geometry, changes, Wanted::UsedBlocks)?;
         assert_eq!(rt; lines.as_str(), *wanted, "{name}");
     }
     Ok(())

@@ -75,6 +75,22 @@ fn reads_bits(rt: HostRuntime) -> Result<(), Fail> {
 }
 
 #[test]
+fn reads_check(rt: HostRuntime) -> Result<(), Fail> {
+    for (line, workers) in [
+        ("check --workers 1 a.img", 1),
+        ("check a.img --workers=64", 64),
+        ("check --workers 0 a.img", 0),
+        ("check --workers 4294967295 a.img", u32::MAX),
+    ] {
+        let words = words_of(rt.alloc(), line)?;
+        let job = parse(rt.alloc(), words.as_slice()).ok().ok_or(line)?;
+        let image = "a.img";
+        assert!(rt; job == Job::Check { image, workers }, "{line}");
+    }
+    Ok(())
+}
+
+#[test]
 fn reads_no_words(rt: HostRuntime) -> Result<(), Fail> {
     let words: Vec<String> = Vec::new(rt.alloc());
     let job = parse(rt.alloc(), words.as_slice()).ok().ok_or("a job")?;
@@ -94,6 +110,14 @@ fn refuses_a_wrong_line(rt: HostRuntime) -> Result<(), Fail> {
             "unexpected argument '--groups' found",
         ),
         ("bits", "required arguments were not provided:\n  <IMAGE>"),
+        (
+            "check a.img",
+            "required arguments were not provided:\n  --workers <NUMBER>",
+        ),
+        (
+            "check --workers 4",
+            "required arguments were not provided:\n  <IMAGE>",
+        ),
         ("bits a.img b.img", "unexpected argument 'b.img' found"),
         (
             "bits --groups 1 a.img",
@@ -182,6 +206,10 @@ fn refuses_a_line_that_asks_for_help(rt: HostRuntime) -> Result<(), Fail> {
         (
             "help mkfs",
             "Usage: fsvol mkfs --groups <NUMBER> --blocks <NUMBER> --inodes <NUMBER> <IMAGE>\n",
+        ),
+        (
+            "check --help",
+            "Usage: fsvol check --workers <NUMBER> <IMAGE>\n",
         ),
         ("bits --help", "Usage: fsvol bits <IMAGE>\n"),
         ("bits a.img -h", "Usage: fsvol bits <IMAGE>\n"),
