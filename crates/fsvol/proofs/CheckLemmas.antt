@@ -1,9 +1,7 @@
 -- A check of what is kept of an image is a check of the image.
-use Rattle.std.proofs.Common.{◌≡◌, List, ℕ, subst}
+use Rattle.std.proofs.Common.{List, ℕ}
 use Rattle.model.specs.Layout.{Geometry}
-use Rattle.model.specs.Metadata.{SameMetadata}
 use Rattle.model.specs.Image.{IsImage, image_view}
-use Rattle.findings.specs.Findings.{AreFindings}
 use Rattle.findings.proofs.SameFindings.{same_findings}
 use Rattle.device.specs.Kept.{Kept, IsKeptOf, frozen_view}
 use Rattle.fsck.specs.Checked.{CheckedImage, IsChecked}
