@@ -7,6 +7,7 @@ ghost use Rattle.connectivity.specs.Walk.{is_lost_among};
 use device::Frozen;
 use findings::Finding;
 use layout::Refusal;
+use members::Members;
 use std::alloc::Global;
 use std::collections::BTreeSet;
 
@@ -20,9 +21,11 @@ pub fn findings(
         → AreFindingsOf is_of_connectivity frozen.now.geometry (frozen_view frozen.now) found.items) }
     ensures error { IsOkUnless result Refusal.NoMemory }
 {
+    let inodes = frozen.geometry().inodes();
+    let members = Members::new(alloc, reached, inodes)?;
     let mut found = Vec::new(alloc);
-    for number in 0..frozen.geometry().inodes() {
-        if is_lost(frozen, number, reached) {
+    for number in 0..inodes {
+        if is_lost(frozen, number, &members) {
             found.push(Finding::LostInode(number))?;
         }
     }
@@ -30,8 +33,8 @@ pub fn findings(
 }
 
 /// Whether the number is that of a sound inode which is not among those that are reached.
-fn is_lost(frozen: &Frozen, number: u32, reached: &BTreeSet<u32>) -> bool
-    ensures { result ≡ is_lost_among frozen.now.geometry (frozen_view frozen.now) reached.now.keys number }
+fn is_lost(frozen: &Frozen, number: u32, reached: &Members<'_>) -> bool
+    ensures { result ≡ is_lost_among frozen.now.geometry (frozen_view frozen.now) reached.now number }
 {
-    frozen.is_sound_at(number) && !reached.contains(&number)
+    frozen.is_sound_at(number) && !reached.has(number)
 }

@@ -37,6 +37,57 @@ const SOFT_REPORT: &str =
 const DAMAGED_REPORT: &str =
     "phase 1 blocks and sizes\nphase 2 names\nphase 3 connectivity\nphase 4 reference counts\nphase 5 maps\n  unmarked inode 2\nfindings 1\nrepairs 0\nverdict damaged\n";
 
+/// Changes of a fresh image: directory 6, which nothing names, has block 5 and file 7 in it, and the root a link of its.
+const LOST_DIRECTORY: &[(usize, u8)] = &[
+    (1_056, 196),
+    (1_184, 3),
+    (2_306, 3),
+    (2_816, 2),
+    (2_818, 2),
+    (2_821, 4),
+    (2_824, 5),
+    (2_944, 1),
+    (2_946, 1),
+    (5_120, 6),
+    (5_124, 1),
+    (5_128, b'.'),
+    (5_184, 2),
+    (5_188, 2),
+    (5_192, b'.'),
+    (5_193, b'.'),
+    (5_248, 7),
+    (5_252, 1),
+    (5_256, b'f'),
+];
+
+/// The report of such an image.
+const LOST_REPORT: &str =
+    "phase 1 blocks and sizes\nphase 2 names\nphase 3 connectivity\n  lost inode 6\n  lost inode 7\nphase 4 reference counts\n  count high 2 links 3 entries 2\nphase 5 maps\nfindings 3\nrepairs 3\nverdict soft\n";
+
+/// Changes of a fresh image: files 5 and 6, which the root names, both have block 8.
+const SHARED_BLOCK: &[(usize, u8)] = &[
+    (1_056, 100),
+    (1_184, 17),
+    (2_688, 1),
+    (2_690, 1),
+    (2_693, 4),
+    (2_696, 8),
+    (2_816, 1),
+    (2_818, 1),
+    (2_821, 4),
+    (2_824, 8),
+    (4_224, 5),
+    (4_228, 1),
+    (4_232, b'a'),
+    (4_288, 6),
+    (4_292, 1),
+    (4_296, b'b'),
+];
+
+/// The report of such an image.
+const SHARED_REPORT: &str =
+    "phase 1 blocks and sizes\n  duplicate 6 position 0 block 8\nphase 2 names\nphase 3 connectivity\nphase 4 reference counts\nphase 5 maps\nfindings 1\nrepairs 0\nverdict damaged\n";
+
 /// What a line is to give.
 #[derive(Clone, Copy)]
 struct Wanted<'a> {
@@ -305,14 +356,22 @@ fn check_prints_the_report_of_an_image(rt: HostRuntime) -> Result<(), Fail> {
     let fresh = made_small(&rt, image)?;
     assert_eq!(rt; CLEAN_REPORT.len(), 133);
     assert_eq!(rt; SOFT_REPORT.len(), 147);
-    for start in ["check --workers 1", "check --workers 64"] {
-        for (place, value, wanted) in [
-            (1_184, 1, printed(CLEAN_REPORT, 0)),
-            (1_184, 33, printed(SOFT_REPORT, 1)),
-            (1_056, 0, printed(DAMAGED_REPORT, 2)),
-        ] {
+    assert_eq!(rt; LOST_REPORT.len(), 195);
+    let changes: &[(&[(usize, u8)], Wanted<'_>)] = &[
+        (&[], printed(CLEAN_REPORT, 0)),
+        (&[(1_184, 33)], printed(SOFT_REPORT, 1)),
+        (&[(1_056, 0)], printed(DAMAGED_REPORT, 2)),
+        (LOST_DIRECTORY, printed(LOST_REPORT, 1)),
+        (SHARED_BLOCK, printed(SHARED_REPORT, 2)),
+    ];
+    for start in [
+        "check --workers 1",
+        "check --workers 2",
+        "check --workers 64",
+    ] {
+        for &(values, wanted) in changes {
             let mut bytes = fresh.clone()?;
-            set(bytes.as_mut_slice(), place, value);
+            set_all(bytes.as_mut_slice(), values);
             gives_of_bytes(&rt, start, image, bytes.as_slice(), wanted)?;
         }
     }

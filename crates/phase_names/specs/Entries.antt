@@ -1,9 +1,8 @@
 -- What the reached directories of a table tell together.
 use Rattle.std.specs.Prelude.{◌≡◌, ℕ, zero, suc, ◌<◌, ◌==◌, Bool, List, [], ◌++◌, map, take, length, slice_index_or, Option, Some, None, ◌⊎◌, if◌then◌else◌, IsFalse}
-use Rattle.std.specs.BTreeSet.{contains}
 use Rattle.std.specs.List.{Contains}
 use Rattle.std.specs.Option.{option_map_or}
-use Rattle.std.specs.Ordering.{nat_cmp}
+use Rattle.members.specs.Members.{is_among}
 use Rattle.findings.specs.declared.finding.Finding.{Finding}
 use Rattle.findings.specs.declared.finding.Finding.TheVariants.{RootBad, BadDotDot, ExtraName}
 use Rattle.model.specs.Layout.{Geometry, root}
@@ -13,10 +12,6 @@ use Rattle.model.specs.Tables.{value_in}
 use Rattle.phase_names.specs.declared.look.Naming.{Naming}
 use Rattle.phase_names.specs.declared.entries.Entry.{Entry}
 use Rattle.phase_names.specs.Told.{Told}
-
--- whether n is one of these
-abbrev pub is_among : List ℕ → ℕ → Bool
-is_among numbers n = contains nat_cmp (record { keys = numbers }) n
 
 -- P holds of x at a number below n
 abbrev pub AtBelow : {K : Type 0} → (ℕ → K → Type 0) → ℕ → K → Type 0

@@ -6,6 +6,7 @@ use crate::look::Naming;
 use crate::parts::Part;
 use findings::Finding;
 use layout::{ROOT, Refusal};
+use members::Members;
 use std::alloc::{AllocError, Global};
 use std::collections::BTreeSet;
 
@@ -22,10 +23,10 @@ pub(crate) struct Entry {
 pub(crate) fn reached_entries(
     alloc: Global,
     whole: &Part,
-    reached: &BTreeSet<u32>,
+    reached: &Members<'_>,
     inodes: u32,
 ) -> Result<Vec<Entry>, AllocError>
-    ensures { IfOk result (λ entries. entries.items ≡ entries_below whole.now reached.now.keys inodes) }
+    ensures { IfOk result (λ entries. entries.items ≡ entries_below whole.now reached.now inodes) }
 {
     let mut entries = Vec::new(alloc);
     for directory in 0..inodes {

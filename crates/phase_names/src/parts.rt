@@ -9,8 +9,9 @@ ghost use Rattle.phase_names.specs.Told.{IsPart, Told};
 
 use crate::look::Look;
 use layout::Refusal;
+use members::Members;
 use std::alloc::Global;
-use std::collections::{BTreeMap, BTreeSet};
+use std::collections::BTreeMap;
 use std::marker::Model;
 
 /// What the slots of the directories of some groups tell, by directory.
@@ -40,10 +41,10 @@ impl Part {
     }
 
     /// What the slots of a directory tell, if it is one of the reached.
-    pub(crate) fn reached(&self, reached: &BTreeSet<u32>, directory: u32) -> Option<&Look>
-        ensures { option_copied result ≡ told_by self.now reached.now.keys directory }
+    pub(crate) fn reached(&self, reached: &Members<'_>, directory: u32) -> Option<&Look>
+        ensures { option_copied result ≡ told_by self.now reached.now directory }
     {
-        if reached.contains(&directory) {
+        if reached.has(directory) {
             self.looks.get(&directory)
         } else {
             None

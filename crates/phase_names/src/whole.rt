@@ -13,6 +13,7 @@ use crate::parts::Part;
 use device::Frozen;
 use findings::{Finding, in_order};
 use layout::{ROOT, Refusal};
+use members::Members;
 use std::alloc::{AllocError, Global};
 use std::collections::BTreeSet;
 
@@ -29,13 +30,14 @@ pub fn finish(
     ensures error { IsOkUnless result Refusal.NoMemory }
 {
     let inodes = frozen.geometry().inodes();
-    let entries = reached_entries(alloc, whole, reached, inodes)?;
+    let members = Members::new(alloc, reached, inodes)?;
+    let entries = reached_entries(alloc, whole, &members, inodes)?;
     let held = held_by_parents(alloc, whole, &entries)?;
     let mut found = Vec::new(alloc);
     add_root(frozen, &mut found)?;
-    add_alone(whole, reached, inodes, &mut found)?;
+    add_alone(whole, &members, inodes, &mut found)?;
     add_extra_names(alloc, &entries, &mut found)?;
-    add_without_parent(whole, reached, inodes, &held, &mut found)?;
+    add_without_parent(whole, &members, inodes, &held, &mut found)?;
     in_order(found)
 }
 
@@ -52,11 +54,11 @@ fn add_root(frozen: &Frozen, found: &mut Vec<Finding>) -> Result<(), AllocError>
 /// Adds what is found of the slots of each reached directory alone.
 fn add_alone(
     whole: &Part,
-    reached: &BTreeSet<u32>,
+    reached: &Members<'_>,
     inodes: u32,
     found: &mut Vec<Finding>,
 ) -> Result<(), AllocError>
-    ensures { OnOk result (Adds (AtBelow (IsFoundAlone whole.now reached.now.keys) inodes) found.old.items found.new.items) }
+    ensures { OnOk result (Adds (AtBelow (IsFoundAlone whole.now reached.now) inodes) found.old.items found.new.items) }
 {
     for directory in 0..inodes {
         if let Some(look) = whole.reached(reached, directory) {
@@ -77,12 +79,12 @@ fn add_all(findings: &BTreeSet<Finding>, found: &mut Vec<Finding>) -> Result<(),
 /// directory that their slot 1 names.
 fn add_without_parent(
     whole: &Part,
-    reached: &BTreeSet<u32>,
+    reached: &Members<'_>,
     inodes: u32,
     held: &BTreeSet<u32>,
     found: &mut Vec<Finding>,
 ) -> Result<(), AllocError>
-    ensures { OnOk result (Adds (AtBelow (IsWithoutParent whole.now reached.now.keys held.now.keys) inodes) found.old.items found.new.items) }
+    ensures { OnOk result (Adds (AtBelow (IsWithoutParent whole.now reached.now held.now.keys) inodes) found.old.items found.new.items) }
 {
     for directory in 0..inodes {
         if let Some(look) = whole.reached(reached, directory) {

@@ -1,7 +1,6 @@
 -- How many entries name each inode, by number.
 use Rattle.std.specs.Prelude.{◌≡◌, ℕ, ◌+◌, ◌<◌, ◌≤◌, min, ◌==◌, Bool, List, [], length, slice_index, if◌then◌else◌}
-use Rattle.std.specs.Ordering.{nat_cmp}
-use Rattle.std.specs.BTreeSet.{contains}
+use Rattle.members.specs.Members.{is_among}
 use Rattle.model.specs.Named.{times}
 use Rattle.model.specs.Reach.{sum_below}
 use Rattle.directories.specs.Named.{numbers_in}
@@ -25,10 +24,6 @@ CountsOne number old new = (i : ℕ) → i < length old → count_at new i ≡ m
 -- Each count has grown by how often its number stands in the list, as far as there is room.
 abbrev pub Counted : List ℕ → List ℕ → List ℕ → Type 0
 Counted numbers old new = AreCounts old → (i : ℕ) → i < length old → count_at new i ≡ min (count_at old i + times i numbers) most
-
--- whether i is one of these
-abbrev pub is_among : List ℕ → ℕ → Bool
-is_among numbers i = contains nat_cmp (record { keys = numbers }) i
 
 -- what directory d of a table names, if it is one of these, and else nothing
 abbrev pub named_by : List (ℕ × List ℕ) → List ℕ → ℕ → List ℕ

@@ -10,6 +10,7 @@ ghost use Rattle.refcounts.specs.Counts.{AreCounts, Counted, CountsOne, count_at
 use device::Frozen;
 use directories::{Named, whole_tables_have_every_directory};
 use layout::Refusal;
+use members::Members;
 use std::alloc::{AllocError, Global};
 use std::collections::BTreeSet;
 use std::marker::Model;
@@ -88,18 +89,19 @@ pub fn count(
 {
     whole_tables_have_every_directory();
     let inodes = frozen.geometry().inodes();
+    let members = Members::new(alloc, reached, inodes)?;
     let mut counts = Counts::none(alloc, inodes)?;
     for directory in 0..inodes {
-        counts.add_all(named_by(whole, reached, directory));
+        counts.add_all(named_by(whole, &members, directory));
     }
     Ok(counts)
 }
 
 /// What the slots of a directory name, if it is reachable; of any other nothing.
-fn named_by<'a>(whole: &'a Named, reached: &BTreeSet<u32>, directory: u32) -> &'a [u32]
-    ensures { result.now ≡ named_by whole.now reached.now.keys directory }
+fn named_by<'a>(whole: &'a Named, reached: &Members<'_>, directory: u32) -> &'a [u32]
+    ensures { result.now ≡ named_by whole.now reached.now directory }
 {
-    if reached.contains(&directory) {
+    if reached.has(directory) {
         whole.of(directory)
     } else {
         &[]

@@ -13,6 +13,7 @@ use device::Frozen;
 use directories::Named;
 use findings::{Finding, in_order};
 use layout::{ROOT, Refusal};
+use members::Members;
 use std::alloc::{AllocError, Global};
 use std::collections::BTreeSet;
 
@@ -42,9 +43,11 @@ fn compare(
     ensures found { IfOk result (λ found. Adds (IsFoundBelow (frozen_view frozen.now) reached.now.keys counts.now (inode_count frozen.now.geometry)) [] found.items) }
     ensures frame { KeepsFrame frozen.now }
 {
+    let inodes = frozen.geometry().inodes();
+    let members = Members::new(alloc, reached, inodes)?;
     let mut found = Vec::new(alloc);
-    for number in ROOT..frozen.geometry().inodes() {
-        if reached.contains(&number) {
+    for number in ROOT..inodes {
+        if members.has(number) {
             add_links(frozen, number, counts.of(number), &mut found)?;
         }
     }

@@ -2,7 +2,7 @@
 use device::{Before, MemDevice, format, load};
 use dirent::SLOT_BYTES;
 use findings::Finding;
-use fsck::check_one;
+use fsck::{Checked, check_one};
 use inode::{DIRECT_POINTERS, DIRECTORY, FILE, RECORD_BYTES, Record};
 use layout::{BLOCK_BYTES, Block, Geometry, Refusal, fresh_block};
 use std::alloc::Global;
@@ -64,13 +64,12 @@ pub(crate) enum Wanted {
     UsedBlocks,
 }
 
-/// A fresh image with these changes, and what a check finds on it: a line for each finding that is wanted.
-pub(crate) fn found<R: Threads + AllocGlobal + Sync>(
+/// A fresh image with these changes, checked.
+pub(crate) fn checked<R: Threads + AllocGlobal + Sync>(
     rt: &R,
     geometry: &Geometry,
     changes: &[Change],
-    wanted: Wanted,
-) -> Result<String, Refusal> {
+) -> Result<Checked, Refusal> {
     let alloc = rt.alloc();
     let mut bytes = fresh_bytes(alloc, geometry)?;
     for change in changes {
@@ -78,8 +77,18 @@ pub(crate) fn found<R: Threads + AllocGlobal + Sync>(
     }
     let mut device = MemDevice::from_bytes(alloc, bytes.as_slice())?;
     let frozen = Arc::new(alloc, load(alloc, &mut device)?)?;
-    let checked = check_one(rt, alloc, &frozen)?;
-    let mut lines = String::new(alloc);
+    check_one(rt, alloc, &frozen)
+}
+
+/// What a check finds on a fresh image with these changes: a line for each finding that is wanted.
+pub(crate) fn found<R: Threads + AllocGlobal + Sync>(
+    rt: &R,
+    geometry: &Geometry,
+    changes: &[Change],
+    wanted: Wanted,
+) -> Result<String, Refusal> {
+    let checked = checked(rt, geometry, changes)?;
+    let mut lines = String::new(rt.alloc());
     for finding in checked.findings() {
         if wanted == Wanted::All || is_of_used_blocks(finding) {
             writeln!(lines, "{finding}")?;

@@ -8,3 +8,5 @@ mod image;
 mod names;
 #[cfg(test)]
 mod used_blocks;
+#[cfg(test)]
+mod whole;

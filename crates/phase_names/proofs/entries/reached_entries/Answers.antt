@@ -7,12 +7,12 @@ use Rattle.phase_names.proofs.entries.reached_entries.Goals as goal
 use Rattle.phase_names.proofs.entries.reached_entries.Goals.{in-Some+in_ok-add_entries, in_default}
 
 pub loop-directory-init : goal.loop-directory-init
-loop-directory-init c = c.new-entries.ensures.items ∙ sym (no_entries_below c.args.whole.now c.args.reached.now.keys)
+loop-directory-init c = c.new-entries.ensures.items ∙ sym (no_entries_below c.args.whole.now c.args.reached.now)
 
 pub loop-directory-preserved : goal.loop-directory-preserved
 loop-directory-preserved c =
     let table = c.args.whole.now in
-    let reached = c.args.reached.now.keys in
+    let reached = c.args.reached.now in
     let d = c.loop-directory.directory in
     elim c.match-reached.branch [
       | in-Some+in_ok-add_entries w ↦

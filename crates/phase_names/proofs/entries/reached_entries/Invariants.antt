@@ -3,4 +3,4 @@ use Rattle.phase_names.specs.Entries.{entries_below}
 use Rattle.phase_names.proofs.entries.reached_entries.Given as goal
 
 abbrev pub invariant-loop-directory : goal.invariant-loop-directory
-invariant-loop-directory l = l.entries.items ≡ entries_below l.whole l.reached.keys l.directory
+invariant-loop-directory l = l.entries.items ≡ entries_below l.whole l.reached l.directory

@@ -11,7 +11,7 @@ use Rattle.phase_names.proofs.whole.add_without_parent.Goals.{in-Some+then-not-h
 pub loop-directory-preserved : goal.loop-directory-preserved
 loop-directory-preserved c =
     let table = c.args.whole.now in
-    let reached = c.args.reached.now.keys in
+    let reached = c.args.reached.now in
     let held = c.args.held.now.keys in
     let d = c.loop-directory.directory in
     elim c.match-reached.branch [
@@ -33,4 +33,4 @@ loop-directory-preserved c =
 pub returns : goal.returns
 returns c =
     let all : c.loop-directory.directory ≡ c.args.inodes = omega arith in
-    subst (λ n. Adds (AtBelow (IsWithoutParent c.args.whole.now c.args.reached.now.keys c.args.held.now.keys) n) c.args.found.now.items c.loop-directory.found.items) all c.loop-directory.invariant
+    subst (λ n. Adds (AtBelow (IsWithoutParent c.args.whole.now c.args.reached.now c.args.held.now.keys) n) c.args.found.now.items c.loop-directory.found.items) all c.loop-directory.invariant

@@ -1,8 +1,9 @@
 -- All that was added, in order.
-use Rattle.std.proofs.Common.{◌≡◌, List, [], length, ap, ◌∙◌, subst}
+use Rattle.std.proofs.Common.{◌≡◌, List, [], length, ap, ◌∙◌, subst, sym}
 use Rattle.device.specs.Kept.{frozen_view}
 use Rattle.model.specs.Growth.{Adds}
 use Rattle.model.specs.Layout.{Geometry, inode_count}
+use Rattle.model.specs.Reached.{AreReached}
 use Rattle.model.proofs.Adding.{IfOk-both}
 use Rattle.phase_names.specs.declared.entries.Entry.{Entry}
 use Rattle.phase_names.specs.Entries.{AtBelow, IsExtraAt, IsFoundAlone, IsHeldAt, IsRootBad, IsWithoutParent, entries_below}
@@ -14,7 +15,7 @@ returns-clause-found c =
     let geo = c.args.frozen.now.geometry in
     let view = frozen_view c.args.frozen.now in
     let table = c.args.whole.now in
-    let reached = c.args.reached.now.keys in
+    let reached = c.in_ok-members.members in
     let held = c.in_ok-held.held.keys in
     let first = c.add_root.new.found.items in
     let alone = c.add_alone.new.found.items in
@@ -28,6 +29,7 @@ returns-clause-found c =
     let parents = subst (λ n. Adds (AtBelow (IsWithoutParent table reached held) n) extra found) count c.in_ok-add_without_parent.ensures in
     let at_root = subst (λ xs. Adds (IsRootBad geo view) xs first) c.new-found.ensures.items c.in_ok-add_root.ensures in
     IfOk-both c.in_order.result _ _ _
-    (λ fs sorted same units part every are.
+    (λ fs sorted same units part every reachable.
+    let are = subst (λ xs. AreReached geo view xs) (sym c.in_ok-members.ensures) reachable in
     all_found geo c.geometry.ensures.frame.geometry view units table part every reached are held holds first alone extra found at_root of_each second parents fs.items sorted same)
     c.in_order.ensures.order c.in_order.ensures.same

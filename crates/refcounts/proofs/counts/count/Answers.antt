@@ -1,6 +1,7 @@
 use Rattle.std.proofs.Common.{◌≡◌, ap, ◌∙◌, arith}
 use Rattle.model.specs.Layout.{Geometry, inode_count}
 use Rattle.device.specs.Kept.{frozen_view}
+use Rattle.refcounts.specs.Counts.{named_by}
 use Rattle.refcounts.proofs.CountLemmas.{none_below, next_below}
 use Rattle.refcounts.proofs.EntryLemmas.{all_counted}
 use Rattle.refcounts.proofs.counts.count.Goals as goal
@@ -17,7 +18,7 @@ loop-directory-preserved c =
     record {
       all = c.add_all.ensures.length ∙ i.all;
       below = next_below c.args.whole.now c.args.reached.now.keys c.loop-directory.directory c.loop-directory.counts c.add_all.new.self c.named_by.result.now
-          c.named_by.ensures c.add_all.ensures.length c.add_all.ensures.counted i.below;
+          (c.named_by.ensures ∙ ap (λ xs. named_by c.args.whole.now xs c.loop-directory.directory) c.in_ok-members.ensures) c.add_all.ensures.length c.add_all.ensures.counted i.below;
     }
 
 pub returns-clause-counts : goal.returns-clause-counts

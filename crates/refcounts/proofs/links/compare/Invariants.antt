@@ -5,4 +5,4 @@ use Rattle.refcounts.specs.Links.{IsFoundBelow}
 use Rattle.refcounts.proofs.links.compare.Given as goal
 
 abbrev pub invariant-loop-number : goal.invariant-loop-number
-invariant-loop-number l = Adds (IsFoundBelow (frozen_view l.frozen) l.reached.keys l.counts l.number-counter) [] l.found.items
+invariant-loop-number l = Adds (IsFoundBelow (frozen_view l.frozen) l.reached.keys l.counts l.number) [] l.found.items
