@@ -1,37 +1,68 @@
--- The derived order of claims is that of their inodes, and then of their positions.
-use Rattle.std.proofs.Common.{◌≡◌, ◌||◌, ◌&&◌, Bool, true, false, eqb, ltb, inl, inr, sym, ◌∙◌, rules, arith}
-use Rattle.std.specs.Ordering.{partial_lt}
-use Rattle.std.proofs.lemmas.Bool.{or_cases, or_parts, and_parts, and_cases, ltb-true, eqb-true, ltb-false, eqb-false, eq-eqb, and_from, true≢false}
+-- The derived order of claims is that of their keys, and claims of one block are in order of their inodes and positions.
+use Rattle.std.proofs.Common.{◌≡◌, ◌<◌, ℕ, ◌⊎◌, inl, inr, ◌↔◌, refl, sym, subst, rules, true, List, [], ◌∷◌, Contains, IsSorted, IsPermutation, Ordering, Less, Equal, Greater}
+use mathlib.Core.Path.{fun_ext}
+use Rattle.std.specs.List.{dedup}
+use Rattle.std.specs.Cmp.{IsEquivalence, IsTotalOrder, on_total, eq_by_cmp_equiv}
+use Rattle.std.specs.Cmp.Lexicographic.{slice_cmp}
+use Rattle.std.specs.Ordering.{MatchOrdering, eq_by_cmp, nat_cmp, ordering_then}
+use Rattle.std.specs.List.Sorted.{IsStrictlySortedBy}
+use Rattle.std.proofs.lemmas.Cmp.{nat_list_cmp_total, ranked}
+use Rattle.std.proofs.lemmas.List.Kept.{IsStrictlySortedBy-dedup, Contains-dedup, Contains-from_dedup}
+use Rattle.std.proofs.lemmas.List.Sorted.{Contains-permutation, IsPermutation-sym}
 use Rattle.model.specs.Uses.{Before}
 use Rattle.phase_blocks.specs.declared.parts.Claim.{Claim}
-use Rattle.phase_blocks.specs.contracts.parts.ClaimPartialOrd.TheImpl as derived
-use Rattle.phase_blocks.proofs.Claims.{first, same, second, compared}
+use Rattle.phase_blocks.specs.Parts.{claim_cmp, claim_key}
+use Rattle.phase_blocks.specs.contracts.parts.ClaimOrd.TheImpl as derived
+use Rattle.phase_blocks.specs.contracts.parts.ClaimPartialEq.TheImpl as derived_eq
 
-abbrev pub is_before : Claim → Claim → Bool
-is_before o c = ltb o.inode c.inode || (eqb o.inode c.inode && ltb o.position c.position)
+pub claim_total : IsTotalOrder claim_cmp
+claim_total = on_total claim_key nat_list_cmp_total
 
-pub derived_lt : (o c : Claim) → partial_lt derived.ghosts.partial_cmp o c ≡ is_before o c
-derived_lt o c = search rules
+cmp_at : (x y : Claim) → derived.ghosts.cmp x y ≡ claim_cmp x y
+cmp_at x y = search rules
 
-pub before_from : (o c : Claim) → is_before o c ≡ true → Before o.inode o.position c.inode c.position
-before_from o c h = elim (or_cases (ltb o.inode c.inode) (eqb o.inode c.inode && ltb o.position c.position) h) [
-  | inl a ↦ inl (ltb-true o.inode c.inode a)
-  | inr b ↦ inr (let p = and_parts (eqb o.inode c.inode) (ltb o.position c.position) b in (eqb-true o.inode c.inode p.0, ltb-true o.position c.position p.1))
+eq_at : (x y : Claim) → derived_eq.ghosts.eq x y ≡ eq_by_cmp claim_cmp x y
+eq_at x y = search rules
+
+eq_same : (x y : Claim) → derived_eq.ghosts.eq x y ≡ true → x ≡ y
+eq_same x y h = search rules
+
+eq_law : IsEquivalence derived_eq.ghosts.eq
+eq_law = subst (λ e. IsEquivalence e) (sym (fun_ext (λ x. fun_ext (λ y. eq_at x y)))) (eq_by_cmp_equiv claim_total)
+
+-- what a sort and a `dedup` leave of a list of claims
+pub sorted_strictly : (xs ys : List Claim) → IsSorted derived.ghosts.cmp xs → ys ≡ dedup derived_eq.ghosts.eq xs → IsStrictlySortedBy claim_cmp ys
+sorted_strictly xs ys s e =
+    let by_key : IsSorted claim_cmp xs = subst (λ c. IsSorted c xs) (fun_ext (λ x. fun_ext (λ y. cmp_at x y))) s in
+    subst (λ zs. IsStrictlySortedBy claim_cmp zs) (sym e) (IsStrictlySortedBy-dedup {R = claim_cmp} claim_total {E = derived_eq.ghosts.eq} eq_at xs by_key)
+
+pub same_members : (claims xs ys : List Claim) → IsPermutation claims xs → ys ≡ dedup derived_eq.ghosts.eq xs → (c : Claim) → Contains ys c ↔ Contains claims c
+same_members claims xs ys p e c = (
+  (λ h. Contains-permutation xs claims c (IsPermutation-sym claims xs p) (Contains-from_dedup derived_eq.ghosts.eq xs c (subst (λ zs. Contains zs c) e h))),
+  (λ h. subst (λ zs. Contains zs c) (sym e) (Contains-dedup eq_law eq_same xs c (Contains-permutation claims xs c p h))),
+)
+
+-- the first numbers of two keys decide, or they are equal and the others decide
+first_less : (x y : ℕ) (o : Ordering) → ordering_then (nat_cmp x y) o ≡ Less → (x < y) ⊎ ((x ≡ y) × (o ≡ Less))
+first_less x y o h = go (nat_cmp x y) (ranked x y (nat_cmp x y) refl) h
+  where
+    go : (r : Ordering) → MatchOrdering r (x < y) (x ≡ y) (y < x) → ordering_then r o ≡ Less → (x < y) ⊎ ((x ≡ y) × (o ≡ Less))
+    go Less m h = inl m
+    go Equal m h = inr (m, h)
+    go Greater m h = absurd cc
+
+key_less : (a i k b j l : ℕ) → slice_cmp nat_cmp (a ∷ i ∷ k ∷ []) (b ∷ j ∷ l ∷ []) ≡ Less → (a < b) ⊎ ((a ≡ b) × Before i k j l)
+key_less a i k b j l h = elim (first_less a b (slice_cmp nat_cmp (i ∷ k ∷ []) (j ∷ l ∷ [])) h) [
+  | inl x ↦ inl x
+  | inr x ↦ inr (
+    x.0,
+    elim (first_less i j (slice_cmp nat_cmp (k ∷ []) (l ∷ [])) x.1) [
+      | inl y ↦ inl y
+      | inr y ↦ inr (y.0, elim (first_less k l Equal y.1) [ inl z ↦ z | inr z ↦ absurd (let e = z.1 in cc) ])
+    ],
+  )
 ]
 
-not_first : (o c : Claim) → is_before o c ≡ false → Before o.inode o.position c.inode c.position → ⊥
-not_first o c h b =
-    let p = or_parts (ltb o.inode c.inode) (eqb o.inode c.inode && ltb o.position c.position) h in
-    let le = ltb-false o.inode c.inode p.0 in
-    elim (and_cases (eqb o.inode c.inode) (ltb o.position c.position) p.1) [
-      | inl x ↦ let apart = eqb-false o.inode c.inode x in elim b [ inl y ↦ omega arith | inr y ↦ apart y.0 ]
-      | inr x ↦ let above = ltb-false o.position c.position x in elim b [ inl y ↦ omega arith | inr y ↦ omega (arith, y.1) ]
-    ]
-
-pub before_else : (o c : Claim) → is_before o c ≡ false → (eqb o.inode c.inode && eqb o.position c.position) ≡ false → Before c.inode c.position o.inode o.position
-before_else o c h apart =
-    elim (compared o.inode o.position c.inode c.position) [
-      | first b ↦ absurd (not_first o c h b)
-      | same e f ↦ absurd (true≢false (sym (and_from (eqb o.inode c.inode) (eqb o.position c.position) (eq-eqb o.inode c.inode e) (eq-eqb o.position c.position f)) ∙ apart))
-      | second b ↦ b
-    ]
+-- a claim that comes first is of a lower block, or of the same block by an earlier use
+pub claim_less : (c d : Claim) → claim_cmp c d ≡ Less → (c.block < d.block) ⊎ ((c.block ≡ d.block) × Before c.inode c.position d.inode d.position)
+claim_less c d h = key_less c.block c.inode c.position d.block d.inode d.position h

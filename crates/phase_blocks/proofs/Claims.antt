@@ -1,13 +1,11 @@
--- Claims in their order, and sets that grow by one.
-use Rattle.std.proofs.Common.{◌≡◌, ◌<◌, ◌*◌, ◌/◌, ℕ, zero, suc, false, rules, ◌&&◌, eqb, leb, ltb, ◌⊎◌, inl, inr, refl, sym, ◌∙◌, subst, arith, IsTrue}
-use Rattle.std.proofs.lemmas.Bool.{cases_order, or_cases, or_left, or_right, and_parts, and_from, eqb-true, eq-eqb, ltb-true}
+-- Uses, and sets of them that grow by one.
+use Rattle.std.proofs.Common.{◌≡◌, ◌<◌, ◌*◌, ◌/◌, ℕ, zero, suc, ◌&&◌, eqb, leb, ltb, ◌⊎◌, inl, inr, refl, sym, ◌∙◌, arith, IsTrue}
+use Rattle.std.proofs.lemmas.Bool.{or_cases, or_left, or_right, and_parts, and_from, eqb-true, eq-eqb, ltb-true}
 use Rattle.std.proofs.lemmas.Nat.{div_below}
 use Rattle.std.proofs.lemmas.Option.{same_Some}
 use Rattle.model.specs.Layout.{Geometry, inode_count, is_number}
 use Rattle.model.specs.View.{View}
-use Rattle.model.specs.Uses.{IsUse, IsClaim, Before}
-use Rattle.std.specs.BTreeMap.{is_at}
-use Rattle.std.specs.Ordering.{nat_cmp}
+use Rattle.model.specs.Uses.{IsUse}
 use Rattle.phase_blocks.specs.Parts.{Uses, with_use}
 
 -- a number stands in some group
@@ -24,35 +22,6 @@ group_of_number geo i t =
 pub use_value : (geo : Geometry) (view : View) (i k v w : ℕ) → IsUse geo view i k v → IsUse geo view i k w → v ≡ w
 use_value geo view i k v w u x = same_Some v w (sym u ∙ x)
 
-pub same_block : (geo : Geometry) (view : View) (i k j l a b : ℕ) → IsClaim geo view i k a → IsClaim geo view j l b → j ≡ i → l ≡ k → b ≡ a
-same_block geo view i k j l a b c d e f =
-    use_value geo view i k b a (subst (λ x. IsUse geo view x k b) e (subst (λ x. IsUse geo view j x b) f d.0)) c.0
-
--- one comes before the other, or they are the same
-pub data Compared (j l i k : ℕ) : Type 0 where
-  first : Before j l i k → Compared j l i k
-  same : j ≡ i → l ≡ k → Compared j l i k
-  second : Before i k j l → Compared j l i k
-
-pub compared : (j l i k : ℕ) → Compared j l i k
-compared j l i k =
-    elim (cases_order j i) [
-      | inl e ↦ elim (cases_order l k) [
-        | inl f ↦ same e f
-        | inr h ↦ elim h [ inl lt ↦ first (inr (e, lt)) | inr gt ↦ second (inr (sym e, gt)) ]
-      ]
-      | inr h ↦ elim h [ inl lt ↦ first (inl lt) | inr gt ↦ second (inl gt) ]
-    ]
-
-pub not_before_itself : (i k j l : ℕ) → j ≡ i → l ≡ k → Before j l i k → ⊥
-not_before_itself i k j l e f b = omega (arith, b)
-
-pub before_trans : (i k j l m n : ℕ) → Before i k j l → Before j l m n → Before i k m n
-before_trans i k j l m n (inl a) (inl b) = inl (omega arith)
-before_trans i k j l m n (inl a) (inr b) = inl (omega (arith, b.0))
-before_trans i k j l m n (inr a) (inl b) = inl (omega (arith, a.0))
-before_trans i k j l m n (inr a) (inr b) = inr (a.0 ∙ b.0, omega (arith, a.1, b.1))
-
 -- t has the uses of s, and the use of position k by inode i
 pub record AddsUse (s t : Uses) (i k : ℕ) : Type 0 where
   pub keeps : (j l : ℕ) → IsTrue (s j l) → IsTrue (t j l)
@@ -68,6 +37,3 @@ with_use_adds s i k = record {
     | inr h ↦ inr (let p = and_parts (eqb j i) (eqb l k) h in (eqb-true j i p.0, eqb-true l k p.1))
   ];
 }
-
-pub elsewhere : (a q : ℕ) → (q ≡ a → ⊥) → is_at (nat_cmp a) q ≡ false
-elsewhere a q apart = search rules

@@ -1,5 +1,5 @@
 -- What a set of findings has after one more, and after those of another set.
-use Rattle.std.proofs.Common.{◌≡◌, sym, ◌∙◌, subst, rules, Bool, List, true, ◌⊎◌, inl, inr, ◌↔◌, Contains}
+use Rattle.std.proofs.Common.{◌≡◌, sym, ◌∙◌, subst, Bool, List, true, ◌⊎◌, inl, inr, ◌↔◌, Contains}
 use Rattle.std.specs.BTreeSet.{BTreeSet, InsertsAll, Updates, contains}
 use Rattle.std.specs.Set.{is_member}
 use Rattle.std.specs.Cmp.{IsTotalOrder, eq_by_cmp_equiv}

@@ -1,4 +1,4 @@
--- What is gathered of a group's inodes, one after another, and of an inode's uses.
+-- What is told of a group's inodes, one after another, and of an inode's uses.
 use Rattle.std.proofs.Common.{◌≡◌, ◌<◌, ◌≤◌, ◌+◌, ◌/◌, ℕ, Bool, true, false, cond, ◌&&◌, eqb, ltb, Option, Some, None, ◌⊎◌, inl, inr, ◌↔◌, refl, sym, ap, ◌∙◌, subst, arith, IsTrue, IsFalse, is_none, is_some}
 use Rattle.std.proofs.lemmas.Bool.{or_cases, or_left, or_right, and_parts, and_from, eqb-true, eq-eqb, ltb-true, lt-ltb, cases_eq, false≢true, true≢false}
 use Rattle.std.proofs.lemmas.Bool.Decides.{nat_tests}
@@ -10,9 +10,9 @@ use Rattle.findings.specs.declared.finding.Finding.TheVariants.{BadInode}
 use Rattle.findings.specs.Findings.{IsFinding}
 use Rattle.model.specs.Units.{no_unit, only, stands_in}
 use Rattle.model.proofs.UseLemmas.{use_parts, use_of_record}
-use Rattle.phase_blocks.specs.Parts.{Gathered, AddsFinding, Inodes, Uses, IsGathered, IsPart, with_inode, with_use, with_uses, with_uses_below}
+use Rattle.phase_blocks.specs.Parts.{Gathered, AddsFinding, Inodes, Uses, Tells, IsPart, with_inode, with_use, with_uses, with_uses_below}
 use Rattle.phase_blocks.proofs.Claims.{group_of_number, AddsUse, with_use_adds}
-use Rattle.phase_blocks.proofs.Gathering.{gathered_inode, gathered_same}
+use Rattle.phase_blocks.proofs.Gathering.{tells_inode, tells_same}
 
 -- ---- one use
 pub use_is : (geo : Geometry) (view : View) (i k : ℕ) (inode : Inode) (r o : Option ℕ) → IsTrue (is_number geo i) → inode ≡ view.inode i
@@ -21,9 +21,9 @@ use_is geo view i k inode r o number is_inode told e =
     use_of_record geo view i k number ∙ ap (λ n. record_use geo view n k) (sym is_inode) ∙ sym told ∙ e
 
 pub unused : (geo : Geometry) (view : View) (n : Inodes) (s : Uses) (i k : ℕ) (g : Gathered) → use_at geo view i k ≡ None
-    → IsGathered geo view n s g → IsGathered geo view n (with_use s i k) g
+    → Tells geo view n s g → Tells geo view n (with_use s i k) g
 unused geo view n s i k g none h =
-    gathered_same geo view n n s (with_use s i k) g h (λ j u. u) (λ j u b. u) adds.keeps
+    tells_same geo view n n s (with_use s i k) g h (λ j u. u) (λ j u b. u) adds.keeps
     (λ j l v u x. elim (adds.only j l u) [
       | inl y ↦ y
       | inr e ↦ absurd (none-some v (sym none ∙ subst (λ m. use_at geo view m k ≡ Some v) e.0 (subst (λ m. use_at geo view j m ≡ Some v) e.1 x)))
@@ -51,14 +51,14 @@ module _ (geo : Geometry) (view : View) (n : Inodes) (s : Uses) (i : ℕ) (g : G
   is_below : (j l k : ℕ) → j ≡ i → l < k → IsTrue (with_uses_below s i k j l)
   is_below j l k e lt = or_right (s j l) (eqb j i && ltb l k) (and_from (eqb j i) (ltb l k) (eq-eqb j i e) (lt-ltb l k lt))
 
-  pub none_below : IsGathered geo view n s g → IsGathered geo view n (with_uses_below s i 0) g
+  pub none_below : Tells geo view n s g → Tells geo view n (with_uses_below s i 0) g
   none_below h =
-      gathered_same geo view n n s (with_uses_below s i 0) g h (λ j u. u) (λ j u b. u) (λ j l u. or_left (s j l) (eqb j i && ltb l 0) u)
+      tells_same geo view n n s (with_uses_below s i 0) g h (λ j u. u) (λ j u b. u) (λ j l u. or_left (s j l) (eqb j i && ltb l 0) u)
       (λ j l v u x. elim (below j l 0 u) [ inl y ↦ y | inr e ↦ absurd (omega (arith, e.1)) ])
 
-  pub one_below : (k m : ℕ) → m ≡ k + 1 → IsGathered geo view n (with_use (with_uses_below s i k) i k) g → IsGathered geo view n (with_uses_below s i m) g
+  pub one_below : (k m : ℕ) → m ≡ k + 1 → Tells geo view n (with_use (with_uses_below s i k) i k) g → Tells geo view n (with_uses_below s i m) g
   one_below k m next h =
-      gathered_same geo view n n (with_use (with_uses_below s i k) i k) (with_uses_below s i m) g h (λ j u. u) (λ j u b. u)
+      tells_same geo view n n (with_use (with_uses_below s i k) i k) (with_uses_below s i m) g h (λ j u. u) (λ j u b. u)
       (λ j l u. elim (adds.only j l u) [
         | inl x ↦ elim (below j l k x) [
           | inl y ↦ or_left (s j l) (eqb j i && ltb l m) y
@@ -78,9 +78,9 @@ module _ (geo : Geometry) (view : View) (n : Inodes) (s : Uses) (i : ℕ) (g : G
       adds = with_use_adds (with_uses_below s i k) i k
 
   pub all_below : (blocks : ℕ) → blocks ≡ blocks_of (view.inode i).size
-      → IsGathered geo view n (with_use (with_uses_below s i blocks) i indirect_position) g → IsGathered geo view n (with_uses s i) g
+      → Tells geo view n (with_use (with_uses_below s i blocks) i indirect_position) g → Tells geo view n (with_uses s i) g
   all_below blocks count h =
-      gathered_same geo view n n (with_use (with_uses_below s i blocks) i indirect_position) (with_uses s i) g h (λ j u. u) (λ j u b. u)
+      tells_same geo view n n (with_use (with_uses_below s i blocks) i indirect_position) (with_uses s i) g h (λ j u. u) (λ j u b. u)
       (λ j l u. elim (adds.only j l u) [
         | inl x ↦ elim (below j l blocks x) [
           | inl y ↦ or_left (s j l) (eqb j i) y
@@ -106,25 +106,25 @@ module _ (geo : Geometry) (view : View) (n : Inodes) (s : Uses) (i : ℕ) (g : G
           subst (λ m. l < m) (sym count) (used_below l (blocks_of (view.inode i).size) (is_data_address geo (view.inode i).indirect) f (use_parts geo view i l v here).used)
 
   -- an inode that is not sound uses nothing
-  pub no_uses : IsFalse (is_sound (view.inode i)) → IsGathered geo view n s g → IsGathered geo view n (with_uses s i) g
+  pub no_uses : IsFalse (is_sound (view.inode i)) → Tells geo view n s g → Tells geo view n (with_uses s i) g
   no_uses unsound h =
-      gathered_same geo view n n s (with_uses s i) g h (λ j u. u) (λ j u b. u) (λ j l u. or_left (s j l) (eqb j i) u)
+      tells_same geo view n n s (with_uses s i) g h (λ j u. u) (λ j u b. u) (λ j l u. or_left (s j l) (eqb j i) u)
       (λ j l v u x. elim (or_cases (s j l) (eqb j i) u) [
         | inl y ↦ y
         | inr y ↦ absurd (true≢false (sym (and_parts (is_number geo i) (is_sound (view.inode i)) (use_parts geo view i l v (subst (λ m. IsUse geo view m l v) (eqb-true j i y) x)).sound).1 ∙ unsound))
       ])
 
   -- a record that is free or sound is no finding
-  pub good_record : (IsFinding geo view (BadInode i) → ⊥) → IsGathered geo view n s g → IsGathered geo view (with_inode n i) s g
+  pub good_record : (IsFinding geo view (BadInode i) → ⊥) → Tells geo view n s g → Tells geo view (with_inode n i) s g
   good_record good h =
-      gathered_same geo view n (with_inode n i) s s g h (λ j u. or_left (n j) (eqb j i) u)
+      tells_same geo view n (with_inode n i) s s g h (λ j u. or_left (n j) (eqb j i) u)
       (λ j u b. elim (or_cases (n j) (eqb j i) u) [ inl y ↦ y | inr y ↦ absurd (good (subst (λ m. IsFinding geo view (BadInode m)) (eqb-true j i y) b)) ])
       (λ j l u. u) (λ j l v u x. u)
 
 pub bad_record : (geo : Geometry) (view : View) (n : Inodes) (s : Uses) (i : ℕ) (g new : Gathered) → IsFinding geo view (BadInode i) → AddsFinding g new (BadInode i)
-    → IsGathered geo view n s g → IsGathered geo view (with_inode n i) s new
+    → Tells geo view n s g → Tells geo view (with_inode n i) s new
 bad_record geo view n s i g new is_bad told h =
-    gathered_inode geo view n (with_inode n i) s g new i h is_bad (λ j u. or_left (n j) (eqb j i) u) (or_right (n i) (eqb i i) (eq-eqb i i refl))
+    tells_inode geo view n (with_inode n i) s g new i h is_bad (λ j u. or_left (n j) (eqb j i) u) (or_right (n i) (eqb i i) (eq-eqb i i refl))
     (λ j u. elim (or_cases (n j) (eqb j i) u) [ inl y ↦ inl y | inr y ↦ inr (eqb-true j i y) ]) told
 
 -- ---- the inodes of a group
@@ -133,8 +133,8 @@ abbrev pub group_below : Geometry → ℕ → ℕ → Inodes
 group_below geo group k i = stands_in geo (only group) i && ltb i k
 
 module _ (geo : Geometry) (view : View) (group : ℕ) (g : Gathered) where
-  abbrev pub IsGatheredBelow : ℕ → Type 0
-  IsGatheredBelow k = IsGathered geo view (group_below geo group k) (λ i l. group_below geo group k i) g
+  abbrev pub TellsBelow : ℕ → Type 0
+  TellsBelow k = Tells geo view (group_below geo group k) (λ i l. group_below geo group k i) g
 
   in_group : (i k : ℕ) → i / geo.inodes ≡ group → i < k → IsTrue (group_below geo group k i)
   in_group i k e lt = and_from (eqb (i / geo.inodes) group) (ltb i k) (eq-eqb (i / geo.inodes) group e) (lt-ltb i k lt)
@@ -146,9 +146,9 @@ module _ (geo : Geometry) (view : View) (group : ℕ) (g : Gathered) where
   number_used i k v u = (and_parts (is_number geo i) (is_sound (view.inode i)) (use_parts geo view i k v u).sound).0
 
   -- no number of the group lies below the first
-  pub none_yet : (k : ℕ) → ((i : ℕ) → IsTrue (is_number geo i) → i / geo.inodes ≡ group → k ≤ i) → IsPart geo view no_unit g → IsGatheredBelow k
+  pub none_yet : (k : ℕ) → ((i : ℕ) → IsTrue (is_number geo i) → i / geo.inodes ≡ group → k ≤ i) → Tells geo view (stands_in geo no_unit) (λ i l. stands_in geo no_unit i) g → TellsBelow k
   none_yet k least h =
-      gathered_same geo view (stands_in geo no_unit) (group_below geo group k) (λ i l. stands_in geo no_unit i) (λ i l. group_below geo group k i) g h
+      tells_same geo view (stands_in geo no_unit) (group_below geo group k) (λ i l. stands_in geo no_unit i) (λ i l. group_below geo group k i) g h
       (λ i u. absurd (false≢true u)) (λ i u b. absurd (apart i u b.0)) (λ i l u. absurd (false≢true u)) (λ i l v u x. absurd (apart i u (number_used i l v x)))
     where
       apart : (i : ℕ) → IsTrue (group_below geo group k i) → IsTrue (is_number geo i) → ⊥
@@ -156,9 +156,9 @@ module _ (geo : Geometry) (view : View) (group : ℕ) (g : Gathered) where
 
   -- one number more
   pub one_more : (k m : ℕ) → m ≡ k + 1 → k / geo.inodes ≡ group
-      → IsGathered geo view (with_inode (group_below geo group k) k) (with_uses (λ i l. group_below geo group k i) k) g → IsGatheredBelow m
+      → Tells geo view (with_inode (group_below geo group k) k) (with_uses (λ i l. group_below geo group k i) k) g → TellsBelow m
   one_more k m next here h =
-      gathered_same geo view (with_inode (group_below geo group k) k) (group_below geo group m) (with_uses (λ i l. group_below geo group k i) k) (λ i l. group_below geo group m i) g h
+      tells_same geo view (with_inode (group_below geo group k) k) (group_below geo group m) (with_uses (λ i l. group_below geo group k i) k) (λ i l. group_below geo group m i) g h
       there (λ i u b. back i u) (λ i l u. there i u) (λ i l v u x. back i u)
     where
       there : (i : ℕ) → IsTrue (with_inode (group_below geo group k) k i) → IsTrue (group_below geo group m i)
@@ -174,9 +174,9 @@ module _ (geo : Geometry) (view : View) (group : ℕ) (g : Gathered) where
       ]
 
   -- no number of the group lies above the last
-  pub whole_group : (k : ℕ) → ((i : ℕ) → IsTrue (is_number geo i) → i / geo.inodes ≡ group → i < k) → IsGatheredBelow k → IsPart geo view (only group) g
+  pub whole_group : (k : ℕ) → ((i : ℕ) → IsTrue (is_number geo i) → i / geo.inodes ≡ group → i < k) → TellsBelow k → Tells geo view (stands_in geo (only group)) (λ i l. stands_in geo (only group) i) g
   whole_group k greatest h =
-      gathered_same geo view (group_below geo group k) (stands_in geo (only group)) (λ i l. group_below geo group k i) (λ i l. stands_in geo (only group) i) g h
+      tells_same geo view (group_below geo group k) (stands_in geo (only group)) (λ i l. group_below geo group k i) (λ i l. stands_in geo (only group) i) g h
       there (λ i u b. back i u b.0) (λ i l u. there i u) (λ i l v u x. back i u (number_used i l v x))
     where
       there : (i : ℕ) → IsTrue (group_below geo group k i) → IsTrue (stands_in geo (only group) i)
@@ -187,9 +187,12 @@ module _ (geo : Geometry) (view : View) (group : ℕ) (g : Gathered) where
 
   -- a unit that is no group has no number
   pub no_numbers : geo.groups ≤ group → IsPart geo view no_unit g → IsPart geo view (only group) g
-  no_numbers past h =
-      gathered_same geo view (stands_in geo no_unit) (stands_in geo (only group)) (λ i l. stands_in geo no_unit i) (λ i l. stands_in geo (only group) i) g h
-      (λ i u. absurd (false≢true u)) (λ i u b. absurd (apart i u b.0)) (λ i l u. absurd (false≢true u)) (λ i l v u x. absurd (apart i u (number_used i l v x)))
+  no_numbers past h = record {
+    claims_in_order = h.claims_in_order;
+    told =
+        tells_same geo view (stands_in geo no_unit) (stands_in geo (only group)) (λ i l. stands_in geo no_unit i) (λ i l. stands_in geo (only group) i) g h.told
+        (λ i u. absurd (false≢true u)) (λ i u b. absurd (apart i u b.0)) (λ i l u. absurd (false≢true u)) (λ i l v u x. absurd (apart i u (number_used i l v x)));
+  }
     where
       apart : (i : ℕ) → IsTrue (stands_in geo (only group) i) → IsTrue (is_number geo i) → ⊥
       apart i u t = let low = group_of_number geo i t in let e = eqb-true (i / geo.inodes) group u in omega arith

@@ -1,29 +1,33 @@
-ghost use Rattle.std.specs.Prelude.{◌≡◌, ℕ, IfOk, OnOk, IsOkUnless};
+ghost use Rattle.std.specs.Prelude.{◌≡◌, ◌↔◌, IfOk, OnOk, IsOkUnless};
+ghost use Rattle.std.specs.List.{Contains};
+ghost use Rattle.std.specs.List.Sorted.{IsStrictlySortedBy};
 ghost use Rattle.model.specs.Layout.{Geometry};
 ghost use Rattle.model.specs.View.{View};
-ghost use Rattle.model.specs.Uses.{IsClaim};
 ghost use Rattle.model.specs.Units.{Units, IsEveryGroup, either, no_unit};
+ghost use Rattle.findings.specs.declared.finding.Finding.{Finding};
 ghost use Rattle.findings.specs.Findings.{AreFindingsOf, is_of_blocks};
-ghost use Rattle.phase_blocks.specs.Parts.{AddsFinding, AreClaims, Inodes, Uses, IsGathered, IsPart, nothing_gathered, with_owners, with_use};
+ghost use Rattle.phase_blocks.specs.Parts.{AddsClaim, AddsFinding, IsPart, IsRepeated, claim_cmp, nothing_gathered};
 
-use findings::Finding;
+use findings::{Finding, in_order};
 use layout::Refusal;
 use std::alloc::Global;
-use std::collections::{BTreeMap, BTreeSet};
+use std::collections::BTreeSet;
 use std::marker::Model;
 
-/// A claim of a block: the inode, and the position at which it uses the block. Claims are in order of their inodes,
-/// and then of their positions.
+/// A claim of a block: the block, the inode, and the position at which the inode uses the block. Claims are in order of
+/// their blocks, then of their inodes, and then of their positions.
 #[derive(Clone, Copy, Debug, PartialEq, Eq, PartialOrd, Ord)]
 pub struct Claim {
+    pub block: u32,
     pub inode: u32,
     pub position: u32,
 }
 
-/// What was found in some groups: the least claim of each block that their inodes claim, and the findings.
+/// What was found in some groups: all claims of their inodes, each once and in order, and the findings that need one
+/// inode alone.
 #[derive(Drop)]
 pub struct Part {
-    owners: BTreeMap<u32, Claim>,
+    claims: Vec<Claim>,
     found: BTreeSet<Finding>,
 }
 
@@ -32,7 +36,7 @@ impl Model for Part {
 
     ghost Value = { Gathered };
 
-    ghost view = { λ p. record { owners = p.owners.entries; found = p.found.keys } };
+    ghost view = { λ p. record { claims = p.claims.items; found = p.found.keys } };
 }
 
 impl Part {
@@ -42,30 +46,18 @@ impl Part {
         ensures empty { result ≡ nothing_gathered }
     {
         Part {
-            owners: BTreeMap::new(alloc),
+            claims: Vec::new(alloc),
             found: BTreeSet::new(alloc),
         }
     }
 
-    /// Adds a claim of a block. Where the block has an owner, the later of the two claims is a duplicate.
-    pub(crate) fn add_claim(&mut self, block: u32, claim: Claim) -> Result<(), Refusal>
-        ensures added { OnOk result ((geo : Geometry) (view : View) (inodes : Inodes) (uses : Uses) → IsGathered geo view inodes uses self.old → IsClaim geo view claim.inode claim.position block
-            → IsGathered geo view inodes (with_use uses claim.inode claim.position) self.new) }
+    /// Adds a claim behind the others, whatever its order.
+    pub(crate) fn add_claim(&mut self, claim: Claim) -> Result<(), Refusal>
+        ensures added { OnOk result (AddsClaim self.old self.new claim) }
         ensures error { IsOkUnless result Refusal.NoMemory }
     {
-        let Some(owner) = self.owners.insert(block, claim)? else {
-            return Ok(());
-        };
-        if owner == claim {
-            return Ok(());
-        }
-        let later = if owner < claim {
-            self.owners.insert(block, owner)?;
-            claim
-        } else {
-            owner
-        };
-        self.add_finding(Finding::Duplicate(later.inode, later.position, block))
+        self.claims.push(claim)?;
+        Ok(())
     }
 
     /// Adds a finding.
@@ -77,16 +69,33 @@ impl Part {
         Ok(())
     }
 
-    /// Adds the claims that own these blocks.
-    fn add_owners(&mut self, owners: BTreeMap<u32, Claim>) -> Result<(), Refusal>
-        ensures added { OnOk result ((geo : Geometry) (view : View) (inodes : Inodes) (uses : Uses) → IsGathered geo view inodes uses self.old → AreClaims geo view owners.entries
-            → IsGathered geo view inodes (with_owners uses owners.entries) self.new) }
+    /// Puts the claims in order, each once.
+    pub(crate) fn put_in_order(&mut self) -> Result<(), Refusal>
+        ensures order { OnOk result (IsStrictlySortedBy claim_cmp self.new.claims) }
+        ensures same { OnOk result ((c : Claim) → Contains self.new.claims c ↔ Contains self.old.claims c) }
+        ensures found { self.new.found ≡ self.old.found }
         ensures error { IsOkUnless result Refusal.NoMemory }
     {
-        for (block, claim) in owners {
-            self.add_claim(block, claim)?;
-        }
+        self.claims.sort()?;
+        self.claims.dedup();
         Ok(())
+    }
+
+    /// The claims of blocks that an earlier claim owns, as findings. As the claims are in order, each of them comes right
+    /// after another claim of its block.
+    fn duplicates(&self, alloc: Global) -> Result<Vec<Finding>, Refusal>
+        ensures found { IfOk result (λ found. IsStrictlySortedBy claim_cmp self.now.claims → (f : Finding) → Contains found.items f ↔ IsRepeated self.now.claims f) }
+        ensures error { IsOkUnless result Refusal.NoMemory }
+    {
+        let mut found = Vec::new(alloc);
+        let mut last = None;
+        for claim in self.claims.iter() {
+            if last == Some(claim.block) {
+                found.push(Finding::Duplicate(claim.inode, claim.position, claim.block))?;
+            }
+            last = Some(claim.block);
+        }
+        Ok(found)
     }
 
     /// The findings of the parts that were joined, in order.
@@ -95,7 +104,9 @@ impl Part {
             → AreFindingsOf is_of_blocks geo view found.items) }
         ensures error { IsOkUnless result Refusal.NoMemory }
     {
-        Ok(self.found.iter().copied().collect(alloc)?)
+        let mut found = self.duplicates(alloc)?;
+        found.extend(self.found.iter().copied())?;
+        in_order(found)
     }
 }
 
@@ -105,9 +116,13 @@ pub fn merge(left: Part, right: Part) -> Result<Part, Refusal>
         → IsPart geo view (either units others) whole) }
     ensures error { IsOkUnless result Refusal.NoMemory }
 {
-    let Part { owners, mut found } = right;
+    let Part {
+        mut claims,
+        mut found,
+    } = right;
     let mut whole = left;
-    whole.add_owners(owners)?;
+    whole.claims.append(&mut claims)?;
     whole.found.append(&mut found)?;
+    whole.put_in_order()?;
     Ok(whole)
 }

@@ -2,7 +2,7 @@ ghost use Rattle.std.specs.Prelude.{◌≡◌, ◌<◌, ◌≤◌, IfOk, OnOk, I
 ghost use Rattle.model.specs.Layout.{is_number};
 ghost use Rattle.model.specs.Units.{only};
 ghost use Rattle.device.specs.Kept.{frozen_view};
-ghost use Rattle.phase_blocks.specs.Parts.{Inodes, Uses, IsGathered, IsPart, nothing_gathered, with_inode, with_use, with_uses};
+ghost use Rattle.phase_blocks.specs.Parts.{Inodes, Uses, Tells, IsPart, nothing_gathered, with_inode, with_use, with_uses};
 
 use crate::parts::{Claim, Part};
 use device::Frozen;
@@ -26,14 +26,15 @@ pub fn part(alloc: Global, frozen: &Frozen, unit: u32) -> Result<Part, Refusal>
     for number in geometry.numbers_of(unit) {
         look_at_inode(&mut part, frozen, number)?;
     }
+    part.put_in_order()?;
     Ok(part)
 }
 
 /// Looks at the record of an inode, and at all that it uses.
 fn look_at_inode(part: &mut Part, frozen: &Frozen, number: u32) -> Result<(), Refusal>
     requires { IsTrue (is_number frozen.now.geometry number) }
-    ensures looked { OnOk result ((inodes : Inodes) (uses : Uses) → IsGathered frozen.now.geometry (frozen_view frozen.now) inodes uses part.old
-        → IsGathered frozen.now.geometry (frozen_view frozen.now) (with_inode inodes number) (with_uses uses number) part.new) }
+    ensures looked { OnOk result ((inodes : Inodes) (uses : Uses) → Tells frozen.now.geometry (frozen_view frozen.now) inodes uses part.old
+        → Tells frozen.now.geometry (frozen_view frozen.now) (with_inode inodes number) (with_uses uses number) part.new) }
     ensures error { IsOkUnless result Refusal.NoMemory }
 {
     let record = frozen.record(number);
@@ -55,8 +56,8 @@ fn look_at_uses(
 ) -> Result<(), Refusal>
     requires number { IsTrue (is_number frozen.now.geometry number) }
     requires inode { inode.now ≡ (frozen_view frozen.now).inode number }
-    ensures looked { OnOk result ((inodes : Inodes) (uses : Uses) → IsGathered frozen.now.geometry (frozen_view frozen.now) inodes uses part.old
-        → IsGathered frozen.now.geometry (frozen_view frozen.now) inodes (with_uses uses number) part.new) }
+    ensures looked { OnOk result ((inodes : Inodes) (uses : Uses) → Tells frozen.now.geometry (frozen_view frozen.now) inodes uses part.old
+        → Tells frozen.now.geometry (frozen_view frozen.now) inodes (with_uses uses number) part.new) }
     ensures error { IsOkUnless result Refusal.NoMemory }
 {
     for position in 0..inode.blocks() {
@@ -75,8 +76,8 @@ fn look_at_use(
 ) -> Result<(), Refusal>
     requires number { IsTrue (is_number frozen.now.geometry number) }
     requires inode { inode.now ≡ (frozen_view frozen.now).inode number }
-    ensures looked { OnOk result ((inodes : Inodes) (uses : Uses) → IsGathered frozen.now.geometry (frozen_view frozen.now) inodes uses part.old
-        → IsGathered frozen.now.geometry (frozen_view frozen.now) inodes (with_use uses number position) part.new) }
+    ensures looked { OnOk result ((inodes : Inodes) (uses : Uses) → Tells frozen.now.geometry (frozen_view frozen.now) inodes uses part.old
+        → Tells frozen.now.geometry (frozen_view frozen.now) inodes (with_use uses number position) part.new) }
     ensures error { IsOkUnless result Refusal.NoMemory }
 {
     let Some(value) = frozen.use_of(inode, position) else {
@@ -85,11 +86,9 @@ fn look_at_use(
     if frozen.geometry().place_of(value).is_none() {
         return part.add_finding(Finding::BadPointer(number, position, value));
     }
-    part.add_claim(
-        value,
-        Claim {
-            inode: number,
-            position,
-        },
-    )
+    part.add_claim(Claim {
+        block: value,
+        inode: number,
+        position,
+    })
 }

@@ -104,3 +104,21 @@ fn bad_records_pointers_and_duplicates_are_found(rt: HostRuntime) -> Result<(), 
     }
     Ok(())
 }
+
+#[test]
+fn all_but_the_first_of_three_claims_are_duplicates(rt: HostRuntime) -> Result<(), Fail> {
+    let alloc = rt.alloc();
+    let mut device = fresh(alloc)?;
+    write_record(&mut device, 17, &file(1024, [21, 0, 0], 0))?;
+    write_record(&mut device, 6, &file(2 * 1024, [22, 21, 0], 0))?;
+    write_record(&mut device, 3, &file(3 * 1024, [23, 24, 21], 0))?;
+    let frozen = load(alloc, &mut device)?;
+    let want = [Finding::Duplicate(6, 1, 21), Finding::Duplicate(17, 0, 21)];
+    for is_from_last in [false, true] {
+        assert_eq!(rt;
+            findings(alloc, &frozen, is_from_last)?.as_slice(),
+            want.as_slice()
+        );
+    }
+    Ok(())
+}

@@ -1,5 +1,5 @@
 -- The blocks that a record claims.
-use Rattle.std.proofs.Common.{◌≡◌, ◌<◌, ℕ, Bool, true, cond, ◌&&◌, eqb, ltb, List, Some, ◌⊎◌, inl, inr, ◌↔◌, refl, sym, ap, ◌∙◌, subst, arith, IsTrue}
+use Rattle.std.proofs.Common.{◌≡◌, ◌<◌, ℕ, Bool, true, cond, ◌&&◌, eqb, ltb, List, Some, ◌⊎◌, inl, inr, ◌↔◌, refl, sym, ◌∙◌, subst, arith, IsTrue}
 use Rattle.std.proofs.lemmas.Bool.{and_parts, eq-eqb, eqb-true}
 use Rattle.std.proofs.lemmas.Bool.Decides.{nat_tests}
 use Rattle.std.proofs.lemmas.Option.{same_Some}
@@ -17,10 +17,10 @@ used_positions k blocks is_data h = grind (arith, nat_tests)
 
 module _ (geo : Geometry) (view : View) (inode : Inode) where
   -- what a record claims at a position that it uses
-  pub claim_at_use : (k v : ℕ) → record_use geo view inode k ≡ Some v → IsTrue (is_data_address geo v) → (a : ℕ) → (v ≡ a) ↔ RecordClaims geo view inode k a
+  pub claim_at_use : (k v : ℕ) → record_use geo view inode k ≡ Some v → IsTrue (is_data_address geo v) → (a : ℕ) → (record_use geo view inode k ≡ Some a) ↔ RecordClaims geo view inode k a
   claim_at_use k v is t a = (
-    (λ e. (is ∙ ap Some e, subst (λ b. IsTrue (is_data_address geo b)) e t)),
-    (λ h. same_Some v a (sym is ∙ h.0)),
+    (λ e. (e, subst (λ b. IsTrue (is_data_address geo b)) (same_Some v a (sym is ∙ e)) t)),
+    (λ h. h.0),
   )
 
   claim_position : (k a : ℕ) → RecordClaims geo view inode k a → (k < blocks_of inode.size) ⊎ (k ≡ indirect_position)

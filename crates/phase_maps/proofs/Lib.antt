@@ -1,5 +1,7 @@
 mod ClaimLemmas
 mod NumberCases
+mod OrderLemmas
 mod PartLemmas
+mod TableLemmas
 mod UnitLemmas
 mod WalkLemmas

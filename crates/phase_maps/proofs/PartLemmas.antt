@@ -1,11 +1,10 @@
 -- Parts: what is gathered of no inode, of more inodes, and of the same inodes.
-use Rattle.std.proofs.Common.{◌≡◌, ◌<◌, ◌/◌, ℕ, Bool, false, ◌||◌, [], ◌⊎◌, inl, inr, sym, ◌∙◌, subst, IsTrue, Contains}
+use Rattle.std.proofs.Common.{◌≡◌, ◌<◌, ◌/◌, ℕ, Bool, false, ◌||◌, List, [], ◌⊎◌, ◌↔◌, inl, inr, sym, ◌∙◌, subst, IsTrue, Contains}
 use Rattle.std.specs.List.Sorted.{IsStrictlySortedBy}
 use Rattle.std.specs.Ordering.{nat_cmp, eq_by_cmp}
 use Rattle.std.specs.Set.{IsUnion}
 use Rattle.std.proofs.lemmas.Bool.{and_parts}
 use Rattle.std.proofs.lemmas.Cmp.{nat_cmp_total}
-use Rattle.std.proofs.lemmas.Map.Lookups.{exact_unsigned}
 use Rattle.findings.specs.declared.finding.Finding.{Finding}
 use Rattle.findings.specs.declared.finding.Finding.TheVariants.{LostNumber, UnmarkedInode}
 use Rattle.findings.specs.Findings.{IsFinding, finding_cmp}
@@ -17,7 +16,7 @@ use Rattle.model.specs.Uses.{IsClaim, is_sound}
 use Rattle.model.specs.Units.{Units, stands_in}
 use Rattle.model.proofs.UseLemmas.{use_parts}
 use Rattle.model.proofs.Addresses.{number_in_group}
-use Rattle.phase_maps.specs.Parts.{Gathered, IsClaimedBy, is_of_number_in, IsFoundOfNumbers, IsGathered, IsPart}
+use Rattle.phase_maps.specs.Parts.{Gathered, IsClaimedBy, is_of_number_in, IsFoundOfNumbers, IsGathering, IsGathered, IsPart}
 use Rattle.model.specs.Growth.{Adds}
 use Rattle.model.proofs.Adding.{adds_same, adds_union, or_parts, or_left, or_right}
 use Rattle.findings.proofs.FindingOrder.{finding_total, finding_exact}
@@ -35,13 +34,29 @@ module _ (geo : Geometry) (view : View) where
     number_there (UnmarkedInode i) t h = there i h.0 t
     number_there _ t h = absurd cc
 
+  -- a part says what its making said, and has its blocks in order besides
+  pub gathering_of : (inodes : ℕ → Bool) (part : Gathered) → IsGathered geo view inodes part → IsGathering geo view inodes part
+  gathering_of inodes part h = record { claimed = h.claimed; numbers_in_order = h.numbers_in_order; numbers = h.numbers }
+
+  pub with_order : (inodes : ℕ → Bool) (part : Gathered) → IsStrictlySortedBy nat_cmp part.claimed → IsGathering geo view inodes part → IsGathered geo view inodes part
+  with_order inodes part sorted h = record { claimed_in_order = sorted; claimed = h.claimed; numbers_in_order = h.numbers_in_order; numbers = h.numbers }
+
+  -- the same blocks, in order
+  pub in_order : (inodes : ℕ → Bool) (part : Gathered) (sorted : List ℕ) → IsStrictlySortedBy nat_cmp sorted → ((a : ℕ) → Contains sorted a ↔ Contains part.claimed a)
+      → IsGathering geo view inodes part → IsGathered geo view inodes (record { claimed = sorted; numbers = part.numbers })
+  in_order inodes part sorted order same h = record {
+    claimed_in_order = order;
+    claimed = λ a. ((λ c. (h.claimed a).0 ((same a).0 c)), (λ k. (same a).1 ((h.claimed a).1 k)));
+    numbers_in_order = h.numbers_in_order;
+    numbers = h.numbers;
+  }
+
   -- what was gathered of the same inodes
-  pub gathered_of_same : (m n : ℕ → Bool) (part : Gathered) → ((i : ℕ) → IsTrue (is_number geo i) → m i ≡ n i) → IsGathered geo view m part → IsGathered geo view n part
-  gathered_of_same m n part same h =
+  pub gathering_of_same : (m n : ℕ → Bool) (part : Gathered) → ((i : ℕ) → IsTrue (is_number geo i) → m i ≡ n i) → IsGathering geo view m part → IsGathering geo view n part
+  gathering_of_same m n part same h =
       let there : (i : ℕ) → IsTrue (is_number geo i) → IsTrue (m i) → IsTrue (n i) = λ i num t. sym (same i num) ∙ t in
       let back : (i : ℕ) → IsTrue (is_number geo i) → IsTrue (n i) → IsTrue (m i) = λ i num t. same i num ∙ t in
       record {
-        claimed_in_order = h.claimed_in_order;
         claimed = λ a. ((λ c. claimed_there m n there a ((h.claimed a).0 c)), (λ c. (h.claimed a).1 (claimed_there n m back a c)));
         numbers_in_order = h.numbers_in_order;
         numbers = λ f. (
@@ -50,15 +65,17 @@ module _ (geo : Geometry) (view : View) where
         );
       }
 
+  pub gathered_of_same : (m n : ℕ → Bool) (part : Gathered) → ((i : ℕ) → IsTrue (is_number geo i) → m i ≡ n i) → IsGathered geo view m part → IsGathered geo view n part
+  gathered_of_same m n part same h = with_order n part h.claimed_in_order (gathering_of_same m n part same (gathering_of m part h))
+
   none_of_number : (inodes : ℕ → Bool) → ((i : ℕ) → IsTrue (is_number geo i) → inodes i ≡ false) → (f : Finding) → IsFoundOfNumbers geo view inodes f → ⊥
   none_of_number inodes none (LostNumber i) h = let e = none i h.1.0 in cc
   none_of_number inodes none (UnmarkedInode i) h = let e = none i h.1.0 in cc
   none_of_number inodes none _ h = absurd cc
 
   -- nothing is gathered of no inode
-  pub gathered_none : (inodes : ℕ → Bool) (part : Gathered) → ((i : ℕ) → IsTrue (is_number geo i) → inodes i ≡ false) → part.claimed ≡ [] → part.numbers ≡ [] → IsGathered geo view inodes part
-  gathered_none inodes part none no_claims no_numbers = record {
-    claimed_in_order = subst (λ xs. IsStrictlySortedBy nat_cmp xs) (sym no_claims) (sorted-none nat_cmp);
+  pub gathering_none : (inodes : ℕ → Bool) (part : Gathered) → ((i : ℕ) → IsTrue (is_number geo i) → inodes i ≡ false) → part.claimed ≡ [] → part.numbers ≡ [] → IsGathering geo view inodes part
+  gathering_none inodes part none no_claims no_numbers = record {
     claimed = λ a. (
       (λ c. absurd (Contains-none a (subst (λ xs. Contains xs a) no_claims c))),
       (λ h. let e = none h.0 (claim_number h.0 h.1 a h.3) in absurd cc),
@@ -69,6 +86,10 @@ module _ (geo : Geometry) (view : View) where
       (λ h. absurd (none_of_number inodes none f h)),
     );
   }
+
+  pub gathered_none : (inodes : ℕ → Bool) (part : Gathered) → ((i : ℕ) → IsTrue (is_number geo i) → inodes i ≡ false) → part.claimed ≡ [] → part.numbers ≡ [] → IsGathered geo view inodes part
+  gathered_none inodes part none no_claims no_numbers =
+      with_order inodes part (subst (λ xs. IsStrictlySortedBy nat_cmp xs) (sym no_claims) (sorted-none nat_cmp)) (gathering_none inodes part none no_claims no_numbers)
 
   module _ (m n : ℕ → Bool) where
     abbrev both : ℕ → Bool
@@ -93,12 +114,10 @@ module _ (geo : Geometry) (view : View) where
     of_number_right _ t = absurd cc
 
     -- what was gathered of some inodes, with what others add
-    pub gathered_more : (old new : Gathered) → IsGathered geo view m old
-        → IsStrictlySortedBy nat_cmp new.claimed → Adds (IsClaimedBy geo view n) old.claimed new.claimed
+    pub gathering_more : (old new : Gathered) → IsGathering geo view m old → Adds (IsClaimedBy geo view n) old.claimed new.claimed
         → IsStrictlySortedBy finding_cmp new.numbers → Adds (IsFoundOfNumbers geo view n) old.numbers new.numbers
-        → IsGathered geo view both new
-    gathered_more old new h sorted claims sorted_numbers numbers = record {
-      claimed_in_order = sorted;
+        → IsGathering geo view both new
+    gathering_more old new h claims sorted_numbers numbers = record {
       claimed = λ a. (
         (λ c. elim ((claims a).0 c) [
           | inl k ↦ let g = (h.claimed a).0 k in (g.0, g.1, or_left (m g.0) (n g.0) g.2, g.3)
@@ -119,16 +138,16 @@ module _ (geo : Geometry) (view : View) where
       );
     }
 
-    -- two parts, with the sets of both
+    -- two parts, with the blocks and the findings of both
     pub gathered_union : (left right whole : Gathered) → IsGathered geo view m left → IsGathered geo view n right
-        → IsStrictlySortedBy nat_cmp whole.claimed → IsUnion (eq_by_cmp nat_cmp) left.claimed right.claimed whole.claimed
+        → IsStrictlySortedBy nat_cmp whole.claimed → Adds (Contains right.claimed) left.claimed whole.claimed
         → IsStrictlySortedBy finding_cmp whole.numbers → IsUnion (eq_by_cmp finding_cmp) left.numbers right.numbers whole.numbers
         → IsGathered geo view both whole
     gathered_union left right whole g h sorted claims sorted_numbers numbers =
-        gathered_more left whole g sorted
-        (adds_same (Contains right.claimed) (IsClaimedBy geo view n) left.claimed whole.claimed h.claimed (adds_union nat_cmp_total exact_unsigned left.claimed right.claimed whole.claimed claims))
+        with_order both whole sorted (gathering_more left whole (gathering_of m left g)
+        (adds_same (Contains right.claimed) (IsClaimedBy geo view n) left.claimed whole.claimed h.claimed claims)
         sorted_numbers
-        (adds_same (Contains right.numbers) (IsFoundOfNumbers geo view n) left.numbers whole.numbers h.numbers (adds_union finding_total finding_exact left.numbers right.numbers whole.numbers numbers))
+        (adds_same (Contains right.numbers) (IsFoundOfNumbers geo view n) left.numbers whole.numbers h.numbers (adds_union finding_total finding_exact left.numbers right.numbers whole.numbers numbers)))
 
   -- one list each was gathered of some inodes
   pub gathered_once : (inodes : ℕ → Bool) (left right : Gathered) → IsGathered geo view inodes left → IsGathered geo view inodes right → left ≡ right

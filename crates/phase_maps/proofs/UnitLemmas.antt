@@ -6,8 +6,8 @@ use Rattle.model.specs.Layout.{Geometry, IsGeometry, is_number}
 use Rattle.model.specs.View.{View}
 use Rattle.model.specs.Units.{no_unit, only, stands_in}
 use Rattle.model.proofs.Addresses.{number_in_group}
-use Rattle.phase_maps.specs.Parts.{Gathered, IsGathered, IsPart}
-use Rattle.phase_maps.proofs.PartLemmas.{gathered_none, gathered_of_same, gathered_once}
+use Rattle.phase_maps.specs.Parts.{Gathered, IsGathering, IsPart}
+use Rattle.phase_maps.proofs.PartLemmas.{gathering_of_same, gathered_none, gathered_of_same, gathered_once}
 
 none_below : (q u i n : ℕ) → (q ≡ u → n ≤ i) → (eqb q u && ltb i n) ≡ false
 none_below q u i n h = grind (arith, nat_tests)
@@ -27,21 +27,21 @@ module _ (geo : Geometry) (ok : IsGeometry geo) (view : View) (unit : ℕ) where
   In n i = stands_in geo (only unit) i && ltb i n
 
   -- before the first number of the group
-  pub gathered_first : (n : ℕ) (part : Gathered) → ((i : ℕ) → IsTrue (is_number geo i) → i / geo.inodes ≡ unit → n ≤ i) → IsPart geo view no_unit part → IsGathered geo view (In n) part
-  gathered_first n part first h =
-      gathered_of_same geo view (stands_in geo no_unit) (In n) part
+  pub gathering_first : (n : ℕ) (part : Gathered) → ((i : ℕ) → IsTrue (is_number geo i) → i / geo.inodes ≡ unit → n ≤ i) → IsGathering geo view (stands_in geo no_unit) part → IsGathering geo view (In n) part
+  gathering_first n part first h =
+      gathering_of_same geo view (stands_in geo no_unit) (In n) part
       (λ i t. sym (none_below (i / geo.inodes) unit i n (first i t))) h
 
   -- one number more
-  pub gathered_next : (n : ℕ) (part : Gathered) → n / geo.inodes ≡ unit → IsGathered geo view (λ i. In n i || eqb i n) part → IsGathered geo view (In (n + 1)) part
-  gathered_next n part here h =
-      gathered_of_same geo view (λ i. In n i || eqb i n) (In (n + 1)) part
+  pub gathering_next : (n : ℕ) (part : Gathered) → n / geo.inodes ≡ unit → IsGathering geo view (λ i. In n i || eqb i n) part → IsGathering geo view (In (n + 1)) part
+  gathering_next n part here h =
+      gathering_of_same geo view (λ i. In n i || eqb i n) (In (n + 1)) part
       (λ i t. one_more (i / geo.inodes) unit i n (λ e. ap (λ m. m / geo.inodes) e ∙ here)) h
 
   -- all numbers of the group
-  pub gathered_all : (n : ℕ) (part : Gathered) → ((i : ℕ) → IsTrue (is_number geo i) → i / geo.inodes ≡ unit → i < n) → IsGathered geo view (In n) part → IsPart geo view (only unit) part
-  gathered_all n part last h =
-      gathered_of_same geo view (In n) (stands_in geo (only unit)) part
+  pub gathering_all : (n : ℕ) (part : Gathered) → ((i : ℕ) → IsTrue (is_number geo i) → i / geo.inodes ≡ unit → i < n) → IsGathering geo view (In n) part → IsGathering geo view (stands_in geo (only unit)) part
+  gathering_all n part last h =
+      gathering_of_same geo view (In n) (stands_in geo (only unit)) part
       (λ i t. all_below (i / geo.inodes) unit i n (last i t)) h
 
   -- a unit that is no group

@@ -2,9 +2,6 @@
 use Rattle.std.proofs.Common.{◌≡◌, ◌<◌, ◌+◌, ◌-◌, ◌*◌, ◌/◌, ◌%◌, ℕ, Bool, true, false, ◌&&◌, leb, ltb, List, [], ◌++◌, Option, Some, ◌⊎◌, inl, inr, ◌↔◌, refl, sym, ap, ap₂, ◌∙◌, subst, arith, IsTrue, Contains}
 use Rattle.std.specs.List.Sorted.{IsStrictlySortedBy}
 use Rattle.std.proofs.lemmas.Bool.{and_parts, leb-true, both_ways}
-use Rattle.std.proofs.lemmas.Cmp.{nat_cmp_total}
-use Rattle.std.proofs.lemmas.Map.Lookups.{exact_unsigned}
-use Rattle.std.proofs.lemmas.Map.Views.{btree_set_contains_iff}
 use Rattle.std.proofs.lemmas.List.Elements.{Contains-append_left, Contains-append_right, Contains-append_cases}
 use Rattle.std.proofs.lemmas.Option.{none-some, same_Some}
 use Rattle.findings.specs.declared.finding.Finding.{Finding}
@@ -18,7 +15,7 @@ use Rattle.model.specs.Units.{Units, stands_in, IsEveryGroup}
 use Rattle.model.proofs.Addresses.{address_is_data, address_group, address_place, address_in_group, data_range, number_in_group}
 use Rattle.phase_maps.specs.Parts.{Gathered, IsPart, is_of_number_in}
 use Rattle.model.specs.Growth.{Adds}
-use Rattle.phase_maps.specs.Walks.{block_finding, is_among, IsFoundInGroup, IsFoundInVolume}
+use Rattle.phase_maps.specs.Walks.{block_finding, is_claimed_in, IsTableOf, IsFoundInGroup, IsFoundInVolume}
 use Rattle.model.proofs.Adding.{AtBelow}
 use Rattle.phase_maps.proofs.PartLemmas.{claim_number}
 
@@ -49,12 +46,12 @@ module _ (geo : Geometry) (ok : IsGeometry geo) (block : ℕ → List ℕ) (g bi
       ap (λ t. t && map_bit (block (group_block geo (group_of_address geo a))) 160 (data_bit geo a)) (address_is_data geo ok g bit low in_volume)
       ∙ ap₂ (λ h b. map_bit (block (group_block geo h)) 160 b) (address_group geo ok g bit low) place
 
-  pub found_at : (claimed : List ℕ) (marked is_claimed : Bool) (a : ℕ) (found : Option Finding) → a ≡ data_address geo g bit → marked ≡ map_bit (block (group_block geo g)) 160 bit → is_claimed ≡ is_among claimed a
+  pub found_at : (claimed : ℕ → Bool) (marked is_claimed : Bool) (a : ℕ) (found : Option Finding) → a ≡ data_address geo g bit → marked ≡ map_bit (block (group_block geo g)) 160 bit → is_claimed ≡ claimed a
       → found ≡ block_finding marked is_claimed a
-      → block_finding ((view_of geo block).block_marked (data_address geo g bit)) (is_among claimed (data_address geo g bit)) (data_address geo g bit) ≡ found
+      → block_finding ((view_of geo block).block_marked (data_address geo g bit)) (claimed (data_address geo g bit)) (data_address geo g bit) ≡ found
   found_at claimed marked is_claimed a found at m c e =
       sym (e ∙ ap (λ b. block_finding b is_claimed a) (m ∙ sym marked_at) ∙ ap (λ b. block_finding ((view_of geo block).block_marked (data_address geo g bit)) b a) c
-      ∙ ap (λ b. block_finding ((view_of geo block).block_marked (data_address geo g bit)) (is_among claimed b) b) at)
+      ∙ ap (λ b. block_finding ((view_of geo block).block_marked (data_address geo g bit)) (claimed b) b) at)
 
 -- what a finding of a block says
 pub record IsBlockFinding (marked claimed : Bool) (a : ℕ) (f : Finding) : Type 0 where
@@ -76,31 +73,31 @@ unmarked_from true claimed a f t = absurd cc
 unmarked_from false true a f t = refl
 unmarked_from false false a f t = absurd cc
 
-module _ (geo : Geometry) (ok : IsGeometry geo) (view : View) (units : Units) (whole : Gathered) (part : IsPart geo view units whole) (every : IsEveryGroup geo units) where
-  claimed_is : (a : ℕ) → is_among whole.claimed a ≡ true → IsClaimed geo view a
-  claimed_is a t =
-      let h = (part.claimed a).0 ((btree_set_contains_iff nat_cmp_total exact_unsigned (record { keys = whole.claimed }) a).0 t) in
-      (h.0, h.1, h.3)
+-- the claims of every group, in a table of the volume's addresses
+module _ (geo : Geometry) (ok : IsGeometry geo) (view : View) (units : Units) (whole : Gathered) (part : IsPart geo view units whole) (every : IsEveryGroup geo units)
+    (table : List Bool) (exactly : IsTableOf whole.claimed (block_count geo) table) where
+  claimed_is : (a : ℕ) → IsTrue (is_data_address geo a) → is_claimed_in table a ≡ true → IsClaimed geo view a
+  claimed_is a t set = let h = (part.claimed a).0 ((exactly a (data_range geo ok a t).1).0 set) in (h.0, h.1, h.3)
 
-  is_claimed : (a : ℕ) → IsClaimed geo view a → is_among whole.claimed a ≡ true
+  is_claimed : (a : ℕ) → IsClaimed geo view a → is_claimed_in table a ≡ true
   is_claimed a c =
-      (btree_set_contains_iff nat_cmp_total exact_unsigned (record { keys = whole.claimed }) a).1
+      (exactly a (data_range geo ok a c.2.1).1).1
       ((part.claimed a).1 (c.0, c.1, every (c.0 / geo.inodes) (number_in_group geo ok c.0 (claim_number geo view c.0 c.1 a c.2)), c.2))
 
-  found_is : (a : ℕ) (f : Finding) → IsTrue (is_data_address geo a) → block_finding (view.block_marked a) (is_among whole.claimed a) a ≡ Some f → IsTrue (is_of_maps f) × IsFinding geo view f
-  found_is a f t e = elim (finding_cases (view.block_marked a) (is_among whole.claimed a) a f e).cases [
-    | inl h ↦ subst (λ g. IsTrue (is_of_maps g) × IsFinding geo view g) (sym h.0) (refl, (t, h.1, (λ c. both_ways (is_among whole.claimed a) h.2 (is_claimed a c))))
-    | inr h ↦ subst (λ g. IsTrue (is_of_maps g) × IsFinding geo view g) (sym h.0) (refl, (claimed_is a h.2, h.1))
+  found_is : (a : ℕ) (f : Finding) → IsTrue (is_data_address geo a) → block_finding (view.block_marked a) (is_claimed_in table a) a ≡ Some f → IsTrue (is_of_maps f) × IsFinding geo view f
+  found_is a f t e = elim (finding_cases (view.block_marked a) (is_claimed_in table a) a f e).cases [
+    | inl h ↦ subst (λ g. IsTrue (is_of_maps g) × IsFinding geo view g) (sym h.0) (refl, (t, h.1, (λ c. both_ways (is_claimed_in table a) h.2 (is_claimed a c))))
+    | inr h ↦ subst (λ g. IsTrue (is_of_maps g) × IsFinding geo view g) (sym h.0) (refl, (claimed_is a t h.2, h.1))
   ]
 
-  in_volume : (f : Finding) → IsFoundInVolume geo view whole.claimed f → IsTrue (is_of_maps f) × IsFinding geo view f
+  in_volume : (f : Finding) → IsFoundInVolume geo view (is_claimed_in table) f → IsTrue (is_of_maps f) × IsFinding geo view f
   in_volume f h = found_is (data_address geo h.0 h.2.0) f (address_is_data geo ok h.0 h.2.0 h.2.1 h.1) h.2.2
 
-  of_block : (a : ℕ) (f : Finding) → IsTrue (is_data_address geo a) → block_finding (view.block_marked a) (is_among whole.claimed a) a ≡ Some f → IsFoundInVolume geo view whole.claimed f
+  of_block : (a : ℕ) (f : Finding) → IsTrue (is_data_address geo a) → block_finding (view.block_marked a) (is_claimed_in table a) a ≡ Some f → IsFoundInVolume geo view (is_claimed_in table) f
   of_block a f t e = (
     group_of_address geo a,
     group_low geo ok a t,
-    (data_bit geo a, bit_low geo ok a t, subst (λ b. block_finding (view.block_marked b) (is_among whole.claimed b) b ≡ Some f) (sym (address_of_place geo ok a t)) e),
+    (data_bit geo a, bit_low geo ok a t, subst (λ b. block_finding (view.block_marked b) (is_claimed_in table b) b ≡ Some f) (sym (address_of_place geo ok a t)) e),
   )
 
   of_numbers : (f : Finding) → Contains whole.numbers f → IsTrue (is_of_maps f) × IsFinding geo view f
@@ -114,24 +111,24 @@ module _ (geo : Geometry) (ok : IsGeometry geo) (view : View) (units : Units) (w
   in_group : (i : ℕ) → IsTrue (is_number geo i) → IsTrue (stands_in geo units i)
   in_group i num = every (i / geo.inodes) (number_in_group geo ok i num)
 
-  found_from : (f : Finding) → IsTrue (is_of_maps f) → IsFinding geo view f → IsFoundInVolume geo view whole.claimed f ⊎ Contains whole.numbers f
-  found_from (LostBlock a) t h = inl (of_block a (LostBlock a) h.0 (lost_from (view.block_marked a) (is_among whole.claimed a) a h.1 (λ c. h.2 (claimed_is a c))))
-  found_from (UnmarkedBlock a) t h = inl (of_block a (UnmarkedBlock a) h.0.2.1 (unmarked_from (view.block_marked a) (is_among whole.claimed a) a h.1 (is_claimed a h.0)))
+  found_from : (f : Finding) → IsTrue (is_of_maps f) → IsFinding geo view f → IsFoundInVolume geo view (is_claimed_in table) f ⊎ Contains whole.numbers f
+  found_from (LostBlock a) t h = inl (of_block a (LostBlock a) h.0 (lost_from (view.block_marked a) (is_claimed_in table a) a h.1 (λ c. h.2 (claimed_is a h.0 c))))
+  found_from (UnmarkedBlock a) t h = inl (of_block a (UnmarkedBlock a) h.0.2.1 (unmarked_from (view.block_marked a) (is_claimed_in table a) a h.1 (is_claimed a h.0)))
   found_from (LostNumber i) t h = inr ((part.numbers (LostNumber i)).1 (in_group i h.0, h))
   found_from (UnmarkedInode i) t h = inr ((part.numbers (UnmarkedInode i)).1 (in_group i h.0, h))
   found_from _ t h = absurd cc
 
-  maps_found : (fs : List Finding) → IsStrictlySortedBy finding_cmp fs → ((f : Finding) → Contains fs f ↔ (IsFoundInVolume geo view whole.claimed f ⊎ Contains whole.numbers f)) → AreFindingsOf is_of_maps geo view fs
-  maps_found fs sorted exactly = record {
+  maps_found : (fs : List Finding) → IsStrictlySortedBy finding_cmp fs → ((f : Finding) → Contains fs f ↔ (IsFoundInVolume geo view (is_claimed_in table) f ⊎ Contains whole.numbers f)) → AreFindingsOf is_of_maps geo view fs
+  maps_found fs sorted found = record {
     in_order = sorted;
     exactly = λ f. (
-      (λ c. elim ((exactly f).0 c) [ inl h ↦ in_volume f h | inr h ↦ of_numbers f h ]),
-      (λ h. (exactly f).1 (found_from f h.0 h.1)),
+      (λ c. elim ((found f).0 c) [ inl h ↦ in_volume f h | inr h ↦ of_numbers f h ]),
+      (λ h. (found f).1 (found_from f h.0 h.1)),
     );
   }
 
   -- the walk over the groups, then the findings of the numbers, and then all in order
-  pub whole_found : (n : ℕ) (blocks both fs : List Finding) → n ≡ geo.groups → Adds (AtBelow (IsFoundInGroup geo view whole.claimed) n) [] blocks → both ≡ blocks ++ whole.numbers
+  pub whole_found : (n : ℕ) (blocks both fs : List Finding) → n ≡ geo.groups → Adds (AtBelow (IsFoundInGroup geo view (is_claimed_in table)) n) [] blocks → both ≡ blocks ++ whole.numbers
       → IsStrictlySortedBy finding_cmp fs → ((f : Finding) → Contains fs f ↔ Contains both f) → AreFindingsOf is_of_maps geo view fs
   whole_found n blocks both fs all walk joined sorted same =
       maps_found fs sorted (λ f. (

@@ -30,6 +30,13 @@ is_of_number_in inodes _ = false
 abbrev pub IsFoundOfNumbers : Geometry → View → (ℕ → Bool) → Finding → Type 0
 IsFoundOfNumbers geo view inodes f = IsTrue (is_of_number_in inodes f) × IsFinding geo view f
 
+-- the blocks that the inodes of the set claim, as they came and as often, and the findings of their numbers, each once
+-- and in order
+pub record IsGathering (geo : Geometry) (view : View) (inodes : ℕ → Bool) (part : Gathered) : Type 0 where
+  pub claimed : (a : ℕ) → Contains part.claimed a ↔ IsClaimedBy geo view inodes a
+  pub numbers_in_order : IsStrictlySortedBy finding_cmp part.numbers
+  pub numbers : (f : Finding) → Contains part.numbers f ↔ IsFoundOfNumbers geo view inodes f
+
 -- the blocks that the inodes of the set claim and the findings of their numbers, each once and in order
 pub record IsGathered (geo : Geometry) (view : View) (inodes : ℕ → Bool) (part : Gathered) : Type 0 where
   pub claimed_in_order : IsStrictlySortedBy nat_cmp part.claimed

@@ -1,7 +1,6 @@
 -- What the walks over inodes, positions and blocks add to a list or a set.
-use Rattle.std.specs.Prelude.{◌≡◌, ℕ, ◌<◌, ◌+◌, Bool, true, false, List, Option, Some, None, IsTrue}
-use Rattle.std.specs.Ordering.{nat_cmp}
-use Rattle.std.specs.BTreeSet.{contains}
+use Rattle.std.specs.Prelude.{◌≡◌, ℕ, ◌<◌, ◌+◌, ◌||◌, ◌==◌, Bool, true, false, List, length, slice_index_or, Option, Some, None, IsTrue, ◌↔◌}
+use Rattle.std.specs.List.{Contains}
 use Rattle.findings.specs.declared.finding.Finding.{Finding}
 use Rattle.findings.specs.declared.finding.Finding.TheVariants.{LostBlock, UnmarkedBlock, LostNumber, UnmarkedInode}
 use Rattle.model.specs.Layout.{Geometry, data_address, header_blocks, is_data_address}
@@ -22,9 +21,17 @@ number_finding true true i = Some (LostNumber i)
 number_finding false false i = Some (UnmarkedInode i)
 number_finding _ _ i = None
 
--- whether block a is one of these
-abbrev pub is_among : List ℕ → ℕ → Bool
-is_among blocks a = contains nat_cmp (record { keys = blocks }) a
+-- whether the table says that block a is claimed: not past its end
+abbrev pub is_claimed_in : List Bool → ℕ → Bool
+is_claimed_in table a = slice_index_or table a false
+
+-- Block a is claimed now, and the other blocks are as they were.
+abbrev pub ClaimsOne : ℕ → List Bool → List Bool → Type 0
+ClaimsOne a old new = (b : ℕ) → b < length old → is_claimed_in new b ≡ (is_claimed_in old b || (a == b))
+
+-- Of the blocks below n the table says of just these that they are claimed.
+abbrev pub IsTableOf : List ℕ → ℕ → List Bool → Type 0
+IsTableOf claimed n table = (a : ℕ) → a < n → IsTrue (is_claimed_in table a) ↔ Contains claimed a
 
 -- what is found of a block, by whether it is marked and whether it is claimed
 abbrev pub block_finding : Bool → Bool → ℕ → Option Finding
@@ -32,15 +39,15 @@ block_finding true false a = Some (LostBlock a)
 block_finding false true a = Some (UnmarkedBlock a)
 block_finding _ _ a = None
 
--- what is found of the data block of this bit, where these blocks are claimed
-abbrev pub IsFoundAt : Geometry → View → List ℕ → ℕ → ℕ → Finding → Type 0
-IsFoundAt geo view claimed g bit f =
-    block_finding (view.block_marked (data_address geo g bit)) (is_among claimed (data_address geo g bit)) (data_address geo g bit) ≡ Some f
+-- what is found of the data block of this bit, where the blocks that pass this test are claimed
+abbrev pub IsFoundAt : Geometry → View → (ℕ → Bool) → ℕ → ℕ → Finding → Type 0
+IsFoundAt geo view is_claimed g bit f =
+    block_finding (view.block_marked (data_address geo g bit)) (is_claimed (data_address geo g bit)) (data_address geo g bit) ≡ Some f
 
 -- what is found of the data blocks of a group
-abbrev pub IsFoundInGroup : Geometry → View → List ℕ → ℕ → Finding → Type 0
-IsFoundInGroup geo view claimed g f = (bit : ℕ) × (header_blocks geo + bit < geo.blocks) × IsFoundAt geo view claimed g bit f
+abbrev pub IsFoundInGroup : Geometry → View → (ℕ → Bool) → ℕ → Finding → Type 0
+IsFoundInGroup geo view is_claimed g f = (bit : ℕ) × (header_blocks geo + bit < geo.blocks) × IsFoundAt geo view is_claimed g bit f
 
 -- what is found of the data blocks of the volume
-abbrev pub IsFoundInVolume : Geometry → View → List ℕ → Finding → Type 0
-IsFoundInVolume geo view claimed f = (g : ℕ) × (g < geo.groups) × IsFoundInGroup geo view claimed g f
+abbrev pub IsFoundInVolume : Geometry → View → (ℕ → Bool) → Finding → Type 0
+IsFoundInVolume geo view is_claimed f = (g : ℕ) × (g < geo.groups) × IsFoundInGroup geo view is_claimed g f

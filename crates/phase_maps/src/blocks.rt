@@ -5,9 +5,10 @@ ghost use Rattle.findings.specs.Findings.{AreFindingsOf, is_of_maps};
 ghost use Rattle.device.specs.Kept.{frozen_view};
 ghost use Rattle.phase_maps.specs.Parts.{IsPart};
 ghost use Rattle.model.specs.Growth.{Adds};
-ghost use Rattle.phase_maps.specs.Walks.{IsFoundInGroup, block_finding};
+ghost use Rattle.phase_maps.specs.Walks.{IsFoundInGroup, block_finding, is_claimed_in};
 
 use crate::gathering::Part;
+use crate::table::ClaimTable;
 use cgmaps::{Map, bit_of};
 use device::Frozen;
 use findings::{Finding, in_order};
@@ -22,9 +23,11 @@ pub fn findings(alloc: Global, frozen: &Frozen, whole: &Part) -> Result<Vec<Find
         → IsEveryGroup frozen.now.geometry units → AreFindingsOf is_of_maps frozen.now.geometry (frozen_view frozen.now) found.items) }
     ensures error { IsOkUnless result Refusal.NoMemory }
 {
+    let geometry = frozen.geometry();
+    let table = ClaimTable::new(alloc, geometry.blocks(), whole.claimed())?;
     let mut found = Vec::new(alloc);
-    for group in 0..frozen.geometry().groups() {
-        add_blocks(frozen, group, whole.claimed(), &mut found)?;
+    for group in 0..geometry.groups() {
+        add_blocks(frozen, group, &table, &mut found)?;
     }
     add_all(whole.numbers(), &mut found)?;
     in_order(found)
@@ -37,22 +40,22 @@ fn add_all(findings: &BTreeSet<Finding>, found: &mut Vec<Finding>) -> Result<(),
     found.extend(findings.iter().copied())
 }
 
-/// Adds what is found of the data blocks of a group, where these blocks are claimed.
+/// Adds what is found of the data blocks of a group, where the blocks of this table are claimed.
 fn add_blocks(
     frozen: &Frozen,
     group: u32,
-    claimed: &BTreeSet<u32>,
+    table: &ClaimTable,
     found: &mut Vec<Finding>,
 ) -> Result<(), AllocError>
     requires { group < frozen.now.geometry.groups }
-    ensures { OnOk result (Adds (IsFoundInGroup frozen.now.geometry (frozen_view frozen.now) claimed.now.keys group) found.old.items found.new.items) }
+    ensures { OnOk result (Adds (IsFoundInGroup frozen.now.geometry (frozen_view frozen.now) (is_claimed_in table.now) group) found.old.items found.new.items) }
 {
     let geometry = frozen.geometry();
     let maps = frozen.maps_of(group);
     for bit in 0..data_blocks(&geometry) {
         let address = geometry.data_address(group, bit);
         let is_marked = bit_of(maps, Map::Blocks, bit);
-        if let Some(finding) = block_finding(is_marked, claimed.contains(&address), address) {
+        if let Some(finding) = block_finding(is_marked, table.is_claimed(address), address) {
             found.push(finding)?;
         }
     }

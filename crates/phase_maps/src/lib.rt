@@ -13,6 +13,8 @@ mod blocks;
 mod claims;
 mod gathering;
 mod numbers;
+mod order;
+mod table;
 #[cfg(test)]
 mod tests;
 mod units;

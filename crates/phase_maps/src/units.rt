@@ -3,7 +3,7 @@ ghost use Rattle.model.specs.Units.{only};
 ghost use Rattle.device.specs.Kept.{frozen_view};
 ghost use Rattle.phase_maps.specs.Parts.{IsPart};
 
-use crate::gathering::Part;
+use crate::gathering::{Gathering, Part};
 use device::Frozen;
 use layout::Refusal;
 use std::alloc::Global;
@@ -14,13 +14,13 @@ pub fn part(alloc: Global, frozen: &Frozen, unit: u32) -> Result<Part, Refusal>
     ensures no_group { frozen.now.geometry.groups ≤ unit → IfOk result (λ part. (part.claimed ≡ []) × (part.numbers ≡ [])) }
     ensures error { IsOkUnless result Refusal.NoMemory }
 {
-    let mut part = Part::new(alloc);
     let geometry = frozen.geometry();
     if unit >= geometry.groups() {
-        return Ok(part);
+        return Ok(Part::new(alloc));
     }
+    let mut gathering = Gathering::new(alloc);
     for number in geometry.numbers_of(unit) {
-        part.add_inode(frozen, number)?;
+        gathering.add_inode(frozen, number)?;
     }
-    Ok(part)
+    Ok(gathering.in_order()?)
 }

@@ -4,7 +4,7 @@ use Rattle.std.proofs.lemmas.Result.{on_ok_weaker}
 use Rattle.model.specs.Layout.{is_data_address}
 use Rattle.device.specs.Kept.{frozen_view}
 use Rattle.phase_blocks.proofs.Claims.{with_use_adds}
-use Rattle.phase_blocks.proofs.Gathering.{gathered_pointer}
+use Rattle.phase_blocks.proofs.Gathering.{tells_claim, tells_pointer}
 use Rattle.phase_blocks.proofs.Scanning.{use_is, unused}
 use Rattle.phase_blocks.proofs.scan.look_at_use.Goals as goal
 
@@ -21,7 +21,7 @@ returns-then-is_none-clause-looked c = on_ok_weaker c.add_finding.result (λ tol
     let view = frozen_view c.args.frozen.now in
     let used = use_is geo view c.args.number c.args.position c.args.inode.now c.use_of.result (Some c.in-Some.value) c.requires.number c.requires.inode c.use_of.ensures c.in-Some.is in
     let no_data : IsFalse (is_data_address geo c.in-Some.value) = search (rules, c.place_of.ensures.exactly, c.geometry.ensures.geometry, c.is_none.ensures, c.if-is_none.true) in
-    gathered_pointer geo view inodes uses _ c.args.part.now c.add_finding.new.self c.args.number c.args.position c.in-Some.value h (used, no_data)
+    tells_pointer geo view inodes uses _ c.args.part.now c.add_finding.new.self c.args.number c.args.position c.in-Some.value h (used, no_data)
     (with_use_adds uses c.args.number c.args.position) told) c.add_finding.ensures.added
 
 pub returns-clause-looked : goal.returns-clause-looked
@@ -30,4 +30,4 @@ returns-clause-looked c = on_ok_weaker c.add_claim.result (λ told inodes uses h
     let view = frozen_view c.args.frozen.now in
     let used = use_is geo view c.args.number c.args.position c.args.inode.now c.use_of.result (Some c.in-Some.value) c.requires.number c.requires.inode c.use_of.ensures c.in-Some.is in
     let is_data : IsTrue (is_data_address geo c.in-Some.value) = search (rules, c.place_of.ensures.exactly, c.geometry.ensures.geometry, c.is_none.ensures, c.if-is_none.false) in
-    told geo view inodes uses h (used, is_data)) c.add_claim.ensures.added
+    tells_claim geo view inodes uses _ c.args.part.now c.add_claim.new.self _ h (used, is_data) (with_use_adds uses c.args.number c.args.position) told) c.add_claim.ensures.added

@@ -4,8 +4,10 @@ use Rattle.std.proofs.lemmas.Bool.{cases_lt}
 use Rattle.std.specs.declared.ops.Range.{Range}
 use Rattle.model.specs.Layout.{Geometry, is_number}
 use Rattle.device.specs.Kept.{frozen_view}
-use Rattle.phase_blocks.specs.Parts.{IsGathered, with_inode, with_uses}
+use Rattle.phase_blocks.specs.Parts.{Tells, with_inode, with_uses}
 use Rattle.phase_blocks.proofs.Scanning.{group_below, no_numbers, none_yet, one_more, whole_group}
+use Rattle.model.specs.Units.{only, stands_in}
+use Rattle.phase_blocks.proofs.Gathering.{gathered_in_order}
 use Rattle.phase_blocks.proofs.scan.part.Goals as goal
 
 -- a range of the group's numbers, and what is left of it
@@ -32,7 +34,7 @@ loop-number-init c =
     let view = frozen_view c.args.frozen.now in
     let all : AreNumbers geo c.args.unit c.into_iter-number-iterator.result =
     numbers c.geometry-geometry.ensures.geometry c.into_iter-number-iterator.ensures.into_iter_gives c.numbers_of-number-items.ensures in (
-      none_yet geo view c.args.unit c.new-part.result c.into_iter-number-iterator.result.start (λ i t e. ((all i).1 (t, e)).0) (c.new-part.ensures.part geo view),
+      none_yet geo view c.args.unit c.new-part.result c.into_iter-number-iterator.result.start (λ i t e. ((all i).1 (t, e)).0) (c.new-part.ensures.part geo view).told,
       λ i from. ((λ lt. (all i).0 (from, lt)), (λ h. ((all i).1 h).1)),
     )
 
@@ -50,7 +52,7 @@ loop-number-preserved c =
     let here = (c.loop-number.invariant.1 start (omega arith)).0 (omega (arith, e.1.0)) in
     let looked = c.in_ok-look_at_inode.ensures.looked (group_below geo c.args.unit start) (λ i l. group_below geo c.args.unit start i) c.loop-number.invariant.0 in (
       one_more geo view c.args.unit c.look_at_inode.new.part start c.next.new.self.start e.1.2 here.1
-          (subst (λ n. IsGathered geo view (with_inode (group_below geo c.args.unit start) n) (with_uses (λ i l. group_below geo c.args.unit start i) n) c.look_at_inode.new.part) e.1.1 looked),
+          (subst (λ n. Tells geo view (with_inode (group_below geo c.args.unit start) n) (with_uses (λ i l. group_below geo c.args.unit start i) n) c.look_at_inode.new.part) e.1.1 looked),
       λ i from. subst (λ past. (i < past) ↔ (IsTrue (is_number geo i) × (i / geo.inodes ≡ c.args.unit))) (sym e.0) (c.loop-number.invariant.1 i (omega (arith, from, e.1.2))),
     )
 
@@ -60,8 +62,11 @@ returns-clause-part c =
     let view = frozen_view c.args.frozen.now in
     let e = c.in-None.ensures.steps in
     let start = c.loop-number.number-iterator.start in
+    let told =
     whole_group geo view c.args.unit c.loop-number.part start
     (λ i t g. elim (cases_lt i start) [
       | inl lt ↦ lt
       | inr from ↦ (let lt = (c.loop-number.invariant.1 i from).1 (t, g) in omega (arith, lt, e.1.0))
-    ]) c.loop-number.invariant.0
+    ]) c.loop-number.invariant.0 in
+    gathered_in_order geo view (stands_in geo (only c.args.unit)) (λ i l. stands_in geo (only c.args.unit) i) c.loop-number.part c.put_in_order.new.self told
+    c.in_ok-put_in_order.ensures.order c.in_ok-put_in_order.ensures.same c.put_in_order.ensures.found

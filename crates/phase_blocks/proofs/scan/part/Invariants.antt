@@ -1,8 +1,8 @@
 use Rattle.device.specs.Kept.{frozen_view}
-use Rattle.phase_blocks.proofs.Scanning.{AreNumbersFrom, IsGatheredBelow}
+use Rattle.phase_blocks.proofs.Scanning.{AreNumbersFrom, TellsBelow}
 use Rattle.phase_blocks.proofs.scan.part.Given as goal
 
 abbrev pub invariant-loop-number : goal.invariant-loop-number
 invariant-loop-number l =
-    IsGatheredBelow l.frozen.geometry (frozen_view l.frozen) l.unit l.part l.number-iterator.start
+    TellsBelow l.frozen.geometry (frozen_view l.frozen) l.unit l.part l.number-iterator.start
     × AreNumbersFrom l.frozen.geometry l.unit l.number-iterator.start l.number-iterator.end

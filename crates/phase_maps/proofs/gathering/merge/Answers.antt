@@ -10,10 +10,10 @@ use Rattle.phase_maps.proofs.gathering.merge.Goals as goal
 
 pub returns-clause-merged : goal.returns-clause-merged
 returns-clause-merged c geo view units others left right =
-    gathered_union geo view (stands_in geo units) (stands_in geo others) _ _ _
-    (subst (λ p. IsGathered geo view (stands_in geo units) p) (sym c.left.view_is) left)
-    (subst (λ p. IsGathered geo view (stands_in geo others) p) (sym c.right.view_is) right)
-    c.in_ok-union.ensures.ordered
+    let old = subst (λ p. IsGathered geo view (stands_in geo units) p) (sym c.left.view_is) left in
+    let other = subst (λ p. IsGathered geo view (stands_in geo others) p) (sym c.right.view_is) right in
+    gathered_union geo view (stands_in geo units) (stands_in geo others) _ _ _ old other
+    (c.in_ok-union.ensures.order old.claimed_in_order other.claimed_in_order)
     c.in_ok-union.ensures.members
     (sorted_findings c.in_ok-union-2.field-0.keys c.in_ok-union-2.ensures.ordered)
     (subst (λ cmp. IsUnion (eq_by_cmp cmp) c.left.inside.numbers.keys c.right.inside.numbers.keys c.in_ok-union-2.field-0.keys) same_order c.in_ok-union-2.ensures.members)

@@ -5,8 +5,8 @@ use Rattle.std.specs.declared.ops.Range.{Range}
 use Rattle.model.specs.Layout.{Geometry, is_number}
 use Rattle.model.specs.Units.{only, stands_in}
 use Rattle.device.specs.Kept.{frozen_view}
-use Rattle.phase_maps.specs.Parts.{Gathered, IsGathered}
-use Rattle.phase_maps.proofs.UnitLemmas.{gathered_first, gathered_next, gathered_all, no_group, of_no_group}
+use Rattle.phase_maps.specs.Parts.{Gathered, IsGathering}
+use Rattle.phase_maps.proofs.UnitLemmas.{gathering_first, gathering_next, gathering_all, no_group, of_no_group}
 use Rattle.phase_maps.proofs.units.part.Goals as goal
 
 -- a range of the group's numbers
@@ -21,11 +21,11 @@ pub returns-then-unit-groups-clause-part : goal.returns-then-unit-groups-clause-
 returns-then-unit-groups-clause-part c =
     let geo = c.args.frozen.now.geometry in
     let none : geo.groups ≤ c.args.unit = omega (arith, c.if-unit-groups.true, c.groups.ensures.count, ap (λ (g : Geometry). g.groups) c.geometry-geometry.ensures.geometry) in
-    no_group geo c.geometry-geometry.ensures.frame.geometry (frozen_view c.args.frozen.now) c.args.unit c.new-part.result none (c.new-part.ensures geo (frozen_view c.args.frozen.now))
+    no_group geo c.geometry-geometry.ensures.frame.geometry (frozen_view c.args.frozen.now) c.args.unit c.new.result none (c.new.ensures geo (frozen_view c.args.frozen.now))
 
 pub returns-then-unit-groups-clause-no_group : goal.returns-then-unit-groups-clause-no_group
 returns-then-unit-groups-clause-no_group c none =
-    let e = of_no_group c.args.frozen.now.geometry (frozen_view c.args.frozen.now) c.new-part.result (c.new-part.ensures c.args.frozen.now.geometry (frozen_view c.args.frozen.now)) in
+    let e = of_no_group c.args.frozen.now.geometry (frozen_view c.args.frozen.now) c.new.result (c.new.ensures c.args.frozen.now.geometry (frozen_view c.args.frozen.now)) in
     (ap (λ (p : Gathered). p.claimed) e, ap (λ (p : Gathered). p.numbers) e)
 
 pub loop-number-init : goal.loop-number-init
@@ -33,8 +33,8 @@ loop-number-init c =
     let geo = c.args.frozen.now.geometry in
     let all : AreNumbers geo c.args.unit c.into_iter-number-iterator.result =
     numbers c.geometry-geometry.ensures.geometry c.into_iter-number-iterator.ensures.into_iter_gives c.numbers_of-number-items.ensures in (
-      gathered_first geo c.geometry-geometry.ensures.frame.geometry (frozen_view c.args.frozen.now) c.args.unit c.into_iter-number-iterator.result.start c.new-part.result
-          (λ i t e. ((all i).1 (t, e)).0) (c.new-part.ensures geo (frozen_view c.args.frozen.now)),
+      gathering_first geo c.geometry-geometry.ensures.frame.geometry (frozen_view c.args.frozen.now) c.args.unit c.into_iter-number-iterator.result.start c.new-gathering.result
+          (λ i t e. ((all i).1 (t, e)).0) (c.new-gathering.ensures geo (frozen_view c.args.frozen.now)),
       λ i from. ((λ lt. (all i).0 (from, lt)), (λ h. ((all i).1 h).1)),
     )
 
@@ -51,9 +51,9 @@ loop-number-preserved c =
     let start = c.loop-number.number-iterator.start in
     let here = (c.loop-number.invariant.1 start (omega arith)).0 (omega (arith, e.1.0)) in
     let added = c.in_ok-add_inode.ensures.gathered (λ i. stands_in geo (only c.args.unit) i && ltb i start) c.loop-number.invariant.0 in (
-      subst (λ n. IsGathered geo view (λ i. stands_in geo (only c.args.unit) i && ltb i n) c.add_inode.new.self) (sym e.1.2)
-          (gathered_next geo c.geometry-geometry.ensures.frame.geometry view c.args.unit start c.add_inode.new.self here.1
-          (subst (λ n. IsGathered geo view (λ i. (stands_in geo (only c.args.unit) i && ltb i start) || eqb i n) c.add_inode.new.self) e.1.1 added)),
+      subst (λ n. IsGathering geo view (λ i. stands_in geo (only c.args.unit) i && ltb i n) c.add_inode.new.self) (sym e.1.2)
+          (gathering_next geo c.geometry-geometry.ensures.frame.geometry view c.args.unit start c.add_inode.new.self here.1
+          (subst (λ n. IsGathering geo view (λ i. (stands_in geo (only c.args.unit) i && ltb i start) || eqb i n) c.add_inode.new.self) e.1.1 added)),
       λ i from. subst (λ past. (i < past) ↔ (IsTrue (is_number geo i) × (i / geo.inodes ≡ c.args.unit))) (sym e.0) (c.loop-number.invariant.1 i (omega (arith, from, e.1.2))),
     )
 
@@ -62,8 +62,9 @@ returns-clause-part c =
     let geo = c.args.frozen.now.geometry in
     let e = c.in-None.ensures.steps in
     let start = c.loop-number.number-iterator.start in
-    gathered_all geo c.geometry-geometry.ensures.frame.geometry (frozen_view c.args.frozen.now) c.args.unit start c.loop-number.part
+    c.in_ok-in_order.ensures geo (frozen_view c.args.frozen.now) (stands_in geo (only c.args.unit))
+    (gathering_all geo c.geometry-geometry.ensures.frame.geometry (frozen_view c.args.frozen.now) c.args.unit start c.loop-number.gathering
     (λ i t g. elim (cases_lt i start) [
       | inl lt ↦ lt
       | inr from ↦ (let lt = (c.loop-number.invariant.1 i from).1 (t, g) in omega (arith, lt, e.1.0))
-    ]) c.loop-number.invariant.0
+    ]) c.loop-number.invariant.0)

@@ -4,5 +4,4 @@ use Rattle.phase_blocks.proofs.parts.Part.new.Goals as goal
 
 pub returns-clause-part : goal.returns-clause-part
 returns-clause-part c = λ geo view.
-    gathered_none geo view c.new.result.entries c.new-2.result.keys c.new.ensures.empty c.new-2.ensures.empty
-    c.new.ensures.ordered (sorted_findings c.new-2.result.keys c.new-2.ensures.ordered)
+    gathered_none geo view c.new.result.items c.new-2.result.keys c.new.ensures.items c.new-2.ensures.empty (sorted_findings c.new-2.result.keys c.new-2.ensures.ordered)
