@@ -7,7 +7,7 @@ ghost use Rattle.connectivity.specs.Walk.{is_lost_among};
 use device::Frozen;
 use findings::Finding;
 use layout::Refusal;
-use members::Members;
+use sets::Members;
 use std::alloc::Global;
 use std::collections::BTreeSet;
 

@@ -1,14 +1,12 @@
 -- The derived order of claims is that of their keys, and claims of one block are in order of their inodes and positions.
-use Rattle.std.proofs.Common.{◌≡◌, ◌<◌, ℕ, ◌⊎◌, inl, inr, ◌↔◌, refl, sym, subst, rules, true, List, [], ◌∷◌, Contains, IsSorted, IsPermutation, Ordering, Less, Equal, Greater}
+use Rattle.std.proofs.Common.{◌≡◌, ◌<◌, ℕ, ◌⊎◌, inl, inr, ◌↔◌, refl, sym, subst, rules, true, List, [], ◌∷◌, ap, ◌∙◌, Ordering, Less, Equal, Greater}
 use mathlib.Core.Path.{fun_ext}
-use Rattle.std.specs.List.{dedup}
-use Rattle.std.specs.Cmp.{IsEquivalence, IsTotalOrder, on_total, eq_by_cmp_equiv}
+use Rattle.std.specs.Cmp.{IsTotalOrder, on_total}
 use Rattle.std.specs.Cmp.Lexicographic.{slice_cmp}
-use Rattle.std.specs.Ordering.{MatchOrdering, eq_by_cmp, nat_cmp, ordering_then}
+use Rattle.std.specs.Ordering.{MatchOrdering, eq_by_cmp, is_eq, nat_cmp, ordering_then}
 use Rattle.std.specs.List.Sorted.{IsStrictlySortedBy}
 use Rattle.std.proofs.lemmas.Cmp.{nat_list_cmp_total, ranked}
-use Rattle.std.proofs.lemmas.List.Kept.{IsStrictlySortedBy-dedup, Contains-dedup, Contains-from_dedup}
-use Rattle.std.proofs.lemmas.List.Sorted.{Contains-permutation, IsPermutation-sym}
+use Rattle.sets.specs.Ordered.{IsExact}
 use Rattle.model.specs.Uses.{Before}
 use Rattle.phase_blocks.specs.declared.parts.Claim.{Claim}
 use Rattle.phase_blocks.specs.Parts.{claim_cmp, claim_key}
@@ -27,20 +25,19 @@ eq_at x y = search rules
 eq_same : (x y : Claim) → derived_eq.ghosts.eq x y ≡ true → x ≡ y
 eq_same x y h = search rules
 
-eq_law : IsEquivalence derived_eq.ghosts.eq
-eq_law = subst (λ e. IsEquivalence e) (sym (fun_ext (λ x. fun_ext (λ y. eq_at x y)))) (eq_by_cmp_equiv claim_total)
+same_cmp : derived.ghosts.cmp ≡ claim_cmp
+same_cmp = fun_ext (λ x. fun_ext (λ y. cmp_at x y))
 
--- what a sort and a `dedup` leave of a list of claims
-pub sorted_strictly : (xs ys : List Claim) → IsSorted derived.ghosts.cmp xs → ys ≡ dedup derived_eq.ghosts.eq xs → IsStrictlySortedBy claim_cmp ys
-sorted_strictly xs ys s e =
-    let by_key : IsSorted claim_cmp xs = subst (λ c. IsSorted c xs) (fun_ext (λ x. fun_ext (λ y. cmp_at x y))) s in
-    subst (λ zs. IsStrictlySortedBy claim_cmp zs) (sym e) (IsStrictlySortedBy-dedup {R = claim_cmp} claim_total {E = derived_eq.ghosts.eq} eq_at xs by_key)
+-- claims that compare as equal are the same
+pub claim_exact : IsExact derived.ghosts.cmp
+claim_exact x y h = eq_same x y (eq_at x y ∙ ap is_eq (sym (cmp_at x y) ∙ h))
 
-pub same_members : (claims xs ys : List Claim) → IsPermutation claims xs → ys ≡ dedup derived_eq.ghosts.eq xs → (c : Claim) → Contains ys c ↔ Contains claims c
-same_members claims xs ys p e c = (
-  (λ h. Contains-permutation xs claims c (IsPermutation-sym claims xs p) (Contains-from_dedup derived_eq.ghosts.eq xs c (subst (λ zs. Contains zs c) e h))),
-  (λ h. subst (λ zs. Contains zs c) (sym e) (Contains-dedup eq_law eq_same xs c (Contains-permutation claims xs c p h))),
-)
+-- a list in the derived order
+pub by_key : (xs : List Claim) → IsStrictlySortedBy derived.ghosts.cmp xs → IsStrictlySortedBy claim_cmp xs
+by_key xs s = subst (λ c. IsStrictlySortedBy c xs) same_cmp s
+
+pub by_derived : (xs : List Claim) → IsStrictlySortedBy claim_cmp xs → IsStrictlySortedBy derived.ghosts.cmp xs
+by_derived xs s = subst (λ c. IsStrictlySortedBy c xs) (sym same_cmp) s
 
 -- the first numbers of two keys decide, or they are equal and the others decide
 first_less : (x y : ℕ) (o : Ordering) → ordering_then (nat_cmp x y) o ≡ Less → (x < y) ⊎ ((x ≡ y) × (o ≡ Less))

@@ -35,28 +35,26 @@ module _ (geo : Geometry) (view : View) where
     right_found f x =
         found_more geo view m (λ i. n i || m i) u (λ i k. s i k || u i k) (λ i y. or_right (n i) (m i) y) (λ i k y. or_right (s i k) (u i k) y) f ((right.told.found f).0 x)
 
-    pub gathered_both : (new : Gathered) (claims : List Claim) (found : List Finding) → IsStrictlySortedBy claim_cmp new.claims
-        → ((c : Claim) → Contains new.claims c ↔ Contains claims c) → claims ≡ l.claims ++ r.claims → new.found ≡ found
-        → IsStrictlySortedBy finding_cmp found → ((f : Finding) → Contains found f ↔ (Contains l.found f ⊎ Contains r.found f))
+    pub gathered_both : (new : Gathered) → IsStrictlySortedBy claim_cmp new.claims → ((c : Claim) → Contains new.claims c ↔ (Contains l.claims c ⊎ Contains r.claims c))
+        → IsStrictlySortedBy finding_cmp new.found → ((f : Finding) → Contains new.found f ↔ (Contains l.found f ⊎ Contains r.found f))
         → IsGathered geo view (λ i. n i || m i) (λ i k. s i k || u i k) new
-    gathered_both new claims found order same appended is_found in_order members = record {
+    gathered_both new order claims in_order members = record {
       claims_in_order = order;
       told = record {
         claims = λ c. (
-          (λ x. elim (Contains-append_cases l.claims r.claims c (subst (λ cs. Contains cs c) appended ((same c).0 x))) [
+          (λ x. elim ((claims c).0 x) [
             | inl y ↦ let is = (left.told.claims c).0 y in (or_left (s c.inode c.position) (u c.inode c.position) is.0, is.1)
             | inr y ↦ let is = (right.told.claims c).0 y in (or_right (s c.inode c.position) (u c.inode c.position) is.0, is.1)
           ]),
-          (λ x. (same c).1 (subst (λ cs. Contains cs c) (sym appended) (elim (or_cases (s c.inode c.position) (u c.inode c.position) x.0) [
-            | inl y ↦ Contains-append_left l.claims r.claims c ((left.told.claims c).1 (y, x.1))
-            | inr y ↦ Contains-append_right l.claims r.claims c ((right.told.claims c).1 (y, x.1))
-          ]))),
+          (λ x. (claims c).1 (elim (or_cases (s c.inode c.position) (u c.inode c.position) x.0) [
+            | inl y ↦ inl ((left.told.claims c).1 (y, x.1))
+            | inr y ↦ inr ((right.told.claims c).1 (y, x.1))
+          ])),
         );
-        found_in_order = subst (λ fs. IsStrictlySortedBy finding_cmp fs) (sym is_found) in_order;
+        found_in_order = in_order;
         found = λ f. (
-          (λ x. elim ((members f).0 (subst (λ fs. Contains fs f) is_found x)) [ inl y ↦ left_found f y | inr y ↦ right_found f y ]),
-          (λ x. subst (λ fs. Contains fs f) (sym is_found)
-              ((members f).1 (elim (found_parts f x) [ inl y ↦ inl ((left.told.found f).1 y) | inr y ↦ inr ((right.told.found f).1 y) ]))),
+          (λ x. elim ((members f).0 x) [ inl y ↦ left_found f y | inr y ↦ right_found f y ]),
+          (λ x. (members f).1 (elim (found_parts f x) [ inl y ↦ inl ((left.told.found f).1 y) | inr y ↦ inr ((right.told.found f).1 y) ])),
         );
       };
     }

@@ -10,6 +10,7 @@ ghost use Rattle.phase_blocks.specs.Parts.{AddsClaim, AddsFinding, IsPart, IsRep
 
 use findings::{Finding, in_order};
 use layout::Refusal;
+use sets::union;
 use std::alloc::Global;
 use std::collections::BTreeSet;
 use std::marker::Model;
@@ -69,16 +70,16 @@ impl Part {
         Ok(())
     }
 
-    /// Puts the claims in order, each once.
-    pub(crate) fn put_in_order(&mut self) -> Result<(), Refusal>
-        ensures order { OnOk result (IsStrictlySortedBy claim_cmp self.new.claims) }
-        ensures same { OnOk result ((c : Claim) → Contains self.new.claims c ↔ Contains self.old.claims c) }
-        ensures found { self.new.found ≡ self.old.found }
+    /// The same with the claims in order, each once.
+    pub(crate) fn in_order(self) -> Result<Part, Refusal>
+        ensures order { IfOk result (λ part. IsStrictlySortedBy claim_cmp part.claims) }
+        ensures same { IfOk result (λ part. (c : Claim) → Contains part.claims c ↔ Contains self.claims c) }
+        ensures found { IfOk result (λ part. part.found ≡ self.found) }
         ensures error { IsOkUnless result Refusal.NoMemory }
     {
-        self.claims.sort()?;
-        self.claims.dedup();
-        Ok(())
+        let Part { claims, found } = self;
+        let claims = sets::in_order(claims)?;
+        Ok(Part { claims, found })
     }
 
     /// The claims of blocks that an earlier claim owns, as findings. As the claims are in order, each of them comes right
@@ -117,12 +118,11 @@ pub fn merge(left: Part, right: Part) -> Result<Part, Refusal>
     ensures error { IsOkUnless result Refusal.NoMemory }
 {
     let Part {
-        mut claims,
-        mut found,
+        claims: more,
+        found: mut others,
     } = right;
-    let mut whole = left;
-    whole.claims.append(&mut claims)?;
-    whole.found.append(&mut found)?;
-    whole.put_in_order()?;
-    Ok(whole)
+    let Part { claims, mut found } = left;
+    found.append(&mut others)?;
+    let claims = union(claims, more)?;
+    Ok(Part { claims, found })
 }

@@ -26,8 +26,7 @@ pub fn part(alloc: Global, frozen: &Frozen, unit: u32) -> Result<Part, Refusal>
     for number in geometry.numbers_of(unit) {
         look_at_inode(&mut part, frozen, number)?;
     }
-    part.put_in_order()?;
-    Ok(part)
+    part.in_order()
 }
 
 /// Looks at the record of an inode, and at all that it uses.

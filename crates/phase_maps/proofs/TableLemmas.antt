@@ -1,15 +1,10 @@
 -- How a table of claimed blocks is filled.
-use Rattle.std.proofs.Common.{◌≡◌, ◌<◌, ◌+◌, ◌++◌, ◌||◌, ℕ, suc, Bool, false, eqb, List, [], ◌∷◌, length, take, get_or, inl, inr, sym, ap, ◌∙◌, subst, arith, Contains}
+use Rattle.std.proofs.Common.{◌≡◌, ◌<◌, ◌+◌, ◌++◌, ◌||◌, ℕ, suc, Bool, eqb, List, [], ◌∷◌, length, take, get_or, inl, inr, sym, ap, ◌∙◌, subst, arith, Contains}
 use Rattle.std.proofs.lemmas.Bool.{eq-eqb, eqb-true}
 use Rattle.std.proofs.lemmas.List.Elements.{Contains-append_left, Contains-push, Contains-push_cases}
 use Rattle.std.proofs.Math.Seq.{take-suc}
-use Rattle.findings.proofs.Sorted.{Contains-none}
 use Rattle.model.proofs.Adding.{or_parts, or_left, or_right}
 use Rattle.phase_maps.specs.Walks.{ClaimsOne, IsTableOf, is_claimed_in}
-
--- no block yet
-pub table_none : (n : ℕ) (table : List Bool) → ((a : ℕ) → a < n → is_claimed_in table a ≡ false) → IsTableOf [] n table
-table_none n table none a low = ((λ t. let f = none a low in cc), (λ c. absurd (Contains-none a c)))
 
 -- one block more
 table_push : (claimed : List ℕ) (b n : ℕ) (old new : List Bool) → length old ≡ n → ClaimsOne b old new → IsTableOf claimed n old → IsTableOf (claimed ++ b ∷ []) n new

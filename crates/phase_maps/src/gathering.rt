@@ -10,7 +10,6 @@ ghost use Rattle.phase_maps.specs.Parts.{IsGathering, IsGathered, IsPart};
 
 use crate::claims::add_claims;
 use crate::numbers::add_number;
-use crate::order;
 use device::Frozen;
 use findings::Finding;
 use layout::Refusal;
@@ -102,10 +101,11 @@ impl Gathering {
 
     /// The same with the claimed blocks in order, each once.
     pub(crate) fn in_order(self) -> Result<Part, AllocError>
-        ensures { IfOk result (λ part. (geo : Numbers) (view : View) (inodes : ℕ → Bool) → IsGathering geo view inodes self → IsGathered geo view inodes part) }
+        ensures { IfOk result (λ part. (geo : Numbers) (view : View) (inodes : ℕ → Bool)
+            → IsGathering geo view inodes self → IsGathered geo view inodes part) }
     {
         Ok(Part {
-            claimed: order::in_order(self.claims)?,
+            claimed: sets::in_order(self.claims)?,
             numbers: self.numbers,
         })
     }
@@ -118,7 +118,7 @@ pub fn merge(left: Part, right: Part) -> Result<Part, Refusal>
     ensures error { IsOkUnless result Refusal.NoMemory }
 {
     Ok(Part {
-        claimed: order::union(left.claimed, right.claimed)?,
+        claimed: sets::union(left.claimed, right.claimed)?,
         numbers: union(left.numbers, right.numbers)?,
     })
 }

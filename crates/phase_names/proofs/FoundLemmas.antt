@@ -16,7 +16,7 @@ use Rattle.model.specs.Reach.{HasParent, IsEntry, IsReachableDirectory}
 use Rattle.model.specs.Reached.{AreReached}
 use Rattle.model.proofs.SlotLemmas.{directory_number, names_from_number, number_from_names, number_low, reachable_directory}
 use Rattle.phase_names.specs.declared.entries.Entry.{Entry}
-use Rattle.members.specs.Members.{is_among}
+use Rattle.sets.specs.Members.{is_among}
 use Rattle.phase_names.specs.Entries.{AtBelow, IsExtraAt, IsFoundAlone, IsHeldAt, IsRootBad, IsWithoutParent, StandsAt, entries_below, has_parent, parent_in}
 use Rattle.phase_names.specs.Told.{IsLocal, IsPart, IsTold, Told}
 use Rattle.phase_names.proofs.EntryLemmas.{Contains_mapped, EntryBefore, mapped_Contains, place_prefix, places_in_order, prefix_place}

@@ -22,7 +22,7 @@ use Rattle.model.proofs.ReachLemmas.{directory_reached}
 use Rattle.model.proofs.SlotLemmas.{directory_number, names_from_number, names_stands, number_from_names, number_low, number_below, reachable_directory}
 use Rattle.phase_names.specs.declared.look.Naming.{Naming}
 use Rattle.phase_names.specs.declared.entries.Entry.{Entry}
-use Rattle.members.specs.Members.{is_among}
+use Rattle.sets.specs.Members.{is_among}
 use Rattle.phase_names.specs.Entries.{entries_at, entries_below, entries_from, parent_in, told_by}
 use Rattle.phase_names.specs.Told.{IsPart, IsTold, Told, naming_of, namings_below}
 use Rattle.phase_names.proofs.EntryLemmas.{AreInOrder, Contains_mapped, EntryBefore, in_order_both, in_order_few, mapped_Contains}

@@ -2,7 +2,7 @@
 use Rattle.std.specs.Prelude.{◌≡◌, ℕ, zero, suc, ◌<◌, ◌==◌, Bool, List, [], ◌++◌, map, take, length, slice_index_or, Option, Some, None, ◌⊎◌, if◌then◌else◌, IsFalse}
 use Rattle.std.specs.List.{Contains}
 use Rattle.std.specs.Option.{option_map_or}
-use Rattle.members.specs.Members.{is_among}
+use Rattle.sets.specs.Members.{is_among}
 use Rattle.findings.specs.declared.finding.Finding.{Finding}
 use Rattle.findings.specs.declared.finding.Finding.TheVariants.{RootBad, BadDotDot, ExtraName}
 use Rattle.model.specs.Layout.{Geometry, root}

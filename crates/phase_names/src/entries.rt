@@ -6,7 +6,7 @@ use crate::look::Naming;
 use crate::parts::Part;
 use findings::Finding;
 use layout::{ROOT, Refusal};
-use members::Members;
+use sets::Members;
 use std::alloc::{AllocError, Global};
 use std::collections::BTreeSet;
 

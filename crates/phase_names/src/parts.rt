@@ -9,7 +9,7 @@ ghost use Rattle.phase_names.specs.Told.{IsPart, Told};
 
 use crate::look::Look;
 use layout::Refusal;
-use members::Members;
+use sets::Members;
 use std::alloc::Global;
 use std::collections::BTreeMap;
 use std::marker::Model;

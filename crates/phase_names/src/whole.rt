@@ -13,7 +13,7 @@ use crate::parts::Part;
 use device::Frozen;
 use findings::{Finding, in_order};
 use layout::{ROOT, Refusal};
-use members::Members;
+use sets::Members;
 use std::alloc::{AllocError, Global};
 use std::collections::BTreeSet;
 

@@ -15,7 +15,7 @@ use Rattle.model.proofs.ReachLemmas.{directory_reached}
 use Rattle.model.proofs.SlotLemmas.{number_low, number_below, reachable_directory}
 use Rattle.model.proofs.Sums.{sum-same}
 use Rattle.directories.specs.Named.{numbers_in}
-use Rattle.members.specs.Members.{is_among}
+use Rattle.sets.specs.Members.{is_among}
 use Rattle.refcounts.specs.Counts.{count_at, most, named_by, times_below}
 use Rattle.refcounts.proofs.CountLemmas.{AreBelow}
 

@@ -16,7 +16,7 @@ use Rattle.model.proofs.Adding.{adds_both, adds_nothing, adds_same}
 use Rattle.model.proofs.Finite.{entries_once}
 use Rattle.model.proofs.Same.{reachable_number}
 use Rattle.model.proofs.SlotLemmas.{number_low, number_below}
-use Rattle.members.specs.Members.{is_among}
+use Rattle.sets.specs.Members.{is_among}
 use Rattle.refcounts.specs.Counts.{count_at}
 use Rattle.refcounts.specs.Links.{IsFoundBelow, IsFoundOfLinks, links_finding}
 use Rattle.refcounts.proofs.EntryLemmas.{among, there}

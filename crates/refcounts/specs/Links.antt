@@ -3,7 +3,7 @@ use Rattle.std.specs.Prelude.{◌≡◌, ℕ, ◌≤◌, ◌<◌, nat_lt, true, 
 use Rattle.findings.specs.declared.finding.Finding.{Finding}
 use Rattle.findings.specs.declared.finding.Finding.TheVariants.{CountHigh, CountLow}
 use Rattle.model.specs.View.{View}
-use Rattle.members.specs.Members.{is_among}
+use Rattle.sets.specs.Members.{is_among}
 use Rattle.refcounts.specs.Counts.{count_at}
 
 -- what is found of an inode with so many links and entries

@@ -10,7 +10,7 @@ ghost use Rattle.refcounts.specs.Counts.{AreCounts, Counted, CountsOne, count_at
 use device::Frozen;
 use directories::{Named, whole_tables_have_every_directory};
 use layout::Refusal;
-use members::Members;
+use sets::Members;
 use std::alloc::{AllocError, Global};
 use std::collections::BTreeSet;
 use std::marker::Model;

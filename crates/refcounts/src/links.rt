@@ -13,7 +13,7 @@ use device::Frozen;
 use directories::Named;
 use findings::{Finding, in_order};
 use layout::{ROOT, Refusal};
-use members::Members;
+use sets::Members;
 use std::alloc::{AllocError, Global};
 use std::collections::BTreeSet;
 

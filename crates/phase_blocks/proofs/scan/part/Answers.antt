@@ -4,9 +4,10 @@ use Rattle.std.proofs.lemmas.Bool.{cases_lt}
 use Rattle.std.specs.declared.ops.Range.{Range}
 use Rattle.model.specs.Layout.{Geometry, is_number}
 use Rattle.device.specs.Kept.{frozen_view}
-use Rattle.phase_blocks.specs.Parts.{Tells, with_inode, with_uses}
+use Rattle.phase_blocks.specs.Parts.{Gathered, IsGathered, Tells, with_inode, with_uses}
 use Rattle.phase_blocks.proofs.Scanning.{group_below, no_numbers, none_yet, one_more, whole_group}
 use Rattle.model.specs.Units.{only, stands_in}
+use Rattle.model.proofs.Adding.{IfOk-both}
 use Rattle.phase_blocks.proofs.Gathering.{gathered_in_order}
 use Rattle.phase_blocks.proofs.scan.part.Goals as goal
 
@@ -68,5 +69,8 @@ returns-clause-part c =
       | inl lt ↦ lt
       | inr from ↦ (let lt = (c.loop-number.invariant.1 i from).1 (t, g) in omega (arith, lt, e.1.0))
     ]) c.loop-number.invariant.0 in
-    gathered_in_order geo view (stands_in geo (only c.args.unit)) (λ i l. stands_in geo (only c.args.unit) i) c.loop-number.part c.put_in_order.new.self told
-    c.in_ok-put_in_order.ensures.order c.in_ok-put_in_order.ensures.same c.put_in_order.ensures.found
+    let uses = λ (i l : ℕ). stands_in geo (only c.args.unit) i in
+    let Gathers = λ (part : Gathered). (part.found ≡ c.loop-number.part.found) → IsGathered geo view (stands_in geo (only c.args.unit)) uses part in
+    IfOk-both c.in_order.result _ Gathers _ (λ part found gathers. gathers found) c.in_order.ensures.found
+    (IfOk-both c.in_order.result _ _ Gathers (λ part order same found. gathered_in_order geo view (stands_in geo (only c.args.unit)) uses c.loop-number.part part told order same found)
+    c.in_order.ensures.order c.in_order.ensures.same)
