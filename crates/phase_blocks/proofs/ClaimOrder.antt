@@ -1,5 +1,5 @@
 -- The derived order of claims is that of their keys, and claims of one block are in order of their inodes and positions.
-use Rattle.std.proofs.Common.{◌≡◌, ◌<◌, ℕ, ◌⊎◌, inl, inr, ◌↔◌, refl, sym, subst, rules, true, List, [], ◌∷◌, ap, ◌∙◌, Ordering, Less, Equal, Greater}
+use Rattle.std.proofs.Common.{◌≡◌, ◌<◌, ℕ, ◌⊎◌, inl, inr, refl, sym, subst, rules, true, List, [], ◌∷◌, ap, ◌∙◌, Ordering, Less, Equal, Greater}
 use mathlib.Core.Path.{fun_ext}
 use Rattle.std.specs.Cmp.{IsTotalOrder, on_total}
 use Rattle.std.specs.Cmp.Lexicographic.{slice_cmp}

@@ -1,5 +1,5 @@
 -- What is gathered of two parts, and that it is all that there is to tell of them.
-use Rattle.std.proofs.Common.{◌≡◌, ◌/◌, ℕ, ◌||◌, List, ◌++◌, Contains, ◌⊎◌, inl, inr, ◌↔◌, refl, sym, subst, IsTrue}
+use Rattle.std.proofs.Common.{◌≡◌, ◌/◌, ℕ, ◌||◌, List, ◌++◌, Contains, ◌⊎◌, inl, inr, ◌↔◌, refl, IsTrue}
 use Rattle.std.specs.List.Sorted.{IsStrictlySortedBy}
 use Rattle.std.proofs.lemmas.Bool.{or_cases, or_left, or_right, and_parts}
 use Rattle.std.proofs.lemmas.List.Elements.{Contains-append_left, Contains-append_right, Contains-append_cases}

@@ -38,10 +38,9 @@ impl Part {
     pub fn new(alloc: Global) -> Part
         ensures { (geo : Numbers) (view : View) → IsPart geo view no_unit result }
     {
-        Part {
-            claimed: Vec::new(alloc),
-            numbers: BTreeSet::new(alloc),
-        }
+        let claimed = Vec::new(alloc);
+        let numbers = BTreeSet::new(alloc);
+        Part { claimed, numbers }
     }
 
     /// The claimed blocks.

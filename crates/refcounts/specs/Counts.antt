@@ -1,5 +1,5 @@
 -- How many entries name each inode, by number.
-use Rattle.std.specs.Prelude.{◌≡◌, ℕ, ◌+◌, ◌<◌, ◌≤◌, min, ◌==◌, Bool, List, [], length, slice_index, if◌then◌else◌}
+use Rattle.std.specs.Prelude.{◌≡◌, ℕ, ◌+◌, ◌<◌, ◌≤◌, min, ◌==◌, List, [], length, slice_index, if◌then◌else◌}
 use Rattle.sets.specs.Members.{is_among}
 use Rattle.model.specs.Named.{times}
 use Rattle.model.specs.Reach.{sum_below}

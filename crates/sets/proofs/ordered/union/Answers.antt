@@ -1,5 +1,5 @@
 -- What stays on the left, and what is sorted in after it.
-use Rattle.std.proofs.Common.{◌≡◌, ◌↔◌, ◌++◌, ◌∙◌, ℕ, List, Some, Less, ◌⊎◌, take, drop, slice_get, ap, sym, subst, Contains}
+use Rattle.std.proofs.Common.{◌≡◌, ◌↔◌, ◌++◌, ◌∙◌, Some, Less, ◌⊎◌, take, drop, slice_get, ap, sym, subst, Contains}
 use Rattle.std.specs.List.Sorted.{IsStrictlySortedBy}
 use Rattle.sets.specs.Ordered.{IsExact}
 use Rattle.sets.proofs.OrderLemmas.{joined_order, joined_members}

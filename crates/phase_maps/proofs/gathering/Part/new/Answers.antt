@@ -4,4 +4,4 @@ use Rattle.phase_maps.proofs.PartLemmas.{gathered_none}
 use Rattle.phase_maps.proofs.gathering.Part.new.Goals as goal
 
 pub returns : goal.returns
-returns c geo view = gathered_none geo view (stands_in geo no_unit) _ (λ i num. refl) c.new.ensures.items c.new-2.ensures.empty
+returns c geo view = gathered_none geo view (stands_in geo no_unit) _ (λ i num. refl) c.new-claimed.ensures.items c.new-numbers.ensures.empty
