@@ -1,11 +1,16 @@
 -- What the five phases find is all that there is to find.
-use Rattle.std.proofs.Common.{ℕ, Bool, ◌||◌, List, ◌++◌, ◌↔◌, Contains, refl, IsTrue, inl, inr}
+use Rattle.std.proofs.Common.{◌≡◌, ◌∙◌, ap, sym, ℕ, Bool, ◌||◌, List, ◌++◌, ◌↔◌, Contains, refl, IsTrue, inl, inr}
 use Rattle.std.proofs.lemmas.Bool.{or_cases, or_left, or_right}
 use Rattle.std.proofs.lemmas.List.Elements.{Contains-append_left, Contains-append_right, Contains-append_cases}
+use Rattle.std.proofs.lemmas.Cmp.{nat_list_cmp_total}
+use Rattle.std.specs.Cmp.{on_total}
 use Rattle.std.specs.List.Sorted.{IsStrictlySortedBy}
 use Rattle.findings.specs.declared.finding.Finding.{Finding}
 use Rattle.findings.specs.declared.finding.Finding.TheVariants.{BadInode, BadPointer, Duplicate, RootBad, BadSlot, DupName, BadDot, BadDotDot, ToUnsound, ExtraName, LostInode, CountHigh, CountLow, LostBlock, UnmarkedBlock, LostNumber, UnmarkedInode}
 use Rattle.findings.specs.Findings.{IsFinding, AreFindings, AreFindingsOf, finding_cmp, is_of_blocks, is_of_names, is_of_connectivity, is_of_counts, is_of_maps}
+use Rattle.findings.specs.Findings.{finding_key}
+use Rattle.findings.specs.Report.{report_of, verdict_of, repairs_of}
+use Rattle.findings.proofs.Sorted.{same_sorted}
 use Rattle.findings.proofs.SameFindings.{same_findings}
 use Rattle.model.specs.Layout.{Geometry}
 use Rattle.model.specs.View.{View}
@@ -86,3 +91,13 @@ image_checked image checked of is = record {
   verdict = is.verdict;
   repairs = is.repairs;
 }
+
+-- what is checked of an image is told by the image
+pub same_checked : (geo : Geometry) (view : View) (a b : CheckedImage) → IsChecked geo view a → IsChecked geo view b → a.frozen ≡ b.frozen → a ≡ b
+same_checked geo view a b is also same =
+    let findings : a.findings ≡ b.findings = same_sorted finding_cmp (on_total finding_key nat_list_cmp_total) a.findings b.findings is.findings.in_order also.findings.in_order
+    (λ f h. (also.findings.exactly f).1 ((is.findings.exactly f).0 h)) (λ f h. (is.findings.exactly f).1 ((also.findings.exactly f).0 h)) in
+    let report : a.report ≡ b.report = is.report ∙ ap report_of findings ∙ sym also.report in
+    let verdict : a.verdict ≡ b.verdict = is.verdict ∙ ap verdict_of findings ∙ sym also.verdict in
+    let repairs : a.repairs ≡ b.repairs = is.repairs ∙ ap repairs_of findings ∙ sym also.repairs in
+    λ i. record { frozen = same i; findings = findings i; report = report i; verdict = verdict i; repairs = repairs i }

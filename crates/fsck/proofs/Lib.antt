@@ -1,4 +1,5 @@
 mod FindingLemmas
 mod VerdictLemmas
 mod OrderLemmas
+mod PartLemmas
 pub mod UnitLemmas

@@ -1,8 +1,9 @@
-//! The check of a whole image: records and the blocks that they use, names, connectivity, reference counts, and the maps
-//! of the cylinder groups, one after another. Threads sort what was found, and do nothing else.
+//! The check of a whole image: records and the blocks that they use, names, connectivity, reference counts, and the
+//! maps of the cylinder groups, one after another. In each of these phases workers share the groups, and what they made
+//! of them is merged on the calling thread.
 #![tactic(auto)]
 
-ghost use Rattle.std.specs.Prelude.{◌≡◌, ◌↔◌, ℕ, List, IfOk, IsOkUnless};
+ghost use Rattle.std.specs.Prelude.{◌≡◌, ◌↔◌, ℕ, List, IfOk, IsErrOf, IsFalse, IsOkUnless, IsTrue};
 ghost use Rattle.std.specs.Arc.{arc_value};
 ghost use Rattle.findings.specs.Findings.{AreFindings};
 ghost use Rattle.findings.specs.Report.{verdict_of};
@@ -13,49 +14,193 @@ ghost use Rattle.model.specs.Image.{image_view};
 ghost use Rattle.model.specs.Layout.{Geometry};
 ghost use Rattle.model.specs.Rules.{ObeysRules};
 ghost use Rattle.model.specs.View.{View};
+ghost use Rattle.workers.specs.Workers.{may_work};
 ghost use Rattle.fsck.specs.Checked.{CheckedImage, IsChecked, IsFoundIn};
+ghost use Rattle.fsck.specs.Parts.{MakesParts};
+ghost use Rattle.fsck.specs.Parts.{is_blocks_part, is_counts_part, is_entries_part, is_maps_part, is_names_part};
 
 mod checked;
+mod hands;
 mod order;
 mod phases;
 #[cfg(test)]
 mod tests;
+mod works;
 
 pub use checked::Checked;
 use device::Frozen;
 use findings::Finding;
+use hands::{parts_of_crew, parts_of_one};
 use layout::Refusal;
 use order::in_order;
 use phases::{check_blocks, check_counts, check_maps, check_names, reach};
 use std::alloc::Global;
 use std::sync::Arc;
 use std::thread::Threads;
+use workers::{Gate, MOST_WORKERS};
+use works::{Blocks, Counts, Entries, Maps, Names};
 
-/// Checks an image. Only `NoMemory` is refused.
+/// Checks an image with 1 to 64 workers, which share the groups. `BadWorkers` is refused for any other number, and
+/// otherwise `NoMemory` alone. What is found is the same for every number of workers.
+///
+/// The workers pass the gate before each group in each phase, with the phase's number from 1 to 5: first all groups in
+/// phase 1, and so on.
+pub fn check<G: Gate>(
+    rt: &(impl Threads + Sync),
+    alloc: Global,
+    frozen: &Arc<Frozen>,
+    workers: u32,
+    gate: &G,
+) -> Result<Checked, Refusal>
+    ensures frozen { IfOk result (λ checked. checked.frozen ≡ arc_value frozen.now) }
+    ensures checked { IfOk result (λ checked.
+        IsChecked (arc_value frozen.now).geometry (frozen_view (arc_value frozen.now)) checked) }
+    ensures workers { IsErrOf result Refusal.BadWorkers ↔ IsFalse (may_work workers) }
+    ensures error { IsTrue (may_work workers) → IsOkUnless result Refusal.NoMemory }
+{
+    if workers == 0 || workers as usize > MOST_WORKERS {
+        return Err(Refusal::BadWorkers);
+    }
+    let found = find_shared(rt, workers, gate, alloc, frozen)?;
+    checked_of(rt, alloc, frozen, found)
+}
+
+/// Checks an image with one worker, on the calling thread; other threads sort what was found, and do nothing else. Only
+/// `NoMemory` is refused.
 pub fn check_one(
     rt: &(impl Threads + Sync),
     alloc: Global,
     frozen: &Arc<Frozen>,
 ) -> Result<Checked, Refusal>
     ensures frozen { IfOk result (λ checked. checked.frozen ≡ arc_value frozen.now) }
-    ensures checked { IfOk result (λ checked. IsChecked (arc_value frozen.now).geometry (frozen_view (arc_value frozen.now)) checked) }
+    ensures checked { IfOk result (λ checked.
+        IsChecked (arc_value frozen.now).geometry (frozen_view (arc_value frozen.now)) checked) }
     ensures error { IsOkUnless result Refusal.NoMemory }
 {
-    let found = in_order(rt, alloc, find(alloc, frozen)?)?;
+    let found = find(alloc, frozen)?;
+    checked_of(rt, alloc, frozen, found)
+}
+
+/// The checked image, from all that was found of it, in any order.
+fn checked_of(
+    rt: &(impl Threads + Sync),
+    alloc: Global,
+    frozen: &Arc<Frozen>,
+    found: Vec<Finding>,
+) -> Result<Checked, Refusal>
+    requires { (f : Found) → IsFoundIn (arc_value frozen.now) f found.items }
+    ensures frozen { IfOk result (λ checked. checked.frozen ≡ arc_value frozen.now) }
+    ensures checked { IfOk result (λ checked.
+        IsChecked (arc_value frozen.now).geometry (frozen_view (arc_value frozen.now)) checked) }
+    ensures error { IsOkUnless result Refusal.NoMemory }
+{
+    let found = in_order(rt, alloc, found)?;
     Checked::new(alloc, Arc::clone(frozen)?, found)
 }
 
-/// What the five phases find, one after another: each finding of the image at least once, in no order.
+/// What the five phases find, with one worker on the calling thread: each finding of the image at least once, in no
+/// order. Only `NoMemory` is refused.
 pub fn find(alloc: Global, frozen: &Frozen) -> Result<Vec<Finding>, Refusal>
     ensures found { IfOk result (λ found. (f : Found) → IsFoundIn frozen.now f found.items) }
     ensures error { IsOkUnless result Refusal.NoMemory }
 {
-    let reached = reach(alloc, frozen)?;
-    let mut found = check_blocks(alloc, frozen)?;
-    found.append(&mut check_names(alloc, frozen, &reached)?)?;
+    find_by(
+        alloc,
+        frozen,
+        || -> Result<Vec<phase_blocks::Part>, Refusal>
+            ensures { MakesParts (is_blocks_part frozen.entry.now) frozen.entry.now.geometry.groups result }
+        { parts_of_one(alloc, frozen, Blocks { alloc, frozen }) },
+        || -> Result<Vec<phase_names::Part>, Refusal>
+            ensures { MakesParts (is_names_part frozen.entry.now) frozen.entry.now.geometry.groups result }
+        { parts_of_one(alloc, frozen, Names { alloc, frozen }) },
+        || -> Result<Vec<connectivity::Part>, Refusal>
+            ensures { MakesParts (is_entries_part frozen.entry.now) frozen.entry.now.geometry.groups result }
+        { parts_of_one(alloc, frozen, Entries { alloc, frozen }) },
+        || -> Result<Vec<refcounts::Part>, Refusal>
+            ensures { MakesParts (is_counts_part frozen.entry.now) frozen.entry.now.geometry.groups result }
+        { parts_of_one(alloc, frozen, Counts { alloc, frozen }) },
+        || -> Result<Vec<phase_maps::Part>, Refusal>
+            ensures { MakesParts (is_maps_part frozen.entry.now) frozen.entry.now.geometry.groups result }
+        { parts_of_one(alloc, frozen, Maps { alloc, frozen }) },
+    )
+}
+
+/// The same, with a crew.
+fn find_shared<R: Threads + Sync, G: Gate>(
+    rt: &R,
+    workers: u32,
+    gate: &G,
+    alloc: Global,
+    frozen: &Frozen,
+) -> Result<Vec<Finding>, Refusal>
+    requires { IsTrue (may_work workers) }
+    ensures found { IfOk result (λ found. (f : Found) → IsFoundIn frozen.now f found.items) }
+    ensures error { IsOkUnless result Refusal.NoMemory }
+{
+    find_by(
+        alloc,
+        frozen,
+        || -> Result<Vec<phase_blocks::Part>, Refusal>
+            requires { IsTrue (may_work workers) }
+            ensures { MakesParts (is_blocks_part frozen.entry.now) frozen.entry.now.geometry.groups result }
+        { parts_of_crew(rt, workers, gate, alloc, frozen, Blocks { alloc, frozen }) },
+        || -> Result<Vec<phase_names::Part>, Refusal>
+            requires { IsTrue (may_work workers) }
+            ensures { MakesParts (is_names_part frozen.entry.now) frozen.entry.now.geometry.groups result }
+        { parts_of_crew(rt, workers, gate, alloc, frozen, Names { alloc, frozen }) },
+        || -> Result<Vec<connectivity::Part>, Refusal>
+            requires { IsTrue (may_work workers) }
+            ensures { MakesParts (is_entries_part frozen.entry.now) frozen.entry.now.geometry.groups result }
+        { parts_of_crew(rt, workers, gate, alloc, frozen, Entries { alloc, frozen }) },
+        || -> Result<Vec<refcounts::Part>, Refusal>
+            requires { IsTrue (may_work workers) }
+            ensures { MakesParts (is_counts_part frozen.entry.now) frozen.entry.now.geometry.groups result }
+        { parts_of_crew(rt, workers, gate, alloc, frozen, Counts { alloc, frozen }) },
+        || -> Result<Vec<phase_maps::Part>, Refusal>
+            requires { IsTrue (may_work workers) }
+            ensures { MakesParts (is_maps_part frozen.entry.now) frozen.entry.now.geometry.groups result }
+        { parts_of_crew(rt, workers, gate, alloc, frozen, Maps { alloc, frozen }) },
+    )
+}
+
+/// What the five phases find, one after another, whoever makes the parts: of each phase a call gives those of all
+/// groups. The parts of phase 2 wait for what phase 3 reaches.
+fn find_by<B, N, E, C, M>(
+    alloc: Global,
+    frozen: &Frozen,
+    blocks: B,
+    names: N,
+    entries: E,
+    counts: C,
+    maps: M,
+) -> Result<Vec<Finding>, Refusal>
+where
+    B: FnOnce() -> Result<Vec<phase_blocks::Part>, Refusal>,
+    N: FnOnce() -> Result<Vec<phase_names::Part>, Refusal>,
+    E: FnOnce() -> Result<Vec<connectivity::Part>, Refusal>,
+    C: FnOnce() -> Result<Vec<refcounts::Part>, Refusal>,
+    M: FnOnce() -> Result<Vec<phase_maps::Part>, Refusal>,
+    requires callable { B.pre blocks × N.pre names × E.pre entries × C.pre counts × M.pre maps }
+    requires blocks { (made : _) → B.post blocks made
+        → MakesParts (is_blocks_part frozen.now) frozen.now.geometry.groups made }
+    requires names { (made : _) → N.post names made
+        → MakesParts (is_names_part frozen.now) frozen.now.geometry.groups made }
+    requires entries { (made : _) → E.post entries made
+        → MakesParts (is_entries_part frozen.now) frozen.now.geometry.groups made }
+    requires counts { (made : _) → C.post counts made
+        → MakesParts (is_counts_part frozen.now) frozen.now.geometry.groups made }
+    requires maps { (made : _) → M.post maps made
+        → MakesParts (is_maps_part frozen.now) frozen.now.geometry.groups made }
+    ensures found { IfOk result (λ found. (f : Found) → IsFoundIn frozen.now f found.items) }
+    ensures error { IsOkUnless result Refusal.NoMemory }
+{
+    let mut found = check_blocks(alloc, frozen, blocks()?)?;
+    let names = names()?;
+    let reached = reach(alloc, frozen, entries()?)?;
+    found.append(&mut check_names(alloc, frozen, names, &reached)?)?;
     found.append(&mut connectivity::findings(alloc, frozen, &reached)?)?;
-    found.append(&mut check_counts(alloc, frozen, &reached)?)?;
-    found.append(&mut check_maps(alloc, frozen)?)?;
+    found.append(&mut check_counts(alloc, frozen, counts()?, &reached)?)?;
+    found.append(&mut check_maps(alloc, frozen, maps()?)?)?;
     Ok(found)
 }
 
@@ -70,6 +215,13 @@ pub fn a_checked_image_is_the_images()
     ensures { (image : List (List ℕ)) (checked : CheckedImage) → IsKeptOf checked.frozen image
         → IsChecked checked.frozen.geometry (frozen_view checked.frozen) checked
         → IsChecked checked.frozen.geometry (image_view checked.frozen.geometry image) checked }
+{}
+
+/// What is checked of an image is told by the image: it does not depend on the number of workers, or on what they did
+/// when.
+pub fn checked_images_are_told_by_their_image()
+    ensures { (geo : Geometry) (view : View) (a b : CheckedImage) → IsChecked geo view a → IsChecked geo view b
+        → a.frozen ≡ b.frozen → a ≡ b }
 {}
 
 /// The verdict is `Damaged` exactly where a rule is broken that soft updates keep.

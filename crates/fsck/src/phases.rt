@@ -1,8 +1,10 @@
-//! The five phases, each over the groups of a volume one after another.
+//! The five phases, each from the parts of all groups of a volume.
 ghost use Rattle.std.specs.Prelude.{◌≡◌, IfOk, IsOkUnless};
 ghost use Rattle.findings.specs.Findings.{AreFindingsOf, is_of_blocks, is_of_names, is_of_counts, is_of_maps};
 ghost use Rattle.model.specs.Reached.{AreReached};
 ghost use Rattle.device.specs.Kept.{frozen_view};
+ghost use Rattle.fsck.specs.Parts.{AreParts};
+ghost use Rattle.fsck.specs.Parts.{is_blocks_part, is_counts_part, is_entries_part, is_maps_part, is_names_part};
 
 use device::Frozen;
 use findings::Finding;
@@ -11,13 +13,18 @@ use std::alloc::Global;
 use std::collections::BTreeSet;
 
 /// Phase 1: what is found of the records, and of the blocks that they use.
-pub(crate) fn check_blocks(alloc: Global, frozen: &Frozen) -> Result<Vec<Finding>, Refusal>
+pub(crate) fn check_blocks(
+    alloc: Global,
+    frozen: &Frozen,
+    parts: Vec<phase_blocks::Part>,
+) -> Result<Vec<Finding>, Refusal>
+    requires { AreParts (is_blocks_part frozen.now) frozen.now.geometry.groups parts.items }
     ensures findings { IfOk result (λ found. AreFindingsOf is_of_blocks frozen.now.geometry (frozen_view frozen.now) found.items) }
     ensures error { IsOkUnless result Refusal.NoMemory }
 {
     let mut whole = phase_blocks::Part::new(alloc);
-    for unit in 0..frozen.geometry().groups() {
-        whole = phase_blocks::merge(whole, phase_blocks::part(alloc, frozen, unit)?)?;
+    for part in parts {
+        whole = phase_blocks::merge(whole, part)?;
     }
     whole.findings(alloc)
 }
@@ -26,27 +33,34 @@ pub(crate) fn check_blocks(alloc: Global, frozen: &Frozen) -> Result<Vec<Finding
 pub(crate) fn check_names(
     alloc: Global,
     frozen: &Frozen,
+    parts: Vec<phase_names::Part>,
     reached: &BTreeSet<u32>,
 ) -> Result<Vec<Finding>, Refusal>
+    requires { AreParts (is_names_part frozen.now) frozen.now.geometry.groups parts.items }
     ensures findings { IfOk result (λ found. AreReached frozen.now.geometry (frozen_view frozen.now) reached.now.keys
         → AreFindingsOf is_of_names frozen.now.geometry (frozen_view frozen.now) found.items) }
     ensures error { IsOkUnless result Refusal.NoMemory }
 {
     let mut whole = phase_names::Part::new(alloc);
-    for unit in 0..frozen.geometry().groups() {
-        whole = phase_names::merge(whole, phase_names::part(alloc, frozen, unit)?)?;
+    for part in parts {
+        whole = phase_names::merge(whole, part)?;
     }
     phase_names::finish(alloc, frozen, &whole, reached)
 }
 
 /// The first half of phase 3: the reachable inodes.
-pub(crate) fn reach(alloc: Global, frozen: &Frozen) -> Result<BTreeSet<u32>, Refusal>
+pub(crate) fn reach(
+    alloc: Global,
+    frozen: &Frozen,
+    parts: Vec<connectivity::Part>,
+) -> Result<BTreeSet<u32>, Refusal>
+    requires { AreParts (is_entries_part frozen.now) frozen.now.geometry.groups parts.items }
     ensures reached { IfOk result (λ reached. AreReached frozen.now.geometry (frozen_view frozen.now) reached.keys) }
     ensures error { IsOkUnless result Refusal.NoMemory }
 {
     let mut whole = connectivity::Part::new(alloc);
-    for unit in 0..frozen.geometry().groups() {
-        whole = connectivity::merge(whole, connectivity::part(alloc, frozen, unit)?)?;
+    for part in parts {
+        whole = connectivity::merge(whole, part)?;
     }
     connectivity::walk(alloc, frozen, &whole)
 }
@@ -55,27 +69,34 @@ pub(crate) fn reach(alloc: Global, frozen: &Frozen) -> Result<BTreeSet<u32>, Ref
 pub(crate) fn check_counts(
     alloc: Global,
     frozen: &Frozen,
+    parts: Vec<refcounts::Part>,
     reached: &BTreeSet<u32>,
 ) -> Result<Vec<Finding>, Refusal>
+    requires { AreParts (is_counts_part frozen.now) frozen.now.geometry.groups parts.items }
     ensures findings { IfOk result (λ found. AreReached frozen.now.geometry (frozen_view frozen.now) reached.now.keys
         → AreFindingsOf is_of_counts frozen.now.geometry (frozen_view frozen.now) found.items) }
     ensures error { IsOkUnless result Refusal.NoMemory }
 {
     let mut whole = refcounts::Part::new(alloc);
-    for unit in 0..frozen.geometry().groups() {
-        whole = refcounts::merge(whole, refcounts::part(alloc, frozen, unit)?)?;
+    for part in parts {
+        whole = refcounts::merge(whole, part)?;
     }
     refcounts::finish(alloc, frozen, &whole, reached)
 }
 
 /// Phase 5: what is found of the maps.
-pub(crate) fn check_maps(alloc: Global, frozen: &Frozen) -> Result<Vec<Finding>, Refusal>
+pub(crate) fn check_maps(
+    alloc: Global,
+    frozen: &Frozen,
+    parts: Vec<phase_maps::Part>,
+) -> Result<Vec<Finding>, Refusal>
+    requires { AreParts (is_maps_part frozen.now) frozen.now.geometry.groups parts.items }
     ensures findings { IfOk result (λ found. AreFindingsOf is_of_maps frozen.now.geometry (frozen_view frozen.now) found.items) }
     ensures error { IsOkUnless result Refusal.NoMemory }
 {
     let mut whole = phase_maps::Part::new(alloc);
-    for unit in 0..frozen.geometry().groups() {
-        whole = phase_maps::merge(whole, phase_maps::part(alloc, frozen, unit)?)?;
+    for part in parts {
+        whole = phase_maps::merge(whole, part)?;
     }
     phase_maps::findings(alloc, frozen, &whole)
 }

@@ -1,3 +1,2 @@
 pub mod Bits
 pub mod Status
-pub mod Workers

@@ -1,7 +1,7 @@
 //! A line carried out, from its words to its output.
 ghost use Rattle.std.specs.Prelude.{◌≡◌, ◌<◌, ◌≤◌, [], Err, IfOk, IsFalse};
 ghost use Rattle.layout.specs.declared.refusal.Refusal.TheVariants.{BadWorkers};
-ghost use Rattle.fsvol.specs.Workers.{may_work};
+ghost use Rattle.workers.specs.Workers.{may_work};
 
 use crate::failure::{Failure, GAVE_OUT};
 use crate::jobs::{Answer, allow_workers, bits, check, check_numbers, check_sample, make, told};

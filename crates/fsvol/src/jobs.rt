@@ -11,20 +11,18 @@ ghost use Rattle.device.specs.Loading.{LoadRefuses};
 ghost use Rattle.fsvol.specs.Bits.{bits_text, finding_lines};
 ghost use Rattle.fsck.specs.Checked.{IsChecked};
 ghost use Rattle.fsvol.specs.Status.{status_of_verdict};
-ghost use Rattle.fsvol.specs.Workers.{may_work};
+ghost use Rattle.workers.specs.Workers.{may_work};
 ghost use Rattle.layout.specs.Fresh.{fresh_image};
 
 use device::{Before, Device, MemDevice, format, load};
 use findings::{Finding, Verdict, nothing_is_found_on_the_fresh_image, verdict};
-use fsck::{Checked, check_one};
+use fsck::Checked;
 use layout::{BLOCK_BYTES, Geometry, Refusal};
 use phase_maps::number_findings;
 use std::alloc::{AllocError, Global};
 use std::sync::Arc;
 use std::thread::Threads;
-
-/// The most workers that a check may have.
-const MOST_WORKERS: u32 = 64;
+use workers::{MOST_WORKERS, OpenGate};
 
 /// What a line prints, and the status that the program then ends with.
 #[derive(Debug, Drop)]
@@ -70,10 +68,10 @@ pub fn allow_workers(workers: u32) -> Result<(), Refusal>
     ensures allowed { OkIff result (IsTrue (may_work workers)) tt }
     ensures error { IsOkUnless result Refusal.BadWorkers }
 {
-    match workers {
-        1..=MOST_WORKERS => Ok(()),
-        _ => Err(Refusal::BadWorkers),
+    if workers == 0 || workers as usize > MOST_WORKERS {
+        return Err(Refusal::BadWorkers);
     }
+    Ok(())
 }
 
 /// Checks a device's image with this many workers. It writes nothing.
@@ -96,7 +94,7 @@ pub fn check<D: Device>(
 {
     allow_workers(workers)?;
     let frozen = Arc::new(alloc, load(alloc, device)?)?;
-    check_one(rt, alloc, &frozen)
+    fsck::check(rt, alloc, &frozen, workers, &OpenGate)
 }
 
 /// What is printed of a checked image: its report.

@@ -367,6 +367,7 @@ fn check_prints_the_report_of_an_image(rt: HostRuntime) -> Result<(), Fail> {
     for start in [
         "check --workers 1",
         "check --workers 2",
+        "check --workers 3",
         "check --workers 64",
     ] {
         for &(values, wanted) in changes {

@@ -1,30 +1,37 @@
-use Rattle.std.proofs.Common.{◌≡◌, ◌≤◌, subst, sym, ap, ◌∙◌, arith}
+use Rattle.std.proofs.Common.{rules, ◌++◌, ◌∷◌, [], length, subst, sym, ap, ◌∙◌, append_assoc}
 use Rattle.std.proofs.lemmas.Result.{IfOk-weaker}
-use Rattle.model.specs.Layout.{Geometry}
 use Rattle.model.specs.Units.{Units, only}
 use Rattle.device.specs.Kept.{frozen_view}
 use Rattle.phase_maps.specs.Parts.{IsPart}
 use Rattle.fsck.specs.Checked.{units_below}
-use Rattle.fsck.proofs.UnitLemmas.{none_below, next_below, every_group}
+use Rattle.fsck.proofs.UnitLemmas.{none_below}
+use Rattle.fsck.proofs.PartLemmas.{one_more, all_taken}
 use Rattle.fsck.proofs.phases.check_maps.Goals as goal
 
-pub loop-unit-init : goal.loop-unit-init
-loop-unit-init c =
+pub loop-part-init : goal.loop-part-init
+loop-part-init c =
     let geo = c.args.frozen.now.geometry in
     let view = frozen_view c.args.frozen.now in
-    subst (λ (units : Units). IsPart geo view units c.new-whole.result) none_below (c.new-whole.ensures geo view)
+    record {
+      rest = search rules;
+      whole = subst (λ (units : Units). IsPart geo view units c.new-whole.result) none_below (c.new-whole.ensures geo view);
+    }
 
-pub loop-unit-preserved : goal.loop-unit-preserved
-loop-unit-preserved c =
+pub loop-part-preserved : goal.loop-part-preserved
+loop-part-preserved c =
     let geo = c.args.frozen.now.geometry in
     let view = frozen_view c.args.frozen.now in
-    subst (λ (units : Units). IsPart geo view units c.in_ok-whole.whole) (next_below c.loop-unit.unit)
-    (c.in_ok-whole.ensures.merged geo view (units_below c.loop-unit.unit) (only c.loop-unit.unit) (subst (IsPart geo view (units_below c.loop-unit.unit)) (sym c.whole.view_is) c.loop-unit.invariant) c.in_ok-part.ensures.part)
+    let taken = c.loop-part.yielded in
+    let all = ap (λ ps. taken ++ ps) (sym c.in-Some.ensures.steps.0) ∙ c.loop-part.invariant.rest in
+    record {
+      rest = append_assoc taken (c.in-Some.part ∷ []) c.next.new.self.rest.items ∙ all;
+      whole = one_more (IsPart geo view) geo.groups c.args.parts.items taken c.in-Some.part c.next.new.self.rest.items c.loop-part.whole c.in_ok-whole.whole c.requires all
+          c.loop-part.invariant.whole (c.in_ok-whole.ensures.merged geo view (units_below (length taken)) (only (length taken)));
+    }
 
 pub returns-clause-findings : goal.returns-clause-findings
 returns-clause-findings c =
     let geo = c.args.frozen.now.geometry in
     let view = frozen_view c.args.frozen.now in
-    let groups : c.groups-unit-end.result ≡ geo.groups = c.groups-unit-end.ensures.count ∙ ap (λ (g : Geometry). g.groups) c.geometry.ensures.geometry in
-    let all : geo.groups ≤ c.loop-unit.unit = omega (arith, groups, c.loop-unit-test.false) in
-    IfOk-weaker c.findings.result _ _ (λ found told. told (units_below c.loop-unit.unit) c.loop-unit.invariant (every_group geo c.loop-unit.unit all)) c.findings.ensures.found
+    let every = all_taken (IsPart geo view) geo c.args.parts.items c.loop-part.yielded c.loop-part.part-iterator.rest.items c.requires c.loop-part.invariant.rest (sym c.loop-part.part-iterator.rest.ok.0 ∙ c.in-None.ensures.steps.0) in
+    IfOk-weaker c.findings.result _ _ (λ found told. told (units_below (length c.loop-part.yielded)) c.loop-part.invariant.whole every) c.findings.ensures.found

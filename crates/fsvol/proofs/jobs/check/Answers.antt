@@ -7,8 +7,8 @@ use Rattle.fsvol.proofs.jobs.check.Goals as goal
 
 pub returns-clause-checked : goal.returns-clause-checked
 returns-clause-checked g c =
-    IfOk-weaker c.check_one.result _ _ (λ checked is honest.
+    IfOk-weaker c.check.result _ _ (λ checked is honest.
     let image = g.D.Device.image c.args.device.now in
     let kept : Kept = arc_value c.in_ok-frozen.frozen in
     image_checked kept image checked (subst (λ (k : Kept). IsKeptOf k image) (sym c.in_ok-frozen.ensures.ok) (c.in_ok-load.ensures.ok honest)) is)
-    c.check_one.ensures.checked
+    c.check.ensures.checked

@@ -3,10 +3,10 @@ use Rattle.device.specs.Kept.{frozen_view}
 use Rattle.findings.specs.declared.finding.Finding.{Finding}
 use Rattle.fsck.specs.Checked.{IsFoundIn}
 use Rattle.fsck.proofs.FindingLemmas.{all_phases}
-use Rattle.fsck.proofs.find.Goals as goal
+use Rattle.fsck.proofs.find_by.Goals as goal
 
 pub returns-clause-found : goal.returns-clause-found
-returns-clause-found c = λ f.
+returns-clause-found g c = λ f.
     let kept = c.args.frozen.now in
     let reached = c.in_ok-reached.ensures.reached in
     let blocks = c.in_ok-found.found.items in

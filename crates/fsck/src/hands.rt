@@ -1,0 +1,58 @@
+//! Who makes the parts of a phase: one worker, or several at once.
+ghost use Rattle.std.specs.Prelude.{◌≡◌, All, IfOk, IsTrue, vec_len};
+ghost use Rattle.workers.specs.Workers.{may_work};
+ghost use Rattle.fsck.specs.Parts.{MakesItsOwn, MakesParts};
+
+use crate::works::Look;
+use device::Frozen;
+use layout::Refusal;
+use std::alloc::{AllocError, Global};
+use std::thread::Threads;
+use workers::{Gate, each_group, in_turn};
+
+/// The parts of all groups, in order of the groups, made by one worker on the calling thread, which passes no gate.
+/// Only `NoMemory` is refused.
+pub(crate) fn parts_of_one<W: Look>(
+    alloc: Global,
+    frozen: &Frozen,
+    work: W,
+) -> Result<Vec<W::Part>, Refusal>
+    requires { MakesItsOwn W.gives W.is_part }
+    ensures { MakesParts (W.is_part work) frozen.now.geometry.groups result }
+{
+    let groups = frozen.geometry().groups();
+    let (parts, _work) = in_turn(alloc, groups, work)?;
+    Ok(parts)
+}
+
+/// The same, made by so many workers that are like this one, each in a thread of its own where one can be made. They
+/// pass the gate with the phase's number.
+pub(crate) fn parts_of_crew<R: Threads + Sync, G: Gate, W: Look>(
+    rt: &R,
+    workers: u32,
+    gate: &G,
+    alloc: Global,
+    frozen: &Frozen,
+    work: W,
+) -> Result<Vec<W::Part>, Refusal>
+    requires workers { IsTrue (may_work workers) }
+    requires work { MakesItsOwn W.gives W.is_part }
+    ensures { MakesParts (W.is_part work) frozen.now.geometry.groups result }
+{
+    let works = copies(alloc, work, workers)?;
+    let groups = frozen.geometry().groups();
+    let (parts, _works) = each_group(rt, alloc, work.phase(), groups, works, gate)?;
+    Ok(parts)
+}
+
+/// So many workers that are alike.
+fn copies<W: Copy>(alloc: Global, work: W, workers: u32) -> Result<Vec<W>, AllocError>
+    ensures count { IfOk result (λ works. vec_len works ≡ workers) }
+    ensures alike { IfOk result (λ works. All (λ one. one ≡ work) works.items) }
+{
+    let mut works = Vec::new(alloc);
+    for _worker in 0..workers {
+        works.push(work)?;
+    }
+    Ok(works)
+}

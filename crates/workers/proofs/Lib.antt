@@ -1,0 +1,5 @@
+mod ListLemmas
+mod UnitLemmas
+mod TurnLemmas
+mod MergeLemmas
+pub mod EveryPart
