@@ -22,7 +22,7 @@ pub fn findings(
     ensures error { IsOkUnless result Refusal.NoMemory }
 {
     let inodes = frozen.geometry().inodes();
-    let members = Members::new(alloc, reached, inodes)?;
+    let members = Members::of_set(alloc, reached)?;
     let mut found = Vec::new(alloc);
     for number in 0..inodes {
         if is_lost(frozen, number, &members) {
@@ -33,7 +33,7 @@ pub fn findings(
 }
 
 /// Whether the number is that of a sound inode which is not among those that are reached.
-fn is_lost(frozen: &Frozen, number: u32, reached: &Members<'_>) -> bool
+fn is_lost(frozen: &Frozen, number: u32, reached: &Members) -> bool
     ensures { result ≡ is_lost_among frozen.now.geometry (frozen_view frozen.now) reached.now number }
 {
     frozen.is_sound_at(number) && !reached.has(number)

@@ -1,4 +1,3 @@
-mod GroupLemmas
 mod SlotLemmas
 mod TableLemmas
 mod WholeLemmas

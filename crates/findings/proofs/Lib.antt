@@ -4,6 +4,5 @@ pub mod FreshFindings
 pub mod SameFindings
 pub mod FoundBelow
 pub mod Owners
-pub mod DerivedOrder
 pub mod RepairLemmas
 pub mod FindingOrder

@@ -7,12 +7,10 @@ use crate::finding::Finding;
 use layout::Refusal;
 
 /// The findings in order, each once.
-pub fn in_order(mut found: Vec<Finding>) -> Result<Vec<Finding>, Refusal>
+pub fn in_order(found: Vec<Finding>) -> Result<Vec<Finding>, Refusal>
     ensures order { IfOk result (λ sorted. IsStrictlySortedBy finding_cmp sorted.items) }
     ensures same { IfOk result (λ sorted. (f : Finding) → Contains sorted.items f ↔ Contains found.items f) }
     ensures error { IsOkUnless result Refusal.NoMemory }
 {
-    found.sort()?;
-    found.dedup();
-    Ok(found)
+    Ok(sets::in_order(found)?)
 }

@@ -1,7 +1,8 @@
-ghost use Rattle.std.specs.Prelude.{◌≡◌, ◌≢◌, ℕ, ◌<◌, ◌≤◌, ◌+◌, ◌/◌, ◌↔◌, is_some, IsOkUnless, MatchResult, IsTrue, IfSome};
+ghost use Rattle.std.specs.Prelude.{◌≡◌, ◌≢◌, ℕ, ◌<◌, ◌≤◌, ◌+◌, ◌/◌, is_some, IsOkUnless, MatchResult, IsTrue, IfSome};
 ghost use Rattle.std.specs.Result.{OkIff};
-ghost use Rattle.model.specs.Layout.{Geometry as Numbers, IsGeometry, block_count, inode_count, header_blocks, group_block, data_address, is_data_address, data_bit, group_of_address, inode_block, inode_byte, is_number};
+ghost use Rattle.model.specs.Layout.{Geometry as Numbers, IsGeometry, block_count, inode_count, header_blocks, group_block, data_address, is_data_address, data_bit, group_of_address, inode_block, inode_byte};
 ghost use Rattle.model.specs.Image.{IsSuper};
+ghost use Rattle.model.specs.Units.{AreNumbers};
 
 use crate::{Block, Refusal, u32_at};
 use std::marker::Model;
@@ -209,7 +210,7 @@ impl Geometry {
     /// The numbers of a group's inodes, without those that are never given out.
     pub fn numbers_of(&self, group: u32) -> Range<u32>
         requires { group < self.now.groups }
-        ensures { (i : ℕ) → ((result.start ≤ i) × (i < result.end)) ↔ (IsTrue (is_number self.now i) × (i / self.now.inodes ≡ group)) }
+        ensures { AreNumbers self.now group result }
     {
         let first = group * self.inodes;
         first.max(ROOT)..first + self.inodes

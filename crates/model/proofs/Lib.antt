@@ -10,6 +10,7 @@ pub mod Places
 pub mod Addresses
 pub mod ImageLemmas
 pub mod Unlink
+pub mod GroupNumbers
 pub mod Tables
 pub mod NamedLemmas
 pub mod ReachLemmas

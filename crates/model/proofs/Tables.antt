@@ -6,8 +6,7 @@ use Rattle.std.specs.List.Sorted.{IsStrictlySortedBy}
 use Rattle.std.specs.Map.{keys_of, update_all}
 use Rattle.std.specs.Option.{option_map, option_or}
 use Rattle.std.specs.Ordering.{nat_cmp, eq_by_cmp}
-use Rattle.std.proofs.lemmas.Bool.{and_parts, and_from, cases_Bool, cases_eq, cases_lt, eq-eqb, eqb-true, ne_eqb, or_cases, or_left, or_right, false≢true}
-use Rattle.std.proofs.lemmas.Bool.Decides.{nat_tests}
+use Rattle.std.proofs.lemmas.Bool.{and_parts, and_from, cases_Bool, cases_eq, cases_lt, eq-eqb, eqb-true, or_cases, or_left, or_right, false≢true}
 use Rattle.std.proofs.lemmas.Cmp.{nat_cmp_total}
 use Rattle.std.proofs.lemmas.Nat.{div_below}
 use Rattle.std.proofs.lemmas.Option.{same_Some}
@@ -21,6 +20,7 @@ use Rattle.model.specs.Uses.{is_directory_at}
 use Rattle.model.specs.Units.{Units, no_unit, only, either}
 use Rattle.model.specs.Tables.{is_directory_in, value_in, IsTable, Puts}
 use Rattle.model.proofs.SlotLemmas.{directory_number, number_below}
+use Rattle.model.proofs.GroupNumbers.{before_none, before_more, before_same, before_all}
 
 -- In order of their numbers, each number of the set, and nothing else, has a value, and Is says of each what it is.
 pub record IsTableOf {V : Type 0} (Is : ℕ → V → Type 0) (has : ℕ → Bool) (table : List (ℕ × V)) : Type 0 where
@@ -196,22 +196,6 @@ module _ {V : Type 0} (geo : Geometry) (view : View) (Is : ℕ → V → Type 0)
       ]
 
 -- ---- the numbers of a group, one after another
-before_none : (p : Bool) (d k : ℕ) → (p ≡ true → k ≤ d) → (p && ltb d k) ≡ false
-before_none true d k h = let from = h refl in grind (arith, nat_tests)
-before_none false d k h = refl
-
-before_more : (p : Bool) (d k : ℕ) → (d ≡ k → p ≡ true) → ((p && ltb d k) || eqb d k) ≡ (p && ltb d (k + 1))
-before_more true d k h = grind (arith, nat_tests)
-before_more false d k h = elim (cases_eq d k) [ inl e ↦ absurd (false≢true (h e)) | inr apart ↦ ne_eqb d k apart ]
-
-before_same : (p : Bool) (d k : ℕ) → (d ≡ k → p ≡ false) → (p && ltb d k) ≡ (p && ltb d (k + 1))
-before_same true d k h = elim (cases_eq d k) [ inl e ↦ absurd (false≢true (sym (h e))) | inr apart ↦ grind (arith, nat_tests) ]
-before_same false d k h = refl
-
-before_all : (p : Bool) (d k : ℕ) → (p ≡ true → d < k) → (p && ltb d k) ≡ p
-before_all true d k h = let below = h refl in grind (arith, nat_tests)
-before_all false d k h = refl
-
 -- whether the number is that of a sound directory of this group, and below another number
 abbrev pub is_directory_before : Geometry → View → ℕ → ℕ → ℕ → Bool
 is_directory_before geo view group k d = is_directory_in geo view (only group) d && ltb d k

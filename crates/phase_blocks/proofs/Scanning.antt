@@ -196,7 +196,3 @@ module _ (geo : Geometry) (view : View) (group : ℕ) (g : Gathered) where
     where
       apart : (i : ℕ) → IsTrue (stands_in geo (only group) i) → IsTrue (is_number geo i) → ⊥
       apart i u t = let low = group_of_number geo i t in let e = eqb-true (i / geo.inodes) group u in omega arith
-
--- the numbers of a group from this one on are those below the end
-abbrev pub AreNumbersFrom : Geometry → ℕ → ℕ → ℕ → Type 0
-AreNumbersFrom geo group first past = (i : ℕ) → first ≤ i → (i < past) ↔ (IsTrue (is_number geo i) × (i / geo.inodes ≡ group))

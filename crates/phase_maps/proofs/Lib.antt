@@ -1,6 +1,5 @@
 mod ClaimLemmas
 mod NumberCases
 mod PartLemmas
-mod TableLemmas
 mod UnitLemmas
 mod WalkLemmas

@@ -15,7 +15,9 @@ use Rattle.model.specs.Units.{Units, stands_in, IsEveryGroup}
 use Rattle.model.proofs.Addresses.{address_is_data, address_group, address_place, address_in_group, data_range, number_in_group}
 use Rattle.phase_maps.specs.Parts.{Gathered, IsPart, is_of_number_in}
 use Rattle.model.specs.Growth.{Adds}
-use Rattle.phase_maps.specs.Walks.{block_finding, is_claimed_in, IsTableOf, IsFoundInGroup, IsFoundInVolume}
+use Rattle.phase_maps.specs.Walks.{block_finding, IsFoundInGroup, IsFoundInVolume}
+use Rattle.sets.specs.Members.{is_among}
+use Rattle.sets.proofs.MarkLemmas.{among_iff}
 use Rattle.model.proofs.Adding.{AtBelow}
 use Rattle.phase_maps.proofs.PartLemmas.{claim_number}
 
@@ -73,31 +75,30 @@ unmarked_from true claimed a f t = absurd cc
 unmarked_from false true a f t = refl
 unmarked_from false false a f t = absurd cc
 
--- the claims of every group, in a table of the volume's addresses
-module _ (geo : Geometry) (ok : IsGeometry geo) (view : View) (units : Units) (whole : Gathered) (part : IsPart geo view units whole) (every : IsEveryGroup geo units)
-    (table : List Bool) (exactly : IsTableOf whole.claimed (block_count geo) table) where
-  claimed_is : (a : ℕ) → IsTrue (is_data_address geo a) → is_claimed_in table a ≡ true → IsClaimed geo view a
-  claimed_is a t set = let h = (part.claimed a).0 ((exactly a (data_range geo ok a t).1).0 set) in (h.0, h.1, h.3)
+-- the claims of every group
+module _ (geo : Geometry) (ok : IsGeometry geo) (view : View) (units : Units) (whole : Gathered) (part : IsPart geo view units whole) (every : IsEveryGroup geo units) where
+  claimed_is : (a : ℕ) → is_among whole.claimed a ≡ true → IsClaimed geo view a
+  claimed_is a set = let h = (part.claimed a).0 ((among_iff whole.claimed a).0 set) in (h.0, h.1, h.3)
 
-  is_claimed : (a : ℕ) → IsClaimed geo view a → is_claimed_in table a ≡ true
+  is_claimed : (a : ℕ) → IsClaimed geo view a → is_among whole.claimed a ≡ true
   is_claimed a c =
-      (exactly a (data_range geo ok a c.2.1).1).1
+      (among_iff whole.claimed a).1
       ((part.claimed a).1 (c.0, c.1, every (c.0 / geo.inodes) (number_in_group geo ok c.0 (claim_number geo view c.0 c.1 a c.2)), c.2))
 
-  found_is : (a : ℕ) (f : Finding) → IsTrue (is_data_address geo a) → block_finding (view.block_marked a) (is_claimed_in table a) a ≡ Some f → IsTrue (is_of_maps f) × IsFinding geo view f
-  found_is a f t e = elim (finding_cases (view.block_marked a) (is_claimed_in table a) a f e).cases [
-    | inl h ↦ subst (λ g. IsTrue (is_of_maps g) × IsFinding geo view g) (sym h.0) (refl, (t, h.1, (λ c. both_ways (is_claimed_in table a) h.2 (is_claimed a c))))
-    | inr h ↦ subst (λ g. IsTrue (is_of_maps g) × IsFinding geo view g) (sym h.0) (refl, (claimed_is a t h.2, h.1))
+  found_is : (a : ℕ) (f : Finding) → IsTrue (is_data_address geo a) → block_finding (view.block_marked a) (is_among whole.claimed a) a ≡ Some f → IsTrue (is_of_maps f) × IsFinding geo view f
+  found_is a f t e = elim (finding_cases (view.block_marked a) (is_among whole.claimed a) a f e).cases [
+    | inl h ↦ subst (λ g. IsTrue (is_of_maps g) × IsFinding geo view g) (sym h.0) (refl, (t, h.1, (λ c. both_ways (is_among whole.claimed a) h.2 (is_claimed a c))))
+    | inr h ↦ subst (λ g. IsTrue (is_of_maps g) × IsFinding geo view g) (sym h.0) (refl, (claimed_is a h.2, h.1))
   ]
 
-  in_volume : (f : Finding) → IsFoundInVolume geo view (is_claimed_in table) f → IsTrue (is_of_maps f) × IsFinding geo view f
+  in_volume : (f : Finding) → IsFoundInVolume geo view (is_among whole.claimed) f → IsTrue (is_of_maps f) × IsFinding geo view f
   in_volume f h = found_is (data_address geo h.0 h.2.0) f (address_is_data geo ok h.0 h.2.0 h.2.1 h.1) h.2.2
 
-  of_block : (a : ℕ) (f : Finding) → IsTrue (is_data_address geo a) → block_finding (view.block_marked a) (is_claimed_in table a) a ≡ Some f → IsFoundInVolume geo view (is_claimed_in table) f
+  of_block : (a : ℕ) (f : Finding) → IsTrue (is_data_address geo a) → block_finding (view.block_marked a) (is_among whole.claimed a) a ≡ Some f → IsFoundInVolume geo view (is_among whole.claimed) f
   of_block a f t e = (
     group_of_address geo a,
     group_low geo ok a t,
-    (data_bit geo a, bit_low geo ok a t, subst (λ b. block_finding (view.block_marked b) (is_claimed_in table b) b ≡ Some f) (sym (address_of_place geo ok a t)) e),
+    (data_bit geo a, bit_low geo ok a t, subst (λ b. block_finding (view.block_marked b) (is_among whole.claimed b) b ≡ Some f) (sym (address_of_place geo ok a t)) e),
   )
 
   of_numbers : (f : Finding) → Contains whole.numbers f → IsTrue (is_of_maps f) × IsFinding geo view f
@@ -111,14 +112,14 @@ module _ (geo : Geometry) (ok : IsGeometry geo) (view : View) (units : Units) (w
   in_group : (i : ℕ) → IsTrue (is_number geo i) → IsTrue (stands_in geo units i)
   in_group i num = every (i / geo.inodes) (number_in_group geo ok i num)
 
-  found_from : (f : Finding) → IsTrue (is_of_maps f) → IsFinding geo view f → IsFoundInVolume geo view (is_claimed_in table) f ⊎ Contains whole.numbers f
-  found_from (LostBlock a) t h = inl (of_block a (LostBlock a) h.0 (lost_from (view.block_marked a) (is_claimed_in table a) a h.1 (λ c. h.2 (claimed_is a h.0 c))))
-  found_from (UnmarkedBlock a) t h = inl (of_block a (UnmarkedBlock a) h.0.2.1 (unmarked_from (view.block_marked a) (is_claimed_in table a) a h.1 (is_claimed a h.0)))
+  found_from : (f : Finding) → IsTrue (is_of_maps f) → IsFinding geo view f → IsFoundInVolume geo view (is_among whole.claimed) f ⊎ Contains whole.numbers f
+  found_from (LostBlock a) t h = inl (of_block a (LostBlock a) h.0 (lost_from (view.block_marked a) (is_among whole.claimed a) a h.1 (λ c. h.2 (claimed_is a c))))
+  found_from (UnmarkedBlock a) t h = inl (of_block a (UnmarkedBlock a) h.0.2.1 (unmarked_from (view.block_marked a) (is_among whole.claimed a) a h.1 (is_claimed a h.0)))
   found_from (LostNumber i) t h = inr ((part.numbers (LostNumber i)).1 (in_group i h.0, h))
   found_from (UnmarkedInode i) t h = inr ((part.numbers (UnmarkedInode i)).1 (in_group i h.0, h))
   found_from _ t h = absurd cc
 
-  maps_found : (fs : List Finding) → IsStrictlySortedBy finding_cmp fs → ((f : Finding) → Contains fs f ↔ (IsFoundInVolume geo view (is_claimed_in table) f ⊎ Contains whole.numbers f)) → AreFindingsOf is_of_maps geo view fs
+  maps_found : (fs : List Finding) → IsStrictlySortedBy finding_cmp fs → ((f : Finding) → Contains fs f ↔ (IsFoundInVolume geo view (is_among whole.claimed) f ⊎ Contains whole.numbers f)) → AreFindingsOf is_of_maps geo view fs
   maps_found fs sorted found = record {
     in_order = sorted;
     exactly = λ f. (
@@ -128,7 +129,7 @@ module _ (geo : Geometry) (ok : IsGeometry geo) (view : View) (units : Units) (w
   }
 
   -- the walk over the groups, then the findings of the numbers, and then all in order
-  pub whole_found : (n : ℕ) (blocks both fs : List Finding) → n ≡ geo.groups → Adds (AtBelow (IsFoundInGroup geo view (is_claimed_in table)) n) [] blocks → both ≡ blocks ++ whole.numbers
+  pub whole_found : (n : ℕ) (blocks both fs : List Finding) → n ≡ geo.groups → Adds (AtBelow (IsFoundInGroup geo view (is_among whole.claimed)) n) [] blocks → both ≡ blocks ++ whole.numbers
       → IsStrictlySortedBy finding_cmp fs → ((f : Finding) → Contains fs f ↔ Contains both f) → AreFindingsOf is_of_maps geo view fs
   whole_found n blocks both fs all walk joined sorted same =
       maps_found fs sorted (λ f. (

@@ -1,6 +1,5 @@
 -- What the walks over inodes, positions and blocks add to a list or a set.
-use Rattle.std.specs.Prelude.{◌≡◌, ℕ, ◌<◌, ◌+◌, ◌||◌, ◌==◌, Bool, true, false, List, length, slice_index_or, Option, Some, None, IsTrue, ◌↔◌}
-use Rattle.std.specs.List.{Contains}
+use Rattle.std.specs.Prelude.{◌≡◌, ℕ, ◌<◌, ◌+◌, Bool, true, false, Option, Some, None, IsTrue}
 use Rattle.findings.specs.declared.finding.Finding.{Finding}
 use Rattle.findings.specs.declared.finding.Finding.TheVariants.{LostBlock, UnmarkedBlock, LostNumber, UnmarkedInode}
 use Rattle.model.specs.Layout.{Geometry, data_address, header_blocks, is_data_address}
@@ -20,18 +19,6 @@ abbrev pub number_finding : Bool → Bool → ℕ → Option Finding
 number_finding true true i = Some (LostNumber i)
 number_finding false false i = Some (UnmarkedInode i)
 number_finding _ _ i = None
-
--- whether the table says that block a is claimed: not past its end
-abbrev pub is_claimed_in : List Bool → ℕ → Bool
-is_claimed_in table a = slice_index_or table a false
-
--- Block a is claimed now, and the other blocks are as they were.
-abbrev pub ClaimsOne : ℕ → List Bool → List Bool → Type 0
-ClaimsOne a old new = (b : ℕ) → b < length old → is_claimed_in new b ≡ (is_claimed_in old b || (a == b))
-
--- Of the blocks below n the table says of just these that they are claimed.
-abbrev pub IsTableOf : List ℕ → ℕ → List Bool → Type 0
-IsTableOf claimed n table = (a : ℕ) → a < n → IsTrue (is_claimed_in table a) ↔ Contains claimed a
 
 -- what is found of a block, by whether it is marked and whether it is claimed
 abbrev pub block_finding : Bool → Bool → ℕ → Option Finding

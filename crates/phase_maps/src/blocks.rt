@@ -5,14 +5,15 @@ ghost use Rattle.findings.specs.Findings.{AreFindingsOf, is_of_maps};
 ghost use Rattle.device.specs.Kept.{frozen_view};
 ghost use Rattle.phase_maps.specs.Parts.{IsPart};
 ghost use Rattle.model.specs.Growth.{Adds};
-ghost use Rattle.phase_maps.specs.Walks.{IsFoundInGroup, block_finding, is_claimed_in};
+ghost use Rattle.phase_maps.specs.Walks.{IsFoundInGroup, block_finding};
+ghost use Rattle.sets.specs.Members.{is_among};
 
 use crate::gathering::Part;
-use crate::table::ClaimTable;
 use cgmaps::{Map, bit_of};
 use device::Frozen;
 use findings::{Finding, in_order};
 use layout::{Geometry, Refusal};
+use sets::Members;
 use std::alloc::{AllocError, Global};
 use std::collections::BTreeSet;
 
@@ -24,10 +25,10 @@ pub fn findings(alloc: Global, frozen: &Frozen, whole: &Part) -> Result<Vec<Find
     ensures error { IsOkUnless result Refusal.NoMemory }
 {
     let geometry = frozen.geometry();
-    let table = ClaimTable::new(alloc, geometry.blocks(), whole.claimed())?;
+    let claimed = Members::new(alloc, whole.claimed().to_vec(alloc)?)?;
     let mut found = Vec::new(alloc);
     for group in 0..geometry.groups() {
-        add_blocks(frozen, group, &table, &mut found)?;
+        add_blocks(frozen, group, &claimed, &mut found)?;
     }
     add_all(whole.numbers(), &mut found)?;
     in_order(found)
@@ -40,22 +41,22 @@ fn add_all(findings: &BTreeSet<Finding>, found: &mut Vec<Finding>) -> Result<(),
     found.extend(findings.iter().copied())
 }
 
-/// Adds what is found of the data blocks of a group, where the blocks of this table are claimed.
+/// Adds what is found of the data blocks of a group, where these blocks are claimed.
 fn add_blocks(
     frozen: &Frozen,
     group: u32,
-    table: &ClaimTable,
+    claimed: &Members,
     found: &mut Vec<Finding>,
 ) -> Result<(), AllocError>
     requires { group < frozen.now.geometry.groups }
-    ensures { OnOk result (Adds (IsFoundInGroup frozen.now.geometry (frozen_view frozen.now) (is_claimed_in table.now) group) found.old.items found.new.items) }
+    ensures { OnOk result (Adds (IsFoundInGroup frozen.now.geometry (frozen_view frozen.now) (is_among claimed.now) group) found.old.items found.new.items) }
 {
     let geometry = frozen.geometry();
     let maps = frozen.maps_of(group);
     for bit in 0..data_blocks(&geometry) {
         let address = geometry.data_address(group, bit);
         let is_marked = bit_of(maps, Map::Blocks, bit);
-        if let Some(finding) = block_finding(is_marked, table.is_claimed(address), address) {
+        if let Some(finding) = block_finding(is_marked, claimed.has(address), address) {
             found.push(finding)?;
         }
     }

@@ -13,7 +13,6 @@ mod blocks;
 mod claims;
 mod gathering;
 mod numbers;
-mod table;
 #[cfg(test)]
 mod tests;
 mod units;

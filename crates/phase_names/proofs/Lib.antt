@@ -5,5 +5,5 @@ mod FoundLemmas
 mod ToldLemmas
 mod StepLemmas
 mod NameLemmas
+mod NameOrder
 mod WalkLemmas
-mod UnitLemmas

@@ -1,78 +1,77 @@
--- Names with zeroes after them are the same only if the names are.
-use Rattle.std.proofs.Common.{◌≡◌, ◌≤◌, ◌-◌, ◌*◌, ◌+◌, ◌%◌, ℕ, zero, suc, Bool, true, false, cond, not, ◌&&◌, eqb, ltb, leb, List, [], ◌∷◌, ◌++◌, length, take, drop, get_or, replicate, inl, inr, refl, sym, ap, ap₂, ◌∙◌, subst, arith, IsTrue}
-use Rattle.std.specs.BTreeSet.{BTreeSet, contains}
-use Rattle.std.specs.Cmp.Lexicographic.{slice_cmp}
-use Rattle.std.specs.List.{Contains, list_all}
-use Rattle.std.specs.Ordering.{nat_cmp}
-use Rattle.std.proofs.lemmas.Bool.{and_parts, cases_Bool, false≢true, leb-true}
-use Rattle.std.proofs.lemmas.Cmp.{nat_list_cmp_total}
-use Rattle.std.proofs.lemmas.Map.Lookups.{exact_bytes}
-use Rattle.std.proofs.lemmas.Map.Views.{btree_set_contains_iff}
-use Rattle.std.proofs.lemmas.List.{drop-replicate}
-use Rattle.model.specs.Layout.{Geometry, is_number}
-use Rattle.model.specs.View.{View, u32_at}
-use Rattle.model.specs.Slots.{Empty, Good, Bad, slot, slot_with, fits_slot, is_name, is_name_byte}
-use Rattle.model.proofs.SlotLemmas.{chosen, slot_content}
-use Rattle.phase_names.specs.Walks.{padded}
+-- Names in an ordered set, where its keys stand for them.
+use Rattle.std.proofs.Common.{◌≡◌, ◌||◌, Bool, true, false, not, List, [], ◌∷◌, map, ◌⊎◌, inl, inr, ◌↔◌, refl, sym, ap, ◌∙◌, subst, Contains, Ordering, Less, Equal, Greater}
+use Rattle.std.specs.BTreeMap.{is_at}
+use Rattle.std.specs.BTreeSet.{BTreeSet, contains, insert_key}
+use Rattle.std.specs.List.{list_any}
+use Rattle.std.specs.Ordering.{is_eq, match_ordering}
+use Rattle.std.proofs.lemmas.Bool.{cases_Bool, false≢true}
+use Rattle.findings.proofs.Sorted.{Contains-cases, Contains-here, Contains-none, Contains-there}
+use Rattle.model.specs.Growth.{Adds}
+use Rattle.model.proofs.Adding.{or_right}
 
-not_zero : (y : ℕ) (ys : List ℕ) → 0 ≡ y → list_all is_name_byte (y ∷ ys) ≡ true → ⊥
-not_zero zero ys e t = false≢true t
-not_zero (suc y) ys e t = omega (arith, e)
+equal_of : (r : Ordering) → is_eq r ≡ true → r ≡ Equal
+equal_of Equal t = refl
+equal_of Less t = cc
+equal_of Greater t = cc
 
-same_head : {x y : ℕ} {xs ys : List ℕ} → (x ∷ xs) ≡ (y ∷ ys) → x ≡ y
-same_head e = cc
+-- `shows` says what a key stands for, and keys that compare as equal stand for the same.
+module _ {K Y : Type 0} (shows : K → Y) (cmp : K → K → Ordering) (same : (x y : K) → cmp x y ≡ Equal → shows x ≡ shows y) where
+  here : (x : K) (xs : List K) (y : Y) → shows x ≡ y → Contains (map shows (x ∷ xs)) y
+  here x xs y e = subst (λ z. Contains (shows x ∷ map shows xs) z) e (Contains-here (shows x) (map shows xs))
 
-same_tail : {x y : ℕ} {xs ys : List ℕ} → (x ∷ xs) ≡ (y ∷ ys) → xs ≡ ys
-same_tail e = cc
+  inserted : (keys : List K) (key : K) (y : Y) → Contains (map shows (insert_key cmp keys key)) y ↔ (Contains (map shows keys) y ⊎ (shows key ≡ y))
+  inserted [] key y = (
+    (λ c. elim (Contains-cases (shows key) [] y c) [ inl e ↦ inr e | inr none ↦ inl none ]),
+    (λ h. elim h [ inl none ↦ absurd (Contains-none y none) | inr e ↦ here key [] y e ]),
+  )
+  inserted (x ∷ xs) key y = go (inserted xs key y) (cmp key x) refl
+    where
+      go : Contains (map shows (insert_key cmp xs key)) y ↔ (Contains (map shows xs) y ⊎ (shows key ≡ y)) → (r : Ordering) → cmp key x ≡ r → Contains (map shows (match_ordering r (key ∷ x ∷ xs) (x ∷ xs) (x ∷ insert_key cmp xs key))) y ↔ (Contains (map shows (x ∷ xs)) y ⊎ (shows key ≡ y))
+      go rest Less e = (
+        (λ c. elim (Contains-cases (shows key) (map shows (x ∷ xs)) y c) [ inl is ↦ inr is | inr k ↦ inl k ]),
+        (λ h. elim h [ inl k ↦ Contains-there (shows key) (map shows (x ∷ xs)) y k | inr is ↦ here key (x ∷ xs) y is ]),
+      )
+      go rest Equal e = ((λ c. inl c), (λ h. elim h [ inl k ↦ k | inr is ↦ here x xs y (sym (same key x e) ∙ is) ]))
+      go rest Greater e = (
+        (λ c. elim (Contains-cases (shows x) (map shows (insert_key cmp xs key)) y c) [
+          | inl is ↦ inl (here x xs y is)
+          | inr k ↦ elim (rest.0 k) [ inl m ↦ inl (Contains-there (shows x) (map shows xs) y m) | inr is ↦ inr is ]
+        ]),
+        (λ h. elim h [
+          | inl m ↦ elim (Contains-cases (shows x) (map shows xs) y m) [
+            | inl is ↦ here x (insert_key cmp xs key) y is
+            | inr k ↦ Contains-there (shows x) (map shows (insert_key cmp xs key)) y (rest.1 (inl k))
+          ]
+          | inr is ↦ Contains-there (shows x) (map shows (insert_key cmp xs key)) y (rest.1 (inr is))
+        ]),
+      )
 
-zeroes_no_name : (a b y : ℕ) (ys : List ℕ) → list_all is_name_byte (y ∷ ys) ≡ true → replicate a 0 ≡ y ∷ (ys ++ replicate b 0) → ⊥
-zeroes_no_name zero b y ys t e = cc
-zeroes_no_name (suc a) b y ys t e = not_zero y ys (same_head e) t
+  -- a set with one key more
+  pub added : (old new : BTreeSet K) (key : K) → new.keys ≡ insert_key cmp old.keys key → Adds (λ y. shows key ≡ y) (map shows old.keys) (map shows new.keys)
+  added old new key e = subst (λ keys. Adds (λ y. shows key ≡ y) (map shows old.keys) (map shows keys)) (sym e) (inserted old.keys key)
 
-same_names : (a b : ℕ) (xs ys : List ℕ) → list_all is_name_byte xs ≡ true → list_all is_name_byte ys ≡ true → xs ++ replicate a 0 ≡ ys ++ replicate b 0 → xs ≡ ys
-same_names a b [] [] t u e = refl
-same_names a b [] (y ∷ ys) t u e = absurd (zeroes_no_name a b y ys u e)
-same_names a b (x ∷ xs) [] t u e = absurd (zeroes_no_name b a x xs t (sym e))
-same_names a b (x ∷ xs) (y ∷ ys) t u e =
-    ap₂ (λ z zs. z ∷ zs) (same_head e)
-    (same_names a b xs ys (and_parts (is_name_byte x) (list_all is_name_byte xs) t).1 (and_parts (is_name_byte y) (list_all is_name_byte ys) u).1 (same_tail e))
+  shown : (key : K) (keys : List K) → list_any (is_at (cmp key)) keys ≡ true → Contains (map shows keys) (shows key)
+  shown key [] e = absurd (false≢true e)
+  shown key (k ∷ keys) e = elim (cases_Bool (is_at (cmp key) k)) [
+    | inl t ↦ here k keys (shows key) (sym (same key k (equal_of (cmp key k) t)))
+    | inr f ↦ Contains-there (shows k) (map shows keys) (shows key) (shown key keys (sym (ap (λ b. b || list_any (is_at (cmp key)) keys) f) ∙ e))
+  ]
 
-pub padded_once : (xs ys : List ℕ) → IsTrue (is_name xs) → IsTrue (is_name ys) → padded xs ≡ padded ys → xs ≡ ys
-padded_once xs ys t u e =
-    same_names (56 - length xs) (56 - length ys) xs ys
-    (and_parts (ltb 0 (length xs) && leb (length xs) 56) (list_all is_name_byte xs) t).1 (and_parts (ltb 0 (length ys) && leb (length ys) 56) (list_all is_name_byte ys) u).1 e
+  -- a key that was not new in a set stands for what another one does
+  pub was_there : (set : BTreeSet K) (key : K) (is_new : Bool) → is_new ≡ not (contains cmp set key) → is_new ≡ false → Contains (map shows set.keys) (shows key)
+  was_there set key is_new e f = elim (cases_Bool (contains cmp set key)) [
+    | inl t ↦ shown key set.keys t
+    | inr n ↦ absurd (let bad : true ≡ false = sym (ap not n) ∙ sym e ∙ f in cc)
+  ]
 
-pub name_short : (xs : List ℕ) → IsTrue (is_name xs) → length xs ≤ 56
-name_short xs t =
-    leb-true (length xs) 56 (and_parts (ltb 0 (length xs)) (leb (length xs) 56) (and_parts (ltb 0 (length xs) && leb (length xs) 56) (list_all is_name_byte xs) t).0).1
-
--- a good slot's name is a name
-name_with : (geo : Geometry) (s number len : ℕ) (bytes : List ℕ) (i : ℕ) (name : List ℕ) → slot_with geo s number len bytes ≡ Good i name → IsTrue (is_name name)
-name_with geo s number len bytes i name e =
-    elim (chosen (eqb number 0) Empty (cond (is_number geo number && leb len 56 && is_name (take len bytes) && fits_slot s (take len bytes)) (Good number (take len bytes)) Bad) (Good i name) e) [
-      | inl h ↦ absurd (let bad : Empty ≡ Good i name = h.1 in cc)
-      | inr h ↦ elim (chosen (is_number geo number && leb len 56 && is_name (take len bytes) && fits_slot s (take len bytes)) (Good number (take len bytes)) Bad (Good i name) h.1) [
-        | inl k ↦ subst (λ n. IsTrue (is_name n)) (same_name k.1)
-            (and_parts (is_number geo number && leb len 56) (is_name (take len bytes)) (and_parts (is_number geo number && leb len 56 && is_name (take len bytes)) (fits_slot s (take len bytes)) k.0).0).1
-        | inr k ↦ absurd (let bad : Bad ≡ Good i name = k.1 in cc)
-      ]
+  -- a key that was new in a set stands for what no other one does
+  module _ (alike : (x y : K) → shows x ≡ shows y → cmp x y ≡ Equal) where
+    found : (key : K) (keys : List K) → Contains (map shows keys) (shows key) → list_any (is_at (cmp key)) keys ≡ true
+    found key [] c = absurd (Contains-none (shows key) c)
+    found key (k ∷ keys) c = elim (Contains-cases (shows k) (map shows keys) (shows key) c) [
+      | inl e ↦ ap (λ r. is_eq r || list_any (is_at (cmp key)) keys) (alike key k (sym e))
+      | inr there ↦ or_right (is_at (cmp key) k) (list_any (is_at (cmp key)) keys) (found key keys there)
     ]
-  where
-    same_name : Good number (take len bytes) ≡ Good i name → take len bytes ≡ name
-    same_name e = cc
 
-pub slot_name : (geo : Geometry) (view : View) (d s i : ℕ) (name : List ℕ) → slot geo view d s ≡ Good i name → IsTrue (is_name name)
-slot_name geo view d s i name e =
-    let at = slot_content geo view d s (Good i name) (λ q. cc) e in
-    name_with geo s (u32_at (view.bytes at.block) (64 * (s % 16))) (get_or (view.bytes at.block) (64 * (s % 16) + 4) 0) (drop (64 * (s % 16) + 8) (view.bytes at.block)) i name at.content
-
--- a name that was put over the first of 56 zeroes
-pub padded_written : (name written : List ℕ) → written ≡ name → written ++ drop (length name) (replicate 56 0) ≡ padded name
-padded_written name written e = ap (λ xs. xs ++ drop (length name) (replicate 56 0)) e ∙ ap (λ zs. name ++ zs) (drop-replicate (length name) 56 0)
-
--- a name that was not new in a set was there
-pub was_there : (names : BTreeSet (List ℕ)) (x : List ℕ) (is_new : Bool) → is_new ≡ not (contains (slice_cmp nat_cmp) names x) → is_new ≡ false → Contains names.keys x
-was_there names x is_new e f = elim (cases_Bool (contains (slice_cmp nat_cmp) names x)) [
-  | inl t ↦ (btree_set_contains_iff nat_list_cmp_total exact_bytes names x).0 t
-  | inr n ↦ absurd (let bad : true ≡ false = sym (ap not n) ∙ sym e ∙ f in cc)
-]
+    pub was_new : (set : BTreeSet K) (key : K) (is_new : Bool) → is_new ≡ not (contains cmp set key) → is_new ≡ true → Contains (map shows set.keys) (shows key) → ⊥
+    was_new set key is_new e t c = let there = found key set.keys c in let bad : true ≡ false = sym t ∙ e ∙ ap not there in cc

@@ -15,8 +15,7 @@ use Rattle.model.specs.Slots.{Slot, Absent, Empty, Good, Bad, slot, number_in}
 use Rattle.model.specs.Reach.{slot_count}
 use Rattle.model.proofs.SlotLemmas.{directory_sound, names_stands}
 use Rattle.phase_names.specs.Told.{IsLocal, IsTold, Told, naming_of, namings_below}
-use Rattle.phase_names.specs.Walks.{IsBadDot, IsFoundBelow, IsFoundInSlot, IsNameAt, IsRepeated, IsToUnsound, IsWalked, Walked, padded}
-use Rattle.phase_names.proofs.NameLemmas.{padded_once, slot_name}
+use Rattle.phase_names.specs.Walks.{IsBadDot, IsFoundBelow, IsFoundInSlot, IsNameAt, IsRepeated, IsToUnsound, IsWalked, Walked, keyed}
 use Rattle.phase_names.proofs.ReachedLemmas.{namings_before, namings_more, namings_none}
 
 module _ (geo : Geometry) (view : View) (d : ℕ) where
@@ -79,7 +78,7 @@ module _ (geo : Geometry) (view : View) (d : ℕ) where
       let zero_is : i ≡ 0 = ap number_in (sym e) ∙ none in
       let bad : is_number geo 0 ≡ true = subst (λ n. IsTrue (is_number geo n)) zero_is low in cc
 
-  no_name : (s : ℕ) → number_in (slot geo view d s) ≡ 0 → (x : List ℕ) → IsNameAt geo view d s x → ⊥
+  no_name : (s : ℕ) → number_in (slot geo view d s) ≡ 0 → (x : ℕ × List ℕ) → IsNameAt geo view d s x → ⊥
   no_name s none x h = not_good s h.0 h.1 none h.3
 
   no_naming : (s : ℕ) → number_in (slot geo view d s) ≡ 0 → namings_below geo view d (suc s) ≡ namings_below geo view d s
@@ -149,27 +148,27 @@ module _ (geo : Geometry) (view : View) (d : ℕ) where
     same_slot : (j : ℕ) (other : List ℕ) → slot geo view d s ≡ Good j other → (i ≡ j) × (name ≡ other)
     same_slot j other e = let both : Good i name ≡ Good j other = sym good ∙ e in (cc, cc)
 
-    name_at : (old new : List (List ℕ)) → Adds (λ x. padded name ≡ x) old new → Adds (IsNameAt geo view d s) old new
+    name_at : (old new : List (ℕ × List ℕ)) → Adds (λ x. keyed name ≡ x) old new → Adds (IsNameAt geo view d s) old new
     name_at old new added x = (
       (λ c. elim ((added x).0 c) [ inl k ↦ inl k | inr e ↦ inr (i, name, from, good, e) ]),
       (λ g. elim g [
         | inl k ↦ (added x).1 (inl k)
-        | inr n ↦ (added x).1 (inr (ap padded (same_slot n.0 n.1 n.3).1 ∙ n.4))
+        | inr n ↦ (added x).1 (inr (ap keyed (same_slot n.0 n.1 n.3).1 ∙ n.4))
       ]),
     )
 
     -- a name that is there already is that of an earlier slot
-    repeated_from : (walk : Walked) → Walk s walk → Contains walk.names (padded name) → IsRepeated geo view d s
+    repeated_from : (walk : Walked) → Walk s walk → Contains walk.names (keyed name) → IsRepeated geo view d s
     repeated_from walk h c =
-        let at = (h.names (padded name)).0 c in
+        let at = (h.names (keyed name)).0 c in
         let n = at.2 in
-        let same : n.1 ≡ name = padded_once n.1 name (slot_name geo view d at.0 n.0 n.1 n.3) (slot_name geo view d s i name good) n.4 in
+        let same : n.1 ≡ name = ap (λ (k : ℕ × List ℕ). k.1) n.4 in
         (at.0, i, n.0, name, n.2, at.1, n.3 ∙ ap (Good n.0) same, good)
 
-    from_repeated : (walk : Walked) → Walk s walk → IsRepeated geo view d s → Contains walk.names (padded name)
+    from_repeated : (walk : Walked) → Walk s walk → IsRepeated geo view d s → Contains walk.names (keyed name)
     from_repeated walk h r =
         let same = (same_slot r.1 r.3 r.7).1 in
-        (h.names (padded name)).1 (r.0, r.5, (r.2, name, r.4, r.6 ∙ ap (Good r.2) (sym same), refl))
+        (h.names (keyed name)).1 (r.0, r.5, (r.2, name, r.4, r.6 ∙ ap (Good r.2) (sym same), refl))
 
     to_unsound : IsFalse (is_sound_at geo view i) → IsToUnsound geo view d s
     to_unsound f = (i, (name, good), sound_false (is_number geo i) (is_sound (view.inode i)) (names_stands geo view d s i (name, good)).number f)
@@ -188,8 +187,8 @@ module _ (geo : Geometry) (view : View) (d : ℕ) where
     not_bad_slot : slot geo view d s ≡ Bad → ⊥
     not_bad_slot b = let bad : Good i name ≡ Bad = sym good ∙ b in cc
 
-    pub walked_entry : (old new : Walked) (mid : List Finding) → Adds (λ x. padded name ≡ x) old.names new.names
-        → Adds (λ f. Contains old.names (padded name) × (DupName d s ≡ f)) old.findings mid → Adds (λ f. IsFalse (is_sound_at geo view i) × (ToUnsound d s ≡ f)) mid new.findings
+    pub walked_entry : (old new : Walked) (mid : List Finding) → Adds (λ x. keyed name ≡ x) old.names new.names
+        → Adds (λ f. Contains old.names (keyed name) × (DupName d s ≡ f)) old.findings mid → Adds (λ f. IsFalse (is_sound_at geo view i) × (ToUnsound d s ≡ f)) mid new.findings
         → IsStrictlySortedBy finding_cmp new.findings → new.directories ≡ old.directories ++ naming_of geo view s i → Walk s old → Walk (s + 1) new
     walked_entry old new mid names first then sorted directories h =
         walked_more s old new (name_at old.names new.names names) sorted

@@ -1,5 +1,6 @@
 -- What a walk over the slots of a directory has found so far.
-use Rattle.std.specs.Prelude.{◌≡◌, ℕ, ◌-◌, ◌<◌, ◌≤◌, List, ◌++◌, length, replicate, ◌⊎◌, ◌↔◌, IsFalse}
+use Rattle.std.specs.Prelude.{◌≡◌, ℕ, ◌<◌, ◌≤◌, List, ◌⊎◌, ◌↔◌, IsFalse}
+use Rattle.std.specs.Hash.FoldHasher.{finish, initial, write}
 use Rattle.std.specs.List.{Contains}
 use Rattle.std.specs.List.Sorted.{IsStrictlySortedBy}
 use Rattle.findings.specs.declared.finding.Finding.{Finding}
@@ -14,17 +15,21 @@ use Rattle.phase_names.specs.Told.{namings_below}
 
 -- the names of the slots, the findings, and the slots that name the root or a sound directory
 pub record Walked : Type 0 where
-  pub names : List (List ℕ)
+  pub names : List (ℕ × List ℕ)
   pub findings : List Finding
   pub directories : List Naming
 
--- the bytes of a name, and zeroes up to 56 bytes
-abbrev pub padded : List ℕ → List ℕ
-padded name = name ++ replicate (56 - length name) 0
+-- a number that a name decides, and most often decides the name
+abbrev pub digest : List ℕ → ℕ
+digest name = finish (write initial name)
 
--- x is the padded name of slot s of directory d, which is from 2 on
-abbrev pub IsNameAt : Geometry → View → ℕ → ℕ → List ℕ → Type 0
-IsNameAt geo view d s x = (i : ℕ) × (name : List ℕ) × (2 ≤ s) × (slot geo view d s ≡ Good i name) × (padded name ≡ x)
+-- a name with its digest
+abbrev pub keyed : List ℕ → ℕ × List ℕ
+keyed name = (digest name, name)
+
+-- x is the name of slot s of directory d, which is from 2 on, with its digest
+abbrev pub IsNameAt : Geometry → View → ℕ → ℕ → ℕ × List ℕ → Type 0
+IsNameAt geo view d s x = (i : ℕ) × (name : List ℕ) × (2 ≤ s) × (slot geo view d s ≡ Good i name) × (keyed name ≡ x)
 
 -- an earlier slot from 2 on has the name of slot s
 abbrev pub IsRepeated : Geometry → View → ℕ → ℕ → Type 0
@@ -48,7 +53,7 @@ IsFoundBelow geo view d n f = IsBadDot geo view d f ⊎ ((s : ℕ) × (s < n) ×
 
 -- what the walk has, once it looked at the slots of directory d below n
 pub record IsWalked (geo : Geometry) (view : View) (d n : ℕ) (walk : Walked) : Type 0 where
-  pub names : (x : List ℕ) → Contains walk.names x ↔ ((s : ℕ) × (s < n) × IsNameAt geo view d s x)
+  pub names : (x : ℕ × List ℕ) → Contains walk.names x ↔ ((s : ℕ) × (s < n) × IsNameAt geo view d s x)
   pub in_order : IsStrictlySortedBy finding_cmp walk.findings
   pub findings : (f : Finding) → Contains walk.findings f ↔ IsFoundBelow geo view d n f
   pub directories : walk.directories ≡ namings_below geo view d n

@@ -23,7 +23,7 @@ pub(crate) struct Entry {
 pub(crate) fn reached_entries(
     alloc: Global,
     whole: &Part,
-    reached: &Members<'_>,
+    reached: &Members,
     inodes: u32,
 ) -> Result<Vec<Entry>, AllocError>
     ensures { IfOk result (λ entries. entries.items ≡ entries_below whole.now reached.now inodes) }

@@ -41,7 +41,7 @@ impl Part {
     }
 
     /// What the slots of a directory tell, if it is one of the reached.
-    pub(crate) fn reached(&self, reached: &Members<'_>, directory: u32) -> Option<&Look>
+    pub(crate) fn reached(&self, reached: &Members, directory: u32) -> Option<&Look>
         ensures { option_copied result ≡ told_by self.now reached.now directory }
     {
         if reached.has(directory) {

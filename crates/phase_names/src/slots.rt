@@ -1,4 +1,4 @@
-ghost use Rattle.std.specs.Prelude.{◌≡◌, ◌≤◌, ◌<◌, ◌+◌, ◌*◌, ◌/◌, ◌++◌, ℕ, IfOk, OnOk, IsOkUnless, IsTrue, IsFalse, length};
+ghost use Rattle.std.specs.Prelude.{◌≡◌, ◌≤◌, ◌<◌, ◌+◌, ◌*◌, ◌/◌, ◌++◌, ℕ, IfOk, OnOk, IsOkUnless, IsTrue, IsFalse, map};
 ghost use Rattle.std.specs.List.{Contains};
 ghost use Rattle.std.specs.List.Sorted.{IsStrictlySortedBy};
 ghost use Rattle.findings.specs.declared.finding.Finding.TheVariants.{DupName, ToUnsound};
@@ -9,15 +9,16 @@ ghost use Rattle.model.specs.Slots as model;
 ghost use Rattle.device.specs.Kept.{frozen_view};
 ghost use Rattle.dirent.specs.Seen.{seen};
 ghost use Rattle.phase_names.specs.Told.{IsTold, naming_of};
-ghost use Rattle.phase_names.specs.Walks.{IsWalked, padded};
+ghost use Rattle.phase_names.specs.Walks.{IsWalked, digest, keyed};
 
 use crate::look::{Look, Naming};
 use device::Frozen;
-use dirent::{NAME_BYTES, SLOTS, Slot, slot_in};
+use dirent::{SLOTS, Slot, slot_in};
 use findings::Finding;
 use layout::{Block, ROOT, Refusal};
 use std::alloc::{AllocError, Global};
 use std::collections::BTreeSet;
+use std::hash::{FoldHasher, Hasher};
 use std::marker::Model;
 
 /// The slot of a directory's name for itself.
@@ -29,29 +30,46 @@ const DOT_DOT: u32 = 1;
 /// The first slot that has an entry.
 const FIRST_ENTRY: u32 = 2;
 
-/// The name of an entry, with zeroes after it. No name has a zero, so different names stay different.
-type Name = [u8; NAME_BYTES];
+/// A name, as it stands in its directory's block, behind a digest of it. So most names are told apart by one number.
+#[derive(Clone, Copy, PartialEq, Eq, PartialOrd, Ord)]
+struct Name<'a> {
+    digest: u64,
+    bytes: &'a [u8],
+}
+
+impl<'a> Name<'a> {
+    /// The name of these bytes.
+    fn new(bytes: &'a [u8]) -> Name<'a>
+        ensures { (result.digest, result.bytes.now) ≡ keyed bytes.now }
+    {
+        Name {
+            digest: digest(bytes),
+            bytes,
+        }
+    }
+}
 
 /// What a walk over the slots of a directory has so far: the names, the findings, and the slots that name the root or
 /// a sound directory.
 #[derive(Drop)]
-struct Walk {
-    names: BTreeSet<Name>,
+struct Walk<'a> {
+    names: BTreeSet<Name<'a>>,
     findings: BTreeSet<Finding>,
     directories: Vec<Naming>,
 }
 
-impl Model for Walk {
+impl<'a> Model for Walk<'a> {
+    ghost use Rattle.std.specs.Prelude.{map};
     ghost use Rattle.phase_names.specs.Walks.{Walked};
 
     ghost Value = { Walked };
 
-    ghost view = { λ w. record { names = w.names.keys; findings = w.findings.keys; directories = w.directories.items } };
+    ghost view = { λ w. record { names = map (λ name. (name.digest, name.bytes.now)) w.names.keys; findings = w.findings.keys; directories = w.directories.items } };
 }
 
-impl Walk {
+impl<'a> Walk<'a> {
     /// The walk before the first slot, with what is found of slot 0.
-    fn begin(alloc: Global, frozen: &Frozen, directory: u32) -> Result<Walk, Refusal>
+    fn begin(alloc: Global, frozen: &Frozen, directory: u32) -> Result<Walk<'a>, Refusal>
         requires { 1 ≤ directory }
         ensures walked { IfOk result (IsWalked frozen.now.geometry (frozen_view frozen.now) directory 0) }
         ensures error { IsOkUnless result Refusal.NoMemory }
@@ -70,7 +88,7 @@ impl Walk {
     /// Looks at the slots of the block at this position.
     fn add_position(
         &mut self,
-        frozen: &Frozen,
+        frozen: &'a Frozen,
         directory: u32,
         position: u32,
     ) -> Result<(), Refusal>
@@ -91,7 +109,7 @@ impl Walk {
         frozen: &Frozen,
         directory: u32,
         position: u32,
-        block: &Block,
+        block: &'a Block,
     ) -> Result<(), Refusal>
         requires position { position < indirect_position }
         requires block { (s : ℕ) → s / 16 ≡ position → model.slot frozen.now.geometry (frozen_view frozen.now) directory s ≡ model.slot_in frozen.now.geometry block.now s }
@@ -113,7 +131,7 @@ impl Walk {
         frozen: &Frozen,
         directory: u32,
         slot: u32,
-        content: Slot<'_>,
+        content: Slot<'a>,
     ) -> Result<(), Refusal>
         requires { seen content ≡ model.slot frozen.now.geometry (frozen_view frozen.now) directory slot }
         ensures walked { OnOk result (IsWalked frozen.now.geometry (frozen_view frozen.now) directory slot self.old
@@ -135,7 +153,7 @@ impl Walk {
         directory: u32,
         slot: u32,
         number: u32,
-        name: &[u8],
+        name: &'a [u8],
     ) -> Result<(), Refusal>
         requires after_dots { 2 ≤ slot }
         requires good { model.slot frozen.now.geometry (frozen_view frozen.now) directory slot ≡ model.Good number name.now }
@@ -184,19 +202,18 @@ fn number_in(frozen: &Frozen, directory: u32, slot: u32) -> u32
 }
 
 /// Adds the name of an entry, and `repeated` where the name is there already.
-fn add_name(
-    names: &mut BTreeSet<Name>,
-    name: &[u8],
+fn add_name<'a>(
+    names: &mut BTreeSet<Name<'a>>,
+    name: &'a [u8],
     findings: &mut BTreeSet<Finding>,
     repeated: Finding,
 ) -> Result<(), Refusal>
-    requires { length name.now ≤ 56 }
-    ensures named { OnOk result (Adds (λ x. padded name.now ≡ x) names.old.keys names.new.keys) }
-    ensures found { OnOk result (Adds (λ f. Contains names.old.keys (padded name.now) × (repeated ≡ f)) findings.old.keys findings.new.keys) }
+    ensures named { OnOk result (Adds (λ x. keyed name.now ≡ x) (map (λ n. (n.digest, n.bytes.now)) names.old.keys) (map (λ n. (n.digest, n.bytes.now)) names.new.keys)) }
+    ensures found { OnOk result (Adds (λ f. Contains (map (λ n. (n.digest, n.bytes.now)) names.old.keys) (keyed name.now) × (repeated ≡ f)) findings.old.keys findings.new.keys) }
     ensures ordered { OnOk result (IsStrictlySortedBy finding_cmp findings.old.keys → IsStrictlySortedBy finding_cmp findings.new.keys) }
     ensures error { IsOkUnless result Refusal.NoMemory }
 {
-    if names.insert(padded(name))? {
+    if names.insert(Name::new(name))? {
         return Ok(());
     }
     add_finding(findings, repeated)
@@ -249,12 +266,11 @@ fn add_finding(findings: &mut BTreeSet<Finding>, finding: Finding) -> Result<(),
     Ok(())
 }
 
-/// A name with zeroes after it.
-fn padded(name: &[u8]) -> Name
-    requires { length name.now ≤ 56 }
-    ensures { result ≡ padded name.now }
+/// A number that is the same for the same name.
+fn digest(name: &[u8]) -> u64
+    ensures { result ≡ digest name.now }
 {
-    let mut bytes = [0; NAME_BYTES];
-    bytes[..name.len()].copy_from_slice(name);
-    bytes
+    let mut hasher = FoldHasher::default();
+    hasher.write(name);
+    hasher.finish()
 }

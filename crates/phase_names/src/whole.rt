@@ -30,7 +30,7 @@ pub fn finish(
     ensures error { IsOkUnless result Refusal.NoMemory }
 {
     let inodes = frozen.geometry().inodes();
-    let members = Members::new(alloc, reached, inodes)?;
+    let members = Members::of_set(alloc, reached)?;
     let entries = reached_entries(alloc, whole, &members, inodes)?;
     let held = held_by_parents(alloc, whole, &entries)?;
     let mut found = Vec::new(alloc);
@@ -54,7 +54,7 @@ fn add_root(frozen: &Frozen, found: &mut Vec<Finding>) -> Result<(), AllocError>
 /// Adds what is found of the slots of each reached directory alone.
 fn add_alone(
     whole: &Part,
-    reached: &Members<'_>,
+    reached: &Members,
     inodes: u32,
     found: &mut Vec<Finding>,
 ) -> Result<(), AllocError>
@@ -79,7 +79,7 @@ fn add_all(findings: &BTreeSet<Finding>, found: &mut Vec<Finding>) -> Result<(),
 /// directory that their slot 1 names.
 fn add_without_parent(
     whole: &Part,
-    reached: &Members<'_>,
+    reached: &Members,
     inodes: u32,
     held: &BTreeSet<u32>,
     found: &mut Vec<Finding>,

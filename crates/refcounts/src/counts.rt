@@ -89,7 +89,7 @@ pub fn count(
 {
     whole_tables_have_every_directory();
     let inodes = frozen.geometry().inodes();
-    let members = Members::new(alloc, reached, inodes)?;
+    let members = Members::of_set(alloc, reached)?;
     let mut counts = Counts::none(alloc, inodes)?;
     for directory in 0..inodes {
         counts.add_all(named_by(whole, &members, directory));
@@ -98,7 +98,7 @@ pub fn count(
 }
 
 /// What the slots of a directory name, if it is reachable; of any other nothing.
-fn named_by<'a>(whole: &'a Named, reached: &Members<'_>, directory: u32) -> &'a [u32]
+fn named_by<'a>(whole: &'a Named, reached: &Members, directory: u32) -> &'a [u32]
     ensures { result.now ≡ named_by whole.now reached.now directory }
 {
     if reached.has(directory) {

@@ -44,7 +44,7 @@ fn compare(
     ensures frame { KeepsFrame frozen.now }
 {
     let inodes = frozen.geometry().inodes();
-    let members = Members::new(alloc, reached, inodes)?;
+    let members = Members::of_set(alloc, reached)?;
     let mut found = Vec::new(alloc);
     for number in ROOT..inodes {
         if members.has(number) {

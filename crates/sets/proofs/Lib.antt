@@ -1,2 +1,2 @@
-mod MarkLemmas
-mod OrderLemmas
+pub mod MarkLemmas
+pub mod OrderLemmas

@@ -1,37 +1,44 @@
-ghost use Rattle.std.specs.Prelude.{[], ◌≡◌, ℕ, ◌<◌, ◌==◌, true, false, IfOk, length, slice_index_or, if◌then◌else◌};
+ghost use Rattle.std.specs.Prelude.{[], ◌≡◌, ℕ, ◌==◌, true, false, IfOk, OnOk, slice_index_or, if◌then◌else◌};
 ghost use Rattle.sets.specs.Members.{AreMarks, is_among};
 
 use std::alloc::{AllocError, Global};
 use std::collections::BTreeSet;
 use std::marker::Model;
 
-/// A set of numbers, with a mark for each number below some bound, which tells whether it is in the set. So a question
-/// about such a number takes no search.
+/// A set of numbers, with a mark for each number up to the greatest of them, which tells whether it is in the set. So a
+/// question takes no search, and the set a byte for each number up to the greatest.
 #[derive(Drop)]
-pub struct Members<'a> {
-    set: &'a BTreeSet<u32>,
+pub struct Members {
+    numbers: Vec<u32>,
     marks: Vec<bool>,
 }
 
-impl<'a> Model for Members<'a> {
-    ghost use Rattle.std.specs.Prelude.{[], ℕ, List};
+impl Model for Members {
+    ghost use Rattle.std.specs.Prelude.{ℕ, List};
     ghost use Rattle.sets.specs.Members.{AreMarks};
 
     ghost Value = { List ℕ };
 
-    ghost view = { λ m. m.set.now.keys };
+    ghost view = { λ m. m.numbers.items };
 
-    ghost invariant = { λ m. AreMarks m.set.now.keys m.marks.items };
+    ghost invariant = { λ m. AreMarks m.numbers.items m.marks.items };
 }
 
-impl<'a> Members<'a> {
-    /// The numbers of this set, with marks below `bound`.
-    pub fn new(alloc: Global, set: &'a BTreeSet<u32>, bound: u32) -> Result<Members<'a>, AllocError>
+impl Members {
+    /// The set of these numbers.
+    pub fn new(alloc: Global, numbers: Vec<u32>) -> Result<Members, AllocError>
+        ensures { IfOk result (λ members. members ≡ numbers.items) }
+    {
+        let mut marks = Vec::new(alloc);
+        mark_all(&mut marks, &numbers)?;
+        Ok(Members { numbers, marks })
+    }
+
+    /// The numbers of this set.
+    pub fn of_set(alloc: Global, set: &BTreeSet<u32>) -> Result<Members, AllocError>
         ensures { IfOk result (λ members. members ≡ set.now.keys) }
     {
-        let mut marks = no_marks(alloc, bound)?;
-        mark_all(&mut marks, in_list(alloc, set)?.as_slice());
-        Ok(Members { set, marks })
+        Members::new(alloc, in_list(alloc, set)?)
     }
 
     /// Whether the number is in the set.
@@ -40,16 +47,9 @@ impl<'a> Members<'a> {
     {
         match self.marks.get(number as usize) {
             Some(is_member) => *is_member,
-            None => self.set.contains(&number),
+            None => false,
         }
     }
-}
-
-/// So many marks, and no number is marked.
-fn no_marks(alloc: Global, bound: u32) -> Result<Vec<bool>, AllocError>
-    ensures { IfOk result (λ marks. AreMarks [] marks.items) }
-{
-    vec![in alloc; false; bound as usize]
 }
 
 /// The numbers of a set, in order.
@@ -59,21 +59,24 @@ fn in_list(alloc: Global, set: &BTreeSet<u32>) -> Result<Vec<u32>, AllocError>
     set.iter().copied().collect(alloc)
 }
 
-/// Marks these numbers, as far as there are marks for them.
-fn mark_all(marks: &mut Vec<bool>, numbers: &[u32])
-    ensures marked { AreMarks [] marks.old.items → AreMarks numbers.now marks.new.items }
+/// Marks these numbers.
+fn mark_all(marks: &mut Vec<bool>, numbers: &[u32]) -> Result<(), AllocError>
+    ensures marked { OnOk result (AreMarks [] marks.old.items → AreMarks numbers.now marks.new.items) }
 {
     for number in numbers {
-        mark(marks, *number);
+        mark(marks, *number)?;
     }
+    Ok(())
 }
 
-/// Marks a number, if there is a mark for it.
-fn mark(marks: &mut Vec<bool>, number: u32)
-    ensures length { length marks.new.items ≡ length marks.old.items }
-    ensures marked { (n : ℕ) → n < length marks.old.items → slice_index_or marks.new.items n false ≡ (if n == number then true else slice_index_or marks.old.items n false) }
+/// Marks a number.
+fn mark(marks: &mut Vec<bool>, number: u32) -> Result<(), AllocError>
+    ensures { OnOk result ((n : ℕ) → slice_index_or marks.new.items n false ≡ (if n == number then true else slice_index_or marks.old.items n false)) }
 {
-    if let Some(mark) = marks.get_mut(number as usize) {
-        *mark = true;
+    let index = number as usize;
+    if index >= marks.len() {
+        marks.resize(index + 1, false)?;
     }
+    marks[index] = true;
+    Ok(())
 }

@@ -3,20 +3,20 @@ use std::alloc::AllocError;
 use std::collections::BTreeSet;
 
 #[test]
-fn numbers_are_members_below_the_bound_and_past_it(rt: HostRuntime) -> Result<(), AllocError> {
+fn numbers_are_members_up_to_the_greatest_and_past_it(rt: HostRuntime) -> Result<(), AllocError> {
     let alloc = rt.alloc();
     let mut set = BTreeSet::new(alloc);
-    for number in [0, 3, 7, 8, 4_294_967_295] {
+    assert!(rt; !Members::of_set(alloc, &set)?.has(0));
+    for number in [0, 3, 7, 8, 1_000] {
         set.insert(number)?;
     }
-    for bound in [0, 1, 4, 8, 20] {
-        let members = Members::new(alloc, &set, bound)?;
-        for number in 0..30 {
-            assert_eq!(rt; members.has(number), set.contains(&number));
-        }
-        assert!(rt; members.has(4_294_967_295));
-        assert!(rt; !members.has(4_294_967_294));
+    let of_set = Members::of_set(alloc, &set)?;
+    let of_list = Members::new(alloc, vec![in alloc; 1_000, 3, 8, 0, 7, 3]?)?;
+    for number in 0..1_010 {
+        assert_eq!(rt; of_set.has(number), set.contains(&number));
+        assert_eq!(rt; of_list.has(number), set.contains(&number));
     }
+    assert!(rt; !of_set.has(u32::MAX));
     Ok(())
 }
 

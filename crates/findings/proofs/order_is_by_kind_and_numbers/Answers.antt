@@ -1,4 +1,4 @@
-use Rattle.findings.proofs.DerivedOrder.{cmp_at}
+use Rattle.findings.proofs.FindingOrder.{cmp_at}
 use Rattle.findings.proofs.order_is_by_kind_and_numbers.Goals as goal
 
 pub returns : goal.returns

@@ -5,9 +5,10 @@ use Rattle.device.specs.Kept.{frozen_view}
 use Rattle.model.specs.Layout.{Geometry, is_number}
 use Rattle.model.specs.Named.{named_from}
 use Rattle.model.specs.Tables.{Puts}
+use Rattle.model.specs.Units.{AreNumbers}
 use Rattle.model.specs.Uses.{is_directory_at}
+use Rattle.model.proofs.GroupNumbers.{all_before, all_from, first_number, none_before, numbers_after, same_numbers}
 use Rattle.model.proofs.Tables.{IsTableOf, is_directory_before, group_none, group_more, group_same, group_whole, no_group_table}
-use Rattle.directories.proofs.GroupLemmas.{AreNumbers, same_numbers}
 use Rattle.directories.proofs.reading.named.Goals as goal
 
 pub returns-then-unit-groups-clause-named : goal.returns-then-unit-groups-clause-named
@@ -25,8 +26,8 @@ loop-number-init c =
     let all : AreNumbers geo c.args.unit c.into_iter-number-iterator.result =
     same_numbers c.geometry-geometry.ensures.geometry c.into_iter-number-iterator.ensures.into_iter_gives c.numbers_of-number-items.ensures in (
       group_none geo view (λ d numbers. numbers ≡ named_from geo view c.args.first d) c.args.unit c.into_iter-number-iterator.result.start c.new-named.result c.new-named.ensures.empty
-          (c.new-named.ensures.part geo view c.args.first).in_order (λ i t e. ((all i).1 (t, e)).0),
-      λ i from. ((λ lt. (all i).0 (from, lt)), (λ h. ((all i).1 h).1)),
+          (c.new-named.ensures.part geo view c.args.first).in_order (none_before geo c.args.unit c.into_iter-number-iterator.result all),
+      all_from geo c.args.unit c.into_iter-number-iterator.result all,
     )
 
 pub loop-number-preserved : goal.loop-number-preserved
@@ -36,7 +37,8 @@ loop-number-preserved c =
     let e = c.in-Some.ensures.steps in
     let told = c.in_ok-add_inode.ensures in
     let start = c.loop-number.number-iterator.start in
-    let here = (c.loop-number.invariant.1 start (omega arith)).0 (omega (arith, e.1.0)) in
+    let end = c.loop-number.number-iterator.end in
+    let here = first_number geo c.args.unit start end c.loop-number.invariant.1 e.1.0 in
     let number : c.in-Some.number ≡ start = e.1.1 in (
       elim (cases_Bool (is_directory_at geo view start)) [
         | inl t ↦ group_more geo view (λ d numbers. numbers ≡ named_from geo view c.args.first d) c.args.unit start c.next.new.self.start (named_from geo view c.args.first start)
@@ -47,7 +49,7 @@ loop-number-preserved c =
             (subst (λ table. IsTableOf (λ d numbers. numbers ≡ named_from geo view c.args.first d) (is_directory_before geo view c.args.unit start) table)
             (sym (told.other (ap (λ n. is_directory_at geo view n) number ∙ f))) c.loop-number.invariant.0)
       ],
-      λ i from. subst (λ past. (i < past) ↔ (IsTrue (is_number geo i) × (i / geo.inodes ≡ c.args.unit))) (sym e.0) (c.loop-number.invariant.1 i (omega (arith, from, e.1.2))),
+      numbers_after geo c.args.unit start end c.next.new.self.start c.next.new.self.end e.1.2 e.0 c.loop-number.invariant.1,
     )
 
 pub returns-clause-named : goal.returns-clause-named
@@ -57,7 +59,4 @@ returns-clause-named c =
     let e = c.in-None.ensures.steps in
     let start = c.loop-number.number-iterator.start in
     group_whole geo view (λ d numbers. numbers ≡ named_from geo view c.args.first d) c.args.unit start c.loop-number.named
-    (λ i t g. elim (cases_lt i start) [
-      | inl lt ↦ lt
-      | inr from ↦ (let lt = (c.loop-number.invariant.1 i from).1 (t, g) in omega (arith, lt, e.1.0))
-    ]) c.loop-number.invariant.0
+    (all_before geo c.args.unit start c.loop-number.number-iterator.end c.loop-number.invariant.1 e.1.0) c.loop-number.invariant.0

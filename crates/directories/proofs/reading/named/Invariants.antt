@@ -1,8 +1,8 @@
 use Rattle.std.proofs.Common.{◌≡◌}
 use Rattle.device.specs.Kept.{frozen_view}
 use Rattle.model.specs.Named.{named_from}
+use Rattle.model.proofs.GroupNumbers.{AreNumbersFrom}
 use Rattle.model.proofs.Tables.{IsTableOf, is_directory_before}
-use Rattle.directories.proofs.GroupLemmas.{AreNumbersFrom}
 use Rattle.directories.proofs.reading.named.Given as goal
 
 abbrev pub invariant-loop-number : goal.invariant-loop-number

@@ -1,12 +1,10 @@
-use Rattle.std.proofs.lemmas.List.Filters.{dedup_is}
-use Rattle.findings.specs.contracts.finding.FindingPartialEq.TheImpl as derived_eq
-use Rattle.findings.proofs.DerivedOrder.{sorted_strictly, same_members}
+use Rattle.std.proofs.Common.{sym, subst}
+use Rattle.sets.specs.Ordered.{IsExact}
+use Rattle.findings.proofs.FindingOrder.{finding_exact, same_order, sorted_findings}
 use Rattle.findings.proofs.order.in_order.Goals as goal
 
 pub returns-clause-order : goal.returns-clause-order
-returns-clause-order c =
-    sorted_strictly c.sort.new.self.items c.dedup.new.self.items c.in_ok-sort.ensures.sorted (dedup_is derived_eq.ghosts.eq c.sort.new.self.items c.dedup.new.self.items c.dedup.ensures.filtered)
+returns-clause-order c = sorted_findings c.in_ok-in_order.field-0.items c.in_ok-in_order.ensures.order
 
 pub returns-clause-same : goal.returns-clause-same
-returns-clause-same c =
-    same_members c.args.found.items c.sort.new.self.items c.dedup.new.self.items c.in_ok-sort.ensures.permutation (dedup_is derived_eq.ghosts.eq c.sort.new.self.items c.dedup.new.self.items c.dedup.ensures.filtered)
+returns-clause-same c = c.in_ok-in_order.ensures.same (subst (λ cmp. IsExact cmp) (sym same_order) finding_exact)

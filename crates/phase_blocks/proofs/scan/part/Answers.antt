@@ -6,18 +6,11 @@ use Rattle.model.specs.Layout.{Geometry, is_number}
 use Rattle.device.specs.Kept.{frozen_view}
 use Rattle.phase_blocks.specs.Parts.{Gathered, IsGathered, Tells, with_inode, with_uses}
 use Rattle.phase_blocks.proofs.Scanning.{group_below, no_numbers, none_yet, one_more, whole_group}
-use Rattle.model.specs.Units.{only, stands_in}
+use Rattle.model.specs.Units.{AreNumbers, only, stands_in}
 use Rattle.model.proofs.Adding.{IfOk-both}
+use Rattle.model.proofs.GroupNumbers.{all_before, all_from, first_number, none_before, numbers_after, same_numbers}
 use Rattle.phase_blocks.proofs.Gathering.{gathered_in_order}
 use Rattle.phase_blocks.proofs.scan.part.Goals as goal
-
--- a range of the group's numbers, and what is left of it
-abbrev AreNumbers : Geometry → ℕ → Range ℕ → Type 0
-AreNumbers geo group range = (i : ℕ) → ((range.start ≤ i) × (i < range.end)) ↔ (IsTrue (is_number geo i) × (i / geo.inodes ≡ group))
-
-numbers : {geo other : Geometry} {group : ℕ} {range items : Range ℕ} → geo ≡ other → items ≡ range → AreNumbers geo group range → AreNumbers other group items
-numbers {geo} {other} {group} {range} {items} e f h =
-    subst (λ (r : Range ℕ). AreNumbers other group r) (sym f) (subst (λ (g : Geometry). AreNumbers g group range) e h)
 
 pub returns-then-unit-groups-clause-part : goal.returns-then-unit-groups-clause-part
 returns-then-unit-groups-clause-part c =
@@ -34,9 +27,9 @@ loop-number-init c =
     let geo = c.args.frozen.now.geometry in
     let view = frozen_view c.args.frozen.now in
     let all : AreNumbers geo c.args.unit c.into_iter-number-iterator.result =
-    numbers c.geometry-geometry.ensures.geometry c.into_iter-number-iterator.ensures.into_iter_gives c.numbers_of-number-items.ensures in (
-      none_yet geo view c.args.unit c.new-part.result c.into_iter-number-iterator.result.start (λ i t e. ((all i).1 (t, e)).0) (c.new-part.ensures.part geo view).told,
-      λ i from. ((λ lt. (all i).0 (from, lt)), (λ h. ((all i).1 h).1)),
+    same_numbers c.geometry-geometry.ensures.geometry c.into_iter-number-iterator.ensures.into_iter_gives c.numbers_of-number-items.ensures in (
+      none_yet geo view c.args.unit c.new-part.result c.into_iter-number-iterator.result.start (none_before geo c.args.unit c.into_iter-number-iterator.result all) (c.new-part.ensures.part geo view).told,
+      all_from geo c.args.unit c.into_iter-number-iterator.result all,
     )
 
 pub look_at_inode-requires : goal.look_at_inode-requires
@@ -50,11 +43,12 @@ loop-number-preserved c =
     let view = frozen_view c.args.frozen.now in
     let e = c.in-Some.ensures.steps in
     let start = c.loop-number.number-iterator.start in
-    let here = (c.loop-number.invariant.1 start (omega arith)).0 (omega (arith, e.1.0)) in
+    let end = c.loop-number.number-iterator.end in
+    let here = first_number geo c.args.unit start end c.loop-number.invariant.1 e.1.0 in
     let looked = c.in_ok-look_at_inode.ensures.looked (group_below geo c.args.unit start) (λ i l. group_below geo c.args.unit start i) c.loop-number.invariant.0 in (
       one_more geo view c.args.unit c.look_at_inode.new.part start c.next.new.self.start e.1.2 here.1
           (subst (λ n. Tells geo view (with_inode (group_below geo c.args.unit start) n) (with_uses (λ i l. group_below geo c.args.unit start i) n) c.look_at_inode.new.part) e.1.1 looked),
-      λ i from. subst (λ past. (i < past) ↔ (IsTrue (is_number geo i) × (i / geo.inodes ≡ c.args.unit))) (sym e.0) (c.loop-number.invariant.1 i (omega (arith, from, e.1.2))),
+      numbers_after geo c.args.unit start end c.next.new.self.start c.next.new.self.end e.1.2 e.0 c.loop-number.invariant.1,
     )
 
 pub returns-clause-part : goal.returns-clause-part
@@ -65,10 +59,7 @@ returns-clause-part c =
     let start = c.loop-number.number-iterator.start in
     let told =
     whole_group geo view c.args.unit c.loop-number.part start
-    (λ i t g. elim (cases_lt i start) [
-      | inl lt ↦ lt
-      | inr from ↦ (let lt = (c.loop-number.invariant.1 i from).1 (t, g) in omega (arith, lt, e.1.0))
-    ]) c.loop-number.invariant.0 in
+    (all_before geo c.args.unit start c.loop-number.number-iterator.end c.loop-number.invariant.1 e.1.0) c.loop-number.invariant.0 in
     let uses = λ (i l : ℕ). stands_in geo (only c.args.unit) i in
     let Gathers = λ (part : Gathered). (part.found ≡ c.loop-number.part.found) → IsGathered geo view (stands_in geo (only c.args.unit)) uses part in
     IfOk-both c.in_order.result _ Gathers _ (λ part found gathers. gathers found) c.in_order.ensures.found

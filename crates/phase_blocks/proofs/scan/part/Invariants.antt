@@ -1,5 +1,6 @@
 use Rattle.device.specs.Kept.{frozen_view}
-use Rattle.phase_blocks.proofs.Scanning.{AreNumbersFrom, TellsBelow}
+use Rattle.model.proofs.GroupNumbers.{AreNumbersFrom}
+use Rattle.phase_blocks.proofs.Scanning.{TellsBelow}
 use Rattle.phase_blocks.proofs.scan.part.Given as goal
 
 abbrev pub invariant-loop-number : goal.invariant-loop-number

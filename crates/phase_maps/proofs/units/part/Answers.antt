@@ -3,19 +3,12 @@ use Rattle.std.proofs.Common.{◌≡◌, ◌≤◌, ◌<◌, ◌/◌, ◌||◌, 
 use Rattle.std.proofs.lemmas.Bool.{cases_lt}
 use Rattle.std.specs.declared.ops.Range.{Range}
 use Rattle.model.specs.Layout.{Geometry, is_number}
-use Rattle.model.specs.Units.{only, stands_in}
+use Rattle.model.specs.Units.{AreNumbers, only, stands_in}
+use Rattle.model.proofs.GroupNumbers.{all_before, all_from, first_number, none_before, numbers_after, same_numbers}
 use Rattle.device.specs.Kept.{frozen_view}
 use Rattle.phase_maps.specs.Parts.{Gathered, IsGathering}
 use Rattle.phase_maps.proofs.UnitLemmas.{gathering_first, gathering_next, gathering_all, no_group, of_no_group}
 use Rattle.phase_maps.proofs.units.part.Goals as goal
-
--- a range of the group's numbers
-abbrev AreNumbers : Geometry → ℕ → Range ℕ → Type 0
-AreNumbers geo group range = (i : ℕ) → ((range.start ≤ i) × (i < range.end)) ↔ (IsTrue (is_number geo i) × (i / geo.inodes ≡ group))
-
-numbers : {geo other : Geometry} {group : ℕ} {range items : Range ℕ} → geo ≡ other → items ≡ range → AreNumbers geo group range → AreNumbers other group items
-numbers {geo} {other} {group} {range} {items} e f h =
-    subst (λ (r : Range ℕ). AreNumbers other group r) (sym f) (subst (λ (g : Geometry). AreNumbers g group range) e h)
 
 pub returns-then-unit-groups-clause-part : goal.returns-then-unit-groups-clause-part
 returns-then-unit-groups-clause-part c =
@@ -32,10 +25,10 @@ pub loop-number-init : goal.loop-number-init
 loop-number-init c =
     let geo = c.args.frozen.now.geometry in
     let all : AreNumbers geo c.args.unit c.into_iter-number-iterator.result =
-    numbers c.geometry-geometry.ensures.geometry c.into_iter-number-iterator.ensures.into_iter_gives c.numbers_of-number-items.ensures in (
+    same_numbers c.geometry-geometry.ensures.geometry c.into_iter-number-iterator.ensures.into_iter_gives c.numbers_of-number-items.ensures in (
       gathering_first geo c.geometry-geometry.ensures.frame.geometry (frozen_view c.args.frozen.now) c.args.unit c.into_iter-number-iterator.result.start c.new-gathering.result
-          (λ i t e. ((all i).1 (t, e)).0) (c.new-gathering.ensures geo (frozen_view c.args.frozen.now)),
-      λ i from. ((λ lt. (all i).0 (from, lt)), (λ h. ((all i).1 h).1)),
+          (none_before geo c.args.unit c.into_iter-number-iterator.result all) (c.new-gathering.ensures geo (frozen_view c.args.frozen.now)),
+      all_from geo c.args.unit c.into_iter-number-iterator.result all,
     )
 
 pub add_inode-requires : goal.add_inode-requires
@@ -49,12 +42,13 @@ loop-number-preserved c =
     let view = frozen_view c.args.frozen.now in
     let e = c.in-Some.ensures.steps in
     let start = c.loop-number.number-iterator.start in
-    let here = (c.loop-number.invariant.1 start (omega arith)).0 (omega (arith, e.1.0)) in
+    let end = c.loop-number.number-iterator.end in
+    let here = first_number geo c.args.unit start end c.loop-number.invariant.1 e.1.0 in
     let added = c.in_ok-add_inode.ensures.gathered (λ i. stands_in geo (only c.args.unit) i && ltb i start) c.loop-number.invariant.0 in (
       subst (λ n. IsGathering geo view (λ i. stands_in geo (only c.args.unit) i && ltb i n) c.add_inode.new.self) (sym e.1.2)
           (gathering_next geo c.geometry-geometry.ensures.frame.geometry view c.args.unit start c.add_inode.new.self here.1
           (subst (λ n. IsGathering geo view (λ i. (stands_in geo (only c.args.unit) i && ltb i start) || eqb i n) c.add_inode.new.self) e.1.1 added)),
-      λ i from. subst (λ past. (i < past) ↔ (IsTrue (is_number geo i) × (i / geo.inodes ≡ c.args.unit))) (sym e.0) (c.loop-number.invariant.1 i (omega (arith, from, e.1.2))),
+      numbers_after geo c.args.unit start end c.next.new.self.start c.next.new.self.end e.1.2 e.0 c.loop-number.invariant.1,
     )
 
 pub returns-clause-part : goal.returns-clause-part
@@ -64,7 +58,4 @@ returns-clause-part c =
     let start = c.loop-number.number-iterator.start in
     c.in_ok-in_order.ensures geo (frozen_view c.args.frozen.now) (stands_in geo (only c.args.unit))
     (gathering_all geo c.geometry-geometry.ensures.frame.geometry (frozen_view c.args.frozen.now) c.args.unit start c.loop-number.gathering
-    (λ i t g. elim (cases_lt i start) [
-      | inl lt ↦ lt
-      | inr from ↦ (let lt = (c.loop-number.invariant.1 i from).1 (t, g) in omega (arith, lt, e.1.0))
-    ]) c.loop-number.invariant.0)
+    (all_before geo c.args.unit start c.loop-number.number-iterator.end c.loop-number.invariant.1 e.1.0) c.loop-number.invariant.0)

@@ -1,8 +1,8 @@
 use Rattle.std.proofs.Common.{◌&&◌, ltb}
 use Rattle.device.specs.Kept.{frozen_view}
 use Rattle.model.specs.Units.{only, stands_in}
+use Rattle.model.proofs.GroupNumbers.{AreNumbersFrom}
 use Rattle.phase_maps.specs.Parts.{IsGathering}
-use Rattle.phase_maps.proofs.UnitLemmas.{AreNumbersFrom}
 use Rattle.phase_maps.proofs.units.part.Given as goal
 
 abbrev pub invariant-loop-number : goal.invariant-loop-number

@@ -10,7 +10,7 @@ loop-number-init c = λ h. h
 pub loop-number-preserved : goal.loop-number-preserved
 loop-number-preserved c = λ h.
     next_marks c.args.numbers.now c.loop-number.number-index c.loop-number.marks.items c.mark.new.marks.items c.loop-number-test.true
-    (c.loop-number.invariant h) c.mark.ensures.length c.mark.ensures.marked
+    (c.loop-number.invariant h) c.in_ok-mark.ensures
 
 pub returns : goal.returns
 returns c = record { marked = λ h. subst (λ xs. AreMarks xs c.loop-number.marks.items) (take_all c.loop-number.number-index c.args.numbers.now c.loop-number-test.false) (c.loop-number.invariant h) }

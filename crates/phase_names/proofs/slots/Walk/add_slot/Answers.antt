@@ -1,5 +1,5 @@
 -- A dot and an empty slot add nothing, and a bad one is told.
-use Rattle.std.proofs.Common.{refl, sym, ap, ◌∙◌, subst}
+use Rattle.std.proofs.Common.{map, refl, sym, ap, ◌∙◌, subst}
 use Rattle.device.specs.Kept.{frozen_view}
 use Rattle.dirent.specs.Seen.{seen}
 use Rattle.phase_names.specs.Walks.{IsWalked, Walked}
@@ -19,8 +19,8 @@ pub returns-in-Bad-clause-walked : goal.returns-in-Bad-clause-walked
 returns-in-Bad-clause-walked c =
     let geo = c.args.frozen.now.geometry in
     let view = frozen_view c.args.frozen.now in
-    let old : Walked = record { names = c.self.inside.names.keys; findings = c.self.inside.findings.keys; directories = c.self.inside.directories.items } in
-    let new : Walked = record { names = c.self.inside.names.keys; findings = c.add_finding.new.findings.keys; directories = c.self.inside.directories.items } in
+    let old : Walked = record { names = map (λ n. (n.digest, n.bytes.now)) c.self.inside.names.keys; findings = c.self.inside.findings.keys; directories = c.self.inside.directories.items } in
+    let new : Walked = record { names = map (λ n. (n.digest, n.bytes.now)) c.self.inside.names.keys; findings = c.add_finding.new.findings.keys; directories = c.self.inside.directories.items } in
     on_ok_both c.add_finding.result
     (λ found ordered h.
     walked_bad geo view c.args.directory c.args.slot old new c.if-slot-lt-FIRST_ENTRY.false (sym c.requires ∙ ap seen c.in-Bad.is) refl refl ordered found

@@ -1,5 +1,5 @@
 -- Slot 0 is told where it does not name the directory.
-use Rattle.std.proofs.Common.{true, [], sym, ap, ◌∙◌, subst}
+use Rattle.std.proofs.Common.{true, [], map, sym, ap, ◌∙◌, subst}
 use Rattle.std.specs.BTreeSet.{Updates, keys}
 use Rattle.std.specs.List.Sorted.{IsStrictlySortedBy}
 use Rattle.device.specs.Kept.{frozen_view}
@@ -22,7 +22,7 @@ returns-clause-walked c =
     let view = frozen_view c.args.frozen.now in
     let d = c.args.directory in
     let found = c.if-number_in-directory.findings.keys in
-    walked_none geo view d (record { names = c.new.result.keys; findings = found; directories = c.new-2.result.items }) c.new.ensures.empty
+    walked_none geo view d (record { names = map (λ n. (n.digest, n.bytes.now)) c.new.result.keys; findings = found; directories = c.new-2.result.items }) (ap (map (λ n. (n.digest, n.bytes.now))) c.new.ensures.empty)
     (elim c.if-number_in-directory.branch [
       | then-number_in-directory+in_ok-insert w ↦ subst (λ xs. IsStrictlySortedBy finding_cmp xs) (sym (ap keys w.findings-is)) (sorted_findings w.insert.new.self.keys w.in_ok-insert.ensures.ordered)
       | else-number_in-directory w ↦ subst (λ xs. IsStrictlySortedBy finding_cmp xs) (sym (ap keys w.findings-is)) (sorted_findings c.new-findings.result.keys c.new-findings.ensures.ordered)
