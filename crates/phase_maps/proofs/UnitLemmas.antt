@@ -1,5 +1,5 @@
 -- The inodes of a group, by their numbers.
-use Rattle.std.proofs.Common.{◌↔◌, ◌≡◌, ◌<◌, ◌≤◌, ◌+◌, ◌/◌, ℕ, Bool, false, ◌&&◌, ◌||◌, eqb, ltb, [], refl, sym, ap, ◌∙◌, arith, IsTrue}
+use Rattle.std.proofs.Common.{◌≡◌, ◌<◌, ◌≤◌, ◌+◌, ◌/◌, ℕ, Bool, ◌&&◌, ◌||◌, eqb, ltb, [], refl, sym, ap, ◌∙◌, arith, IsTrue}
 use Rattle.std.proofs.lemmas.Bool.{eq-eqb, eqb-true, ne_eqb}
 use Rattle.model.specs.Layout.{Geometry, IsGeometry, is_number}
 use Rattle.model.specs.View.{View}

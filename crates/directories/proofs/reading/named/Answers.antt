@@ -1,8 +1,8 @@
 -- The loop goes over the numbers that stand in the group.
-use Rattle.std.proofs.Common.{◌≡◌, ◌<◌, ◌/◌, ◌↔◌, IsTrue, inl, inr, refl, sym, ap, ◌∙◌, subst, arith}
-use Rattle.std.proofs.lemmas.Bool.{cases_Bool, cases_lt}
+use Rattle.std.proofs.Common.{◌≡◌, IsTrue, inl, inr, refl, sym, ap, ◌∙◌, subst, arith}
+use Rattle.std.proofs.lemmas.Bool.{cases_Bool}
 use Rattle.device.specs.Kept.{frozen_view}
-use Rattle.model.specs.Layout.{Geometry, is_number}
+use Rattle.model.specs.Layout.{Geometry}
 use Rattle.model.specs.Named.{named_from}
 use Rattle.model.specs.Tables.{Puts}
 use Rattle.model.specs.Units.{AreNumbers}

@@ -1,8 +1,6 @@
 -- The numbers of the group, one after another.
-use Rattle.std.proofs.Common.{◌≡◌, ◌≤◌, ◌<◌, ◌/◌, ◌||◌, ◌&&◌, eqb, ltb, ℕ, ◌↔◌, IsTrue, inl, inr, subst, ap, sym, arith}
-use Rattle.std.proofs.lemmas.Bool.{cases_lt}
-use Rattle.std.specs.declared.ops.Range.{Range}
-use Rattle.model.specs.Layout.{Geometry, is_number}
+use Rattle.std.proofs.Common.{◌≤◌, ◌||◌, ◌&&◌, eqb, ltb, subst, ap, sym, arith}
+use Rattle.model.specs.Layout.{Geometry}
 use Rattle.model.specs.Units.{AreNumbers, only, stands_in}
 use Rattle.model.proofs.GroupNumbers.{all_before, all_from, first_number, none_before, numbers_after, same_numbers}
 use Rattle.device.specs.Kept.{frozen_view}
