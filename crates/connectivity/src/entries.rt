@@ -1,11 +1,11 @@
 ghost use Rattle.std.specs.Prelude.{◌≡◌, ◌≤◌, [], IfOk, IsOkUnless};
-ghost use Rattle.device.specs.Kept.{frozen_view};
+ghost use Rattle.frozen.specs.Kept.{frozen_view};
 ghost use Rattle.directories.specs.Named.{IsNamed};
 ghost use Rattle.model.specs.Units.{only};
 
 use crate::Part;
-use device::Frozen;
 use directories::named;
+use frozen::Frozen;
 use layout::Refusal;
 use std::alloc::Global;
 

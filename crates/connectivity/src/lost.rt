@@ -1,11 +1,11 @@
 ghost use Rattle.std.specs.Prelude.{◌≡◌, IfOk, IsOkUnless};
-ghost use Rattle.device.specs.Kept.{frozen_view};
+ghost use Rattle.frozen.specs.Kept.{frozen_view};
 ghost use Rattle.findings.specs.Findings.{AreFindingsOf, is_of_connectivity};
 ghost use Rattle.model.specs.Reached.{AreReached};
 ghost use Rattle.connectivity.specs.Walk.{is_lost_among};
 
-use device::Frozen;
 use findings::Finding;
+use frozen::Frozen;
 use layout::Refusal;
 use sets::Members;
 use std::alloc::Global;

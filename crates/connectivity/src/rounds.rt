@@ -1,13 +1,13 @@
 ghost use Rattle.std.specs.Prelude.{◌≡◌, ℕ, List, [], ◌∷◌, IfOk, OnOk, IsOkUnless};
-ghost use Rattle.device.specs.Kept.{frozen_view};
+ghost use Rattle.frozen.specs.Kept.{frozen_view};
 ghost use Rattle.directories.specs.Named.{IsNamed};
 ghost use Rattle.model.specs.Units.{Units, IsEveryGroup};
 ghost use Rattle.model.specs.Reached.{AreReached};
 ghost use Rattle.connectivity.specs.Walk.{Visits, numbers_of};
 
 use crate::Part;
-use device::Frozen;
 use directories::whole_tables_have_every_directory;
+use frozen::Frozen;
 use layout::{ROOT, Refusal};
 use std::alloc::Global;
 use std::collections::BTreeSet;

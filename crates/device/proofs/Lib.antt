@@ -1,8 +1,3 @@
 pub mod WriteLemmas
 pub mod MemoryLemmas
 pub mod FormatLemmas
-pub mod LoadLemmas
-pub mod FrozenLemmas
-pub mod ClaimLemmas
-pub mod KeepingLemmas
-pub mod SlotLemmas

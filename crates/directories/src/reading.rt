@@ -1,5 +1,5 @@
 ghost use Rattle.std.specs.Prelude.{◌≡◌, ◌<◌, ◌≤◌, ◌+◌, ◌*◌, ◌++◌, ℕ, [], IfOk, OnOk, IsOkUnless, IsTrue, IsFalse};
-ghost use Rattle.device.specs.Kept.{frozen_view};
+ghost use Rattle.frozen.specs.Kept.{frozen_view};
 ghost use Rattle.dirent.specs.Seen.{seen};
 ghost use Rattle.model.specs.Named.{named_below, named_from, number_of};
 ghost use Rattle.model.specs.Slots.{Absent, slot};
@@ -9,8 +9,8 @@ ghost use Rattle.model.specs.Uses.{indirect_position, is_directory_at};
 ghost use Rattle.directories.specs.Named.{IsNamed};
 
 use crate::table::Named;
-use device::Frozen;
 use dirent::{SLOTS, Slot, slot_in};
+use frozen::Frozen;
 use layout::Refusal;
 use std::alloc::Global;
 

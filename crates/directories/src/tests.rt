@@ -1,5 +1,6 @@
 use crate::{Named, merge, named};
-use device::{Before, Device, Frozen, MemDevice, format, load};
+use device::{Before, Device, MemDevice, format};
+use frozen::{Frozen, load};
 use layout::{BLOCK_BYTES, Geometry, Refusal};
 use std::alloc::Global;
 

@@ -15,7 +15,7 @@ use Rattle.findings.proofs.SameFindings.{same_findings}
 use Rattle.model.specs.Layout.{Geometry}
 use Rattle.model.specs.View.{View}
 use Rattle.model.specs.Image.{image_view}
-use Rattle.device.specs.Kept.{Kept, IsKeptOf, frozen_view}
+use Rattle.frozen.specs.Kept.{Kept, IsKeptOf, frozen_view}
 use Rattle.fsck.specs.Checked.{CheckedImage, IsChecked, IsFoundIn}
 
 module _ (geo : Geometry) (view : View) where

@@ -14,7 +14,7 @@ use Rattle.findings.proofs.Soft.{rules_where_soft}
 use Rattle.model.specs.Layout.{Geometry}
 use Rattle.model.specs.View.{View}
 use Rattle.model.specs.Rules.{ObeysRules}
-use Rattle.device.specs.Kept.{frozen_view}
+use Rattle.frozen.specs.Kept.{frozen_view}
 use Rattle.fsck.specs.Checked.{CheckedImage, IsChecked}
 
 -- the verdict by whether nothing was found, and whether all that was is soft

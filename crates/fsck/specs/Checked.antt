@@ -9,7 +9,7 @@ use Rattle.findings.specs.Report.{report_of, verdict_of, repairs_of}
 use Rattle.model.specs.Layout.{Geometry}
 use Rattle.model.specs.View.{View}
 use Rattle.model.specs.Units.{Units}
-use Rattle.device.specs.Kept.{Kept, frozen_view}
+use Rattle.frozen.specs.Kept.{Kept, frozen_view}
 
 -- the image, its findings, the bytes of the report, the verdict, and the repairs
 pub record CheckedImage : Type 0 where

@@ -4,7 +4,7 @@ use Rattle.std.specs.declared.alloc.Global.{Global}
 use Rattle.layout.specs.declared.refusal.Refusal.{Refusal}
 use Rattle.layout.specs.declared.refusal.Refusal.TheVariants.{NoMemory}
 use Rattle.model.specs.Units.{Units, only}
-use Rattle.device.specs.Kept.{Kept, frozen_view}
+use Rattle.frozen.specs.Kept.{Kept, frozen_view}
 use Rattle.directories.specs.Named.{IsNamed}
 use Rattle.phase_blocks.specs.Parts as phase_blocks
 use Rattle.phase_names.specs.Told as phase_names

@@ -1,12 +1,12 @@
 ghost use Rattle.std.specs.Prelude.{◌≡◌, ◌↔◌, IfOk, IsOkUnless};
 ghost use Rattle.std.specs.Arc.{arc_value};
 ghost use Rattle.findings.specs.Findings.{AreFindings};
-ghost use Rattle.device.specs.Kept.{frozen_view};
+ghost use Rattle.frozen.specs.Kept.{frozen_view};
 ghost use Rattle.model.specs.Rules.{ObeysRules};
 ghost use Rattle.fsck.specs.Checked.{AreRepairs, IsChecked, IsReport, IsVerdict};
 
-use device::Frozen;
 use findings::{Finding, Repair, Verdict, repairs, report, verdict};
+use frozen::Frozen;
 use layout::Refusal;
 use std::alloc::Global;
 use std::marker::Model;
@@ -24,7 +24,7 @@ pub struct Checked {
 
 impl Model for Checked {
     ghost use Rattle.std.specs.Arc.{arc_value};
-    ghost use Rattle.device.specs.Kept.{frozen_view};
+    ghost use Rattle.frozen.specs.Kept.{frozen_view};
     ghost use Rattle.fsck.specs.Checked.{CheckedImage, IsChecked};
 
     ghost Value = { CheckedImage };

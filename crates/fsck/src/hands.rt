@@ -4,7 +4,7 @@ ghost use Rattle.workers.specs.Workers.{may_work};
 ghost use Rattle.fsck.specs.Parts.{MakesItsOwn, MakesParts};
 
 use crate::works::Look;
-use device::Frozen;
+use frozen::Frozen;
 use layout::Refusal;
 use std::alloc::{AllocError, Global};
 use std::thread::Threads;

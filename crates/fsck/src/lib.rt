@@ -9,7 +9,7 @@ ghost use Rattle.findings.specs.Findings.{AreFindings};
 ghost use Rattle.findings.specs.Report.{verdict_of};
 ghost use Rattle.findings.specs.declared.finding.Finding.{Finding as Found};
 ghost use Rattle.findings.specs.declared.verdicts.Verdict.TheVariants.{Damaged};
-ghost use Rattle.device.specs.Kept.{Kept, IsKeptOf, frozen_view};
+ghost use Rattle.frozen.specs.Kept.{Kept, IsKeptOf, frozen_view};
 ghost use Rattle.model.specs.Image.{image_view};
 ghost use Rattle.model.specs.Layout.{Geometry};
 ghost use Rattle.model.specs.Rules.{ObeysRules};
@@ -28,8 +28,8 @@ mod tests;
 mod works;
 
 pub use checked::Checked;
-use device::Frozen;
 use findings::Finding;
+use frozen::Frozen;
 use hands::{parts_of_crew, parts_of_one};
 use layout::Refusal;
 use order::in_order;

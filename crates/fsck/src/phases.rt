@@ -2,12 +2,12 @@
 ghost use Rattle.std.specs.Prelude.{◌≡◌, IfOk, IsOkUnless};
 ghost use Rattle.findings.specs.Findings.{AreFindingsOf, is_of_blocks, is_of_names, is_of_counts, is_of_maps};
 ghost use Rattle.model.specs.Reached.{AreReached};
-ghost use Rattle.device.specs.Kept.{frozen_view};
+ghost use Rattle.frozen.specs.Kept.{frozen_view};
 ghost use Rattle.fsck.specs.Parts.{AreParts};
 ghost use Rattle.fsck.specs.Parts.{is_blocks_part, is_counts_part, is_entries_part, is_maps_part, is_names_part};
 
-use device::Frozen;
 use findings::Finding;
+use frozen::Frozen;
 use layout::Refusal;
 use std::alloc::Global;
 use std::collections::BTreeSet;

@@ -1,6 +1,7 @@
 use crate::{check, check_one};
-use device::{Before, Device, Frozen, MemDevice, format, load};
+use device::{Before, Device, MemDevice, format};
 use findings::{Finding, Repair, Verdict};
+use frozen::{Frozen, load};
 use layout::{BLOCK_BYTES, Geometry, Refusal};
 use std::alloc::{AllocError, Global};
 use std::sync::Arc;

@@ -3,7 +3,7 @@ ghost use Rattle.std.specs.Prelude.{◌≡◌};
 ghost use Rattle.model.specs.Units.{Units, only};
 ghost use Rattle.fsck.specs.Parts.{is_blocks_part, is_counts_part, is_entries_part, is_maps_part, is_names_part};
 
-use device::Frozen;
+use frozen::Frozen;
 use layout::Refusal;
 use std::alloc::Global;
 use workers::Work;

@@ -3,7 +3,7 @@ use Rattle.std.proofs.Common.{List, ℕ}
 use Rattle.model.specs.Layout.{Geometry}
 use Rattle.model.specs.Image.{IsImage, image_view}
 use Rattle.findings.proofs.SameFindings.{same_findings}
-use Rattle.device.specs.Kept.{Kept, IsKeptOf, frozen_view}
+use Rattle.frozen.specs.Kept.{Kept, IsKeptOf, frozen_view}
 use Rattle.fsck.specs.Checked.{CheckedImage, IsChecked}
 
 -- of the geometry and the image that were kept

@@ -7,15 +7,16 @@ ghost use Rattle.findings.specs.Findings.{AreFindings, AreFindingsOf, is_of_numb
 ghost use Rattle.findings.specs.Report.{verdict_of};
 ghost use Rattle.device.specs.Writes.{HasFailed};
 ghost use Rattle.device.specs.Zeroes.{AreZeroes};
-ghost use Rattle.device.specs.Loading.{LoadRefuses};
+ghost use Rattle.frozen.specs.Loading.{LoadRefuses};
 ghost use Rattle.fsvol.specs.Bits.{bits_text, finding_lines};
 ghost use Rattle.fsck.specs.Checked.{IsChecked};
 ghost use Rattle.fsvol.specs.Status.{status_of_verdict};
 ghost use Rattle.workers.specs.Workers.{may_work};
 ghost use Rattle.layout.specs.Fresh.{fresh_image};
 
-use device::{Before, Device, MemDevice, format, load};
+use device::{Before, Device, MemDevice, format};
 use findings::{Finding, Verdict, nothing_is_found_on_the_fresh_image, verdict};
+use frozen::load;
 use fsck::Checked;
 use layout::{BLOCK_BYTES, Geometry, Refusal};
 use phase_maps::number_findings;

@@ -1,12 +1,12 @@
 ghost use Rattle.std.specs.Prelude.{◌≡◌, ◌<◌, ◌≤◌, IfOk, OnOk, IsOkUnless, IsTrue};
 ghost use Rattle.model.specs.Layout.{is_number};
 ghost use Rattle.model.specs.Units.{only};
-ghost use Rattle.device.specs.Kept.{frozen_view};
+ghost use Rattle.frozen.specs.Kept.{frozen_view};
 ghost use Rattle.phase_blocks.specs.Parts.{Inodes, Uses, Tells, IsPart, nothing_gathered, with_inode, with_use, with_uses};
 
 use crate::parts::{Claim, Part};
-use device::Frozen;
 use findings::Finding;
+use frozen::Frozen;
 use inode::{FREE, INDIRECT_POSITION, Record};
 use layout::Refusal;
 use std::alloc::Global;

@@ -1,6 +1,7 @@
 use crate::{Part, merge, part};
-use device::{Before, Device, Frozen, MemDevice, format, load};
+use device::{Before, Device, MemDevice, format};
 use findings::Finding;
+use frozen::{Frozen, load};
 use inode::{DIRECT_POINTERS, FILE, RECORD_BYTES, Record};
 use layout::{BLOCK_BYTES, Geometry, INODES_PER_BLOCK, Refusal};
 use std::alloc::Global;

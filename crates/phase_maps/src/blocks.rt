@@ -2,7 +2,7 @@ ghost use Rattle.std.specs.Prelude.{◌≡◌, ◌<◌, ◌+◌, ◌++◌, IfOk,
 ghost use Rattle.model.specs.Layout.{header_blocks};
 ghost use Rattle.model.specs.Units.{Units, IsEveryGroup};
 ghost use Rattle.findings.specs.Findings.{AreFindingsOf, is_of_maps};
-ghost use Rattle.device.specs.Kept.{frozen_view};
+ghost use Rattle.frozen.specs.Kept.{frozen_view};
 ghost use Rattle.phase_maps.specs.Parts.{IsPart};
 ghost use Rattle.model.specs.Growth.{Adds};
 ghost use Rattle.phase_maps.specs.Walks.{IsFoundInGroup, block_finding};
@@ -10,8 +10,8 @@ ghost use Rattle.sets.specs.Members.{is_among};
 
 use crate::gathering::Part;
 use cgmaps::{Map, bit_of};
-use device::Frozen;
 use findings::{Finding, in_order};
+use frozen::Frozen;
 use layout::{Geometry, Refusal};
 use sets::Members;
 use std::alloc::{AllocError, Global};

@@ -1,9 +1,9 @@
 ghost use Rattle.std.specs.Prelude.{◌≡◌, OnOk};
-ghost use Rattle.device.specs.Kept.{frozen_view};
+ghost use Rattle.frozen.specs.Kept.{frozen_view};
 ghost use Rattle.model.specs.Growth.{Adds};
 ghost use Rattle.phase_maps.specs.Walks.{RecordClaims, IsClaimedByRecord};
 
-use device::Frozen;
+use frozen::Frozen;
 use inode::{INDIRECT_POSITION, Record};
 use std::alloc::AllocError;
 

@@ -5,13 +5,13 @@ ghost use Rattle.std.specs.BTreeSet.{IsOrdered};
 ghost use Rattle.model.specs.Layout.{Geometry as Numbers, is_number};
 ghost use Rattle.model.specs.View.{View};
 ghost use Rattle.model.specs.Units.{Units, no_unit, stands_in, either};
-ghost use Rattle.device.specs.Kept.{frozen_view};
+ghost use Rattle.frozen.specs.Kept.{frozen_view};
 ghost use Rattle.phase_maps.specs.Parts.{IsGathering, IsGathered, IsPart};
 
 use crate::claims::add_claims;
 use crate::numbers::add_number;
-use device::Frozen;
 use findings::Finding;
+use frozen::Frozen;
 use layout::Refusal;
 use std::alloc::{AllocError, Global};
 use std::collections::BTreeSet;

@@ -5,14 +5,14 @@ ghost use Rattle.model.specs.Layout.{inode_count, group_block, is_number};
 ghost use Rattle.model.specs.View.{map_bit};
 ghost use Rattle.findings.specs.Findings.{AreFindingsOf, finding_cmp, is_of_numbers};
 ghost use Rattle.findings.specs.Numbers.{is_lost_number, is_unmarked_number, lost_below, unmarked_below};
-ghost use Rattle.device.specs.Kept.{frozen_view, kept_bytes};
+ghost use Rattle.frozen.specs.Kept.{frozen_view, kept_bytes};
 ghost use Rattle.phase_maps.specs.Parts.{IsFoundOfNumbers};
 ghost use Rattle.model.specs.Growth.{Adds};
 ghost use Rattle.phase_maps.specs.Walks.{number_finding};
 
 use cgmaps::{Map, bit_of};
-use device::Frozen;
 use findings::{Finding, numbers_tell_their_findings};
+use frozen::Frozen;
 use inode::{FREE, Record};
 use layout::{ROOT, Refusal};
 use std::alloc::{AllocError, Global};

@@ -1,10 +1,10 @@
 ghost use Rattle.std.specs.Prelude.{◌≡◌, ◌≤◌, IfOk, IsOkUnless, []};
 ghost use Rattle.model.specs.Units.{only};
-ghost use Rattle.device.specs.Kept.{frozen_view};
+ghost use Rattle.frozen.specs.Kept.{frozen_view};
 ghost use Rattle.phase_maps.specs.Parts.{IsPart};
 
 use crate::gathering::{Gathering, Part};
-use device::Frozen;
+use frozen::Frozen;
 use layout::Refusal;
 use std::alloc::Global;
 

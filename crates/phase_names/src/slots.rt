@@ -6,15 +6,15 @@ ghost use Rattle.findings.specs.Findings.{finding_cmp};
 ghost use Rattle.model.specs.Growth.{Adds};
 ghost use Rattle.model.specs.Uses.{indirect_position, is_directory_at, is_sound_at};
 ghost use Rattle.model.specs.Slots as model;
-ghost use Rattle.device.specs.Kept.{frozen_view};
+ghost use Rattle.frozen.specs.Kept.{frozen_view};
 ghost use Rattle.dirent.specs.Seen.{seen};
 ghost use Rattle.phase_names.specs.Told.{IsTold, naming_of};
 ghost use Rattle.phase_names.specs.Walks.{IsWalked, digest, keyed};
 
 use crate::look::{Look, Naming};
-use device::Frozen;
 use dirent::{SLOTS, Slot, slot_in};
 use findings::Finding;
+use frozen::Frozen;
 use layout::{Block, ROOT, Refusal};
 use std::alloc::{AllocError, Global};
 use std::collections::BTreeSet;

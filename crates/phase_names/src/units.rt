@@ -1,11 +1,11 @@
 ghost use Rattle.std.specs.Prelude.{◌≡◌, ◌≤◌, IfOk, IsOkUnless, []};
 ghost use Rattle.model.specs.Units.{only};
-ghost use Rattle.device.specs.Kept.{frozen_view};
+ghost use Rattle.frozen.specs.Kept.{frozen_view};
 ghost use Rattle.phase_names.specs.Told.{IsPart};
 
 use crate::parts::Part;
 use crate::slots::look_at;
-use device::Frozen;
+use frozen::Frozen;
 use layout::Refusal;
 use std::alloc::Global;
 

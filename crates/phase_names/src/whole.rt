@@ -4,14 +4,14 @@ ghost use Rattle.model.specs.Growth.{Adds};
 ghost use Rattle.model.specs.Units.{Units, IsEveryGroup};
 ghost use Rattle.model.specs.Reached.{AreReached};
 ghost use Rattle.findings.specs.Findings.{AreFindingsOf, is_of_names};
-ghost use Rattle.device.specs.Kept.{frozen_view};
+ghost use Rattle.frozen.specs.Kept.{frozen_view};
 ghost use Rattle.phase_names.specs.Entries.{AtBelow, IsFoundAlone, IsRootBad, IsWithoutParent, has_parent};
 ghost use Rattle.phase_names.specs.Told.{IsPart};
 
 use crate::entries::{add_extra_names, held_by_parents, reached_entries};
 use crate::parts::Part;
-use device::Frozen;
 use findings::{Finding, in_order};
+use frozen::Frozen;
 use layout::{ROOT, Refusal};
 use sets::Members;
 use std::alloc::{AllocError, Global};

@@ -3,12 +3,12 @@ ghost use Rattle.model.specs.Layout.{inode_count, is_number};
 ghost use Rattle.model.specs.Units.{Units, IsEveryGroup};
 ghost use Rattle.model.specs.Reach.{HasEntries};
 ghost use Rattle.model.specs.Reached.{AreReached};
-ghost use Rattle.device.specs.Kept.{frozen_view};
+ghost use Rattle.frozen.specs.Kept.{frozen_view};
 ghost use Rattle.directories.specs.Named.{IsNamed};
 ghost use Rattle.refcounts.specs.Counts.{AreCounts, Counted, CountsOne, count_at, named_by};
 
-use device::Frozen;
 use directories::{Named, whole_tables_have_every_directory};
+use frozen::Frozen;
 use layout::Refusal;
 use sets::Members;
 use std::alloc::{AllocError, Global};

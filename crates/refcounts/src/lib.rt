@@ -7,7 +7,7 @@
 
 ghost use Rattle.std.specs.Prelude.{◌≡◌, ◌≤◌, [], IfOk, IsOkUnless};
 ghost use Rattle.model.specs.Units.{only};
-ghost use Rattle.device.specs.Kept.{frozen_view};
+ghost use Rattle.frozen.specs.Kept.{frozen_view};
 ghost use Rattle.directories.specs.Named.{IsNamed};
 
 mod counts;
@@ -16,8 +16,8 @@ mod links;
 mod tests;
 
 pub use counts::{Counts, count};
-use device::Frozen;
 pub use directories::{Named as Part, merge};
+use frozen::Frozen;
 use layout::Refusal;
 pub use links::finish;
 use std::alloc::Global;

@@ -2,16 +2,16 @@ ghost use Rattle.std.specs.Prelude.{◌≡◌, [], IfOk, OnOk, IsOkUnless, IsTru
 ghost use Rattle.model.specs.Units.{Units, IsEveryGroup};
 ghost use Rattle.model.specs.Reached.{AreReached};
 ghost use Rattle.findings.specs.Findings.{AreFindingsOf, is_of_counts};
-ghost use Rattle.device.specs.Kept.{KeepsFrame, frozen_view};
+ghost use Rattle.frozen.specs.Kept.{KeepsFrame, frozen_view};
 ghost use Rattle.directories.specs.Named.{IsNamed};
 ghost use Rattle.refcounts.specs.Links.{IsFoundBelow, IsFoundOfLinks, links_finding};
 ghost use Rattle.model.specs.Growth.{Adds};
 ghost use Rattle.model.specs.Layout.{inode_count, is_number};
 
 use crate::counts::{Counts, count};
-use device::Frozen;
 use directories::Named;
 use findings::{Finding, in_order};
+use frozen::Frozen;
 use layout::{ROOT, Refusal};
 use sets::Members;
 use std::alloc::{AllocError, Global};

@@ -1,6 +1,7 @@
 use crate::{count, finish, merge, part};
-use device::{Before, Device, Frozen, MemDevice, format, load};
+use device::{Before, Device, MemDevice, format};
 use findings::Finding;
+use frozen::{Frozen, load};
 use layout::{BLOCK_BYTES, Geometry, Refusal};
 use std::alloc::Global;
 use std::collections::BTreeSet;

@@ -4,14 +4,14 @@
 ghost use Rattle.std.specs.Prelude.{◌≡◌, min, IfOk, IsOkUnless, MatchOption};
 ghost use Rattle.std.specs.List.{filter_map, reduce};
 ghost use Rattle.model.specs.Rules.{IsLeastBroken, ObeysRules};
-ghost use Rattle.device.specs.Kept.{frozen_view};
+ghost use Rattle.frozen.specs.Kept.{frozen_view};
 ghost use Rattle.rules.specs.Broken.{rule_broken};
 
 #[cfg(test)]
 mod tests;
 
-use device::Frozen;
 use findings::Finding;
+use frozen::Frozen;
 use layout::Refusal;
 use std::alloc::Global;
 

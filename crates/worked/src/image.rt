@@ -1,7 +1,8 @@
 //! Small images, made by changes of a fresh one.
-use device::{Before, MemDevice, format, load};
+use device::{Before, MemDevice, format};
 use dirent::SLOT_BYTES;
 use findings::Finding;
+use frozen::load;
 use fsck::{Checked, check_one};
 use inode::{DIRECT_POINTERS, DIRECTORY, FILE, RECORD_BYTES, Record};
 use layout::{BLOCK_BYTES, Block, Geometry, Refusal, fresh_block};

@@ -1,6 +1,6 @@
 use super::FileDevice;
 use crate::tests::{format_groups, read_block, set_byte};
-use crate::{Before, Device, DeviceFault, format, load};
+use crate::{Before, Device, DeviceFault, format};
 use layout::{BLOCK_BYTES, Geometry, Refusal};
 use std::cell::{Cell, RefCell};
 use std::io;
@@ -134,47 +134,6 @@ fn a_short_file_is_a_fault(rt: HostRuntime) -> Result<(), Fail> {
         );
     }
     assert_eq!(rt; device.failures, 2);
-    Ok(())
-}
-
-#[test]
-fn a_load_with_a_fault_answers_device(rt: HostRuntime) -> Result<(), Fail> {
-    let alloc = rt.alloc();
-    let bytes = vec![in alloc; 0xAA; 17 * BLOCK_BYTES]?;
-    let mut device: FakeDevice = FileDevice::over(FakeFile::new(bytes), 17);
-    format_groups(&mut device, 1)?;
-    // Block 0, the block of maps, two blocks of inodes and the root's block are read.
-    for number in 0..5 {
-        for last in [number, u64::MAX] {
-            device.file.fail(number, last);
-            assert_eq!(rt;
-                load(alloc, &mut device).err(),
-                Some(Refusal::Device),
-                "call {number}"
-            );
-        }
-    }
-    assert_eq!(rt; device.failures, 10);
-    device.file.fail(5, u64::MAX);
-    assert_eq!(rt; load(alloc, &mut device).err(), None);
-    Ok(())
-}
-
-#[test]
-fn a_block_that_two_directories_share_is_read_once(rt: HostRuntime) -> Result<(), Fail> {
-    let alloc = rt.alloc();
-    let bytes = vec![in alloc; 0xAA; 17 * BLOCK_BYTES]?;
-    let mut device: FakeDevice = FileDevice::over(FakeFile::new(bytes), 17);
-    format_groups(&mut device, 1)?;
-    // Inode 3 is a directory of one block, which is the root's block 4.
-    for (byte, value) in [(384, 2), (389, 4), (392, 4)] {
-        set_byte(&mut device, 2, byte, value)?;
-    }
-    device.file.fail(u64::MAX, u64::MAX);
-    let frozen = load(alloc, &mut device)?;
-    assert_eq!(rt; device.file.calls.get(), 5);
-    assert!(rt; frozen.directory_block(2, 0).is_some());
-    assert_eq!(rt; frozen.directory_block(3, 0), frozen.directory_block(2, 0));
     Ok(())
 }
 

@@ -1,7 +1,7 @@
 use Rattle.std.proofs.Common.{◌≡◌, subst, sym}
 use Rattle.std.specs.Arc.{arc_value}
 use Rattle.std.proofs.lemmas.Result.{IfOk-weaker}
-use Rattle.device.specs.Kept.{Kept, frozen_view}
+use Rattle.frozen.specs.Kept.{Kept, frozen_view}
 use Rattle.fsck.specs.Checked.{IsChecked, IsFoundIn}
 use Rattle.fsck.proofs.FindingLemmas.{in_order_are}
 use Rattle.fsck.proofs.checked_of.Goals as goal

@@ -1,5 +1,5 @@
 use Rattle.std.proofs.Common.{◌≡◌, ◌++◌, ap, ◌∙◌, sym, subst, List}
-use Rattle.device.specs.Kept.{frozen_view}
+use Rattle.frozen.specs.Kept.{frozen_view}
 use Rattle.findings.specs.declared.finding.Finding.{Finding}
 use Rattle.fsck.specs.Checked.{IsFoundIn}
 use Rattle.fsck.proofs.FindingLemmas.{all_phases}

@@ -1,5 +1,5 @@
 use Rattle.std.proofs.Common.{rules, tests}
-use Rattle.device.specs.Kept.{frozen_view}
+use Rattle.frozen.specs.Kept.{frozen_view}
 use Rattle.rules.proofs.LeastRule.{least_broken}
 use Rattle.rules.proofs.obeys.Goals as goal
 

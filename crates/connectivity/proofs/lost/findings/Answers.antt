@@ -4,7 +4,7 @@ use Rattle.model.specs.Layout.{inode_count}
 use Rattle.findings.specs.declared.finding.Finding.TheVariants.{LostInode}
 use Rattle.findings.specs.Numbers.{found_below}
 use Rattle.findings.proofs.FoundBelow.{found_none, found_more_yes, found_more_no}
-use Rattle.device.specs.Kept.{frozen_view}
+use Rattle.frozen.specs.Kept.{frozen_view}
 use Rattle.connectivity.specs.Walk.{is_lost_among}
 use Rattle.connectivity.proofs.LostLemmas.{lost_found}
 use Rattle.connectivity.proofs.lost.findings.Goals as goal

@@ -1,5 +1,5 @@
 use Rattle.std.proofs.Common.{◌≡◌, ◌++◌, []}
-use Rattle.device.specs.Kept.{frozen_view}
+use Rattle.frozen.specs.Kept.{frozen_view}
 use Rattle.findings.specs.declared.finding.Finding.TheVariants.{LostInode}
 use Rattle.findings.specs.Numbers.{found_below}
 use Rattle.connectivity.specs.Walk.{is_lost_among}

@@ -2,7 +2,7 @@
 use Rattle.std.proofs.Common.{◌≡◌, ◌<◌, ◌+◌, ◌++◌, [], ◌∷◌, take, length, sym, ap, ◌∙◌, subst, rules, slice_index_or}
 use Rattle.std.proofs.lemmas.List.{take_more, append-nil}
 use Rattle.std.proofs.lemmas.Grind.{flat_map-append}
-use Rattle.device.specs.Kept.{frozen_view}
+use Rattle.frozen.specs.Kept.{frozen_view}
 use Rattle.directories.specs.Named.{numbers_in}
 use Rattle.connectivity.specs.Walk.{Visits, numbers_of}
 use Rattle.connectivity.proofs.VisitLemmas.{visits_append}

@@ -1,5 +1,5 @@
 use Rattle.std.proofs.Common.{[], take}
-use Rattle.device.specs.Kept.{frozen_view}
+use Rattle.frozen.specs.Kept.{frozen_view}
 use Rattle.connectivity.specs.Walk.{Visits, numbers_of}
 use Rattle.connectivity.proofs.rounds.next_round.Given as goal
 

@@ -2,7 +2,7 @@
 use Rattle.std.proofs.Common.{◌≡◌, ◌+◌, true, false, [], ◌∷◌, length, sym, subst, rules, IsTrue}
 use Rattle.std.specs.BTreeSet.{contains}
 use Rattle.std.specs.Ordering.{nat_cmp}
-use Rattle.device.specs.Kept.{frozen_view}
+use Rattle.frozen.specs.Kept.{frozen_view}
 use Rattle.model.specs.Uses.{is_sound_at, is_directory_at}
 use Rattle.connectivity.specs.Walk.{Visits}
 use Rattle.connectivity.proofs.VisitLemmas.{inserted, is_member, not_member, visit_directory, visit_file, visit_known}

@@ -1,7 +1,7 @@
 -- One number more is visited.
 use Rattle.std.proofs.Common.{◌<◌, [], ◌∷◌, take, length, sym, subst, rules, slice_index_or}
 use Rattle.std.proofs.lemmas.List.{take_more}
-use Rattle.device.specs.Kept.{frozen_view}
+use Rattle.frozen.specs.Kept.{frozen_view}
 use Rattle.connectivity.specs.Walk.{Visits}
 use Rattle.connectivity.proofs.VisitLemmas.{visits_append}
 use Rattle.connectivity.proofs.rounds.visit_all.Goals as goal

@@ -1,5 +1,5 @@
 use Rattle.std.proofs.Common.{take}
-use Rattle.device.specs.Kept.{frozen_view}
+use Rattle.frozen.specs.Kept.{frozen_view}
 use Rattle.connectivity.specs.Walk.{Visits}
 use Rattle.connectivity.proofs.rounds.visit_all.Given as goal
 

@@ -3,7 +3,7 @@ use Rattle.std.proofs.Common.{◌≡◌, ◌<◌, [], length, sym, ap, ◌∙◌
 use Rattle.std.proofs.lemmas.Bool.{eqb-false, eqb-true}
 use Rattle.std.proofs.lemmas.List.{nil_from_length}
 use Rattle.std.proofs.lemmas.Result.{err_from_is_err_and}
-use Rattle.device.specs.Kept.{frozen_view}
+use Rattle.frozen.specs.Kept.{frozen_view}
 use Rattle.model.specs.Layout.{inode_count}
 use Rattle.connectivity.specs.Walk.{IsWalk, Visits, numbers_of}
 use Rattle.connectivity.proofs.WalkLemmas.{walk_from_nothing, walk_from_root, walk_round, walk_done, walk_small, round_smaller}

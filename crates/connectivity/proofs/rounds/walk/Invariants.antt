@@ -1,5 +1,5 @@
 use Rattle.std.proofs.Common.{◌+◌, ◌-◌, length}
-use Rattle.device.specs.Kept.{frozen_view}
+use Rattle.frozen.specs.Kept.{frozen_view}
 use Rattle.model.specs.Layout.{inode_count}
 use Rattle.connectivity.specs.Walk.{IsWalk}
 use Rattle.connectivity.proofs.rounds.walk.Given as goal

@@ -1,7 +1,7 @@
 -- A block that is left out names nothing, and each slot of a block from the first on adds what it names.
 use Rattle.std.proofs.Common.{◌≡◌, ◌/◌, ◌++◌, ℕ, Vec, Global, sym, ap, ◌∙◌, arith, add-one}
 use Rattle.std.specs.Option.{option_copied, option_map_or}
-use Rattle.device.specs.Kept.{frozen_view}
+use Rattle.frozen.specs.Kept.{frozen_view}
 use Rattle.dirent.specs.Seen.{seen}
 use Rattle.model.specs.Layout.{inode_count}
 use Rattle.model.specs.Named.{named_below, number_of}

@@ -1,5 +1,5 @@
 use Rattle.std.proofs.Common.{◌≡◌, ◌≤◌, ◌*◌, sym, ap, ◌∙◌, subst}
-use Rattle.device.specs.Kept.{frozen_view}
+use Rattle.frozen.specs.Kept.{frozen_view}
 use Rattle.model.specs.Uses.{blocks_of}
 use Rattle.model.specs.View.{Inode}
 use Rattle.model.proofs.NamedLemmas.{no_directory_no_slot, no_slot_past}

@@ -1,7 +1,7 @@
 -- The loop goes over the numbers that stand in the group.
 use Rattle.std.proofs.Common.{◌≡◌, IsTrue, inl, inr, refl, sym, ap, ◌∙◌, subst, arith}
 use Rattle.std.proofs.lemmas.Bool.{cases_Bool}
-use Rattle.device.specs.Kept.{frozen_view}
+use Rattle.frozen.specs.Kept.{frozen_view}
 use Rattle.model.specs.Layout.{Geometry}
 use Rattle.model.specs.Named.{named_from}
 use Rattle.model.specs.Tables.{Puts}

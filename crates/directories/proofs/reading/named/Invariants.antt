@@ -1,5 +1,5 @@
 use Rattle.std.proofs.Common.{◌≡◌}
-use Rattle.device.specs.Kept.{frozen_view}
+use Rattle.frozen.specs.Kept.{frozen_view}
 use Rattle.model.specs.Named.{named_from}
 use Rattle.model.proofs.GroupNumbers.{AreNumbersFrom}
 use Rattle.model.proofs.Tables.{IsTableOf, is_directory_before}

@@ -1,6 +1,6 @@
 -- The blocks up to the last name what the whole directory names.
 use Rattle.std.proofs.Common.{◌≡◌, ◌≤◌, ◌*◌, sym, ap, ◌∙◌, arith}
-use Rattle.device.specs.Kept.{frozen_view}
+use Rattle.frozen.specs.Kept.{frozen_view}
 use Rattle.model.specs.Named.{named_below}
 use Rattle.model.specs.Reach.{slot_count}
 use Rattle.model.proofs.NamedLemmas.{named_none, named_whole}

@@ -1,5 +1,5 @@
 use Rattle.std.proofs.Common.{◌≡◌, ◌++◌, length}
-use Rattle.device.specs.Kept.{frozen_view}
+use Rattle.frozen.specs.Kept.{frozen_view}
 use Rattle.phase_blocks.specs.Parts.{IsPart}
 use Rattle.fsck.specs.Checked.{units_below}
 use Rattle.fsck.proofs.phases.check_blocks.Given as goal

@@ -1,7 +1,7 @@
 use Rattle.std.proofs.Common.{rules, ◌++◌, ◌∷◌, [], length, subst, sym, ap, ◌∙◌, append_assoc}
 use Rattle.std.proofs.lemmas.Result.{IfOk-weaker}
 use Rattle.model.specs.Units.{Units, only}
-use Rattle.device.specs.Kept.{frozen_view}
+use Rattle.frozen.specs.Kept.{frozen_view}
 use Rattle.directories.specs.Named.{IsNamed}
 use Rattle.fsck.specs.Checked.{units_below}
 use Rattle.fsck.proofs.UnitLemmas.{none_below}

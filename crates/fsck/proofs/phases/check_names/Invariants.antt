@@ -1,5 +1,5 @@
 use Rattle.std.proofs.Common.{◌≡◌, ◌++◌, length}
-use Rattle.device.specs.Kept.{frozen_view}
+use Rattle.frozen.specs.Kept.{frozen_view}
 use Rattle.phase_names.specs.Told.{IsPart}
 use Rattle.fsck.specs.Checked.{units_below}
 use Rattle.fsck.proofs.phases.check_names.Given as goal

@@ -1,7 +1,7 @@
 use Rattle.std.proofs.Common.{subst, sym}
 use Rattle.std.specs.Arc.{arc_value}
 use Rattle.std.proofs.lemmas.Result.{IfOk-weaker}
-use Rattle.device.specs.Kept.{Kept, IsKeptOf}
+use Rattle.frozen.specs.Kept.{Kept, IsKeptOf}
 use Rattle.fsvol.proofs.CheckLemmas.{image_checked}
 use Rattle.fsvol.proofs.jobs.check.Goals as goal
 

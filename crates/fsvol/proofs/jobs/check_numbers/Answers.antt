@@ -1,6 +1,6 @@
 use Rattle.std.proofs.lemmas.Result.{IfOk-weaker}
 use Rattle.model.specs.Image.{image_view}
-use Rattle.device.specs.Kept.{frozen_view}
+use Rattle.frozen.specs.Kept.{frozen_view}
 use Rattle.fsvol.proofs.NumberLemmas.{numbers_there}
 use Rattle.fsvol.proofs.jobs.check_numbers.Goals as goal
 

@@ -4,7 +4,7 @@ use Rattle.std.proofs.lemmas.Bool.{true≢false}
 use Rattle.std.proofs.lemmas.Result.{on_ok_weaker}
 use Rattle.model.specs.View.{Inode}
 use Rattle.model.specs.Uses.{is_sound}
-use Rattle.device.specs.Kept.{frozen_view}
+use Rattle.frozen.specs.Kept.{frozen_view}
 use Rattle.phase_blocks.specs.Parts.{with_uses}
 use Rattle.phase_blocks.proofs.Scanning.{good_record, no_uses, bad_record}
 use Rattle.phase_blocks.proofs.scan.look_at_inode.Goals as goal

@@ -2,7 +2,7 @@
 use Rattle.std.proofs.Common.{IsTrue, IsFalse, Some, rules}
 use Rattle.std.proofs.lemmas.Result.{on_ok_weaker}
 use Rattle.model.specs.Layout.{is_data_address}
-use Rattle.device.specs.Kept.{frozen_view}
+use Rattle.frozen.specs.Kept.{frozen_view}
 use Rattle.phase_blocks.proofs.Claims.{with_use_adds}
 use Rattle.phase_blocks.proofs.Gathering.{tells_claim, tells_pointer}
 use Rattle.phase_blocks.proofs.Scanning.{use_is, unused}

@@ -3,7 +3,7 @@ use Rattle.std.proofs.Common.{◌≡◌, ap, ◌∙◌, refl, arith}
 use Rattle.std.proofs.lemmas.Result.{on_ok_weaker}
 use Rattle.model.specs.View.{Inode}
 use Rattle.model.specs.Uses.{blocks_of}
-use Rattle.device.specs.Kept.{frozen_view}
+use Rattle.frozen.specs.Kept.{frozen_view}
 use Rattle.phase_blocks.specs.Parts.{with_uses_below}
 use Rattle.phase_blocks.proofs.Scanning.{none_below, one_below, all_below}
 use Rattle.phase_blocks.proofs.scan.look_at_uses.Goals as goal

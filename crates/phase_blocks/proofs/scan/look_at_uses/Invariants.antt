@@ -1,5 +1,5 @@
 use Rattle.phase_blocks.specs.Parts.{Inodes, Uses, Tells, with_uses_below}
-use Rattle.device.specs.Kept.{frozen_view}
+use Rattle.frozen.specs.Kept.{frozen_view}
 use Rattle.phase_blocks.proofs.scan.look_at_uses.Given as goal
 
 abbrev pub invariant-loop-position : goal.invariant-loop-position

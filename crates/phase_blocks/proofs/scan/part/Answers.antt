@@ -1,7 +1,7 @@
 -- The loop goes over the numbers that stand in the group.
 use Rattle.std.proofs.Common.{◌≡◌, ℕ, subst, ap, ◌∙◌, arith}
 use Rattle.model.specs.Layout.{Geometry}
-use Rattle.device.specs.Kept.{frozen_view}
+use Rattle.frozen.specs.Kept.{frozen_view}
 use Rattle.phase_blocks.specs.Parts.{Gathered, IsGathered, Tells, with_inode, with_uses}
 use Rattle.phase_blocks.proofs.Scanning.{group_below, no_numbers, none_yet, one_more, whole_group}
 use Rattle.model.specs.Units.{AreNumbers, only, stands_in}

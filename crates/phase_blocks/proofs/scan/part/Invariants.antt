@@ -1,4 +1,4 @@
-use Rattle.device.specs.Kept.{frozen_view}
+use Rattle.frozen.specs.Kept.{frozen_view}
 use Rattle.model.proofs.GroupNumbers.{AreNumbersFrom}
 use Rattle.phase_blocks.proofs.Scanning.{TellsBelow}
 use Rattle.phase_blocks.proofs.scan.part.Given as goal

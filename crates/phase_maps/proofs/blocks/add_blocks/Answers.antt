@@ -1,6 +1,6 @@
 -- Each turn adds what is found of the block of its bit.
 use Rattle.std.proofs.Common.{◌≡◌, ◌+◌, ◌∙◌, sym, ap, arith}
-use Rattle.device.specs.Kept.{frozen_view, kept_bytes}
+use Rattle.frozen.specs.Kept.{frozen_view, kept_bytes}
 use Rattle.model.specs.Layout.{Geometry, header_blocks, data_address}
 use Rattle.model.specs.View.{map_bit}
 use Rattle.phase_maps.specs.Walks.{IsFoundAt, IsFoundInGroup}

@@ -1,4 +1,4 @@
-use Rattle.device.specs.Kept.{frozen_view}
+use Rattle.frozen.specs.Kept.{frozen_view}
 use Rattle.model.specs.Growth.{Adds}
 use Rattle.phase_maps.specs.Walks.{IsFoundAt}
 use Rattle.sets.specs.Members.{is_among}

@@ -1,7 +1,7 @@
 -- The walk over all groups finds what is to be found of blocks, and the part has the findings of the numbers.
 use Rattle.std.proofs.Common.{◌≡◌, [], ◌++◌, ◌∙◌, sym, ap, arith, subst}
 use Rattle.model.specs.Layout.{Geometry}
-use Rattle.device.specs.Kept.{frozen_view}
+use Rattle.frozen.specs.Kept.{frozen_view}
 use Rattle.model.specs.Growth.{Adds}
 use Rattle.phase_maps.specs.Walks.{IsFoundInGroup}
 use Rattle.sets.specs.Members.{is_among}

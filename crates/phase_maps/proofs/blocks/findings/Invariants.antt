@@ -1,5 +1,5 @@
 use Rattle.std.proofs.Common.{[]}
-use Rattle.device.specs.Kept.{frozen_view}
+use Rattle.frozen.specs.Kept.{frozen_view}
 use Rattle.model.specs.Growth.{Adds}
 use Rattle.phase_maps.specs.Walks.{IsFoundInGroup}
 use Rattle.sets.specs.Members.{is_among}

@@ -2,7 +2,7 @@
 use Rattle.std.proofs.Common.{◌≡◌, ◌∙◌, Some, sym, ap}
 use Rattle.model.specs.Layout.{Geometry, is_data_address}
 use Rattle.model.specs.Uses.{record_use}
-use Rattle.device.specs.Kept.{frozen_view}
+use Rattle.frozen.specs.Kept.{frozen_view}
 use Rattle.phase_maps.specs.Walks.{RecordClaims}
 use Rattle.model.proofs.Adding.{adds_element, adds_same}
 use Rattle.phase_maps.proofs.ClaimLemmas.{claim_at_use}

@@ -1,7 +1,7 @@
 -- The positions below the record's blocks, and then the indirect pointer.
 use Rattle.std.proofs.Common.{arith}
 use Rattle.std.proofs.lemmas.Result.{IfOk-weaker}
-use Rattle.device.specs.Kept.{frozen_view}
+use Rattle.frozen.specs.Kept.{frozen_view}
 use Rattle.phase_maps.specs.Walks.{RecordClaims}
 use Rattle.model.proofs.Adding.{adds_below_none, adds_below_more}
 use Rattle.phase_maps.proofs.ClaimLemmas.{adds_claims}

@@ -1,4 +1,4 @@
-use Rattle.device.specs.Kept.{frozen_view}
+use Rattle.frozen.specs.Kept.{frozen_view}
 use Rattle.model.specs.Growth.{Adds}
 use Rattle.phase_maps.specs.Walks.{RecordClaims}
 use Rattle.model.proofs.Adding.{AtBelow}

@@ -4,7 +4,7 @@ use Rattle.model.specs.Layout.{inode_count}
 use Rattle.findings.specs.declared.finding.Finding.TheVariants.{LostNumber}
 use Rattle.findings.specs.Numbers.{is_lost_number, lost_below}
 use Rattle.findings.proofs.FoundBelow.{found_none, found_more_yes, found_more_no}
-use Rattle.device.specs.Kept.{frozen_view}
+use Rattle.frozen.specs.Kept.{frozen_view}
 use Rattle.phase_maps.proofs.numbers.add_lost_numbers.Goals as goal
 use Rattle.phase_maps.proofs.numbers.add_lost_numbers.Goals.{then-is_lost+in_ok-push, else-is_lost}
 

@@ -1,6 +1,6 @@
 use Rattle.std.proofs.Common.{◌≡◌, ◌++◌}
 use Rattle.findings.specs.Numbers.{lost_below}
-use Rattle.device.specs.Kept.{frozen_view}
+use Rattle.frozen.specs.Kept.{frozen_view}
 use Rattle.phase_maps.proofs.numbers.add_lost_numbers.Given as goal
 
 abbrev pub invariant-loop-number : goal.invariant-loop-number

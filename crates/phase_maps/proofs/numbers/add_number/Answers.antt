@@ -3,7 +3,7 @@ use Rattle.std.proofs.Common.{◌≡◌, ◌∙◌, eqb, true, Some, sym, ap, su
 use Rattle.std.proofs.lemmas.Option.{same_Some}
 use Rattle.std.specs.BTreeSet.{Updates}
 use Rattle.model.specs.View.{Inode}
-use Rattle.device.specs.Kept.{frozen_view, kept_bytes}
+use Rattle.frozen.specs.Kept.{frozen_view, kept_bytes}
 use Rattle.phase_maps.specs.Parts.{IsFoundOfNumbers}
 use Rattle.model.proofs.Adding.{adds_insert, adds_nothing, adds_same}
 use Rattle.findings.proofs.FindingOrder.{same_order, finding_exact, finding_total, sorted_findings}

@@ -4,7 +4,7 @@ use Rattle.model.specs.Layout.{inode_count}
 use Rattle.findings.specs.declared.finding.Finding.TheVariants.{UnmarkedInode}
 use Rattle.findings.specs.Numbers.{is_unmarked_number, unmarked_below}
 use Rattle.findings.proofs.FoundBelow.{found_none, found_more_yes, found_more_no}
-use Rattle.device.specs.Kept.{frozen_view}
+use Rattle.frozen.specs.Kept.{frozen_view}
 use Rattle.phase_maps.proofs.numbers.add_unmarked_inodes.Goals as goal
 use Rattle.phase_maps.proofs.numbers.add_unmarked_inodes.Goals.{then-is_unmarked+in_ok-push, else-is_unmarked}
 

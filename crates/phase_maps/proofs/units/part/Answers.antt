@@ -3,7 +3,7 @@ use Rattle.std.proofs.Common.{◌≤◌, ◌||◌, ◌&&◌, eqb, ltb, subst, ap
 use Rattle.model.specs.Layout.{Geometry}
 use Rattle.model.specs.Units.{AreNumbers, only, stands_in}
 use Rattle.model.proofs.GroupNumbers.{all_before, all_from, first_number, none_before, numbers_after, same_numbers}
-use Rattle.device.specs.Kept.{frozen_view}
+use Rattle.frozen.specs.Kept.{frozen_view}
 use Rattle.phase_maps.specs.Parts.{Gathered, IsGathering}
 use Rattle.phase_maps.proofs.UnitLemmas.{gathering_first, gathering_next, gathering_all, no_group, of_no_group}
 use Rattle.phase_maps.proofs.units.part.Goals as goal

@@ -1,5 +1,5 @@
 use Rattle.std.proofs.Common.{◌&&◌, ltb}
-use Rattle.device.specs.Kept.{frozen_view}
+use Rattle.frozen.specs.Kept.{frozen_view}
 use Rattle.model.specs.Units.{only, stands_in}
 use Rattle.model.proofs.GroupNumbers.{AreNumbersFrom}
 use Rattle.phase_maps.specs.Parts.{IsGathering}

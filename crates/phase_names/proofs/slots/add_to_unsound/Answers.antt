@@ -1,7 +1,7 @@
 use Rattle.std.proofs.Common.{sym, ◌∙◌, IsFalse}
 use Rattle.std.proofs.lemmas.Result.{on_ok_weaker}
 use Rattle.findings.specs.declared.finding.Finding.TheVariants.{ToUnsound}
-use Rattle.device.specs.Kept.{frozen_view}
+use Rattle.frozen.specs.Kept.{frozen_view}
 use Rattle.model.specs.Uses.{is_sound_at}
 use Rattle.phase_names.proofs.AddLemmas.{adds_when}
 use Rattle.phase_names.proofs.slots.add_to_unsound.Goals as goal

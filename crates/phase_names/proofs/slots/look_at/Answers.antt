@@ -1,6 +1,6 @@
 -- No slot stands past the last block.
 use Rattle.std.proofs.Common.{◌≡◌, ◌*◌, ap, ◌∙◌, arith}
-use Rattle.device.specs.Kept.{frozen_view}
+use Rattle.frozen.specs.Kept.{frozen_view}
 use Rattle.model.specs.View.{Inode}
 use Rattle.model.specs.Uses.{blocks_of}
 use Rattle.model.proofs.NamedLemmas.{no_slot_past}

@@ -1,6 +1,6 @@
 -- The numbers of the group, one after another.
 use Rattle.std.proofs.Common.{◌≡◌, sym, ap, ◌∙◌, subst, arith}
-use Rattle.device.specs.Kept.{frozen_view}
+use Rattle.frozen.specs.Kept.{frozen_view}
 use Rattle.model.specs.Layout.{Geometry}
 use Rattle.model.specs.Tables.{Puts}
 use Rattle.model.specs.Units.{AreNumbers}

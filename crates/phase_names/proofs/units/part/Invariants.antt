@@ -1,4 +1,4 @@
-use Rattle.device.specs.Kept.{frozen_view}
+use Rattle.frozen.specs.Kept.{frozen_view}
 use Rattle.model.proofs.GroupNumbers.{AreNumbersFrom}
 use Rattle.model.proofs.Tables.{IsTableOf, is_directory_before}
 use Rattle.phase_names.specs.Told.{IsTold}

@@ -1,6 +1,6 @@
 -- All that was added, in order.
 use Rattle.std.proofs.Common.{◌≡◌, List, [], length, ap, ◌∙◌, subst, sym}
-use Rattle.device.specs.Kept.{frozen_view}
+use Rattle.frozen.specs.Kept.{frozen_view}
 use Rattle.model.specs.Growth.{Adds}
 use Rattle.model.specs.Layout.{Geometry, inode_count}
 use Rattle.model.specs.Reached.{AreReached}

@@ -1,6 +1,6 @@
 use Rattle.std.proofs.Common.{◌≡◌, ap, ◌∙◌, arith}
 use Rattle.model.specs.Layout.{Geometry, inode_count}
-use Rattle.device.specs.Kept.{frozen_view}
+use Rattle.frozen.specs.Kept.{frozen_view}
 use Rattle.refcounts.specs.Counts.{named_by}
 use Rattle.refcounts.proofs.CountLemmas.{none_below, next_below}
 use Rattle.refcounts.proofs.EntryLemmas.{all_counted}

@@ -1,6 +1,6 @@
 use Rattle.std.proofs.Common.{◌≡◌, sym, ap, ◌∙◌}
 use Rattle.model.specs.View.{Inode}
-use Rattle.device.specs.Kept.{frozen_view}
+use Rattle.frozen.specs.Kept.{frozen_view}
 use Rattle.model.proofs.Adding.{adds_element}
 use Rattle.refcounts.specs.Links.{links_finding}
 use Rattle.refcounts.proofs.links.add_links.Goals as goal

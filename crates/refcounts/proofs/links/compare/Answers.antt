@@ -1,7 +1,7 @@
 use Rattle.std.proofs.Common.{◌≡◌, ◌≤◌, ◌*◌, ap, sym, ◌∙◌, arith, subst, []}
 use Rattle.std.specs.Vec.{vec_items}
 use Rattle.std.proofs.lemmas.Nat.{mul-le}
-use Rattle.device.specs.Kept.{frozen_view}
+use Rattle.frozen.specs.Kept.{frozen_view}
 use Rattle.sets.specs.Members.{is_among}
 use Rattle.model.specs.Growth.{Adds}
 use Rattle.model.specs.Layout.{Geometry, inode_count}

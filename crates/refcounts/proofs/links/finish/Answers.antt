@@ -1,4 +1,4 @@
-use Rattle.device.specs.Kept.{frozen_view}
+use Rattle.frozen.specs.Kept.{frozen_view}
 use Rattle.model.proofs.Adding.{IfOk-both}
 use Rattle.refcounts.proofs.LinkLemmas.{all_found}
 use Rattle.refcounts.proofs.links.finish.Goals as goal

@@ -1,6 +1,6 @@
 use Rattle.std.proofs.Common.{◌≡◌, ◌↔◌, subst}
 use Rattle.findings.specs.declared.verdicts.Verdict.TheVariants.{Damaged}
-use Rattle.device.specs.Kept.{frozen_view}
+use Rattle.frozen.specs.Kept.{frozen_view}
 use Rattle.model.specs.Rules.{ObeysRules}
 use Rattle.fsck.specs.Checked.{CheckedImage}
 use Rattle.fsck.proofs.VerdictLemmas.{verdict_damaged}

@@ -1,6 +1,6 @@
 -- The set of the inodes that were gathered has one more.
 use Rattle.std.proofs.Common.{eqb, sym, subst, ℕ}
-use Rattle.device.specs.Kept.{frozen_view}
+use Rattle.frozen.specs.Kept.{frozen_view}
 use Rattle.phase_maps.specs.Parts.{IsGathering, IsClaimedBy}
 use Rattle.model.specs.Growth.{Adds}
 use Rattle.phase_maps.specs.Walks.{IsClaimedByRecord}

@@ -1,6 +1,6 @@
 -- Each slot is that of the directory.
 use Rattle.std.proofs.Common.{◌≡◌, ◌+◌, ◌*◌, ◌/◌, ap, sym, ◌∙◌, arith, subst}
-use Rattle.device.specs.Kept.{frozen_view}
+use Rattle.frozen.specs.Kept.{frozen_view}
 use Rattle.model.specs.Layout.{Geometry, inode_count}
 use Rattle.model.specs.Slots.{slot_of}
 use Rattle.phase_names.specs.Walks.{IsWalked}

@@ -1,5 +1,5 @@
 use Rattle.std.proofs.Common.{◌*◌}
-use Rattle.device.specs.Kept.{frozen_view}
+use Rattle.frozen.specs.Kept.{frozen_view}
 use Rattle.phase_names.specs.Walks.{IsWalked}
 use Rattle.phase_names.proofs.slots.Walk.add_block.Given as goal
 

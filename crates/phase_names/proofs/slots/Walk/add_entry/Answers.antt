@@ -1,6 +1,6 @@
 -- The name, the finding of what it names and the naming are added.
 use Rattle.std.proofs.Common.{map, sym, subst}
-use Rattle.device.specs.Kept.{frozen_view}
+use Rattle.frozen.specs.Kept.{frozen_view}
 use Rattle.phase_names.specs.Walks.{IsWalked, Walked}
 use Rattle.phase_names.proofs.WalkLemmas.{walked_entry}
 use Rattle.phase_names.proofs.slots.Walk.add_entry.Goals as goal

@@ -1,6 +1,6 @@
 -- Where there is no block, its slots are left out.
 use Rattle.std.proofs.Common.{◌≡◌, ◌+◌, ◌*◌, ◌/◌, arith, subst}
-use Rattle.device.specs.Kept.{frozen_view}
+use Rattle.frozen.specs.Kept.{frozen_view}
 use Rattle.phase_names.specs.Walks.{IsWalked}
 use Rattle.phase_names.proofs.WalkLemmas.{walked_all_absent}
 use Rattle.phase_names.proofs.slots.Walk.add_position.Goals as goal

@@ -1,6 +1,6 @@
 -- A dot and an empty slot add nothing, and a bad one is told.
 use Rattle.std.proofs.Common.{map, refl, sym, ap, ◌∙◌, subst}
-use Rattle.device.specs.Kept.{frozen_view}
+use Rattle.frozen.specs.Kept.{frozen_view}
 use Rattle.dirent.specs.Seen.{seen}
 use Rattle.phase_names.specs.Walks.{IsWalked, Walked}
 use Rattle.phase_names.proofs.AddLemmas.{on_ok_both}

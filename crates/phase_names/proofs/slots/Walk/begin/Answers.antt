@@ -2,7 +2,7 @@
 use Rattle.std.proofs.Common.{true, [], map, sym, ap, ◌∙◌, subst}
 use Rattle.std.specs.BTreeSet.{Updates, keys}
 use Rattle.std.specs.List.Sorted.{IsStrictlySortedBy}
-use Rattle.device.specs.Kept.{frozen_view}
+use Rattle.frozen.specs.Kept.{frozen_view}
 use Rattle.findings.specs.declared.finding.Finding.TheVariants.{BadDot}
 use Rattle.findings.specs.Findings.{finding_cmp}
 use Rattle.findings.proofs.FindingOrder.{same_order, finding_exact, finding_total, sorted_findings}

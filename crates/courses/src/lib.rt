@@ -1,0 +1,28 @@
+//! From the plans of commands to the course of a volume: what it goes through, and what each stop leaves.
+#![tactic(auto)]
+
+pub mod lives;
+pub mod services;
+
+ghost use Rattle.std.specs.Prelude.{◌≡◌, ℕ, Bool, List};
+ghost use Rattle.model.specs.Layout.{Geometry};
+ghost use Rattle.model.specs.View.{View};
+ghost use Rattle.ordering.specs.Cuts.{Pending};
+ghost use Rattle.ordering.specs.Ghosts.{Ghost, at_rest};
+ghost use Rattle.queue_model.specs.Files.{Written};
+ghost use Rattle.plans_data.specs.Issues.{Issues};
+ghost use Rattle.machine.specs.State.{State};
+ghost use Rattle.courses.specs.Leads.{IsMoment, Named, Leads};
+ghost use Rattle.courses.specs.Plans.{IsPlan};
+
+/// A chain of updates that each name their file is a course, which writes these updates.
+pub fn a_chain_is_a_course()
+    ensures { (geo : Geometry) (mounted : View) (h : List Written) (cut : List Bool) (ghost : Ghost) (disk : View) (q : List Pending) (file : ℕ) (h' : List Written) (p : List Pending) (ghost' : Ghost) → IsMoment geo mounted h cut ghost disk q
+        → Issues geo disk q ghost p ghost' → Named geo mounted file h q h' p → (l : Leads geo mounted h cut ghost disk q file p ghost') × (l.h' ≡ h') }
+{}
+
+/// Each plan leads by a course from a good moment at rest to a good moment at rest.
+pub fn each_plan_is_a_course()
+    ensures { (geo : Geometry) (mounted : View) (h : List Written) (cut : List Bool) (disk : View) (q : List Pending) (old : State) (safe : ℕ → Bool) → IsMoment geo mounted h cut (at_rest old.held safe) disk q
+        → (file : ℕ) (p : List Pending) (held' safe' : ℕ → Bool) → IsPlan geo disk q old safe file p held' safe' → Leads geo mounted h cut (at_rest old.held safe) disk q file p (at_rest held' safe') }
+{}

@@ -1,0 +1,5 @@
+pub mod LoadLemmas
+pub mod FrozenLemmas
+pub mod ClaimLemmas
+pub mod KeepingLemmas
+pub mod SlotLemmas

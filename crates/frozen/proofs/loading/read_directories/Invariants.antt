@@ -1,0 +1,18 @@
+use Rattle.std.proofs.Common.{◌≡◌}
+use Rattle.frozen.specs.Kept.{KeepsFrame, KeepsIndirect, KeepsMore}
+use Rattle.frozen.specs.Loading.{AreBlocksOf}
+use Rattle.frozen.proofs.KeepingLemmas.{KeepsDirectoriesBelow}
+use Rattle.frozen.proofs.loading.read_directories.Given as goal
+
+abbrev pub invariant-loop-number : goal.invariant-loop-number
+invariant-loop-number g l = record {
+  frame : KeepsFrame l.held;
+  more : KeepsMore l.fn.held l.held;
+  indirect : KeepsIndirect l.held;
+  directories : KeepsDirectoriesBelow l.held l.number;
+  blocks : g.D.Device.honest l.device → AreBlocksOf l.fn.held.blocks (g.D.Device.image l.fn.device) → AreBlocksOf l.held.blocks (g.D.Device.image l.fn.device);
+  same : g.D.Device.image l.device ≡ g.D.Device.image l.fn.device;
+  held : g.D.Device.held l.device ≡ g.D.Device.held l.fn.device;
+  failures : g.D.Device.failures l.device ≡ g.D.Device.failures l.fn.device;
+  honest : g.D.Device.honest l.device → g.D.Device.honest l.fn.device;
+}

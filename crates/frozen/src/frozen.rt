@@ -1,0 +1,133 @@
+ghost use Rattle.std.specs.Prelude.{◌≡◌, ℕ, ◌/◌, ◌<◌, IsTrue};
+ghost use Rattle.std.specs.Option.{option_copied, option_map_or};
+ghost use Rattle.frozen.specs.Kept.{KeepsFrame, KeepsMetadata, frozen_view, kept_at, kept_bytes};
+ghost use Rattle.model.specs.Layout.{inode_count, group_block, inode_block, is_number};
+ghost use Rattle.model.specs.Uses.{record_use, use_at, claim_at, is_sound_at, is_directory_at};
+ghost use Rattle.model.specs.Slots.{Absent, slot, slot_in};
+ghost use Rattle.model.specs.Image.{IsGroupBlock};
+
+use crate::Held;
+use inode::{INDIRECT_POSITION, Record};
+use layout::{Block, Geometry};
+use std::marker::Model;
+
+/// The metadata of an image as it was at one moment: its superblock, its blocks of maps and of inodes, the indirect
+/// blocks that sound inodes claim, and the blocks that sound directories claim. None of them is missing.
+#[derive(Drop)]
+pub struct Frozen {
+    held: Held,
+}
+
+impl Model for Frozen {
+    ghost use Rattle.frozen.specs.Kept.{Kept, KeepsMetadata};
+
+    ghost Value = { Kept };
+
+    ghost view = { λ frozen. frozen.held };
+
+    ghost invariant = { λ frozen. KeepsMetadata frozen.held };
+}
+
+impl Frozen {
+    /// The frozen image of these blocks, of which none is missing.
+    pub(crate) fn new(held: Held) -> Frozen
+        requires { KeepsMetadata held }
+        ensures { result ≡ held }
+    {
+        Frozen { held }
+    }
+
+    /// Its geometry.
+    pub fn geometry(&self) -> Geometry
+        ensures geometry { result ≡ self.now.geometry }
+        ensures frame { KeepsFrame self.now }
+    {
+        self.held.geometry()
+    }
+
+    /// The block of this address, or `None` where it does not hold it.
+    pub fn block(&self, address: u32) -> Option<&Block>
+        ensures block { option_copied result ≡ kept_at self.now.blocks address }
+        ensures frame { KeepsFrame self.now }
+    {
+        self.held.block(address)
+    }
+
+    /// The block of maps of a group.
+    pub fn maps_of(&self, group: u32) -> &Block
+        requires { group < self.now.geometry.groups }
+        ensures maps { result.now ≡ kept_bytes self.now.blocks (group_block self.now.geometry group) }
+        ensures is_maps { IsGroupBlock group result.now }
+    {
+        self.held.maps_of(group)
+    }
+
+    /// The block that holds the record of an inode.
+    pub fn records_of(&self, number: u32) -> &Block
+        requires { number < inode_count self.now.geometry }
+        ensures { result.now ≡ kept_bytes self.now.blocks (inode_block self.now.geometry number) }
+    {
+        self.held.records_of(number)
+    }
+
+    /// The record of an inode. Numbers 0 and 1 are not looked at.
+    pub fn record(&self, number: u32) -> Record
+        requires { IsTrue (is_number self.now.geometry number) }
+        ensures { result ≡ (frozen_view self.now).inode number }
+    {
+        self.held.record(number)
+    }
+
+    /// Whether the number is that of a sound inode: false for 0, 1 and numbers past the last.
+    pub fn is_sound_at(&self, number: u32) -> bool
+        ensures { result ≡ is_sound_at self.now.geometry (frozen_view self.now) number }
+    {
+        self.held.is_sound_at(number)
+    }
+
+    /// Whether the number is that of a sound directory: false for 0, 1 and numbers past the last.
+    pub fn is_directory_at(&self, number: u32) -> bool
+        ensures { result ≡ is_directory_at self.now.geometry (frozen_view self.now) number }
+    {
+        self.held.is_directory_at(number)
+    }
+
+    /// The value that an inode uses at a position: below 12 one of its record's pointers, below 268 one of its
+    /// indirect block's, and at 268 the pointer to that block. `None` where the inode is not sound or does not use the
+    /// position.
+    pub fn use_at(&self, inode: u32, position: u32) -> Option<u32>
+        ensures { result ≡ use_at self.now.geometry (frozen_view self.now) inode position }
+    {
+        self.held.use_at(inode, position)
+    }
+
+    /// The value that a record uses at a position, as `use_at` has it.
+    pub fn use_of(&self, inode: &Record, position: u32) -> Option<u32>
+        ensures { result ≡ record_use self.now.geometry (frozen_view self.now) inode.now position }
+    {
+        self.held.use_of(inode, position)
+    }
+
+    /// The block that an inode claims at a position: the value that it uses there, if that is the address of a data
+    /// block.
+    pub fn claim_at(&self, inode: u32, position: u32) -> Option<u32>
+        ensures { result ≡ claim_at self.now.geometry (frozen_view self.now) inode position }
+    {
+        self.held.claim_at(inode, position)
+    }
+
+    /// The block of a directory's slots at this position, which holds its slots `16 * position` to
+    /// `16 * position + 15`. `None` where the slots are left out: the number is no sound directory's, or it claims no
+    /// block there. Position 268, the indirect pointer, has no slots.
+    #[tactic(auto, using(crate::proofs::SlotLemmas::no_slot_past, crate::proofs::SlotLemmas::no_slot_of))]
+    pub fn directory_block(&self, directory: u32, position: u32) -> Option<&Block>
+        ensures slots { (s : ℕ) → s / 16 ≡ position → slot self.now.geometry (frozen_view self.now) directory s
+            ≡ option_map_or (λ block. slot_in self.now.geometry block s) (option_copied result) Absent }
+    {
+        if position >= INDIRECT_POSITION || !self.held.is_directory_at(directory) {
+            return None;
+        }
+        let claimed = self.held.claim_at(directory, position)?;
+        self.held.block(claimed)
+    }
+}

@@ -1,0 +1,216 @@
+ghost use Rattle.std.specs.Prelude.{◌≡◌, ◌<◌, ◌*◌, IsTrue, Some, OnOk, OnErr, slice_set};
+ghost use Rattle.std.specs.Option.{option_copied};
+ghost use Rattle.frozen.specs.Kept.{KeepsFrame, frozen_view, kept_at, kept_bytes, is_frame};
+ghost use Rattle.model.specs.Layout.{inode_count, group_block, inode_block, is_data_address, is_number};
+ghost use Rattle.model.specs.Uses.{record_use, is_used, value_at, use_at, claim_at, is_sound_at, is_directory_at};
+ghost use Rattle.model.specs.View.{u32_at};
+ghost use Rattle.model.specs.Image.{IsGroupBlock};
+
+use inode::{
+    DIRECT_POINTERS, INDIRECT_POSITION, RECORD_BYTES, Record, a_record_is_read_from_its_bytes,
+};
+use layout::{Block, Geometry, INODES_PER_BLOCK, ROOT, u32_at};
+use std::alloc::{AllocError, Global};
+use std::marker::Model;
+use std::sync::Arc;
+
+/// Blocks of an image by address, shared: those that each volume has, and those data blocks that were kept so far.
+#[derive(Drop)]
+pub(crate) struct Held {
+    geometry: Geometry,
+    blocks: Vec<Option<Arc<Block>>>,
+}
+
+impl Model for Held {
+    ghost use Rattle.frozen.specs.Kept.{Kept, KeepsFrame};
+    ghost use Rattle.frozen.specs.Shared.{shared_blocks};
+
+    ghost Value = { Kept };
+
+    ghost view = { λ held. record { geometry = held.geometry; blocks = shared_blocks held.blocks.items } };
+
+    ghost invariant = { λ held. KeepsFrame (record { geometry = held.geometry; blocks = shared_blocks held.blocks.items }) };
+}
+
+impl Held {
+    ghost use Rattle.frozen.specs.Shared.{shared_blocks};
+
+    /// These blocks of a volume of this geometry.
+    pub(crate) fn new(geometry: Geometry, blocks: Vec<Option<Arc<Block>>>) -> Held
+        requires { KeepsFrame (record { geometry = geometry; blocks = shared_blocks blocks.items }) }
+        ensures { result ≡ record { geometry = geometry; blocks = shared_blocks blocks.items } }
+    {
+        Held { geometry, blocks }
+    }
+
+    /// Its geometry.
+    pub(crate) fn geometry(&self) -> Geometry
+        ensures geometry { result ≡ self.now.geometry }
+        ensures frame { KeepsFrame self.now }
+    {
+        self.geometry
+    }
+
+    /// The block of this address, or `None` where it does not hold it.
+    pub(crate) fn block(&self, address: u32) -> Option<&Block>
+        ensures block { option_copied result ≡ kept_at self.now.blocks address }
+        ensures frame { KeepsFrame self.now }
+    {
+        match self.blocks.get(address as usize) {
+            Some(Some(block)) => Some(block),
+            _ => None,
+        }
+    }
+
+    /// The block of maps of a group.
+    pub(crate) fn maps_of(&self, group: u32) -> &Block
+        requires { group < self.now.geometry.groups }
+        ensures maps { result.now ≡ kept_bytes self.now.blocks (group_block self.now.geometry group) }
+        ensures is_maps { IsGroupBlock group result.now }
+    {
+        self.frame_block(self.geometry().group_block(group))
+    }
+
+    /// The block that holds the record of an inode.
+    pub(crate) fn records_of(&self, number: u32) -> &Block
+        requires { number < inode_count self.now.geometry }
+        ensures { result.now ≡ kept_bytes self.now.blocks (inode_block self.now.geometry number) }
+    {
+        self.frame_block(self.geometry().inode_place(number).address)
+    }
+
+    /// The record of an inode. Numbers 0 and 1 are not looked at.
+    pub(crate) fn record(&self, number: u32) -> Record
+        requires { IsTrue (is_number self.now.geometry number) }
+        ensures { result ≡ (frozen_view self.now).inode number }
+    {
+        a_record_is_read_from_its_bytes();
+        let (records, _) = self.records_of(number).as_chunks::<RECORD_BYTES>();
+        Record::read(&records[(number % INODES_PER_BLOCK) as usize])
+    }
+
+    /// Whether the number is that of a sound inode.
+    pub(crate) fn is_sound_at(&self, number: u32) -> bool
+        ensures { result ≡ is_sound_at self.now.geometry (frozen_view self.now) number }
+    {
+        self.is_number(number) && self.record(number).is_sound()
+    }
+
+    /// Whether the number is that of a sound directory.
+    pub(crate) fn is_directory_at(&self, number: u32) -> bool
+        ensures { result ≡ is_directory_at self.now.geometry (frozen_view self.now) number }
+    {
+        if !self.is_number(number) {
+            return false;
+        }
+        let inode = self.record(number);
+        inode.is_sound() && inode.is_directory()
+    }
+
+    /// The value that an inode uses at a position: below 12 one of its record's pointers, below 268 one of its
+    /// indirect block's, and at 268 the pointer to that block. `None` where the inode is not sound or does not use the
+    /// position.
+    pub(crate) fn use_at(&self, inode: u32, position: u32) -> Option<u32>
+        ensures { result ≡ use_at self.now.geometry (frozen_view self.now) inode position }
+    {
+        if !self.is_number(inode) {
+            return None;
+        }
+        self.use_of(&self.record(inode), position)
+    }
+
+    /// The value that a record uses at a position, as `use_at` has it.
+    pub(crate) fn use_of(&self, inode: &Record, position: u32) -> Option<u32>
+        ensures { result ≡ record_use self.now.geometry (frozen_view self.now) inode.now position }
+    {
+        if !inode.is_sound() || !self.is_used(inode, position) {
+            return None;
+        }
+        Some(self.value_at(inode, position))
+    }
+
+    /// The block that an inode claims at a position: the value that it uses there, if that is the address of a data
+    /// block.
+    pub(crate) fn claim_at(&self, inode: u32, position: u32) -> Option<u32>
+        ensures { result ≡ claim_at self.now.geometry (frozen_view self.now) inode position }
+    {
+        match self.use_at(inode, position) {
+            Some(address) if self.geometry().place_of(address).is_some() => Some(address),
+            _ => None,
+        }
+    }
+
+    /// Keeps one more data block.
+    pub(crate) fn keep(
+        &mut self,
+        alloc: Global,
+        address: u32,
+        block: &Block,
+    ) -> Result<(), AllocError>
+        requires { IsTrue (is_data_address self.old.geometry address) }
+        ensures ok { OnOk result (self.new ≡ record self.old { blocks = slice_set self.old.blocks address (Some block.now) }) }
+        ensures frame { OnOk result (KeepsFrame self.new) }
+        ensures error { OnErr result (self.new ≡ self.old) }
+    {
+        let shared = Arc::new(alloc, *block)?;
+        self.blocks[address as usize] = Some(shared);
+        Ok(())
+    }
+
+    /// Whether the number is that of an inode that is looked at.
+    fn is_number(&self, number: u32) -> bool
+        ensures { result ≡ is_number self.now.geometry number }
+    {
+        ROOT <= number && number < self.geometry().inodes()
+    }
+
+    /// Whether a sound record uses a position.
+    fn is_used(&self, inode: &Record, position: u32) -> bool
+        ensures { result ≡ is_used self.now.geometry inode.now position }
+    {
+        let blocks = inode.blocks();
+        if position < DIRECT_POINTERS as u32 {
+            position < blocks
+        } else if position < INDIRECT_POSITION {
+            position < blocks && self.geometry().place_of(inode.indirect).is_some()
+        } else {
+            position == INDIRECT_POSITION && blocks > DIRECT_POINTERS as u32
+        }
+    }
+
+    /// The value at a position that the record uses.
+    fn value_at(&self, inode: &Record, position: u32) -> u32
+        requires { IsTrue (is_used self.now.geometry inode.now position) }
+        ensures { result ≡ value_at (frozen_view self.now) inode.now position }
+    {
+        if position < DIRECT_POINTERS as u32 {
+            inode.direct[position as usize]
+        } else if position < INDIRECT_POSITION {
+            self.pointer(inode.indirect, position as usize - DIRECT_POINTERS)
+        } else {
+            inode.indirect
+        }
+    }
+
+    /// The pointer in this slot of an indirect block, and 0 where the block is not held.
+    fn pointer(&self, indirect: u32, slot: usize) -> u32
+        requires { slot < 256 }
+        ensures { result ≡ u32_at (kept_bytes self.now.blocks indirect) (4 * slot) }
+    {
+        match self.block(indirect) {
+            Some(block) => u32_at(block, 4 * slot),
+            None => 0,
+        }
+    }
+
+    /// A block that each volume has: its superblock, a group's block of maps or a block of inodes.
+    fn frame_block(&self, address: u32) -> &Block
+        requires { IsTrue (is_frame self.now.geometry address) }
+        ensures { result.now ≡ kept_bytes self.now.blocks address }
+    {
+        match self.block(address) {
+            Some(block) => block,
+            None => unreachable!(),
+        }
+    }
+}

@@ -1,0 +1,12 @@
+//! The frozen metadata of an image, which a check reads: what is kept of it, and how it is loaded from a device.
+#![tactic(auto)]
+
+mod frozen;
+mod held;
+mod loading;
+#[cfg(test)]
+mod tests;
+
+pub use frozen::Frozen;
+pub(crate) use held::Held;
+pub use loading::load;

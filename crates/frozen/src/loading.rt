@@ -1,0 +1,242 @@
+ghost use Rattle.std.specs.Prelude.{◌≡◌, ◌<◌, ℕ, List, length, IfOk, IfErr, OnOk, IsErrOf, Some};
+ghost use Rattle.std.specs.Option.{option_map};
+ghost use Rattle.std.specs.Arc.{arc_value};
+ghost use Rattle.model.specs.Layout.{block_count, group_block};
+ghost use Rattle.model.specs.Image.{IsBlock, IsSuper, IsGroupBlock, block_at};
+ghost use Rattle.frozen.specs.Kept.{KeepsFrame, KeepsClaim, KeepsIndirect, KeepsDirectory, KeepsMetadata, KeepsMore, IsKeptOf};
+ghost use Rattle.frozen.specs.Shared.{shared_blocks};
+ghost use Rattle.device.specs.Writes.{HasFailed};
+ghost use Rattle.frozen.specs.Loading.{LoadRefuses, GivesOut, FrameRefuses, BlockRefuses, MapsRefuse, IsKeptBlock, AreBlocksOf};
+
+use crate::{Frozen, Held};
+use cgmaps::read_group;
+use device::Device;
+use inode::INDIRECT_POSITION;
+use layout::{BLOCK_BYTES, Block, Geometry, Refusal, read_super};
+use std::alloc::Global;
+use std::sync::Arc;
+
+/// Reads the metadata of a device's image: the blocks that each volume has, then the indirect blocks that sound inodes
+/// claim, then the blocks that sound directories claim. A block that is there already is not read again. It is refused
+/// with `BadLength` where the device has no block, or not as many as its superblock tells; with `BadSuper` where block 0
+/// is no superblock; with `BadGroup` where the block of maps of this group is not its own, and of no group before it;
+/// with `Device` where the device failed, and with `NoMemory`. It writes nothing.
+pub fn load<D: Device>(alloc: Global, device: &mut D) -> Result<Frozen, Refusal>
+    // Where each read gave what stood there, the blocks are an image, and this is what it holds.
+    ensures ok { IfOk result (λ frozen. D.honest device.new → IsKeptOf frozen (D.image device.old)) }
+    ensures refused { IfErr result (λ refusal. LoadRefuses (D.honest device.new) (D.image device.old) refusal) }
+    ensures cause { IsErrOf result Refusal.Device → HasFailed (D.failures device.old) (D.failures device.new) }
+
+    ensures same { D.image device.new ≡ D.image device.old }
+    ensures held { D.held device.new ≡ D.held device.old }
+    ensures honest { D.honest device.new → D.honest device.old }
+{
+    let count = device.blocks();
+    if count == 0 {
+        return Err(Refusal::BadLength);
+    }
+    let mut first = [0; BLOCK_BYTES];
+    device.read(0, &mut first)?;
+    let geometry = read_super(&first)?;
+    if count != geometry.blocks() {
+        return Err(Refusal::BadLength);
+    }
+    let blocks = read_frame(alloc, device, &geometry, &first)?;
+    let mut held = Held::new(geometry, blocks);
+    read_indirect(alloc, device, &mut held)?;
+    read_directories(alloc, device, &mut held)?;
+    Ok(Frozen::new(held))
+}
+
+/// Reads the indirect blocks that sound inodes claim, each once.
+fn read_indirect<D: Device>(alloc: Global, device: &mut D, held: &mut Held) -> Result<(), Refusal>
+    requires { length (D.image device.old) ≡ block_count held.old.geometry }
+
+    ensures frame { OnOk result (KeepsFrame held.new) }
+    ensures more { OnOk result (KeepsMore held.old held.new) }
+    ensures indirect { OnOk result (KeepsIndirect held.new) }
+    ensures blocks { OnOk result (D.honest device.new → AreBlocksOf held.old.blocks (D.image device.old)
+        → AreBlocksOf held.new.blocks (D.image device.old)) }
+    ensures refused { IfErr result GivesOut }
+    ensures cause { IsErrOf result Refusal.Device → HasFailed (D.failures device.old) (D.failures device.new) }
+    ensures failures { OnOk result (D.failures device.new ≡ D.failures device.old) }
+
+    ensures same { D.image device.new ≡ D.image device.old }
+    ensures held { D.held device.new ≡ D.held device.old }
+    ensures honest { D.honest device.new → D.honest device.old }
+{
+    for number in 0..held.geometry().inodes() {
+        keep_claimed(alloc, device, held, number, INDIRECT_POSITION)?;
+    }
+    Ok(())
+}
+
+/// Reads the blocks that sound directories claim, each once.
+fn read_directories<D: Device>(
+    alloc: Global,
+    device: &mut D,
+    held: &mut Held,
+) -> Result<(), Refusal>
+    requires count { length (D.image device.old) ≡ block_count held.old.geometry }
+    requires indirect { KeepsIndirect held.old }
+
+    ensures metadata { OnOk result (KeepsMetadata held.new) }
+    ensures more { OnOk result (KeepsMore held.old held.new) }
+    ensures blocks { OnOk result (D.honest device.new → AreBlocksOf held.old.blocks (D.image device.old)
+        → AreBlocksOf held.new.blocks (D.image device.old)) }
+    ensures refused { IfErr result GivesOut }
+    ensures cause { IsErrOf result Refusal.Device → HasFailed (D.failures device.old) (D.failures device.new) }
+
+    ensures same { D.image device.new ≡ D.image device.old }
+    ensures held { D.held device.new ≡ D.held device.old }
+    ensures honest { D.honest device.new → D.honest device.old }
+{
+    for number in 0..held.geometry().inodes() {
+        read_directory(alloc, device, held, number)?;
+    }
+    Ok(())
+}
+
+/// Reads the blocks that an inode claims, if it is a sound directory, but for its indirect block, which is there.
+fn read_directory<D: Device>(
+    alloc: Global,
+    device: &mut D,
+    held: &mut Held,
+    number: u32,
+) -> Result<(), Refusal>
+    requires count { length (D.image device.old) ≡ block_count held.old.geometry }
+    requires frame { KeepsFrame held.old }
+    requires indirect { KeepsIndirect held.old }
+
+    ensures frame { OnOk result (KeepsFrame held.new) }
+    ensures more { OnOk result (KeepsMore held.old held.new) }
+    ensures directory { OnOk result (KeepsDirectory held.new number) }
+    ensures blocks { OnOk result (D.honest device.new → AreBlocksOf held.old.blocks (D.image device.old)
+        → AreBlocksOf held.new.blocks (D.image device.old)) }
+    ensures refused { IfErr result GivesOut }
+    ensures cause { IsErrOf result Refusal.Device → HasFailed (D.failures device.old) (D.failures device.new) }
+    ensures failures { OnOk result (D.failures device.new ≡ D.failures device.old) }
+
+    ensures same { D.image device.new ≡ D.image device.old }
+    ensures held { D.held device.new ≡ D.held device.old }
+    ensures honest { D.honest device.new → D.honest device.old }
+{
+    if !held.is_directory_at(number) {
+        return Ok(());
+    }
+    for position in 0..held.record(number).blocks() {
+        keep_claimed(alloc, device, held, number, position)?;
+    }
+    Ok(())
+}
+
+/// Reads the block that an inode claims at a position, unless it is there already. For positions from 12 to 267 the
+/// inode's indirect block has to be there, or they claim nothing.
+fn keep_claimed<D: Device>(
+    alloc: Global,
+    device: &mut D,
+    held: &mut Held,
+    number: u32,
+    position: u32,
+) -> Result<(), Refusal>
+    requires { length (D.image device.old) ≡ block_count held.old.geometry }
+
+    ensures frame { OnOk result (KeepsFrame held.old → KeepsFrame held.new) }
+    ensures more { OnOk result (KeepsMore held.old held.new) }
+    ensures claim { OnOk result (KeepsClaim held.new number position) }
+    ensures blocks { OnOk result (D.honest device.new → AreBlocksOf held.old.blocks (D.image device.old)
+        → AreBlocksOf held.new.blocks (D.image device.old)) }
+    ensures refused { IfErr result GivesOut }
+    ensures cause { IsErrOf result Refusal.Device → HasFailed (D.failures device.old) (D.failures device.new) }
+    ensures failures { OnOk result (D.failures device.new ≡ D.failures device.old) }
+
+    ensures same { D.image device.new ≡ D.image device.old }
+    ensures held { D.held device.new ≡ D.held device.old }
+    ensures honest { D.honest device.new → D.honest device.old }
+{
+    match held.claim_at(number, position) {
+        Some(address) if held.block(address).is_none() => {
+            let mut claimed = [0; BLOCK_BYTES];
+            device.read(address, &mut claimed)?;
+            held.keep(alloc, address, &claimed)?;
+            Ok(())
+        }
+        _ => Ok(()),
+    }
+}
+
+/// Reads the blocks that each volume has, behind its superblock, which was read before.
+fn read_frame<D: Device>(
+    alloc: Global,
+    device: &mut D,
+    geometry: &Geometry,
+    first: &Block,
+) -> Result<Vec<Option<Arc<Block>>>, Refusal>
+    requires count { length (D.image device.old) ≡ block_count geometry.now }
+    requires first { IsSuper geometry.now first.now }
+
+    ensures kept { IfOk result (λ blocks. KeepsFrame (record { geometry = geometry.now; blocks = shared_blocks blocks.items })) }
+    ensures blocks { IfOk result (λ blocks. D.honest device.new → first.now ≡ block_at (D.image device.old) 0
+        → AreBlocksOf (shared_blocks blocks.items) (D.image device.old)) }
+    ensures refused { IfErr result (λ refusal. FrameRefuses (D.honest device.new) geometry.now (D.image device.old) refusal) }
+    ensures cause { IsErrOf result Refusal.Device → HasFailed (D.failures device.old) (D.failures device.new) }
+    ensures failures { OnOk result (D.failures device.new ≡ D.failures device.old) }
+
+    ensures same { D.image device.new ≡ D.image device.old }
+    ensures held { D.held device.new ≡ D.held device.old }
+    ensures honest { D.honest device.new → D.honest device.old }
+{
+    let mut blocks = Vec::with_capacity(alloc, geometry.blocks() as usize)?;
+    blocks.push(Some(Arc::new(alloc, *first)?))?;
+    for address in 1..geometry.blocks() {
+        let kept = keep_block(alloc, device, geometry, address)?;
+        blocks.push(kept)?;
+    }
+    Ok(blocks)
+}
+
+/// Reads a block behind the superblock, if each volume has it.
+fn keep_block<D: Device>(
+    alloc: Global,
+    device: &mut D,
+    geometry: &Geometry,
+    address: u32,
+) -> Result<Option<Arc<Block>>, Refusal>
+    requires count { length (D.image device.old) ≡ block_count geometry.now }
+    requires behind { 0 < address }
+    requires on_volume { address < block_count geometry.now }
+
+    ensures kept { IfOk result (λ kept. IsKeptBlock geometry.now address (option_map arc_value kept)) }
+    ensures block { IfOk result (λ kept. D.honest device.new → (b : List ℕ) → option_map arc_value kept ≡ Some b
+        → b ≡ block_at (D.image device.old) address) }
+    ensures refused { IfErr result (λ refusal. BlockRefuses (D.honest device.new) geometry.now (D.image device.old) address refusal) }
+    ensures cause { IsErrOf result Refusal.Device → HasFailed (D.failures device.old) (D.failures device.new) }
+    ensures failures { OnOk result (D.failures device.new ≡ D.failures device.old) }
+
+    ensures same { D.image device.new ≡ D.image device.old }
+    ensures held { D.held device.new ≡ D.held device.old }
+    ensures honest { D.honest device.new → D.honest device.old }
+{
+    if geometry.place_of(address).is_some() {
+        return Ok(None);
+    }
+    let mut block = [0; BLOCK_BYTES];
+    device.read(address, &mut block)?;
+    check_maps(geometry, address, &block)?;
+    Ok(Some(Arc::new(alloc, block)?))
+}
+
+/// Tests a group's block of maps; any other block passes.
+fn check_maps(geometry: &Geometry, address: u32, block: &Block) -> Result<(), Refusal>
+    requires behind { 0 < address }
+    requires on_volume { address < block_count geometry.now }
+    ensures ok { OnOk result ((g : ℕ) → group_block geometry.now g ≡ address → IsGroupBlock g block.now) }
+    ensures whole { IsBlock block.now }
+    ensures refused { IfErr result (λ refusal. MapsRefuse geometry.now address block.now refusal) }
+{
+    let place = address - 1;
+    if place % geometry.blocks_a_group() == 0 {
+        read_group(block, place / geometry.blocks_a_group())?;
+    }
+    Ok(())
+}

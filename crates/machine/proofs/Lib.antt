@@ -1,0 +1,98 @@
+mod Refused
+mod Exactness
+pub mod Decisions
+mod Owed
+pub mod Clears
+pub mod Counting
+pub mod Base
+pub mod Walks
+mod DecideOwed
+mod Handles
+mod PlanSteps
+mod Unmarking
+mod Freed
+mod Closing
+mod Release
+mod Steps
+mod PathLemmas
+mod RowSteps
+mod RowRun
+mod Counts
+mod Trees
+mod Shapes
+mod OneSlots
+pub mod Entries
+mod Naming
+pub mod NewFile
+pub mod Putting
+pub mod Holders
+pub mod Renaming
+pub mod WholeBlocks
+mod Ledger
+mod Evolves
+mod OtherLinks
+mod Relinking
+mod SlotEvolves
+mod Emptying
+mod Relinked
+mod Unlinking
+mod Prune
+mod Graft
+mod GraftCount
+mod EmptyingDirectory
+mod Removing
+mod Rewriting
+mod FileTrees
+mod Truncating
+mod PlanLists
+mod Installing
+mod EnteringFile
+pub mod Behind
+mod RenameWithin
+pub mod PointerTables
+mod Placing
+mod Positions
+mod Placements
+mod PlacingInRecord
+mod PlacingInIndirect
+mod PlacingInNew
+mod PlacingCases
+mod Growing
+mod Founding
+mod EntersFile
+mod NewFiles
+mod NewLinks
+mod RenameAcross
+mod EnteringDirectory
+mod DotBlocks
+mod NewDirectories
+mod WriteInPlace
+mod Writing
+mod RenameCommand
+pub mod AllSteps
+mod Reading
+mod Bools
+mod OpenHandles
+pub mod ZeroBlocks
+mod Debts
+mod Clean
+mod Paying
+mod Forgives
+mod Repairing
+mod FileRecords
+pub mod Tests
+mod Rewrites
+mod Aside
+mod Cycles
+mod SeenAfter
+mod WritesSeen
+mod WholeCycles
+mod SameFiles
+mod PlacingSeen
+mod SnapshotSeen
+mod FileStays
+mod NewDirectoryFiles
+mod TruncatedSeen
+mod AllFiles
+mod StayOpen
+mod RunsOfFiles

@@ -1,0 +1,50 @@
+-- What can be asked of the volume, and what it answers.
+use Rattle.std.specs.Prelude.{ℕ, List, Result}
+use Rattle.findings.specs.declared.finding.Finding.{Finding}
+use Rattle.model.specs.View.{View}
+use Rattle.layout.specs.declared.refusal.Refusal.{Refusal}
+
+-- a check of a frozen image, with what it found
+pub record Check : Type 0 where
+  pub image : View
+  pub findings : List Finding
+
+-- Paths and pieces are lists of bytes; handles, indices and numbers are as the caller gives them.
+pub data Command : Type 0 where
+  Create : List ℕ → Command
+  Mkdir : List ℕ → Command
+  Link : List ℕ → List ℕ → Command
+  Unlink : List ℕ → Command
+  Rmdir : List ℕ → Command
+  Rename : List ℕ → List ℕ → Command
+  Open : List ℕ → Command
+  Close : ℕ → Command
+  Read : ℕ → ℕ → Command
+  Write : ℕ → ℕ → List ℕ → Command
+  Truncate : ℕ → ℕ → Command
+  ListNames : List ℕ → Command
+  Stat : List ℕ → Command
+  Freeze : Command
+  SnapRead : ℕ → ℕ → Command
+  Release : Command
+  Install : Check → Command
+  RepairAt : ℕ → Command
+  Flush : ℕ → Command
+  Sync : Command
+
+-- a name and the number that it stands for
+pub record Name : Type 0 where
+  pub name : List ℕ
+  pub number : ℕ
+
+-- A status is the number, the mode (1 for a file, 2 for a directory), the links and the size.
+pub data Answer : Type 0 where
+  Done : Answer
+  Number : ℕ → Answer
+  Bytes : List ℕ → Answer
+  Listed : List Name → Answer
+  Status : ℕ → ℕ → ℕ → ℕ → Answer
+  Image : View → Answer
+
+abbrev pub Reply : Type 0
+Reply = Result Answer Refusal

@@ -1,0 +1,24 @@
+pub mod CutLemmas
+pub mod Trees
+pub mod Frames
+pub mod Bits
+pub mod Data
+pub mod Records
+pub mod Counts
+pub mod Claims
+pub mod Outside
+pub mod RecordSteps
+pub mod RecordKinds
+pub mod Growth
+pub mod Indirect
+pub mod OneSlots
+mod SlotSteps
+pub mod SlotKinds
+mod NewNames
+pub mod Prune
+pub mod Graft
+pub mod Flushes
+mod Creation
+pub mod HistoryLemmas
+mod ClosedSetLemmas
+pub mod Removal

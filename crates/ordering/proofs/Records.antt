@@ -1,0 +1,198 @@
+-- The kinds of update that write a record and keep its mode and its blocks.
+use Rattle.std.proofs.Common.{◌≡◌, ℕ, ◌≤◌, ◌-◌, ◌*◌, Bool, not, ◌&&◌, cond, eqb, ltb, ◌/◌, List, inl, inr, refl, sym, ap, ap₂, ◌∙◌, subst, IsTrue, le_refl, arith, Contains, get_or, eq-eqb, ne_eqb, Option, ◌⊎◌}
+use Rattle.std.specs.Bool.{then_some}
+use Rattle.std.specs.Option.{option_map_or, option_and_then}
+use Rattle.std.proofs.lemmas.Bool.{cases_eq, cond-true, cond-false, and_parts, and_from, not_from_false}
+use Rattle.model.specs.Layout.{Geometry, is_number, is_data_address}
+use Rattle.model.specs.View.{View, Inode, u32_at}
+use Rattle.model.specs.Cells.{SetInode, updated, put_at}
+use Rattle.model.specs.Uses.{use_at, claim_at, is_directory, is_directory_at, is_sound, is_used, value_at, blocks_of, indirect_position, direct_positions}
+use Rattle.model.specs.Slots.{Absent, slot, slot_in}
+use Rattle.model.specs.Reach.{HasEntries}
+use Rattle.model.specs.Rules.{RecordsAreSound}
+use Rattle.ordering.specs.Cuts.{Cell, Record, Block, Pending, users_view, AreIn}
+use Rattle.ordering.specs.Ghosts.{Ghost, Gone}
+use Rattle.ordering.specs.Agrees.{Agrees}
+use Rattle.ordering.specs.Kinds.{Keeps, SameBody, MayRaise, MayLower, settled}
+use Rattle.ordering.proofs.Counts.{entries_within}
+use Rattle.ordering.proofs.CutLemmas.{is_other}
+use Rattle.ordering.specs.Places.{HasPlace}
+use Rattle.ordering.proofs.Trees.{tree_obeys, reachable_back, reachable_low, fewer_entries}
+use Rattle.ordering.proofs.Frames.{SameShape, shape_from, shape_step, shape_rules, shape_claims, keeps_all, keeps_without, numbers_without, numbers_same}
+use Rattle.ordering.proofs.Bits.{sound_used}
+
+pub put_here : {A : Type 0} (f : ℕ → A) (n : ℕ) (x : A) → put_at f n x n ≡ x
+put_here f n x = cond-true (eqb n n) x (f n) (eq-eqb n n refl)
+
+pub put_there : {A : Type 0} (f : ℕ → A) (n m : ℕ) (x : A) → (m ≡ n → ⊥) → put_at f n x m ≡ f m
+put_there f n m x differs = cond-false (eqb m n) x (f m) (ne_eqb m n differs)
+
+-- what is the same of an old and a new value at a number is the same at each number
+pub put_same : {A B : Type 0} (g : ℕ → A) (n : ℕ) (x : A) (f : ℕ → A → B) → f n (g n) ≡ f n x → (m : ℕ) → f m (g m) ≡ f m (put_at g n x m)
+put_same g n x f e m = elim (cases_eq m n) [
+  | inl q ↦ subst (λ k. f k (g k) ≡ f k (put_at g n x k)) (sym q) (e ∙ ap (f n) (sym (put_here g n x)))
+  | inr d ↦ ap (f m) (sym (put_there g n m x d))
+]
+
+-- where directories and uses are the same, so are slots
+pub slots_of_uses : (geo : Geometry) (v w : View) → v.bytes ≡ w.bytes → (d s : ℕ) → is_directory_at geo v d ≡ is_directory_at geo w d → use_at geo v d (s / 16) ≡ use_at geo w d (s / 16) → slot geo v d s ≡ slot geo w d s
+unfolding slot claim_at
+slots_of_uses geo v w same d s dir uses =
+    ap (λ (bytes : ℕ → List ℕ). cond (is_directory_at geo v d && ltb (s / 16) indirect_position) (option_map_or (λ a. slot_in geo (bytes a) s) (option_and_then (λ a. then_some (is_data_address geo a) a) (use_at geo v d (s / 16))) Absent) Absent) same
+    ∙ ap₂ (λ (b : Bool) (u : Option ℕ). cond (b && ltb (s / 16) indirect_position) (option_map_or (λ a. slot_in geo (w.bytes a) s) (option_and_then (λ a. then_some (is_data_address geo a) a) u) Absent) Absent) dir uses
+
+used_same : (geo : Geometry) (x y : Inode) (k : ℕ) → blocks_of x.size ≡ blocks_of y.size → x.indirect ≡ y.indirect → is_used geo x k ≡ is_used geo y k
+used_same geo x y k blocks indirect =
+    ap₂ (λ many ind. cond (ltb k direct_positions) (ltb k many) (cond (ltb k indirect_position) (ltb k many && is_data_address geo ind) (eqb k indirect_position && ltb direct_positions many))) blocks indirect
+
+value_same : (v : View) (x y : Inode) (k : ℕ) → x.direct ≡ y.direct → x.indirect ≡ y.indirect → value_at v x k ≡ value_at v y k
+value_same v x y k direct indirect =
+    ap₂ (λ (dir : List ℕ) (ind : ℕ). cond (ltb k direct_positions) (get_or dir k 0) (cond (ltb k indirect_position) (u32_at (v.bytes ind) (4 * (k - direct_positions))) ind)) direct indirect
+
+pub body_shape : (geo : Geometry) (v : View) (n : ℕ) (x : Inode) → SameBody (v.inode n) x → SameShape geo v (updated v (SetInode n x))
+unfolding use_at
+body_shape geo v n x b =
+    shape_from geo v (updated v (SetInode n x))
+    (put_same v.inode n x (λ m (y : Inode). y.mode) b.mode) directories
+    (put_same v.inode n x (λ m y. is_number geo m && is_sound y) (ap (λ t. is_number geo n && t) sound)) uses
+    (λ d s. slots_of_uses geo v (updated v (SetInode n x)) refl d s (directories d) (uses d (s / 16)))
+  where
+    sound : is_sound (v.inode n) ≡ is_sound x
+    sound = b.sound ∙ sym b.still_sound
+
+    directories : (m : ℕ) → is_directory_at geo v m ≡ is_directory_at geo (updated v (SetInode n x)) m
+    directories = put_same v.inode n x (λ m y. is_number geo m && is_sound y && is_directory y) (ap₂ (λ s m. is_number geo n && s && eqb m 2) sound b.mode)
+
+    uses : (m k : ℕ) → use_at geo v m k ≡ use_at geo (updated v (SetInode n x)) m k
+    uses m k =
+        put_same v.inode n x (λ m y. then_some (is_number geo m && is_sound y && is_used geo y k) (value_at v y k))
+        (ap₂ (λ t a. then_some (is_number geo n && t && is_used geo (v.inode n) k) a) sound (value_same v (v.inode n) x k b.direct b.indirect)
+        ∙ ap (λ t. then_some (is_number geo n && is_sound x && t) (value_at v x k)) (used_same geo (v.inode n) x k b.blocks b.indirect)) m
+
+records_sound : (geo : Geometry) (v : View) (n : ℕ) (x : Inode) → IsTrue (is_sound x) → RecordsAreSound geo v → RecordsAreSound geo (updated v (SetInode n x))
+records_sound geo v n x sound r m h = elim (cases_eq m n) [
+  | inl e ↦ inr (subst (λ k. IsTrue (is_sound (put_at v.inode n x k))) (sym e) (ap is_sound (put_here v.inode n x) ∙ sound))
+  | inr d ↦ subst (λ y. (y.mode ≡ 0) ⊎ IsTrue (is_sound y)) (sym (put_there v.inode n m x d)) (r m h)
+]
+
+links_more : (f : ℕ → Inode) (n : ℕ) (x : Inode) → (f n).links ≤ x.links → (i : ℕ) → (f i).links ≤ (put_at f n x i).links
+links_more f n x h i = elim (cases_eq i n) [
+  | inl e ↦ subst (λ k. (f k).links ≤ (put_at f n x k).links) (sym e) (subst (λ (y : Inode). (f n).links ≤ y.links) (sym (put_here f n x)) h)
+  | inr d ↦ subst (λ (y : Inode). (f i).links ≤ y.links) (sym (put_there f n i x d)) (le_refl (f i).links)
+]
+
+pub raise_keeps : (geo : Geometry) (disk : View) (q : List Pending) (ghost : Ghost) (after : List Cell) (n : ℕ) (x : Inode)
+    → MayRaise (users_view disk q) n x → Keeps geo disk q ghost (record { change = SetInode n x; after = after }) ghost
+raise_keeps geo disk q ghost after n x may all =
+    shape_step geo disk q ghost ghost (record { change = SetInode n x; after = after }) (body_shape geo users n x may.body)
+    (λ set view a. record {
+      keeps = keeps_without geo users ghost set view (Record n) (λ c m k h e. cc) (λ c m k h e. cc) (λ i d s c p e. cc);
+      numbers = numbers_without users users' ghost set (Record n) (put_same users.inode n x (λ m (y : Inode). y.mode) may.body.mode)
+          (λ m z e. let e' : m ≡ n = cc in sound_used (users.inode n) may.body.sound (subst (λ k. (users.inode k).mode ≡ 0) e' z)) (λ m z e. cc) a.numbers;
+    })
+    (λ set view a own met.
+    let same : view.inode n ≡ users.inode n = a.same (Record n) own in
+    let body : SameBody (view.inode n) x = subst (λ y. SameBody y x) (sym same) may.body in
+    let s = body_shape geo view n x body in
+    record {
+      shape = s;
+      rules = shape_rules geo view (updated view (SetInode n x)) s a.rules (records_sound geo view n x may.body.still_sound a.rules.rule2)
+          (λ b m k h. a.rules.rule3.marked m k b h) (λ m h u. a.rules.rule4 m h u)
+          (λ i r. links_more view.inode n x (subst (λ (y : Inode). y.links ≤ x.links) (sym same) may.links) i);
+      keeps = keeps_all geo users ghost set view;
+      numbers = numbers_same users users' ghost set (put_same users.inode n x (λ m (y : Inode). y.mode) may.body.mode) a.numbers;
+    })
+    all
+  where
+    users : View
+    users = users_view disk q
+
+    users' : View
+    users' = updated users (SetInode n x)
+
+-- nothing is gone of a number in a cut with the record that was written after all that took its names away
+pub none_gone : (geo : Geometry) (users : View) (ghost : Ghost) (after : List Cell) (n : ℕ) → ((g : Gone) → IsTrue (ghost.gone g) → g.number ≡ n → Contains after (Block g.witness))
+    → (set : Cell → Bool) (view : View) → Agrees geo users ghost set view → AreIn after set → (g : Gone) → g.number ≡ n → IsTrue (ghost.gone g) → HasPlace geo view g.number g.directory g.slot g.block → ⊥
+none_gone geo users ghost after n witnesses set view a met g e t p = a.tree.removed g t (met (Block g.witness) (witnesses g t e)) p
+
+pub only_there : (geo : Geometry) (users : View) (ghost : Ghost) (after : List Cell) (n : ℕ) → ((g : Gone) → IsTrue (ghost.gone g) → g.number ≡ n → Contains after (Block g.witness))
+    → (set : Cell → Bool) (view : View) → Agrees geo users ghost set view → AreIn after set → IsTrue (set (Record n)) → (d s b : ℕ) → HasPlace geo view n d s b → HasPlace geo users n d s b
+only_there geo users ghost after n witnesses set view a met own d s b p = elim (a.tree.places n d s b own p) [
+  | inl h ↦ h
+  | inr g ↦ absurd (none_gone geo users ghost after n witnesses set view a met (record { number = n; directory = d; slot = s; block = b; witness = g.0 }) refl g.1 p)
+]
+
+pub still_gone : (ghost : Ghost) (n : ℕ) (g : Gone) → (g.number ≡ n → ⊥) → IsTrue (ghost.gone g) → IsTrue ((settled n ghost).gone g)
+still_gone ghost n g other t = and_from (ghost.gone g) (not (eqb g.number n)) t (not_from_false (eqb g.number n) (ne_eqb g.number n other))
+
+pub was_gone : (ghost : Ghost) (n : ℕ) (g : Gone) → IsTrue ((settled n ghost).gone g) → IsTrue (ghost.gone g)
+was_gone ghost n g t = (and_parts (ghost.gone g) (not (eqb g.number n)) t).0
+
+pub lower_keeps : (geo : Geometry) (disk : View) (q : List Pending) (ghost : Ghost) (after : List Cell) (n : ℕ) (x : Inode)
+    → MayLower geo (users_view disk q) ghost after n x → Keeps geo disk q ghost (record { change = SetInode n x; after = after }) (settled n ghost)
+lower_keeps geo disk q ghost after n x may all =
+    shape_step geo disk q ghost (settled n ghost) (record { change = SetInode n x; after = after }) (body_shape geo users n x may.body)
+    (λ set view a. record {
+      keeps = let h = keeps_without geo users ghost set view (Record n) (λ c m k h e. cc) (λ c m k h e. cc) (λ i d s c p e. cc) in record {
+        fewer = h.fewer;
+        number = h.number;
+        block = h.block;
+        place = h.place;
+        held = h.held;
+        given_up = h.given_up;
+        gone = was_gone ghost n;
+        gone_kept = λ g f p t. still_gone ghost n g (λ e. is_other set (Record n) (Record g.number) f (ap Record e)) t;
+        entering = h.entering;
+        safe = h.safe;
+      };
+      numbers = let h = numbers_without users users' ghost set (Record n) modes
+          (λ m z e. let e' : m ≡ n = cc in sound_used (users.inode n) may.body.sound (subst (λ k. (users.inode k).mode ≡ 0) e' z)) (λ m z e. cc) a.numbers in record { free = h.free; used = h.used };
+    })
+    (λ set view a own met.
+    let same : view.inode n ≡ users.inode n = a.same (Record n) own in
+    let body : SameBody (view.inode n) x = subst (λ y. SameBody y x) (sym same) may.body in
+    let s = body_shape geo view n x body in
+    let w = updated view (SetInode n x) in
+    record {
+      shape = s;
+      rules = tree_obeys geo view w s.tree a.rules (records_sound geo view n x may.body.still_sound a.rules.rule2)
+          (shape_claims geo view w s (λ b m k h. a.rules.rule3.marked m k b h) a.rules.rule3)
+          (λ m h u. a.rules.rule4 m h (λ z. u (sym (s.modes m) ∙ z)))
+          (λ i m r e. let before = reachable_back geo view w s.tree i r in
+          let low = reachable_low geo view w s.tree i before in
+          let old = fewer_entries geo view w s.tree i m low e in
+          elim (cases_eq i n) [
+            | inl q ↦
+                let inside = entries_within geo view users n (subst (λ k. 1 ≤ k) q low) (only_there geo users ghost after n may.witnesses set view a met own) old.0 (subst (λ k. HasEntries geo view k old.0) q old.1) in
+                let enough = may.links inside.0 inside.1 in
+                let links : (put_at view.inode n x i).links ≡ x.links = ap (λ k. (put_at view.inode n x k).links) q ∙ ap (λ (y : Inode). y.links) (put_here view.inode n x) in
+                omega (arith, enough, inside.2, old.2, links)
+            | inr other ↦
+                let enough = a.rules.rule8 i old.0 before old.1 in
+                let links : (put_at view.inode n x i).links ≡ (view.inode i).links = ap (λ (y : Inode). y.links) (put_there view.inode n i x other) in
+                omega (arith, enough, old.2, links)
+          ]);
+      keeps = let h = keeps_all geo users ghost set view in record {
+        fewer = h.fewer;
+        number = h.number;
+        block = h.block;
+        place = h.place;
+        held = h.held;
+        given_up = h.given_up;
+        gone = was_gone ghost n;
+        gone_kept = λ g f p t. still_gone ghost n g (λ e. none_gone geo users ghost after n may.witnesses set view a met g e t p) t;
+        entering = h.entering;
+        safe = h.safe;
+      };
+      numbers = let h = numbers_same users users' ghost set modes a.numbers in record { free = h.free; used = h.used };
+    })
+    all
+  where
+    users : View
+    users = users_view disk q
+
+    users' : View
+    users' = updated users (SetInode n x)
+
+    modes : (m : ℕ) → (users.inode m).mode ≡ (users'.inode m).mode
+    modes = put_same users.inode n x (λ m (y : Inode). y.mode) may.body.mode

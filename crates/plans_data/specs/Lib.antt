@@ -1,0 +1,12 @@
+pub mod Issues
+pub mod Now
+pub mod Append
+pub mod Freeing
+pub mod Write
+pub mod Truncate
+pub mod Relink
+pub mod Release
+pub mod Grounds
+pub mod Lists
+pub mod Plans
+pub mod Carried

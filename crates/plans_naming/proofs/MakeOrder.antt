@@ -1,0 +1,116 @@
+-- The updates by which a directory is made, before its entry, in their order.
+use Rattle.std.proofs.Common.{◌≤◌, ◌+◌, ℕ, Bool, true, List, [], ◌∷◌, inr, refl, sym, ap, ◌∙◌, arith, IsTrue, IsFalse}
+use Rattle.model.specs.Layout.{Geometry}
+use Rattle.model.specs.View.{View, Inode}
+use Rattle.model.specs.Cells.{SetInode, SetNumber, SetBlock, SetBytes}
+use Rattle.model.specs.Uses.{is_used, value_at, direct_positions}
+use Rattle.model.specs.Reach.{IsReachableDirectory}
+use Rattle.model.specs.Rules.{ObeysRules}
+use Rattle.ordering.specs.Cuts.{Record, NumberBit, BlockBit, Block, Pending, users_view, IsAfter}
+use Rattle.ordering.specs.Ghosts.{Ghost, at_rest}
+use Rattle.ordering.specs.Agrees.{AllAgree}
+use Rattle.ordering.specs.Kinds.{IsFree}
+use Rattle.ordering.specs.Rewrites.{Comes, MayCreate, entered}
+use Rattle.ordering.specs.Histories.{SetsNumber, SetsBlock, Raises, Fills, CreatesDirectory}
+use Rattle.ordering.proofs.CutLemmas.{after_own, after_through}
+use Rattle.ordering.proofs.Bits.{users_obey, claim_used}
+use Rattle.ordering.proofs.Frames.{claim_back}
+use Rattle.ordering.proofs.Records.{put_here}
+use Rattle.machine.specs.Effects.{with_links, new_directory}
+use Rattle.plans_data.specs.Issues.{Issues, Nothing, Then}
+use Rattle.plans_naming.specs.Link.{raised}
+use Rattle.plans_naming.specs.Make.{CanMake, made}
+use Rattle.plans_naming.proofs.Dots.{only_first}
+use Rattle.plans_naming.proofs.MakeViews.{body, still_unclaimed, to_dots, free4}
+
+module _ (geo : Geometry) (disk : View) (q : List Pending) (held safe : ℕ → Bool)
+    (i b d : ℕ) (dots : List ℕ) (can : CanMake geo (users_view disk q) i b d dots) (reachable : IsReachableDirectory geo (users_view disk q) d) (not_held : IsFalse (held b))
+    (all : AllAgree geo disk q (at_rest held safe)) where
+  abbrev ghost : Ghost
+  ghost = at_rest held safe
+
+  abbrev users : View
+  users = users_view disk q
+
+  abbrev x : Inode
+  x = users.inode d
+
+  abbrev q2 : List Pending
+  q2 = record { change = SetBlock b true; after = [] } ∷ record { change = SetNumber i true; after = [] } ∷ q
+
+  abbrev q3 : List Pending
+  q3 = raised d x q2
+
+  abbrev pub q4 : List Pending
+  q4 = record { change = SetBytes b dots; after = BlockBit b ∷ Record d ∷ [] } ∷ q3
+
+  rules : ObeysRules geo users
+  rules = users_obey geo disk q ghost all
+
+  free3 : IsFree geo (users_view disk q3) ghost b
+  free3 = record {
+    marked = put_here users.block_marked b true;
+    unclaimed = still_unclaimed geo users rules i b d dots can reachable;
+    not_held = not_held;
+    not_given_up = λ n k. refl;
+  }
+
+  free4' : IsFree geo (users_view disk q4) ghost b
+  free4' = record {
+    marked = put_here users.block_marked b true;
+    unclaimed = λ c. still_unclaimed geo users rules i b d dots can reachable (c.0, c.1, claim_back geo (users_view disk q3) (users_view disk q4) (to_dots geo users rules i b d dots can reachable) c.0 c.1 b c.2);
+    not_held = not_held;
+    not_given_up = λ n k. refl;
+  }
+
+  one : (k : ℕ) → IsTrue (is_used geo (new_directory b) k) → direct_positions ≤ k → ⊥
+  one k u low = let e = only_first geo b k u in let l : 12 ≤ k = low in omega (arith, e, l)
+
+  comes : (k : ℕ) → IsTrue (is_used geo (new_directory b) k) → Comes geo disk q4 ghost (NumberBit i ∷ Block b ∷ []) (new_directory b) k b
+  comes k u = record {
+    value = ap (λ j. value_at (users_view disk q4) (new_directory b) j) (only_first geo b k u);
+    address = can.address;
+    free = free4';
+    bit = after_own disk q3 (record { change = SetBytes b dots; after = BlockBit b ∷ Record d ∷ [] }) (BlockBit b) (0, omega arith, refl);
+    contents = (1, omega arith, refl);
+    pointer = λ low high. absurd (one k u low);
+  }
+
+  create : MayCreate geo disk q4 ghost (NumberBit i ∷ Block b ∷ []) i (new_directory b)
+  create = record {
+    free = free4 geo users rules i b d dots can reachable;
+    marked = put_here users.number_marked i true;
+    not_zeroed = refl;
+    bit = (0, omega arith, refl);
+    sound = refl;
+    pointers = λ t k u low high. absurd (one k u low);
+    blocks = record {
+      number = can.number;
+      sound = inr refl;
+      came = λ k t u. inr (b, comes k u);
+      once = λ k j c u v y z. only_first geo b k u ∙ sym (only_first geo b j v);
+      went = λ k c y. absurd (claim_used geo (users_view disk q4) i k c y (free4 geo users rules i b d dots can reachable));
+      held = λ c t. t;
+      given_up = λ c m k t. t;
+    };
+  }
+
+  pub made_issues : Issues geo disk q ghost (made i b dots d x q) (entered i ghost)
+  made_issues =
+      Then (record { change = SetInode i (new_directory b); after = NumberBit i ∷ Block b ∷ [] }) (entered i ghost)
+      (Then (record { change = SetBytes b dots; after = BlockBit b ∷ Record d ∷ [] }) ghost
+      (Then (record { change = SetInode d (with_links x (x.links + 1)); after = [] }) ghost
+      (Then (record { change = SetBlock b true; after = [] }) ghost
+      (Then (record { change = SetNumber i true; after = [] }) ghost Nothing (SetsNumber [] i can.number can.unmarked))
+      (SetsBlock [] b can.block_unmarked))
+      (Raises [] d (with_links x (x.links + 1)) (record { body = body geo users rules i b d dots can reachable; links = omega arith })))
+      (Fills (BlockBit b ∷ Record d ∷ []) b dots (record { free = free3; bit = (0, omega arith, refl) })))
+      (CreatesDirectory (NumberBit i ∷ Block b ∷ []) i (new_directory b) create)
+
+  -- the record comes after the dots, and so after the parent's link
+  pub dots_before : IsAfter disk (made i b dots d x q) (Record i) (Block b)
+  dots_before = after_own disk q4 (record { change = SetInode i (new_directory b); after = NumberBit i ∷ Block b ∷ [] }) (Block b) (1, omega arith, refl)
+
+  pub link_before : IsAfter disk (made i b dots d x q) (Record i) (Record d)
+  link_before = after_through disk q4 (record { change = SetInode i (new_directory b); after = NumberBit i ∷ Block b ∷ [] }) (Block b) (Record d) (1, omega arith, refl)
+      (after_own disk q3 (record { change = SetBytes b dots; after = BlockBit b ∷ Record d ∷ [] }) (Record d) (1, omega arith, refl))

@@ -1,0 +1,11 @@
+pub mod Entries
+pub mod Link
+pub mod Unlink
+pub mod Rename
+pub mod Move
+pub mod RemoveDirectory
+pub mod Grow
+pub mod Create
+pub mod Make
+pub mod Plans
+pub mod Choices

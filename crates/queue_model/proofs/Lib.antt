@@ -1,0 +1,18 @@
+mod Lists
+pub mod HistoryLemmas
+pub mod FlushLemmas
+mod SyncLemmas
+mod EntryLemmas
+mod QueueLemmas
+mod Represented
+pub mod NewClaims
+mod HeldCuts
+mod FileLemmas
+mod OwnLemmas
+pub mod CourseLemmas
+mod BlockLemmas
+pub mod NamingLemmas
+mod CourseHistories
+pub mod QuietUpdates
+mod MapWrites
+mod Listed
