@@ -1,5 +1,5 @@
 -- An inode gets one more block, to which its record points.
-use Rattle.std.proofs.Common.{◌≡◌, ◌<◌, ◌/◌, ℕ, List, [], ◌∷◌, inl, inr, refl, sym, ap, ◌∙◌, subst, IsTrue, arith, Contains, length}
+use Rattle.std.proofs.Common.{◌≡◌, ◌<◌, ◌/◌, ℕ, List, [], ◌∷◌, ◌⊎◌, inl, inr, refl, sym, ap, ◌∙◌, subst, IsTrue, IsFalse, arith, Contains, length}
 use Rattle.std.proofs.lemmas.Bool.{cases_lt}
 use Rattle.std.proofs.lemmas.List.{get_or-set_same, get_or-set_other}
 use Rattle.model.specs.Layout.{Geometry}
@@ -16,7 +16,7 @@ use Rattle.plans_data.specs.Append.{InRecord, MayAppend, filled, pointed, sized,
 use Rattle.plans_data.proofs.Chains.{Goes, step}
 use Rattle.plans_data.proofs.Used.{Direct, Middle, Last, uses, used, value_direct}
 use Rattle.plans_data.proofs.Numbers.{empty_slot}
-use Rattle.plans_data.proofs.Growing.{Grows, grow}
+use Rattle.plans_data.proofs.Growing.{Grows, grow, grown_claim}
 use Rattle.plans_data.proofs.Appending.{Start, start}
 
 module _ (geo : Geometry) (disk : View) (q : List Pending) (ghost : Ghost) (n k b : ℕ) (bytes : List ℕ) (size : ℕ) (all : AllAgree geo disk q ghost) where
@@ -98,3 +98,9 @@ module _ (geo : Geometry) (disk : View) (q : List Pending) (ghost : Ghost) (n k 
     pub credit : EachCut disk (appended n old k b bytes size InRecord q) (λ set view. IsTrue (set (Block b)) → (m j : ℕ) → IsClaim geo view m j b → IsTrue (set (Record n)))
     credit = growth_credits geo disk (filled b bytes q) ghost (Block b ∷ []) n new k b
         (s.comes (filled b bytes q) (Block b ∷ []) new (here u2) s.filled.free s.filled.bit first (λ low. absurd (omega (arith, low, may.kept)))) s.filled.goes.all
+
+    pub came : (i j a : ℕ) → IsClaim geo (users_view disk (appended n old k b bytes size InRecord q)) i j a → IsClaim geo u0 i j a ⊎ IsFalse (ghost.held a)
+    came i j a c = elim (grown_claim geo disk (filled b bytes q) ghost (Block b ∷ []) n old new grows i j a c) [
+      | inl d ↦ inl (s.filled.uses i j ∙ d.0, d.1)
+      | inr free ↦ inr free
+    ]

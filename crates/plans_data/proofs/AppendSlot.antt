@@ -1,5 +1,5 @@
 -- An inode gets one more block, to which its indirect block points.
-use Rattle.std.proofs.Common.{◌≡◌, ◌<◌, ◌≤◌, ◌-◌, ◌*◌, ◌/◌, ℕ, List, [], ◌∷◌, inl, inr, refl, sym, ap, ◌∙◌, subst, IsTrue, arith, Contains}
+use Rattle.std.proofs.Common.{◌≡◌, ◌<◌, ◌≤◌, ◌-◌, ◌*◌, ◌/◌, ℕ, List, [], ◌∷◌, ◌⊎◌, inl, inr, refl, sym, ap, ◌∙◌, subst, IsTrue, IsFalse, arith, Contains}
 use Rattle.std.proofs.lemmas.Bool.{cases_lt}
 use Rattle.model.specs.Layout.{Geometry}
 use Rattle.model.specs.View.{View, Inode, u32_at}
@@ -26,7 +26,7 @@ use Rattle.plans_data.specs.Append.{InTable, MayAppend, filled, sized, appended}
 use Rattle.plans_data.proofs.Chains.{Goes, step}
 use Rattle.plans_data.proofs.Used.{Direct, Middle, Last, uses, used, value_middle, value_last}
 use Rattle.plans_data.proofs.Numbers.{address_small, empty_slot}
-use Rattle.plans_data.proofs.Growing.{Grows, grow}
+use Rattle.plans_data.proofs.Growing.{Grows, grow, grown_claim}
 use Rattle.plans_data.proofs.Appending.{Start, start}
 
 module _ (geo : Geometry) (disk : View) (q : List Pending) (ghost : Ghost) (n k b : ℕ) (bytes : List ℕ) (size : ℕ) (all : AllAgree geo disk q ghost) where
@@ -171,3 +171,9 @@ module _ (geo : Geometry) (disk : View) (q : List Pending) (ghost : Ghost) (n k 
     pub credit : EachCut disk (appended n old k b bytes size (InTable table) q) (λ set view. IsTrue (set (Block b)) → (m j : ℕ) → IsClaim geo view m j b → IsTrue (set (Record n)))
     credit = growth_credits geo disk q3 ghost (Block x ∷ Block b ∷ []) n new k b
         (s.comes q3 (Block x ∷ Block b ∷ []) new here free3 bit3 then (λ low. first)) goes3.all
+
+    pub came : (i j a : ℕ) → IsClaim geo (users_view disk (appended n old k b bytes size (InTable table) q)) i j a → IsClaim geo u0 i j a ⊎ IsFalse (ghost.held a)
+    came i j a c = elim (grown_claim geo disk q3 ghost (Block x ∷ Block b ∷ []) n old new grows i j a c) [
+      | inl d ↦ inl (s.filled.uses i j ∙ uses3 i j ∙ d.0, d.1)
+      | inr free ↦ inr free
+    ]

@@ -18,7 +18,7 @@ use Rattle.plans_data.proofs.Chains.{Goes, step}
 use Rattle.plans_data.proofs.Used.{Direct, Middle, Last, uses, used, value_direct, value_middle, value_last}
 use Rattle.plans_data.proofs.Numbers.{empty_slot}
 use Rattle.plans_data.proofs.Filling.{fill, free, same_uses, after_bit}
-use Rattle.plans_data.proofs.Growing.{Grows, grow}
+use Rattle.plans_data.proofs.Growing.{Grows, grow, grown_claim}
 use Rattle.plans_data.proofs.Appending.{Start, start}
 
 same_bit : (a c : ℕ) → BlockBit a ≡ BlockBit c → a ≡ c
@@ -171,3 +171,9 @@ module _ (geo : Geometry) (disk : View) (q : List Pending) (ghost : Ghost) (n k 
     pub credit : EachCut disk (appended n old k b bytes size (InNewTable x table) q) (λ set view. IsTrue (set (Block b)) → (m j : ℕ) → IsClaim geo view m j b → IsTrue (set (Record n)))
     credit = growth_credits geo disk q4 ghost (Block x ∷ Block b ∷ []) n new k b
         (s.comes q4 (Block x ∷ Block b ∷ []) new here free_b bit_b then (λ low. first)) goes4.all
+
+    pub came : (i j a : ℕ) → IsClaim geo (users_view disk (appended n old k b bytes size (InNewTable x table) q)) i j a → IsClaim geo u0 i j a ⊎ IsFalse (ghost.held a)
+    came i j a c = elim (grown_claim geo disk q4 ghost (Block x ∷ Block b ∷ []) n old new grows i j a c) [
+      | inl d ↦ inl (s.filled.uses i j ∙ uses4 i j ∙ d.0, d.1)
+      | inr free ↦ inr free
+    ]

@@ -1,16 +1,17 @@
 -- A record that keeps its positions and gets new ones, whose blocks are free and filled.
-use Rattle.std.proofs.Common.{◌≡◌, ◌≤◌, ◌<◌, ◌/◌, ℕ, List, ◌⊎◌, inl, inr, sym, ap, ◌∙◌, subst, IsTrue, arith, Contains}
-use Rattle.std.proofs.lemmas.Bool.{cases_Bool, both_ways, and_from}
+use Rattle.std.proofs.Common.{◌≡◌, ◌≤◌, ◌<◌, ◌/◌, ℕ, List, ◌⊎◌, inl, inr, sym, ap, ◌∙◌, subst, IsTrue, IsFalse, arith, Contains}
+use Rattle.std.proofs.lemmas.Bool.{cases_Bool, cases_eq, both_ways, and_from}
 use Rattle.model.specs.Layout.{Geometry, is_number}
 use Rattle.model.specs.View.{View, Inode}
 use Rattle.model.specs.Cells.{SetInode, updated}
 use Rattle.model.specs.Slots.{Empty, slot_in}
-use Rattle.model.specs.Uses.{is_sound, is_used, value_at, direct_positions, indirect_position}
+use Rattle.model.specs.Uses.{is_sound, is_used, value_at, IsClaim, direct_positions, indirect_position}
 use Rattle.model.proofs.UseLemmas.{use_parts, use_from}
 use Rattle.ordering.specs.Cuts.{Cell, Block, Pending, users_view}
 use Rattle.ordering.specs.Ghosts.{Ghost}
 use Rattle.ordering.specs.Histories.{Step, RewritesFile, GrowsDirectory}
 use Rattle.ordering.specs.Rewrites.{Comes, Rewrites}
+use Rattle.ordering.proofs.Outside.{other_use}
 use Rattle.ordering.proofs.Records.{put_here}
 
 pub record Grows (geo : Geometry) (disk : View) (q : List Pending) (ghost : Ghost) (after : List Cell) (n : ℕ) (old new : Inode) : Type 0 where
@@ -111,3 +112,27 @@ module _ (geo : Geometry) (disk : View) (q : List Pending) (ghost : Ghost) (afte
   pub grow : (old.mode ≡ 1) ⊎ (old.mode ≡ 2) → Step geo disk q ghost (record { change = SetInode n new; after = after }) ghost
   grow (inl one) = grow_file one
   grow (inr two) = grow_directory two
+
+  -- a block that is claimed then was claimed before, or is not held
+  pub grown_claim : (i k a : ℕ) → IsClaim geo (updated users (SetInode n new)) i k a → IsClaim geo users i k a ⊎ IsFalse (ghost.held a)
+  grown_claim i k a c = elim (cases_eq i n) [
+    | inr o ↦ inl (other_use geo users n new i k o ∙ c.0, c.1)
+    | inl e ↦
+        let here : (updated users (SetInode n new)).inode n ≡ new = put_here users.inode n new in
+        let at = use_parts geo (updated users (SetInode n new)) n k a (subst (λ m. IsClaim geo (updated users (SetInode n new)) m k a) e c).0 in
+        let u : IsTrue (is_used geo new k) = sym (ap (λ x. is_used geo x k) here) ∙ at.used in
+        let value : value_at users new k ≡ a = sym (ap (λ x. value_at users x k) here) ∙ at.value in
+        elim (cases_Bool (is_used geo old k)) [
+          | inl stays ↦ inl (subst (λ m. IsClaim geo users m k a) (sym e) (
+            use_from geo users n k a (record {
+              sound = and_from (is_number geo n) (is_sound (users.inode n)) g.number (ap is_sound g.was ∙ g.sound);
+              used = ap (λ x. is_used geo x k) g.was ∙ stays;
+              value = ap (λ x. value_at users x k) g.was ∙ sym ((g.old_blocks k stays).1 users) ∙ value;
+            }),
+            c.1,
+          ))
+          | inr fresh ↦
+              let b = g.new_block k u (λ t. both_ways (is_used geo old k) fresh t) in
+              inr (subst (λ x. IsFalse (ghost.held x)) (sym (b.1).value ∙ value) (b.1).free.not_held)
+        ]
+  ]

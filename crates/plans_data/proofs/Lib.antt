@@ -34,3 +34,7 @@ pub mod SafeFiles
 pub mod Stands
 pub mod CarriedWrites
 pub mod CarriedRepairs
+mod HeldAppends
+mod LetGoRight
+mod HeldWrites
+mod HeldFrees

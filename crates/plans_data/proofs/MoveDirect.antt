@@ -15,6 +15,7 @@ use Rattle.ordering.specs.Ghosts.{Ghost, at_rest}
 use Rattle.ordering.specs.Rewrites.{Comes}
 use Rattle.ordering.specs.Histories.{RewritesFile}
 use Rattle.ordering.proofs.Records.{put_here}
+use Rattle.ordering.proofs.Outside.{other_use}
 use Rattle.plans_data.specs.Now.{now}
 use Rattle.plans_data.specs.Append.{InRecord, pointed, sized, filled, appended}
 use Rattle.plans_data.specs.Write.{held_besides}
@@ -147,3 +148,6 @@ module _ (geo : Geometry) (disk : View) (q : List Pending) (old : State) (safe :
           given_up = λ c m j t. t;
         };
       }))
+
+  pub others_direct : (i j a : ℕ) → (i ≡ n → ⊥) → IsClaim geo w i j a → IsClaim geo users i j a
+  others_direct i j a o c = (f.uses i j ∙ other_use geo u2 n new i j o ∙ c.0, c.1)

@@ -21,6 +21,7 @@ use Rattle.ordering.specs.Histories.{MovesSlot}
 use Rattle.ordering.proofs.Bits.{users_obey}
 use Rattle.ordering.proofs.Indirect.{same_use}
 use Rattle.ordering.proofs.Records.{put_here, put_there}
+use Rattle.ordering.proofs.Outside.{other_use}
 use Rattle.plans_data.specs.Now.{now}
 use Rattle.plans_data.specs.Append.{IsWhole, InTable, sized, filled}
 use Rattle.plans_data.specs.Write.{held_besides, relocated}
@@ -185,3 +186,7 @@ module _ (geo : Geometry) (disk : View) (q : List Pending) (old : State) (safe :
         let at = use_parts geo u3 n k a (from_new k a c).0 in
         sym at.value ∙ value_middle u3 was k low high ∙ ap (λ t. u32_at t (4 * (k - 12))) (put_here u2.bytes x table') ∙ points;
   }
+
+  pub others_slot : (i j a : ℕ) → (i ≡ n → ⊥) → IsClaim geo w i j a → IsClaim geo users i j a
+  others_slot i j a o c =
+      (f.uses i j ∙ same_use geo u2 n x table' claim2 (users_obey geo disk q2 ghost f.goes.all).rule3 i j (λ e lo hi u. absurd (o e)) ∙ other_use geo u3 n new i j o ∙ c.0, c.1)

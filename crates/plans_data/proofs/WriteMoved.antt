@@ -46,22 +46,22 @@ module _ (geo : Geometry) (disk : View) (q : List Pending) (old : State) (safe :
   rules = users_obey geo disk q ghost all
 
   module _ (holder : Holder) (may : MayWriteMoved geo (now disk q old) n k b piece bytes holder) where
-    number : IsTrue (is_number geo n)
+    pub number : IsTrue (is_number geo n)
     number = (and_parts (is_number geo n) (is_sound was) may.write.sound).0
 
-    sound : IsTrue (is_sound was)
+    pub sound : IsTrue (is_sound was)
     sound = (and_parts (is_number geo n) (is_sound was) may.write.sound).1
 
-    high : k < 268
+    pub high : k < 268
     high = omega (arith, may.inside, few_blocks was sound)
 
-    claim : IsClaim geo users n k (block_of geo users n k)
+    pub claim : IsClaim geo users n k (block_of geo users n k)
     claim = block_claimed geo users rules n k may.write.sound may.inside high
 
-    blocks : blocks_of was.size ≡ blocks_of size
+    pub blocks : blocks_of was.size ≡ blocks_of size
     blocks = same_blocks was.size k (length piece) may.inside may.write.few
 
-    f : AfterFill geo disk q ghost b bytes
+    pub f : AfterFill geo disk q ghost b bytes
     f = filling geo disk q ghost b bytes all (spare_at_rest (now disk q old) safe may.held) may.free.unmarked
 
   pub moved_issues : (holder : Holder) → MayWriteMoved geo (now disk q old) n k b piece bytes holder

@@ -10,3 +10,4 @@ pub mod Grounds
 pub mod Lists
 pub mod Plans
 pub mod Carried
+pub mod Held

@@ -6,6 +6,7 @@ ghost use Rattle.std.specs.Prelude.{◌≡◌, ℕ, Bool, false, List, [], ◌�
 ghost use Rattle.model.specs.Layout.{Geometry};
 ghost use Rattle.model.specs.View.{View, free_inode};
 ghost use Rattle.model.specs.Cells.{SetInode, SetNumber, updated_all};
+ghost use Rattle.model.specs.Rules.{ObeysRules};
 ghost use Rattle.model.specs.Uses.{IsClaim};
 ghost use Rattle.findings.specs.declared.repair.Repair.{Repair};
 ghost use Rattle.machine.specs.State.{State, is_open};
@@ -21,7 +22,8 @@ ghost use Rattle.ordering.specs.Histories.{Comes_to};
 ghost use Rattle.plans_data.specs.Issues.{Issues};
 ghost use Rattle.plans_data.specs.Now.{now, becomes};
 ghost use Rattle.plans_data.specs.Append.{Holder, MayAppend, appended, sized};
-ghost use Rattle.plans_data.specs.Freeing.{MayFreeing, held_with, within, but_of, freeing};
+ghost use Rattle.plans_data.specs.Freeing.{AreGivenUp, MayFreeing, held_with, within, but_of, freeing};
+ghost use Rattle.plans_data.specs.Held.{HeldAreRight};
 ghost use Rattle.plans_data.specs.Write.{MayWriteInPlace, MayWriteAppended, MayWriteMoved, written, relocated, held_besides};
 ghost use Rattle.plans_data.specs.Truncate.{MayTruncate, truncation};
 ghost use Rattle.plans_data.specs.Relink.{MayRelink, MayClose, MayRepair, relinking, closing, repairing, goes_away, held_if, held_after, inode_of, open_of, without_handle};
@@ -60,6 +62,8 @@ pub fn a_block_is_appended()
         → Places geo (users_view disk q) n k bytes size (users_view disk (appended n ((users_view disk q).inode n) k b bytes size holder q)) }
     ensures issues { (geo : Geometry) (disk : View) (q : List Pending) (ghost : Ghost) (n k b : ℕ) (bytes : List ℕ) (size : ℕ) (holder : Holder) → MayAppend geo (users_view disk q) ghost n k b bytes size holder
         → AllAgree geo disk q ghost → Issues geo disk q ghost (appended n ((users_view disk q).inode n) k b bytes size holder q) ghost }
+    ensures held { (geo : Geometry) (disk : View) (q : List Pending) (ghost : Ghost) (n k b : ℕ) (bytes : List ℕ) (size : ℕ) (holder : Holder) → MayAppend geo (users_view disk q) ghost n k b bytes size holder
+        → AllAgree geo disk q ghost → (old : State) → HeldAreRight geo (becomes disk q ghost.held old) → HeldAreRight geo (becomes disk (appended n ((users_view disk q).inode n) k b bytes size holder q) ghost.held old) }
 {}
 
 /// Once a block was appended, a cut with its contents claims it only with the new record.
@@ -80,6 +84,8 @@ pub fn a_number_is_freed()
     ensures relinked { (geo : Geometry) (disk : View) (q : List Pending) (old : State) (gone : Gone → Bool) (safe : ℕ → Bool) (n : ℕ) (blocks : List ℕ) (after : List Cell)
         → MayFreeing geo (now disk q old) gone n blocks after → AllAgree geo disk q (within old.held gone safe) → IsFalse (is_open old n)
         → becomes disk (freeing n blocks after q) (held_with geo (now disk q old) n free_inode) old ≡ relinked geo (now disk q old) n 0 }
+    ensures held { (geo : Geometry) (disk : View) (q : List Pending) (old : State) → ObeysRules geo (users_view disk q) → HeldAreRight geo (now disk q old) → (n : ℕ) (blocks : List ℕ) (after : List Cell) → AreGivenUp geo (now disk q old) n free_inode blocks
+        → HeldAreRight geo (becomes disk (freeing n blocks after q) (held_with geo (now disk q old) n free_inode) old) }
 {}
 
 /// A block of a file is written in place, as the machine says, by updates of their kinds.
@@ -154,4 +160,30 @@ pub fn the_snapshot_ends()
         → AllAgree geo disk [] (at_rest old.held safe) → Issues geo disk [] (at_rest (λ a. false) safe) (releasing blocks []) (at_rest (λ a. false) safe) }
     ensures comes { (geo : Geometry) (disk : View) (old : State) (safe : ℕ → Bool) (blocks : List ℕ) → MayRelease geo (now disk [] old) blocks
         → Comes_to geo disk [] (at_rest old.held safe) → Comes_to geo disk (releasing blocks []) (at_rest (λ a. false) safe) }
+{}
+
+/// Each of these lists leaves what is held right, as it was: claimed by nobody, and marked. (At the end of a snapshot
+/// nothing is held.)
+pub fn held_blocks_stay_right()
+    ensures in_place { (geo : Geometry) (disk : View) (q : List Pending) (old : State) (safe : ℕ → Bool) → AllAgree geo disk q (at_rest old.held safe) → HeldAreRight geo (now disk q old)
+        → (n k : ℕ) (piece bytes : List ℕ) → MayWriteInPlace geo (now disk q old) n k piece bytes
+        → HeldAreRight geo (becomes disk (written n ((users_view disk q).inode n) (block_of geo (users_view disk q) n k) bytes (size_after (users_view disk q) n k piece) q) old.held old) }
+    ensures extended { (geo : Geometry) (disk : View) (q : List Pending) (old : State) (safe : ℕ → Bool) → AllAgree geo disk q (at_rest old.held safe) → HeldAreRight geo (now disk q old)
+        → (n k b : ℕ) (piece bytes : List ℕ) (holder : Holder) → MayWriteAppended geo (now disk q old) n k b piece bytes holder
+        → HeldAreRight geo (becomes disk (appended n ((users_view disk q).inode n) k b bytes (size_after (users_view disk q) n k piece) holder q) old.held old) }
+    ensures moved { (geo : Geometry) (disk : View) (q : List Pending) (old : State) (safe : ℕ → Bool) → AllAgree geo disk q (at_rest old.held safe) → HeldAreRight geo (now disk q old)
+        → (n k b : ℕ) (piece bytes : List ℕ) (holder : Holder) → MayWriteMoved geo (now disk q old) n k b piece bytes holder
+        → HeldAreRight geo (becomes disk (relocated n ((users_view disk q).inode n) k b bytes (size_after (users_view disk q) n k piece) holder q) (held_besides geo (now disk q old) n k) old) }
+    ensures truncated { (geo : Geometry) (disk : View) (q : List Pending) (old : State) (safe : ℕ → Bool) → AllAgree geo disk q (at_rest old.held safe) → HeldAreRight geo (now disk q old)
+        → (n size : ℕ) (blocks : List ℕ) → MayTruncate geo (now disk q old) n size blocks
+        → HeldAreRight geo (becomes disk (truncation n ((users_view disk q).inode n) size blocks q) (held_with geo (now disk q old) n (sized ((users_view disk q).inode n) size)) old) }
+    ensures relinked { (geo : Geometry) (disk : View) (q : List Pending) (old : State) (safe : ℕ → Bool) → AllAgree geo disk q (at_rest old.held safe) → HeldAreRight geo (now disk q old)
+        → (n links : ℕ) (blocks : List ℕ) → MayRelink geo (now disk q old) n links blocks
+        → HeldAreRight geo (becomes disk (relinking n ((users_view disk q).inode n) links (is_open old n) blocks q) (held_if (goes_away links (is_open old n)) geo (now disk q old) n) old) }
+    ensures closed { (geo : Geometry) (disk : View) (q : List Pending) (old : State) (safe : ℕ → Bool) → AllAgree geo disk q (at_rest old.held safe) → HeldAreRight geo (now disk q old)
+        → (h n : ℕ) (blocks : List ℕ) → MayClose geo (now disk q old) h n blocks
+        → HeldAreRight geo (becomes disk (closing n ((users_view disk q).inode n) (is_open (without_handle h old) n) blocks q) (held_if (goes_away ((users_view disk q).inode n).links (is_open (without_handle h old) n)) geo (now disk q old) n) (without_handle h old)) }
+    ensures repaired { (geo : Geometry) (disk : View) (q : List Pending) (old : State) (safe : ℕ → Bool) → AllAgree geo disk q (at_rest old.held safe) → HeldAreRight geo (now disk q old)
+        → (r : Repair) (blocks : List ℕ) → MayRepair geo (now disk q old) r blocks
+        → HeldAreRight geo (becomes disk (repairing r (inode_of (users_view disk q) r) (open_of old r) blocks q) (held_after geo (now disk q old) r) old) }
 {}
