@@ -102,11 +102,12 @@ module _ (geo : Geometry) (mounted : View) (h : List Written) (cut : List Bool) 
     lived : IsLived geo mounted h cut disk0 q0 old0.held safe0 disk q new.held safe images (service_served disk q new safe commands replies images service).life
     lived = life_lived geo mounted h cut disk0 q0 old0.held safe0 begin.moment disk q new.held safe images (service_served disk q new safe commands replies images service).life
 
-    pub service_safe : IsSafeService geo mounted old0 disk q new safe commands replies images
+    pub service_safe : IsSafeService geo mounted h cut disk0 q0 old0 safe0 disk q new safe commands replies images
     service_safe = record {
       run = (service_served disk q new safe commands replies images service).run;
       stands = session_stands geo mounted h cut disk0 q0 old0 safe0 begin disk q new safe commands replies images (service_session disk q new safe commands replies images service);
-      written = lived.h';
+      life = (service_served disk q new safe commands replies images service).life;
+      lived = lived;
       stops = λ image c. each_safe geo mounted lived.h' lived.cut' safe images lived.images_safe image c;
     }
 

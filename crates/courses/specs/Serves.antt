@@ -21,6 +21,7 @@ use Rattle.queue_model.specs.Files.{Written, updates}
 use Rattle.queue_model.specs.Flush.{ready, taken}
 use Rattle.queue_model.specs.Sync.{Syncs}
 use Rattle.courses.specs.Leads.{IsMoment}
+use Rattle.courses.specs.Life.{Life, IsLived}
 use Rattle.courses.specs.Done.{IsDoneBy}
 
 -- a command that changes neither the image nor what is held
@@ -91,9 +92,10 @@ IsSpared {geo = geo} f (CarriesOut {old = old} command answer disk' q' new safe'
 IsSpared f (Refuses command r service step) = IsSpared f service
 IsSpared f (Flushed a service) = IsSpared f service
 
--- Users see a run of the machine, the volume stands as at its beginning, and each image that the device held is that of a closed cut of what was written since mount; it obeys the rules, reaches the files that are safe at the end, and holds in each block of a file what that very file wrote.
-pub record IsSafeService (geo : Geometry) (mounted : View) (old0 : State) (disk : View) (q : List Pending) (new : State) (safe : ℕ → Bool) (commands : List Command) (replies : List Reply) (images : List View) : Type 0 where
+-- Users see a run of the machine, the volume stands as at its beginning, and its device goes through a life. Each image that the device held is that of a closed cut of what that life wrote, after what was written before it; it obeys the rules, reaches the files that are safe at the end, and holds in each block of a file what that very file wrote.
+pub record IsSafeService (geo : Geometry) (mounted : View) (h : List Written) (cut : List Bool) (disk0 : View) (q0 : List Pending) (old0 : State) (safe0 : ℕ → Bool) (disk : View) (q : List Pending) (new : State) (safe : ℕ → Bool) (commands : List Command) (replies : List Reply) (images : List View) : Type 0 where
   pub run : Run geo old0 commands replies new
   pub stands : Stands geo disk q new safe
-  pub written : List Written
-  pub stops : (image : View) → Contains images image → (cut : List Bool) × (image ≡ seen mounted (updates written) cut) × IsSafeImage geo mounted written cut safe
+  pub life : Life geo disk0 q0 old0.held safe0 disk q new.held safe images
+  pub lived : IsLived geo mounted h cut disk0 q0 old0.held safe0 disk q new.held safe images life
+  pub stops : (image : View) → Contains images image → (less : List Bool) × (image ≡ seen mounted (updates lived.h') less) × IsSafeImage geo mounted lived.h' less safe

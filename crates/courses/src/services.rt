@@ -49,7 +49,7 @@ pub fn each_stop_of_a_service_is_safe()
         → IsBeginning geo mount h cut disk0 q0 old0 safe0
         → (disk : View) (q : List Pending) (new : State) (safe : ℕ → Bool) (commands : List Command) (replies : List Reply) (images : List View)
         → Service geo disk0 q0 old0 safe0 disk q new safe commands replies images
-        → IsSafeService geo mount old0 disk q new safe commands replies images }
+        → IsSafeService geo mount h cut disk0 q0 old0 safe0 disk q new safe commands replies images }
 {}
 
 /// A file that is safe at the beginning, and of which no unlink that was carried out took a name, is safe at the end, so it
