@@ -2,3 +2,4 @@ pub mod Writes
 pub mod Calls
 pub mod Memory
 pub mod Zeroes
+pub mod Fused

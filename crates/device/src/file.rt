@@ -10,7 +10,7 @@ use crate::{Device, DeviceFault};
 use http_server::Log;
 use layout::{BLOCK_BYTES, Block, Refusal};
 use std::fs;
-use std::fs::OpenFile;
+use std::fs::{OpenFile, OpenOptions};
 use std::marker::{Brand, Model, PhantomData};
 use std::os::unix::fs::FileExt;
 use std::rt::Files;
@@ -97,8 +97,24 @@ impl<F: OpenFile, S: Start> FileDevice<F, S> {
         ensures error { IfErr result (λ refusal. (refusal ≡ DeviceRefusal) ⊎ (refusal ≡ BadLength)) }
     {
         let file = fs::open(rt, path).map_err(|_| Refusal::Device)?;
-        let metadata = file.metadata().map_err(|_| Refusal::Device)?;
-        let count = count_of(metadata.len())?;
+        let count = blocks_in(&file)?;
+        Ok(FileDevice::over(file, count))
+    }
+
+    /// Opens a file for reading and writing. It is refused as by `open`.
+    pub fn open_to_write<R: Files<File = F>>(
+        rt: &R,
+        path: &str,
+    ) -> Result<FileDevice<F, S>, Refusal>
+        ensures new { IfOk result (λ device. (device.answered ≡ []) × (device.failures ≡ 0) × (0 < device.count)) }
+        ensures error { IfErr result (λ refusal. (refusal ≡ DeviceRefusal) ⊎ (refusal ≡ BadLength)) }
+    {
+        let file = OpenOptions::new()
+            .read(true)
+            .write(true)
+            .open(rt, path)
+            .map_err(|_| Refusal::Device)?;
+        let count = blocks_in(&file)?;
         Ok(FileDevice::over(file, count))
     }
 
@@ -116,6 +132,15 @@ impl<F: OpenFile, S: Start> FileDevice<F, S> {
         file.set_len(offset(blocks)).map_err(|_| Refusal::Device)?;
         Ok(FileDevice::over(file, blocks))
     }
+}
+
+/// How many blocks an open file has.
+fn blocks_in<F: OpenFile>(file: &F) -> Result<u32, Refusal>
+    ensures some { IfOk result (λ count. 0 < count) }
+    ensures error { IfErr result (λ refusal. (refusal ≡ DeviceRefusal) ⊎ (refusal ≡ BadLength)) }
+{
+    let metadata = file.metadata().map_err(|_| Refusal::Device)?;
+    count_of(metadata.len())
 }
 
 /// How many blocks a file of this many bytes has.
@@ -137,7 +162,7 @@ fn offset(address: u32) -> u64
     u64::from(address) * BLOCK_BYTES as u64
 }
 
-impl<F: FileExt, S: Start> Device for FileDevice<F, S> {
+impl<F: FileExt + OpenFile, S: Start> Device for FileDevice<F, S> {
     ghost honest = { λ device. AreHonest (image_of S.first device.count) device.answered };
 
     ghost image = { λ device. image_after (image_of S.first device.count) (writes_of device.answered) };
@@ -166,6 +191,13 @@ impl<F: FileExt, S: Start> Device for FileDevice<F, S> {
                 self.note(Call::WriteBlock(address), from);
                 Ok(())
             }
+            Err(_) => Err(self.fault()),
+        }
+    }
+
+    fn sync(&mut self) -> Result<(), DeviceFault> {
+        match self.file.sync_data() {
+            Ok(()) => Ok(()),
             Err(_) => Err(self.fault()),
         }
     }

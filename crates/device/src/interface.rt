@@ -54,4 +54,12 @@ pub trait Device {
         ensures fault_held { OnErr result (held self.new ≡ held self.old) }
         ensures honest { honest self.new → honest self.old }
         ensures cause { CountsFaults result (failures self.old) (failures self.new) };
+
+    /// Waits until what was written has reached the medium, where the device knows of one: before that a loss of power
+    /// may take writes back. No clause can say so, since none sees a medium.
+    fn sync(&mut self) -> Result<(), DeviceFault>
+        ensures same { image self.new ≡ image self.old }
+        ensures held { held self.new ≡ held self.old }
+        ensures honest { honest self.new → honest self.old }
+        ensures cause { CountsFaults result (failures self.old) (failures self.new) };
 }

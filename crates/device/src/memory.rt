@@ -1,8 +1,8 @@
-ghost use Rattle.std.specs.Prelude.{◌≡◌, ◌≢◌, ◌⊎◌, ℕ, ◌+◌, ◌-◌, ◌<◌, ◌^◌, ◌%◌, ◌/◌, min, [], ◌∷◌, ◌++◌, List, length, All, IfOk, OnOk, OnErr, MatchResult, IsErrOf, slice_set};
+ghost use Rattle.std.specs.Prelude.{◌≡◌, ◌≢◌, ◌⊎◌, ℕ, ◌+◌, ◌-◌, ◌<◌, ◌≤◌, ◌^◌, ◌%◌, ◌/◌, min, [], ◌∷◌, ◌++◌, List, length, All, IfOk, OnOk, OnErr, MatchResult, IsErrOf, slice_set, take};
 ghost use Rattle.std.specs.List.{flat_map};
-ghost use Rattle.layout.specs.declared.refusal.Refusal.TheVariants.{NoMemory, BadLength};
+ghost use Rattle.layout.specs.declared.refusal.Refusal.TheVariants.{NoMemory, BadLength, BadIndex};
 ghost use Rattle.model.specs.Image.{IsBlock};
-ghost use Rattle.device.specs.Memory.{IsWholeBlocks};
+ghost use Rattle.device.specs.Memory.{IsWholeBlocks, IsWriteTo};
 ghost use Rattle.device.specs.Writes.{image_after, images_held};
 
 use crate::{Device, DeviceFault};
@@ -56,6 +56,31 @@ impl MemDevice {
             failures: 0,
         })
     }
+
+    /// How many writes were made.
+    pub fn writes(&self) -> usize
+        ensures { result ≡ length self.entry.now.writes }
+    {
+        self.writes.len()
+    }
+
+    /// A device that begins with what this one held after so many of its writes. `BadIndex` where fewer were made.
+    pub fn image_after(&self, alloc: Global, writes: usize) -> Result<MemDevice, Refusal>
+        ensures image { IfOk result (λ device. device ≡ record { first = image_after self.entry.now.first (take writes self.entry.now.writes); writes = []; failures = 0 }) }
+        ensures made { MatchResult result (λ _. writes ≤ length self.entry.now.writes)
+            (λ refusal. (refusal ≡ NoMemory) ⊎ ((refusal ≡ BadIndex) × (length self.entry.now.writes < writes))) }
+    {
+        let made = self.writes.get(..writes).ok_or(Refusal::BadIndex)?;
+        let mut first = Vec::from_slice(alloc, self.first.as_slice())?;
+        write_all(&mut first, made);
+        let now = Vec::from_slice(alloc, first.as_slice())?;
+        Ok(MemDevice {
+            first,
+            now,
+            writes: Vec::new(alloc),
+            failures: 0,
+        })
+    }
 }
 
 impl Device for MemDevice {
@@ -87,6 +112,20 @@ impl Device for MemDevice {
                 Err(DeviceFault)
             }
         }
+    }
+
+    fn sync(&mut self) -> Result<(), DeviceFault> {
+        Ok(())
+    }
+}
+
+/// Makes these writes, the first first.
+fn write_all(blocks: &mut Vec<Block>, writes: &[(u32, Block)])
+    requires { All (IsWriteTo (length blocks.old.items)) writes.now }
+    ensures { blocks.new.items ≡ image_after blocks.old.items writes.now }
+{
+    for (address, block) in writes {
+        blocks[*address as usize] = *block;
     }
 }
 

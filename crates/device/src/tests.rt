@@ -1,4 +1,4 @@
-use crate::{Before, Device, FileDevice, MemDevice, format};
+use crate::{Before, Device, FileDevice, Fuse, MemDevice, format};
 use layout::{BLOCK_BYTES, Block, Geometry, Refusal};
 use std::alloc::Global;
 use std::fs;
@@ -35,6 +35,15 @@ pub(crate) fn set_byte<D: Device>(
     device.read(address, &mut block)?;
     block[byte] = value;
     device.write(address, &block)?;
+    Ok(())
+}
+
+/// Writes a block of nines.
+fn write_nines<D: Device>(device: &mut D, address: u32) -> Result<(), Refusal> {
+    if address >= device.blocks() {
+        return Err(Refusal::BadIndex);
+    }
+    device.write(address, &[9; BLOCK_BYTES])?;
     Ok(())
 }
 
@@ -112,5 +121,67 @@ fn a_file_of_no_whole_blocks_is_refused(rt: HostRuntime) -> Result<(), Fail> {
         assert_eq!(rt; opened.err(), Some(Refusal::BadLength), "of {length} bytes");
     }
     fs::remove_file(&rt, PATH)?;
+    Ok(())
+}
+
+#[test]
+fn a_file_is_opened_to_be_written(rt: HostRuntime) -> Result<(), Fail> {
+    const PATH: &str = "device_tests_to_write.image";
+    let made: FileDevice<File, Brand> = FileDevice::create(&rt, PATH, 3)?;
+    assert_eq!(rt; made.blocks(), 3);
+    let mut opened: FileDevice<File, Brand> = FileDevice::open_to_write(&rt, PATH)?;
+    set_byte(&mut opened, 2, 5, 9)?;
+    assert_eq!(rt; opened.sync(), Ok(()));
+    let mut again: FileDevice<File, Brand> = FileDevice::open(&rt, PATH)?;
+    let block = read_block(&mut again, 2).ok_or("no block")?;
+    assert_eq!(rt; (block[4], block[5]), (0, 9));
+    fs::remove_file(&rt, PATH)?;
+    let missing: Result<FileDevice<File, Brand>, Refusal> = FileDevice::open_to_write(&rt, PATH);
+    assert_eq!(rt; missing.err(), Some(Refusal::Device));
+    Ok(())
+}
+
+/// A device in memory of three blocks, of which block 1 was written with 7 and then with 8 as its first byte.
+fn written_twice(alloc: Global) -> Result<MemDevice, Refusal> {
+    let mut device = zeroes(alloc, 3)?;
+    set_byte(&mut device, 1, 0, 7)?;
+    set_byte(&mut device, 1, 0, 8)?;
+    Ok(device)
+}
+
+#[test]
+fn each_image_that_was_held_is_given(rt: HostRuntime) -> Result<(), Fail> {
+    let device = written_twice(rt.alloc())?;
+    assert_eq!(rt; device.writes(), 2);
+    for (writes, want) in [(0, 0), (1, 7), (2, 8)] {
+        let mut then = device.image_after(rt.alloc(), writes)?;
+        let block = read_block(&mut then, 1).ok_or("no block")?;
+        assert_eq!(rt; (then.writes(), block[0]), (0, want), "after {writes}");
+    }
+    assert_eq!(rt;
+        device.image_after(rt.alloc(), 3).err(),
+        Some(Refusal::BadIndex)
+    );
+    Ok(())
+}
+
+#[test]
+fn a_fuse_fails_once_or_from_then_on(rt: HostRuntime) -> Result<(), Fail> {
+    for (once, want) in [
+        (false, [true, true, false, false, false]),
+        (true, [true, true, false, true, true]),
+    ] {
+        let mut fuse = Fuse::new(written_twice(rt.alloc())?, 2, once);
+        let answers = [
+            read_block(&mut fuse, 1).is_some(),
+            fuse.sync().is_ok(),
+            write_nines(&mut fuse, 0).is_ok(),
+            write_nines(&mut fuse, 2).is_ok(),
+            read_block(&mut fuse, 2).is_some(),
+        ];
+        assert_eq!(rt; answers, want, "once: {once}");
+        assert_eq!(rt; fuse.device().writes(), if once { 3 } else { 2 });
+        assert_eq!(rt; fuse.blocks(), 3);
+    }
     Ok(())
 }

@@ -114,6 +114,10 @@ impl Device for FakeDevice {
             Err(_) => Err(self.fault()),
         }
     }
+
+    fn sync(&mut self) -> Result<(), DeviceFault> {
+        self.memory.sync()
+    }
 }
 
 /// Changes one byte of a block.

@@ -3,6 +3,7 @@ use crate::tests::{format_groups, read_block, set_byte};
 use crate::{Before, Device, DeviceFault, format};
 use layout::{BLOCK_BYTES, Geometry, Refusal};
 use std::cell::{Cell, RefCell};
+use std::fs::{Metadata, OpenFile};
 use std::io;
 use std::marker::Brand;
 use std::os::unix::fs::FileExt;
@@ -83,6 +84,24 @@ impl FileExt for FakeFile {
     }
 }
 
+impl OpenFile for FakeFile {
+    fn metadata(&self) -> io::Result<Metadata> {
+        Err(io::Error::from(io::ErrorKind::Unsupported))
+    }
+
+    fn set_len(&self, _size: u64) -> io::Result<()> {
+        Err(io::Error::from(io::ErrorKind::Unsupported))
+    }
+
+    fn sync_all(&self) -> io::Result<()> {
+        self.call()
+    }
+
+    fn sync_data(&self) -> io::Result<()> {
+        self.call()
+    }
+}
+
 type FakeDevice = FileDevice<FakeFile, Brand>;
 
 #[test]
@@ -113,11 +132,13 @@ fn a_call_that_fails_changes_nothing(rt: HostRuntime) -> Result<(), Fail> {
     let mut device: FakeDevice = FileDevice::over(FakeFile::new(bytes), 3);
     let mut block = [1; BLOCK_BYTES];
     assert_eq!(rt; device.blocks(), 3);
-    device.file.fail(0, 1);
+    device.file.fail(0, 2);
     assert_eq!(rt; device.write(2, &block), Err(DeviceFault));
     assert_eq!(rt; device.blocks(), 3);
     assert_eq!(rt; device.read(2, &mut block), Err(DeviceFault));
-    assert_eq!(rt; device.failures, 2);
+    assert_eq!(rt; device.sync(), Err(DeviceFault));
+    assert_eq!(rt; device.failures, 3);
+    assert_eq!(rt; device.sync(), Ok(()));
     assert_eq!(rt; read_block(&mut device, 2), Some([0xAA; BLOCK_BYTES]));
     Ok(())
 }
