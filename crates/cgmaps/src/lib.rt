@@ -110,8 +110,7 @@ impl GroupMaps {
         requires { bit < bit_count map }
         ensures { ChangesBit self.old self.new (first_byte map) bit value }
     {
-        let place = map.first_byte() + (bit / 8) as usize;
-        self.block[place] = with_bit(self.block[place], bit % 8, value);
+        put_bit(&mut self.block, map, bit, value);
     }
 }
 
@@ -122,6 +121,15 @@ pub fn bit_of(block: &Block, map: Map, bit: u32) -> bool
 {
     let byte = block[map.first_byte() + (bit / 8) as usize];
     byte >> (bit % 8) & 1 == 1
+}
+
+/// Gives this bit of a map a value, in a group's block of maps that is changed where it stands.
+pub fn put_bit(block: &mut Block, map: Map, bit: u32, value: bool)
+    requires { bit < bit_count map }
+    ensures { ChangesBit block.old block.new (first_byte map) bit value }
+{
+    let place = map.first_byte() + (bit / 8) as usize;
+    block[place] = with_bit(block[place], bit % 8, value);
 }
 
 /// The byte with this value at this bit.
@@ -191,5 +199,16 @@ mod tests {
         maps.clear(Map::Blocks, 9);
         maps.write(&mut written);
         assert!(rt; written == block);
+    }
+
+    #[test]
+    fn puts_one_bit_where_the_block_stands(rt: HostRuntime) {
+        let mut block = empty_group();
+        let mut marked = block;
+        marked[33] = 4;
+        put_bit(&mut block, Map::Inodes, 10, true);
+        assert!(rt; block == marked);
+        put_bit(&mut block, Map::Inodes, 10, false);
+        assert!(rt; block == empty_group());
     }
 }

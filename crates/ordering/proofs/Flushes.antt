@@ -25,7 +25,7 @@ put_twice {A} f m n x y other = fun_ext (λ k. at k)
       | inr d ↦ put_there (put_at f m x) n k y d ∙ ap (λ z. cond (eqb k m) x z) (sym (put_there f n k y d))
     ]
 
-commute : (v : View) (a b : Update) → (cell_of a ≡ cell_of b → ⊥) → updated (updated v a) b ≡ updated (updated v b) a
+pub commute : (v : View) (a b : Update) → (cell_of a ≡ cell_of b → ⊥) → updated (updated v a) b ≡ updated (updated v b) a
 commute v (SetInode m x) (SetInode n y) d = ap (λ (f : ℕ → Inode). record v { inode = f }) (put_twice v.inode m n x y (λ e. d (ap Record e)))
 commute v (SetNumber m x) (SetNumber n y) d = ap (λ (f : ℕ → Bool). record v { number_marked = f }) (put_twice v.number_marked m n x y (λ e. d (ap NumberBit e)))
 commute v (SetBlock m x) (SetBlock n y) d = ap (λ (f : ℕ → Bool). record v { block_marked = f }) (put_twice v.block_marked m n x y (λ e. d (ap BlockBit e)))

@@ -1,4 +1,4 @@
-mod Lists
+pub mod Lists
 pub mod HistoryLemmas
 pub mod FlushLemmas
 mod SyncLemmas
@@ -15,4 +15,6 @@ pub mod NamingLemmas
 mod CourseHistories
 pub mod QuietUpdates
 mod MapWrites
-mod Listed
+pub mod Listed
+mod TakenLemmas
+pub mod Standing

@@ -1,0 +1,207 @@
+-- Entries that are taken one by one until no other may go are those that a flush takes.
+use Rattle.std.proofs.Common.{◌≡◌, ℕ, suc, ◌<◌, Bool, true, false, not, eqb, ◌||◌, List, [], ◌∷◌, ◌⊎◌, inl, inr, refl, sym, ap, ◌∙◌, subst, IsTrue, IsFalse, Contains, length, arith, eqb-true, eq-eqb, ne_eqb}
+use Rattle.std.proofs.lemmas.Bool.{or_cases, or_left, or_right, cases_Bool, both_ways}
+use Rattle.model.specs.View.{View}
+use Rattle.model.specs.Cells.{updated}
+use Rattle.ordering.specs.Cuts.{Cell, Pending, IsClosed, cell_of, fresh, seen}
+use Rattle.ordering.proofs.CutLemmas.{was_fresh, is_other}
+use Rattle.ordering.proofs.Flushes.{commute}
+use Rattle.queue_model.specs.Flush.{is_ready, ready, taken}
+use Rattle.queue_model.specs.Entries.{Entry, has_id, entries_at, Stand, may_go, Queue, Represents, goes, AreTaken, NoOtherMayGo, view_after}
+use Rattle.queue_model.proofs.Lists.{bool_same, contains_head, contains_tail, contains_cases, contains_none, all_at, all_from}
+use Rattle.queue_model.proofs.FlushLemmas.{ready_parts, closed_step}
+use Rattle.queue_model.proofs.EntryLemmas.{marks, marks_same, has_below, pending_older, go_ready, ready_go, passed_has}
+use Rattle.queue_model.proofs.Listed.{at_within, at_from, at_to, has_from, one_entry}
+use Rattle.queue_model.proofs.Represented.{goes_ready, goes_passed}
+
+-- ---- a set that takes with each entry what it waits for is a closed cut
+
+set_closed : (pending : ℕ → Bool) (n : ℕ) (es : List Entry) (q : List Pending) (set : ℕ → Bool) → Stand n es q → ((i : ℕ) → i < n → pending i ≡ has_id es i)
+    → ((e : Entry) → Contains es e → IsTrue (set e.id) → IsTrue (may_go pending set e)) → IsClosed q (marks set es)
+set_closed pending n [] [] set s says after = tt
+set_closed pending n [] (u ∷ q) set s says after = absurd s
+set_closed pending n (e ∷ es) [] set s says after = absurd s
+set_closed pending n (e ∷ es) (u ∷ q) set s says after =
+    let older = pending_older pending n e es s.0 says in
+    let k = set_closed pending e.id es q set s.1 older (λ x m. after x (contains_tail e x es m)) in
+    closed_step u q (marks set es) (set e.id) k (λ t.
+    let home : Cell → ℕ = λ c. 0 in
+    let p = ready_parts home 0 (fresh q (marks set es)) u (go_ready home pending 0 e es u q set s.1 s.2 older k refl (after e (contains_head e es) t)) in
+    (p.1, p.2))
+
+-- ---- one more entry
+
+-- the cell of an entry that is not taken is not fresh
+not_fresh : (n : ℕ) (es : List Entry) (q : List Pending) (set : ℕ → Bool) (x : Entry) → Stand n es q → Contains es x → IsFalse (set x.id) → IsTrue (fresh q (marks set es) (cell_of x.change)) → ⊥
+not_fresh n [] q set x s m f t = contains_none x m
+not_fresh n (e ∷ es) [] set x s m f t = absurd s
+not_fresh n (e ∷ es) (u ∷ q) set x s m f t = step (set e.id) refl t (contains_cases e x es m) (λ older t. not_fresh e.id es q set x s.1 older f t)
+  where
+    step : (b : Bool) → set e.id ≡ b → IsTrue (fresh (u ∷ q) (b ∷ marks set es) (cell_of x.change)) → (e ≡ x) ⊎ Contains es x
+        → (Contains es x → IsTrue (fresh q (marks set es) (cell_of x.change)) → ⊥) → ⊥
+    step true y t (inl d) more = both_ways (set e.id) (ap (λ (z : Entry). set z.id) d ∙ f) y
+    step true y t (inr older) more = more older t
+    step false y t (inl d) more = is_other (fresh q (marks set es)) (cell_of u.change) (cell_of x.change) t (ap (λ (z : Entry). cell_of z.change) (sym d) ∙ ap cell_of s.2.change)
+    step false y t (inr older) more = more older (was_fresh (fresh q (marks set es)) (cell_of u.change) (cell_of x.change) t)
+
+-- the set with one more id
+abbrev with_id : (ℕ → Bool) → ℕ → ℕ → Bool
+with_id set i j = eqb j i || set j
+
+-- an entry that is taken after a closed cut changes its view by its update
+record IsOneMore (disk : View) (es : List Entry) (q : List Pending) (set : ℕ → Bool) (x : Entry) : Type 0 where
+  view : seen disk q (marks (with_id set x.id) es) ≡ updated (seen disk q (marks set es)) x.change
+  count : taken (marks (with_id set x.id) es) ≡ suc (taken (marks set es))
+
+one_more : (disk : View) (n : ℕ) (es : List Entry) (q : List Pending) (set : ℕ → Bool) (x : Entry) → Stand n es q → IsClosed q (marks set es) → Contains es x → IsFalse (set x.id) → IsOneMore disk es q set x
+one_more disk n [] q set x s k m f = absurd (contains_none x m)
+one_more disk n (e ∷ es) [] set x s k m f = absurd s
+one_more disk n (e ∷ es) (u ∷ q) set x s k m f = elim (contains_cases e x es m) [
+  | inl d ↦ here d
+  | inr older ↦ there (set e.id) refl k older (λ k. one_more disk e.id es q set x s.1 k older f)
+]
+  where
+    set' : ℕ → Bool
+    set' = with_id set x.id
+
+    here : e ≡ x → IsOneMore disk (e ∷ es) (u ∷ q) set x
+    here d =
+        let id : e.id ≡ x.id = ap (λ (z : Entry). z.id) d in
+        let taken_now : set' e.id ≡ true = or_left (eqb e.id x.id) (set e.id) (eq-eqb e.id x.id id) in
+        let not_before : set e.id ≡ false = ap set id ∙ f in
+        let same : marks set' es ≡ marks set es = marks_same e.id es q set' set s.1 (λ j b. ap (λ y. y || set j) (ne_eqb j x.id (λ g. omega (arith, b, g, id)))) in
+        record {
+          view = ap (λ b. seen disk (u ∷ q) (b ∷ marks set' es)) taken_now ∙ ap (λ cut. updated (seen disk q cut) u.change) same
+              ∙ ap (updated (seen disk q (marks set es))) (sym s.2.change ∙ ap (λ (z : Entry). z.change) d)
+              ∙ sym (ap (λ b. updated (seen disk (u ∷ q) (b ∷ marks set es)) x.change) not_before);
+          count = ap (λ b. taken (b ∷ marks set' es)) taken_now ∙ ap (λ cut. suc (taken cut)) same ∙ sym (ap (λ b. suc (taken (b ∷ marks set es))) not_before);
+        }
+
+    there : (b : Bool) → set e.id ≡ b → IsClosed (u ∷ q) (b ∷ marks set es) → Contains es x → (IsClosed q (marks set es) → IsOneMore disk es q set x) → IsOneMore disk (e ∷ es) (u ∷ q) set x
+    there true y k older by =
+        let more = by k.0 in
+        let now : set' e.id ≡ true = or_right (eqb e.id x.id) (set e.id) y in
+        let differ : cell_of x.change ≡ cell_of u.change → ⊥ = λ same. not_fresh e.id es q set x s.1 older f (subst (λ c. IsTrue (fresh q (marks set es) c)) (sym same) k.1) in
+        record {
+          view = ap (λ b. seen disk (u ∷ q) (b ∷ marks set' es)) now ∙ ap (λ v. updated v u.change) more.view ∙ commute (seen disk q (marks set es)) x.change u.change differ
+              ∙ sym (ap (λ b. updated (seen disk (u ∷ q) (b ∷ marks set es)) x.change) y);
+          count = ap (λ b. taken (b ∷ marks set' es)) now ∙ ap suc more.count ∙ sym (ap (λ b. suc (taken (b ∷ marks set es))) y);
+        }
+    there false y k older by =
+        let more = by k in
+        let below = has_below e.id es q x.id s.1 (has_from es x older) in
+        let now : set' e.id ≡ false = ap (λ b. b || set e.id) (ne_eqb e.id x.id (λ g. omega (arith, below, g))) ∙ y in
+        record {
+          view = ap (λ b. seen disk (u ∷ q) (b ∷ marks set' es)) now ∙ more.view ∙ sym (ap (λ b. updated (seen disk (u ∷ q) (b ∷ marks set es)) x.change) y);
+          count = ap (λ b. taken (b ∷ marks set' es)) now ∙ more.count ∙ sym (ap (λ b. suc (taken (b ∷ marks set es))) y);
+        }
+
+-- ---- more may go where more is taken
+
+more_may_go : (pending set more : ℕ → Bool) (e : Entry) → ((i : ℕ) → IsTrue (set i) → IsTrue (more i)) → IsTrue (may_go pending set e) → IsTrue (may_go pending more e)
+more_may_go pending set more e h t = all_from (λ i. not (pending i) || more i) e.waits (λ i m. elim (or_cases (not (pending i)) (set i) (all_at (λ j. not (pending j) || set j) e.waits i t m)) [
+  | inl free ↦ or_left (not (pending i)) (more i) free
+  | inr there ↦ or_right (not (pending i)) (more i) (h i there)
+])
+
+-- ---- what was taken
+
+marks_head : (x y : Bool) (xs ys : List Bool) → x ∷ xs ≡ y ∷ ys → x ≡ y
+marks_head x y xs ys e = ap (λ l. first l) e
+  where
+    first : List Bool → Bool
+    first [] = x
+    first (b ∷ l) = b
+
+marks_rest : (x y : Bool) (xs ys : List Bool) → x ∷ xs ≡ y ∷ ys → xs ≡ ys
+marks_rest x y xs ys e = ap (λ l. others l) e
+  where
+    others : List Bool → List Bool
+    others [] = []
+    others (b ∷ l) = l
+
+module _ (home : Cell → ℕ) (a : ℕ) (queue : Queue) (q : List Pending) (r : Represents home queue q) where
+  -- each entry of the block's list is an entry, and stands there
+  listed : (e : Entry) → Contains (queue.lists a) e → Contains r.entries e × (home (cell_of e.change) ≡ a)
+  listed e m = let there : Contains (entries_at home a r.entries) e = subst (λ l. Contains l e) (r.lists a) m in (at_within home a r.entries e there, at_from home a r.entries e there)
+
+  -- an id that was taken is that of a listed entry, which may go
+  found : (es : List Entry) → AreTaken queue a es → (i : ℕ) → IsTrue (has_id es i) → (e : Entry) × Contains (queue.lists a) e × (e.id ≡ i) × IsTrue (may_go queue.pending (has_id es) e)
+  found [] t i h = absurd (let bad : false ≡ true = h in cc)
+  found (e ∷ es) t i h = elim (or_cases (eqb i e.id) (has_id es i) h) [
+    | inl same ↦ (e, t.0, sym (eqb-true i e.id same), more_may_go queue.pending (has_id es) (has_id (e ∷ es)) e (λ j k. or_right (eqb j e.id) (has_id es j) k) t.2)
+    | inr before ↦ let f = found es t.3 i before in (f.0, f.1, f.2, more_may_go queue.pending (has_id es) (has_id (e ∷ es)) f.0 (λ j k. or_right (eqb j e.id) (has_id es j) k) f.3)
+  ]
+
+  one_id : (x y : Entry) → Contains r.entries x → Contains r.entries y → x.id ≡ y.id → x ≡ y
+  one_id x y m k e = one_entry queue.next r.entries q r.stand x y m k e
+
+  -- it takes with each entry what it waits for
+  after : (es : List Entry) → AreTaken queue a es → (e : Entry) → Contains r.entries e → IsTrue (has_id es e.id) → (home (cell_of e.change) ≡ a) × IsTrue (may_go queue.pending (has_id es) e)
+  after es t e m h =
+      let f = found es t e.id h in
+      let l = listed f.0 f.1 in
+      let same : f.0 ≡ e = one_id f.0 e l.0 m f.2 in
+      (ap (λ (z : Entry). home (cell_of z.change)) (sym same) ∙ l.1, subst (λ (z : Entry). IsTrue (may_go queue.pending (has_id es) z)) same f.3)
+
+  closed : (es : List Entry) → AreTaken queue a es → IsClosed q (marks (has_id es) r.entries)
+  closed es t = set_closed queue.pending queue.next r.entries q (has_id es) r.stand (λ i b. r.pending i) (λ e m h. (after es t e m h).1)
+
+  -- the view after them is that of their cut
+  cut_view : (disk : View) (es : List Entry) → AreTaken queue a es → (view_after disk es ≡ seen disk q (marks (has_id es) r.entries)) × (length es ≡ taken (marks (has_id es) r.entries))
+  cut_view disk [] t = none queue.next r.entries q r.stand
+    where
+      none : (n : ℕ) (es : List Entry) (q : List Pending) → Stand n es q → (disk ≡ seen disk q (marks (λ i. false) es)) × (0 ≡ taken (marks (λ i. false) es))
+      none n [] [] s = (refl, refl)
+      none n [] (u ∷ q) s = absurd s
+      none n (e ∷ es) [] s = absurd s
+      none n (e ∷ es) (u ∷ q) s = none e.id es q s.1
+  cut_view disk (e ∷ es) t =
+      let before = cut_view disk es t.3 in
+      let more = one_more disk queue.next r.entries q (has_id es) e r.stand (closed es t.3) (listed e t.0).0 t.1 in
+      (ap (λ v. updated v e.change) before.0 ∙ sym more.view, ap suc before.1 ∙ sym more.count)
+
+  -- until no other may go, it is the ready cut
+  settled : (set : ℕ → Bool) (n : ℕ) (es : List Entry) (p : List Pending) → Stand n es p → ((i : ℕ) → i < n → queue.pending i ≡ has_id es i)
+      → ((e : Entry) → Contains es e → IsTrue (set e.id) → (home (cell_of e.change) ≡ a) × IsTrue (may_go queue.pending set e))
+      → ((e : Entry) → Contains es e → home (cell_of e.change) ≡ a → IsTrue (may_go queue.pending set e) → IsTrue (set e.id)) → marks set es ≡ ready home a p
+  settled set n [] [] s says out inside = refl
+  settled set n [] (u ∷ p) s says out inside = absurd s
+  settled set n (e ∷ es) [] s says out inside = absurd s
+  settled set n (e ∷ es) (u ∷ p) s says out inside =
+      let older = pending_older queue.pending n e es s.0 says in
+      let same = settled set e.id es p s.1 older (λ x m. out x (contains_tail e x es m)) (λ x m. inside x (contains_tail e x es m)) in
+      let k = set_closed queue.pending e.id es p set s.1 older (λ x m t. (out x (contains_tail e x es m) t).1) in
+      let first : set e.id ≡ is_ready home a (fresh p (marks set es)) u
+      = bool_same (set e.id) (is_ready home a (fresh p (marks set es)) u)
+      (λ t. let o = out e (contains_head e es) t in go_ready home queue.pending a e es u p set s.1 s.2 older k o.0 o.1)
+      (λ t. let o = ready_go home queue.pending a e es u p set s.1 s.2 older k t in inside e (contains_head e es) o.0 o.1) in
+      ap (λ b. b ∷ marks set es) first ∙ ap (λ cut. is_ready home a (fresh p cut) u ∷ cut) same
+
+  -- an entry of the block stands in its list
+  in_list : (e : Entry) → Contains r.entries e → home (cell_of e.change) ≡ a → Contains (queue.lists a) e
+  in_list e m at = subst (λ l. Contains l e) (sym (r.lists a)) (at_to home a r.entries e m at)
+
+  marks_tell : (f g : ℕ → Bool) (es : List Entry) → marks f es ≡ marks g es → (i : ℕ) → IsTrue (has_id es i) → f i ≡ g i
+  marks_tell f g [] m i h = absurd (let bad : false ≡ true = h in cc)
+  marks_tell f g (e ∷ es) m i h = elim (or_cases (eqb i e.id) (has_id es i) h) [
+    | inl same ↦ let d = eqb-true i e.id same in ap f d ∙ marks_head (f e.id) (g e.id) (marks f es) (marks g es) m ∙ sym (ap g d)
+    | inr there ↦ marks_tell f g es (marks_rest (f e.id) (g e.id) (marks f es) (marks g es) m) i there
+  ]
+
+  pub all_taken : (disk : View) (es : List Entry) → AreTaken queue a es → NoOtherMayGo queue a es
+      → (view_after disk es ≡ seen disk q (ready home a q)) × (length es ≡ taken (ready home a q)) × ((i : ℕ) → goes queue a i ≡ has_id es i)
+  all_taken disk es t none =
+      let c = cut_view disk es t in
+      let same : marks (has_id es) r.entries ≡ ready home a q
+      = settled (has_id es) queue.next r.entries q r.stand (λ i b. r.pending i) (λ e m h. after es t e m h) (λ e m at may. none e (in_list e m at) may) in
+      let go : marks (goes queue a) r.entries ≡ marks (has_id es) r.entries = goes_ready home a queue q r ∙ sym same in (
+        c.0 ∙ ap (seen disk q) same,
+        c.1 ∙ ap taken same,
+        λ i. elim (cases_Bool (has_id r.entries i)) [
+          | inl there ↦ marks_tell (goes queue a) (has_id es) r.entries go i there
+          | inr not_there ↦ bool_same (goes queue a i) (has_id es i)
+              (λ g. absurd (both_ways (has_id r.entries i) not_there (passed_has home queue.pending a r.entries i (sym (ap (λ f. f i) (goes_passed home a queue q r)) ∙ g))))
+              (λ g. let f = found es t i g in absurd (both_ways (has_id r.entries i) not_there (subst (λ j. IsTrue (has_id r.entries j)) f.2 (has_from r.entries f.0 (listed f.0 f.1).0))))
+        ],
+      )

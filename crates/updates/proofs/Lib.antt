@@ -1,0 +1,2 @@
+mod RecordPuts
+mod CellPuts

@@ -1,0 +1,37 @@
+-- A record that was written over its bytes in its block.
+use Rattle.std.proofs.Common.{◌≡◌, ◌<◌, ◌≤◌, ◌+◌, ◌-◌, ◌*◌, ◌⊎◌, ℕ, List, length, take, drop, slice_index, sym, ap, ap₂, ◌∙◌, arith}
+use Rattle.model.specs.View.{Inode, inode_at}
+use Rattle.layout.specs.Fresh.{put}
+use Rattle.inode.proofs.RecordBytes.{part_put, record_here, record_there, rest_stays}
+use borrow.Rule.Slice.PartMut.{put_mid, mid_of}
+
+module _ (place : ℕ) (low : place < 8) (block bytes : List ℕ) (size : length block ≡ 1024) (long : length bytes ≡ 128) where
+  abbrev after : List ℕ
+  after = put_mid (place * 128) (place * 128 + 128 - place * 128) block bytes
+
+  after_is_put : after ≡ put (128 * place) bytes block
+  after_is_put =
+      ap (λ n. put_mid n (n + 128 - n) block bytes) (omega arith)
+      ∙ part_put (128 * place) (128 * place + 128 - 128 * place) block bytes (long ∙ omega arith)
+
+  fits : 128 * place + 128 ≤ length block
+  fits = omega (arith, low, size)
+
+  pub written_there : (inode : Inode) → inode_at bytes 0 ≡ inode → inode_at after (128 * place) ≡ inode
+  written_there inode e =
+      ap (λ xs. inode_at xs (128 * place)) after_is_put ∙ record_here block bytes (128 * place) long fits ∙ e
+
+  pub others_stay : (k : ℕ) → (k ≡ place → ⊥) → inode_at after (128 * k) ≡ inode_at block (128 * k)
+  others_stay k differs =
+      ap (λ xs. inode_at xs (128 * k)) after_is_put ∙ record_there block bytes place k long fits (λ e. differs (sym e))
+
+  before_is_cut : mid_of (place * 128) (place * 128 + 128 - place * 128) block ≡ take 128 (drop (128 * place) block)
+  before_is_cut =
+      let from : place * 128 ≡ 128 * place = omega arith in
+      let count : place * 128 + 128 - place * 128 ≡ 128 = omega arith in
+      ap₂ (λ n m. take n (drop m block)) count from
+
+  pub rest_stays_there : drop 60 bytes ≡ drop 60 (mid_of (place * 128) (place * 128 + 128 - place * 128) block)
+      → (k : ℕ) → (k < 128 * place) ⊎ (128 * place + 60 ≤ k) → slice_index after k ≡ slice_index block k
+  rest_stays_there e k apart =
+      ap (λ xs. slice_index xs k) after_is_put ∙ rest_stays block bytes (128 * place) long fits (e ∙ ap (drop 60) before_is_cut) k apart

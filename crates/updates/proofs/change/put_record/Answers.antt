@@ -1,0 +1,18 @@
+use Rattle.std.proofs.Common.{◌≡◌, length, rules}
+use Rattle.updates.proofs.RecordPuts.{written_there, others_stay, rest_stays_there}
+use Rattle.updates.proofs.change.put_record.Goals as goal
+
+pub returns-clause-written : goal.returns-clause-written
+returns-clause-written c =
+    let long : length c.write_record.new.bytes ≡ 128 = search rules in
+    written_there c.args.place c.requires c.args.block.now c.write_record.new.bytes c.told-block long c.args.inode.now c.write_record.ensures.read
+
+pub returns-clause-others : goal.returns-clause-others
+returns-clause-others c =
+    let long : length c.write_record.new.bytes ≡ 128 = search rules in
+    others_stay c.args.place c.requires c.args.block.now c.write_record.new.bytes c.told-block long
+
+pub returns-clause-rest : goal.returns-clause-rest
+returns-clause-rest c =
+    let long : length c.write_record.new.bytes ≡ 128 = search rules in
+    rest_stays_there c.args.place c.requires c.args.block.now c.write_record.new.bytes c.told-block long c.write_record.ensures.rest

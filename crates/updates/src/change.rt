@@ -1,0 +1,100 @@
+ghost use Rattle.std.specs.Prelude.{◌≡◌, ◌≢◌, ◌<◌, ◌≤◌, ◌+◌, ◌*◌, ◌⊎◌, ℕ, List, length, drop, slice_index};
+ghost use Rattle.model.specs.View.{inode_at, view_of};
+ghost use Rattle.model.specs.Image.{IsGroupBlock};
+ghost use Rattle.model.specs.Layout.{group_block};
+ghost use Rattle.model.specs.Cells.{put_at, updated};
+ghost use Rattle.ordering.specs.Cuts.{cell_of};
+ghost use Rattle.queue_model.specs.Blocks.{home_of};
+ghost use Rattle.updates.specs.Values.{cell, change};
+ghost use Rattle.updates.specs.Places.{IsCell};
+ghost use Rattle.updates.specs.Alone.{ChangesAlone};
+
+use crate::Cell;
+use cgmaps::{Map, put_bit};
+use inode::{RECORD_BYTES, Record};
+use layout::{Block, Geometry, INODES_PER_BLOCK};
+
+/// A cell and its new value.
+#[derive(Debug, Drop)]
+pub enum Change {
+    /// The record of an inode, by its number.
+    SetInode(u32, Record),
+    /// Whether an inode number is marked.
+    SetNumber(u32, bool),
+    /// Whether a data block is marked, by its address.
+    SetBlock(u32, bool),
+    /// The bytes of a data block, by its address.
+    SetBytes(u32, Box<Block>),
+}
+
+/// A change, and what the order of writes asks of it.
+#[derive(Debug, Drop)]
+pub struct Update {
+    /// What it writes.
+    pub change: Change,
+    /// The number of the file whose contents it writes, if it writes a file's.
+    pub file: Option<u32>,
+    /// The cells after whose last updates it has to reach the device.
+    pub after: Vec<Cell>,
+}
+
+impl Change {
+    /// The cell whose value it is.
+    pub fn cell(&self) -> Cell
+        ensures { cell result ≡ cell_of (change self.now) }
+    {
+        match self {
+            Change::SetInode(number, _) => Cell::Record(*number),
+            Change::SetNumber(number, _) => Cell::NumberBit(*number),
+            Change::SetBlock(address, _) => Cell::BlockBit(*address),
+            Change::SetBytes(address, _) => Cell::Block(*address),
+        }
+    }
+
+    /// Puts the new value into the block in which the cell stands.
+    pub fn put(&self, geometry: &Geometry, block: &mut Block)
+        requires { IsCell geometry.now (cell_of (change self.now)) }
+        ensures view { (blocks : ℕ → List ℕ) → blocks (home_of geometry.now (cell_of (change self.now))) ≡ block.old
+            → view_of geometry.now (put_at blocks (home_of geometry.now (cell_of (change self.now))) block.new) ≡ updated (view_of geometry.now blocks) (change self.now) }
+        ensures alone { ChangesAlone geometry.now (change self.now) block.old block.new }
+        ensures group_block { (g : ℕ) → home_of geometry.now (cell_of (change self.now)) ≡ group_block geometry.now g → IsGroupBlock g block.old → IsGroupBlock g block.new }
+    {
+        let inodes = geometry.inodes_a_group();
+        match self {
+            Change::SetInode(number, record) => {
+                put_record(record, *number % INODES_PER_BLOCK, block)
+            }
+            Change::SetNumber(number, marked) => {
+                put_bit(block, Map::Inodes, *number % inodes, *marked)
+            }
+            Change::SetBlock(address, marked) => match geometry.place_of(*address) {
+                Some(place) => put_bit(block, Map::Blocks, place.bit, *marked),
+                None => unreachable!(),
+            },
+            Change::SetBytes(_, bytes) => *block = **bytes,
+        }
+    }
+}
+
+/// Writes a record into its block of inodes, where it has this place among the records.
+fn put_record(inode: &Record, place: u32, block: &mut Block)
+    requires { place < 8 }
+    ensures written { inode_at block.new (128 * place) ≡ inode.now }
+    ensures others { (k : ℕ) → k ≢ place → inode_at block.new (128 * k) ≡ inode_at block.old (128 * k) }
+    ensures rest { (k : ℕ) → (k < 128 * place) ⊎ (128 * place + 60 ≤ k) → slice_index block.new k ≡ slice_index block.old k }
+{
+    let byte = place as usize * RECORD_BYTES;
+    write_record(inode, &mut block[byte..byte + RECORD_BYTES]);
+}
+
+/// Writes a record over its bytes, but for those that are not looked at.
+fn write_record(inode: &Record, bytes: &mut [u8])
+    requires { length bytes.old ≡ 128 }
+    ensures read { inode_at bytes.new 0 ≡ inode.now }
+    ensures rest { drop 60 bytes.new ≡ drop 60 bytes.old }
+{
+    let Some(record) = bytes.as_mut_array::<RECORD_BYTES>() else {
+        unreachable!()
+    };
+    inode.write(record);
+}
