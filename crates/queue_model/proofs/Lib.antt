@@ -4,7 +4,7 @@ pub mod FlushLemmas
 mod SyncLemmas
 mod EntryLemmas
 mod QueueLemmas
-mod Represented
+pub mod Represented
 pub mod NewClaims
 mod HeldCuts
 mod FileLemmas
@@ -16,5 +16,5 @@ mod CourseHistories
 pub mod QuietUpdates
 mod MapWrites
 pub mod Listed
-mod TakenLemmas
+pub mod TakenLemmas
 pub mod Standing

@@ -126,7 +126,7 @@ module _ (home : Cell → ℕ) (a : ℕ) (queue : Queue) (q : List Pending) (r :
   listed e m = let there : Contains (entries_at home a r.entries) e = subst (λ l. Contains l e) (r.lists a) m in (at_within home a r.entries e there, at_from home a r.entries e there)
 
   -- an id that was taken is that of a listed entry, which may go
-  found : (es : List Entry) → AreTaken queue a es → (i : ℕ) → IsTrue (has_id es i) → (e : Entry) × Contains (queue.lists a) e × (e.id ≡ i) × IsTrue (may_go queue.pending (has_id es) e)
+  pub found : (es : List Entry) → AreTaken queue a es → (i : ℕ) → IsTrue (has_id es i) → (e : Entry) × Contains (queue.lists a) e × (e.id ≡ i) × IsTrue (may_go queue.pending (has_id es) e)
   found [] t i h = absurd (let bad : false ≡ true = h in cc)
   found (e ∷ es) t i h = elim (or_cases (eqb i e.id) (has_id es i) h) [
     | inl same ↦ (e, t.0, sym (eqb-true i e.id same), more_may_go queue.pending (has_id es) (has_id (e ∷ es)) e (λ j k. or_right (eqb j e.id) (has_id es j) k) t.2)

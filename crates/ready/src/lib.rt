@@ -3,7 +3,7 @@
 
 ghost use Rattle.std.specs.Prelude.{◌≡◌, ℕ, ◌+◌, ◌<◌, ◌≤◌, List, [], ◌∷◌, OnOk, IfOk, MatchOption};
 ghost use Rattle.std.specs.List.{Contains};
-ghost use Rattle.stacks.specs.Stacks.{stack_at, count_of, room_of};
+ghost use Rattle.stacks.specs.Stacks.{stack_at, count_of, room_of, is_empty};
 ghost use Rattle.ready.specs.Ready.{IsLeast, NothingStands};
 
 use marks::Marks;
@@ -84,6 +84,14 @@ impl Ready {
         number
     }
 
+    /// Whether a block has no number.
+    pub fn is_empty(&self, block: u32) -> bool
+        requires { block < count_of self.now }
+        ensures { result ≡ is_empty (stack_at self.now block) }
+    {
+        self.stacks.is_empty(block)
+    }
+
     /// The least block that has a number.
     pub fn least(&self) -> Option<u32>
         ensures { MatchOption result (NothingStands self.now) (λ block. IsLeast self.now block) }
@@ -108,10 +116,7 @@ mod tests {
         assert_eq!(rt; ready.least(), Some(5));
         assert_eq!(rt; ready.pop(5), Some(0));
         assert_eq!(rt; ready.least(), Some(70));
-        assert_eq!(rt;
-            (ready.pop(70), ready.pop(70), ready.pop(70)),
-            (Some(1), Some(2), None)
-        );
+        assert_eq!(rt; (ready.pop(70), ready.pop(70), ready.pop(70)), (Some(1), Some(2), None));
         assert_eq!(rt; ready.least(), None);
         Ok(())
     }

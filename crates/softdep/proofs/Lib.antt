@@ -1,0 +1,3 @@
+mod Issued
+mod Flushed
+mod Synced

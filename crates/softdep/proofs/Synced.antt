@@ -1,0 +1,89 @@
+-- One flush more of a sync.
+use Rattle.std.proofs.Common.{◌≡◌, ℕ, ◌+◌, Bool, List, [], ◌∷◌, ◌++◌, refl, sym, ap, ap₂, ◌∙◌, subst, length, map, reverse, append-nil}
+use Rattle.std.proofs.lemmas.List.{append_assoc, map-append, reverse-append}
+use Rattle.model.specs.Layout.{Geometry}
+use Rattle.model.specs.View.{View}
+use Rattle.model.specs.Image.{image_view}
+use Rattle.ordering.specs.Cuts.{Pending, IsClosed, seen, rest, joined, users_view}
+use Rattle.queue_model.specs.Blocks.{home_of}
+use Rattle.queue_model.specs.Flush.{taken}
+use Rattle.queue_model.specs.Files.{updates}
+use Rattle.queue_model.specs.History.{History, none_of}
+use Rattle.queue_model.specs.History as history
+use Rattle.queue_model.proofs.FlushLemmas.{ready_closed, taken_rest}
+use Rattle.queue_model.proofs.HistoryLemmas.{none_closed, none_seen, none_rest, joined_none, joined_joined, joined_rest, write_joins, history_closed, all_on_device}
+use Rattle.softdep.specs.Queued.{Queued, pending_of, flushed}
+use Rattle.softdep.specs.Syncing.{HasPut, IsHistory}
+use Rattle.softdep.proofs.Flushed.{ready_of, pending_flushed}
+
+-- ---- what is on the device
+
+pub put_nothing : (queue : Queued) → IsClosed (updates queue.written) queue.cut → HasPut queue queue
+put_nothing queue closed = record {
+  geometry = refl;
+  written = refl;
+  put = none_of (pending_of queue);
+  closed = none_closed (pending_of queue);
+  cut = sym (joined_none (updates queue.written) queue.cut closed);
+}
+
+pub put_pending : (old new : Queued) → IsClosed (updates old.written) old.cut → (put : HasPut old new) → pending_of new ≡ rest (pending_of old) put.put
+put_pending old new closed put =
+    ap₂ (λ h c. rest (updates h) c) put.written put.cut ∙ joined_rest (updates old.written) old.cut put.put closed put.closed
+
+pub put_more : (old new : Queued) (a : ℕ) → IsClosed (updates old.written) old.cut → HasPut old new → HasPut old (flushed new a)
+put_more old new a closed put =
+    let next = ready_of new a in
+    let now = put_pending old new closed put in
+    let next_closed : IsClosed (rest (pending_of old) put.put) next = subst (λ q. IsClosed q next) now (ready_closed (home_of new.geometry) a (pending_of new)) in
+    record {
+      geometry = put.geometry;
+      written = put.written;
+      put = joined (pending_of old) put.put next;
+      closed = (write_joins (no_view) (pending_of old) put.put next put.closed next_closed).0;
+      cut = ap₂ (λ h c. joined (updates h) c next) put.written put.cut ∙ sym (joined_joined (updates old.written) old.cut put.put next closed put.closed next_closed);
+    }
+  where
+    no_view : View
+    no_view = image_view old.geometry []
+
+-- ---- what the device held
+
+pub history_nothing : (geo : Geometry) (image : List (List ℕ)) (held : List (List (List ℕ))) (q : List Pending) → IsHistory geo image held q image held q
+history_nothing geo image held q = record {
+  cut = none_of q;
+  more = [];
+  history = history.Opens;
+  held_now = sym (append-nil held);
+  device = sym (none_seen (image_view geo image) q);
+  pending = sym (none_rest q);
+}
+
+pub history_more : (geo : Geometry) (image : List (List ℕ)) (held : List (List (List ℕ))) (q : List Pending) (image1 : List (List ℕ)) (held1 : List (List (List ℕ))) (q1 : List Pending) (image2 : List (List ℕ)) (held2 : List (List (List ℕ))) (next : List Bool)
+    → IsHistory geo image held q image1 held1 q1 → IsClosed q1 next → image_view geo image2 ≡ seen (image_view geo image1) q1 next → held2 ≡ held1 ++ image2 ∷ [] → IsHistory geo image held q image2 held2 (rest q1 next)
+history_more geo image held q image1 held1 q1 image2 held2 next h closed view held_now =
+    let disk = image_view geo image in
+    let cut_closed = history_closed disk q [] h.cut (reverse (map (image_view geo) h.more)) h.history in
+    let next_closed : IsClosed (rest q h.cut) next = subst (λ p. IsClosed p next) h.pending closed in
+    let joins = write_joins disk q h.cut next cut_closed next_closed in
+    let shown : image_view geo image2 ≡ seen disk q (joined q h.cut next) = view ∙ ap₂ (λ d p. seen d p next) h.device h.pending ∙ sym joins.2 in
+    let turned : reverse (map (image_view geo) (h.more ++ image2 ∷ [])) ≡ image_view geo image2 ∷ reverse (map (image_view geo) h.more)
+    = ap reverse (map-append (image_view geo) h.more (image2 ∷ [])) ∙ reverse-append (map (image_view geo) h.more) (image_view geo image2 ∷ []) in
+    record {
+      cut = joined q h.cut next;
+      more = h.more ++ image2 ∷ [];
+      history = subst (History disk q [] (joined q h.cut next)) (ap (λ v. v ∷ reverse (map (image_view geo) h.more)) (sym shown) ∙ sym turned) (history.Writes next next_closed h.history);
+      held_now = held_now ∙ ap (λ l. l ++ image2 ∷ []) h.held_now ∙ append_assoc held h.more (image2 ∷ []);
+      device = shown;
+      pending = ap (λ p. rest p next) h.pending ∙ sym joins.3;
+    }
+
+-- with nothing left pending the device is what users see
+pub history_done : (geo : Geometry) (image : List (List ℕ)) (held : List (List (List ℕ))) (q : List Pending) (image' : List (List ℕ)) (held' : List (List (List ℕ))) (q' : List Pending) → IsHistory geo image held q image' held' q' → q' ≡ [] → image_view geo image' ≡ users_view (image_view geo image) q
+history_done geo image held q image' held' q' h none =
+    h.device ∙ all_on_device (image_view geo image) q h.cut (history_closed (image_view geo image) q [] h.cut (reverse (map (image_view geo) h.more)) h.history) (sym h.pending ∙ none)
+
+-- ---- how many
+
+pub fewer : (queue : Queued) (a : ℕ) → IsClosed (updates queue.written) queue.cut → taken (ready_of queue a) + length (pending_of (flushed queue a)) ≡ length (pending_of queue)
+fewer queue a closed = ap (λ q. taken (ready_of queue a) + length q) (pending_flushed queue a closed) ∙ taken_rest (pending_of queue) (ready_of queue a) (ready_closed (home_of queue.geometry) a (pending_of queue))

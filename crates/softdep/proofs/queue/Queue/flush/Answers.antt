@@ -1,0 +1,123 @@
+use Rattle.std.proofs.Common.{◌≡◌, ◌<◌, ◌≤◌, [], Some, refl, sym, ap, ◌∙◌, subst, length, arith, slice_set, ◌++◌, ◌∷◌}
+use Rattle.model.specs.Image.{image_view}
+use Rattle.ordering.specs.Cuts.{seen}
+use Rattle.queue_model.specs.Blocks.{home_of}
+use Rattle.queue_model.specs.Flush.{ready, taken}
+use Rattle.queue_model.specs.Entries as entries
+use Rattle.queue_model.proofs.FlushLemmas.{ready_closed, none_taken}
+use Rattle.softdep.specs.Queued.{Queued, IsQueue, after, fresh_queue, pending_of, flushed}
+use Rattle.softdep.proofs.Issued.{after_push}
+use Rattle.softdep.proofs.Flushed.{queue_flushed, queue_unflushed, flushed_view, flushed_count}
+use Rattle.softdep.proofs.queue.Queue.flush.Given.{Over}
+use Rattle.softdep.proofs.queue.Queue.flush.Goals as goal
+
+-- ---- nothing is ready
+
+module _ (g : Over) (c : goal.After-self-1 g) where
+  abbrev v : Queued
+  v = after (fresh_queue c.self.inside.geometry) c.self.inside.events.items
+
+  none : taken (ready (home_of c.self.inside.geometry) c.args.address (pending_of (after (fresh_queue c.self.inside.geometry) c.self.inside.events.items))) ≡ 0
+  none = c.if-not-has_ready.ensures.none c.self.inside.geometry c.self.invariant.entries (pending_of v) c.self.invariant.holds refl
+
+  next : after (fresh_queue c.self.inside.geometry) c.and-self-inside.result.items ≡ flushed (after (fresh_queue c.self.inside.geometry) c.self.inside.events.items) c.args.address
+  next = ap (after (fresh_queue c.self.inside.geometry)) c.and-self-inside.ensures ∙ after_push (fresh_queue c.self.inside.geometry) c.self.inside.events.items (c.self.inside.none, Some c.args.address)
+
+  none_now : taken (ready (home_of c.args.self.now.geometry) c.args.address (pending_of c.args.self.now)) ≡ 0
+  none_now = subst (λ (w : Queued). taken (ready (home_of w.geometry) c.args.address (pending_of w)) ≡ 0) c.self.view_is
+      (ap (λ x. taken (ready (home_of x) c.args.address (pending_of v))) c.self.invariant.same ∙ none)
+
+pub invariant_of-self : goal.invariant_of-self
+invariant_of-self g c =
+    subst (IsQueue c.self.inside.geometry c.self.inside.table) (sym (next g c)) (queue_unflushed c.self.inside.geometry c.self.inside.table (v g c) c.args.address c.self.invariant (none g c))
+
+pub returns-then-not-has_ready-clause-flushed : goal.returns-then-not-has_ready-clause-flushed
+returns-then-not-has_ready-clause-flushed g c = next g c ∙ ap (λ (w : Queued). flushed w c.args.address) c.self.view_is
+
+pub returns-then-not-has_ready-clause-count : goal.returns-then-not-has_ready-clause-count
+returns-then-not-has_ready-clause-count g c = sym (none_now g c)
+
+pub returns-then-not-has_ready-clause-view : goal.returns-then-not-has_ready-clause-view
+returns-then-not-has_ready-clause-view g c honest =
+    let old = c.args.self.now in
+    sym (none_taken (image_view old.geometry (g.D.Device.image c.args.device.now)) (pending_of old) (ready (home_of old.geometry) c.args.address (pending_of old)) (ready_closed (home_of old.geometry) c.args.address (pending_of old)) (none_now g c)).0
+
+-- ---- what is ready is taken
+
+pub retire-requires : goal.retire-requires
+retire-requires g c =
+    let q = pending_of (after (fresh_queue c.self.inside.geometry) c.self.inside.events.items) in
+    let all = c.take-count.ensures.taken c.self.invariant.entries q c.self.invariant.holds in
+    record { queue = c.self.invariant.entries; q = q; es = all.es; takes = all.takes; all = all.all }
+
+pub give_back-requires : goal.give_back-requires
+give_back-requires g c =
+    let q = pending_of (after (fresh_queue c.self.inside.geometry) c.self.inside.events.items) in
+    let all = c.take-count.ensures.taken c.self.invariant.entries q c.self.invariant.holds in
+    record { geo = c.self.inside.geometry; queue = c.self.invariant.entries; q = q; es = all.es; takes = all.takes; all = all.all }
+
+-- ---- the block was written
+
+module _ (g : Over) (c : goal.After-self-in-Ok-1 g) where
+  abbrev before : Queued
+  before = after (fresh_queue c.self.inside.geometry) c.self.inside.events.items
+
+  then : after (fresh_queue c.self.inside.geometry) c.and-self-inside-in-Ok.result.items ≡ flushed (after (fresh_queue c.self.inside.geometry) c.self.inside.events.items) c.args.address
+  then = ap (after (fresh_queue c.self.inside.geometry)) c.and-self-inside-in-Ok.ensures ∙ after_push (fresh_queue c.self.inside.geometry) c.self.inside.events.items (c.self.inside.none, Some c.args.address)
+
+  some : 1 ≤ taken (ready (home_of c.self.inside.geometry) c.args.address (pending_of (after (fresh_queue c.self.inside.geometry) c.self.inside.events.items)))
+  some = c.if-not-has_ready.ensures.some c.self.inside.geometry c.self.invariant.entries (pending_of before) c.self.invariant.holds refl
+
+  count : c.take-count.result ≡ taken (ready (home_of c.self.inside.geometry) c.args.address (pending_of (after (fresh_queue c.self.inside.geometry) c.self.inside.events.items)))
+  count = flushed_count c.self.inside.geometry c.self.invariant.entries (pending_of before) c.args.address c.self.inside.table c.take-count.new.self c.read.new.to c.take-count.new.block c.take-count.result c.self.invariant.holds
+      (c.take-count.ensures.taken c.self.invariant.entries (pending_of before) c.self.invariant.holds)
+
+pub invariant_of-self-in-Ok : goal.invariant_of-self-in-Ok
+invariant_of-self-in-Ok g c =
+    let geo = c.self.inside.geometry in
+    let all = c.take-count.ensures.taken c.self.invariant.entries (pending_of (before g c)) c.self.invariant.holds in
+    subst (IsQueue geo c.retire.new.self) (sym (then g c))
+    (queue_flushed geo c.self.inside.table c.retire.new.self (before g c) c.args.address c.self.invariant (entries.flushed c.args.address c.self.invariant.entries)
+    (c.retire.ensures c.self.invariant.entries (pending_of (before g c)) all.es all.takes all.all))
+
+pub invariant_of-self-in-Err : goal.invariant_of-self-in-Err
+invariant_of-self-in-Err g c =
+    let geo = c.self.inside.geometry in
+    let v : Queued = after (fresh_queue geo) c.self.inside.events.items in
+    let all = c.take-count.ensures.taken c.self.invariant.entries (pending_of v) c.self.invariant.holds in
+    record {
+      entries = c.self.invariant.entries;
+      holds = c.give_back.ensures geo c.self.invariant.entries (pending_of v) all.es all.takes all.all;
+      closed = c.self.invariant.closed;
+      same = c.self.invariant.same;
+    }
+
+pub returns-in-Ok-clause-flushed : goal.returns-in-Ok-clause-flushed
+returns-in-Ok-clause-flushed g c = then g c ∙ ap (λ (w : Queued). flushed w c.args.address) c.self.view_is
+
+pub returns-in-Ok-clause-count : goal.returns-in-Ok-clause-count
+returns-in-Ok-clause-count g c =
+    subst (λ (w : Queued). c.take-count.result ≡ taken (ready (home_of w.geometry) c.args.address (pending_of w))) c.self.view_is
+    (count g c ∙ ap (λ x. taken (ready (home_of x) c.args.address (pending_of (before g c)))) (sym c.self.invariant.same))
+
+pub returns-in-Ok-clause-untouched : goal.returns-in-Ok-clause-untouched
+returns-in-Ok-clause-untouched g c zero = let s = some g c in let n = count g c in absurd (omega (arith, s, n, zero))
+
+pub returns-in-Ok-clause-written : goal.returns-in-Ok-clause-written
+returns-in-Ok-clause-written g c more = (
+  c.take-count.new.block,
+  c.in-Ok.ensures.written ∙ ap (λ image. slice_set image c.args.address c.take-count.new.block) c.in_ok-read.ensures.same,
+  c.in-Ok.ensures.held ∙ ap (λ held. held ++ g.D.Device.image c.write.new.self ∷ []) c.in_ok-read.ensures.held,
+)
+
+pub returns-in-Ok-clause-view : goal.returns-in-Ok-clause-view
+returns-in-Ok-clause-view g c honest =
+    let geo = c.self.inside.geometry in
+    let all = c.take-count.ensures.taken c.self.invariant.entries (pending_of (before g c)) c.self.invariant.holds in
+    let low : c.args.address < length (g.D.Device.image c.args.device.now) = (let a = c.requires.address in let n = c.requires.count in omega (arith, a, n)) in
+    let view = flushed_view geo c.self.invariant.entries (pending_of (before g c)) c.args.address c.self.inside.table c.take-count.new.self c.read.new.to c.take-count.new.block c.take-count.result
+    (g.D.Device.image c.args.device.now) (g.D.Device.image c.write.new.self) c.self.invariant.holds all
+    (c.in_ok-read.ensures.block (c.in-Ok.ensures.honest honest))
+    (c.in-Ok.ensures.written ∙ ap (λ image. slice_set image c.args.address c.take-count.new.block) c.in_ok-read.ensures.same) low in
+    subst (λ (w : Queued). image_view w.geometry (g.D.Device.image c.write.new.self) ≡ seen (image_view w.geometry (g.D.Device.image c.args.device.now)) (pending_of w) (ready (home_of w.geometry) c.args.address (pending_of w))) c.self.view_is
+    (subst (λ x. image_view x (g.D.Device.image c.write.new.self) ≡ seen (image_view x (g.D.Device.image c.args.device.now)) (pending_of (before g c)) (ready (home_of x) c.args.address (pending_of (before g c)))) (sym c.self.invariant.same) view)

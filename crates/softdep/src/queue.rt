@@ -1,0 +1,68 @@
+ghost use Rattle.std.specs.Prelude.{◌≡◌, ℕ, [], IfOk, IfSome, IsOkUnless, MatchOption, ◌<◌, length};
+ghost use Rattle.model.specs.Layout.{block_count};
+ghost use Rattle.layout.specs.declared.refusal.Refusal.TheVariants.{NoMemory};
+ghost use Rattle.ordering.specs.Cuts.{IsClosed};
+ghost use Rattle.queue_model.specs.Blocks.{home_of};
+ghost use Rattle.queue_model.specs.Files.{updates};
+ghost use Rattle.queue_model.specs.Sync.{IsLeastReady};
+ghost use Rattle.softdep.specs.Queued.{fresh_queue, pending_of};
+
+use http_server::Log;
+use layout::{Geometry, Refusal};
+use softdep_queue::Table;
+use std::alloc::Global;
+use std::marker::Model;
+use updates::Update;
+
+/// The updates that were issued and are not on the device yet. It keeps a history of what was issued and flushed, which
+/// only clauses read.
+#[derive(Drop)]
+pub struct Queue {
+    pub(crate) geometry: Geometry,
+    pub(crate) table: Table,
+    pub(crate) events: Log<Vec<Update>, Option<u32>>,
+    /// No updates, for the history.
+    pub(crate) none: Vec<Update>,
+}
+
+impl Model for Queue {
+    ghost use Rattle.softdep.specs.Queued.{Queued, IsQueue, after, fresh_queue};
+
+    ghost Value = { Queued };
+
+    ghost view = { λ queue. after (fresh_queue queue.geometry) queue.events.items };
+
+    ghost invariant = { λ queue. IsQueue queue.geometry queue.table (after (fresh_queue queue.geometry) queue.events.items) };
+}
+
+impl Queue {
+    /// A queue of a volume, with nothing issued. Takes memory for the places of the volume's cells and blocks.
+    pub fn new(alloc: Global, geometry: Geometry) -> Result<Queue, Refusal>
+        ensures fresh { IfOk result (λ queue. queue ≡ fresh_queue geometry) }
+        ensures error { IsOkUnless result Refusal.NoMemory }
+    {
+        Ok(Queue {
+            geometry,
+            table: Table::new(alloc, &geometry)?,
+            events: Log::new(),
+            none: Vec::new(alloc),
+        })
+    }
+
+    /// How many updates are pending.
+    pub fn pending(&self) -> usize
+        ensures count { result ≡ length (pending_of self.now) }
+        ensures closed { IsClosed (updates self.now.written) self.now.cut }
+    {
+        self.table.pending()
+    }
+
+    /// The least block with an update that may go to the device; `None` where nothing is pending.
+    pub fn least_ready(&self) -> Option<u32>
+        ensures least { MatchOption result (pending_of self.now ≡ []) (λ address. IsLeastReady (home_of self.now.geometry) (pending_of self.now) address) }
+        ensures on_volume { IfSome result (λ address. address < block_count self.now.geometry) }
+        ensures closed { IsClosed (updates self.now.written) self.now.cut }
+    {
+        self.table.least_ready()
+    }
+}

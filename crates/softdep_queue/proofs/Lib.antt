@@ -1,0 +1,13 @@
+mod Steps
+mod Counting
+mod Taken
+mod Released
+mod Struck
+mod Retired
+mod MoreCounts
+mod Raising
+mod GivenBack
+mod Asked
+mod Rooms
+mod Waits
+mod Additions

@@ -1,0 +1,130 @@
+-- A table that has got more room, and one in which nothing is pending, holds what it held.
+use Rattle.std.proofs.Common.{◌≡◌, ℕ, ◌≤◌, List, [], ◌∷◌, inl, inr, refl, sym, ap, ap₂, ◌∙◌, subst, Contains, length, arith, slice_index_or}
+use Rattle.std.specs.Vec.{vec_capacity}
+use Rattle.model.specs.Layout.{Geometry}
+use Rattle.ordering.specs.Cuts.{Pending}
+use Rattle.queue_model.specs.Blocks.{home_of}
+use Rattle.queue_model.specs.Entries.{Entry, Queue}
+use Rattle.queue_model.proofs.Lists.{contains_none}
+use Rattle.queue_model.proofs.Represented.{none_listed_of_none, begun_anew}
+use Rattle.updates.specs.Places.{place_of}
+use Rattle.chains.specs.Chains.{walk}
+use Rattle.stacks.specs.Stacks.{stack_at, count_of, room_of}
+use Rattle.softdep_queue.specs.declared.table.Node.{Node}
+use Rattle.softdep_queue.specs.declared.table.Table.{Table}
+use Rattle.softdep_queue.specs.Counts.{occurrences, count_in}
+use Rattle.softdep_queue.specs.Ties.{Holds, IsNodeOf, Shows, node_at, waiters_of}
+
+-- the same but for more room
+pub record IsRoomier (t t' : Table) : Type 0 where
+  pub nodes : t'.nodes.items ≡ t.nodes.items
+  pub links : t'.chains.links ≡ t.chains.links
+  pub stacks : (b : ℕ) → stack_at t'.ready b ≡ stack_at t.ready b
+  pub count : count_of t'.ready ≡ count_of t.ready
+  pub room : room_of t.ready ≤ room_of t'.ready
+  pub taken : t'.taken.items ≡ t.taken.items
+  pub spare : vec_capacity t.taken ≤ vec_capacity t'.taken
+  pub latest : t'.latest ≡ t.latest
+  pub pending : t'.pending ≡ t.pending
+
+module _ (t t' : Table) (roomier : IsRoomier t t') where
+  same_node : (i : ℕ) → node_at t'.nodes.items i ≡ node_at t.nodes.items i
+  same_node i = ap (λ l. node_at l i) roomier.nodes
+
+  same_waiters : (i : ℕ) → waiters_of t' i ≡ waiters_of t i
+  same_waiters i = ap₂ (λ l (n : Node). walk l n.waiters n.waiters) roomier.links (same_node i)
+
+  node_kept : (geo : Geometry) (b : ℕ) (e : Entry) (due : ℕ) → IsNodeOf geo t b e due → IsNodeOf geo t' b e due
+  node_kept geo b e due node =
+      let same = same_node e.id in
+      let links = ap length roomier.links in
+      let waiters = ap (λ (n : Node). n.waiters) same in
+      let chain = node.chain in
+      record {
+        home = ap (λ (n : Node). n.home) same ∙ node.home;
+        on_volume = node.on_volume;
+        change = subst (λ (n : Node). Shows n.change e.change) (sym same) node.change;
+        cell = node.cell;
+        waiting = ap (λ (n : Node). n.waiting) same ∙ node.waiting;
+        few = node.few;
+        chain = omega (arith, links, waiters, chain);
+      }
+
+  pub still_holds : (geo : Geometry) (queue : Queue) (q : List Pending) → Holds geo t queue q → Holds geo t' queue q
+  still_holds geo queue q holds =
+      let ties = holds.ties in
+      let nodes = ap length roomier.nodes in
+      let room = ties.room in
+      let more = roomier.room in
+      let spare = ties.spare in
+      let grown = roomier.spare in
+      record {
+        ties = record {
+          represents = ties.represents;
+          next = ties.next ∙ sym nodes;
+          node = λ b e m. node_kept geo b e (count_in queue.pending e.waits) (ties.node b e m);
+          waiters = λ b c e f m n. ap (occurrences f.id) (same_waiters e.id) ∙ ties.waiters b c e f m n;
+          alive = λ b e i m o. ties.alive b e i m (subst (λ l. Contains l i) (same_waiters e.id) o);
+          ready = λ b e m. let r = ties.ready b e m in (
+            (λ x. r.0 (elim x [ inl s ↦ inl (subst (λ l. Contains l e.id) (roomier.stacks b) s) | inr k ↦ inr (subst (λ l. Contains l e.id) roomier.taken k) ])),
+            (λ z. elim (r.1 z) [ inl s ↦ inl (subst (λ l. Contains l e.id) (sym (roomier.stacks b)) s) | inr k ↦ inr (subst (λ l. Contains l e.id) (sym roomier.taken) k) ]),
+          );
+          stacked = λ b i m. let s = ties.stacked b i (subst (λ l. Contains l i) (roomier.stacks b) m) in (s.0, s.1, s.2, λ o. s.3 (subst (λ l. Contains l i) roomier.taken o));
+          latest = λ c is. ap (λ v. slice_index_or v.items (place_of geo c) 0) roomier.latest ∙ ties.latest c is;
+          places = ap (λ v. length v.items) roomier.latest ∙ ties.places;
+          blocks = roomier.count ∙ ties.blocks;
+          pending = roomier.pending ∙ ties.pending;
+          room = omega (arith, nodes, room, more);
+          spare = omega (arith, nodes, spare, grown);
+        };
+        none = roomier.taken ∙ holds.none;
+      }
+
+-- ---- nothing is pending
+
+-- the same but that all nodes and links are forgotten
+pub record IsEmptied (t t' : Table) : Type 0 where
+  pub nodes : t'.nodes.items ≡ []
+  pub ready : t'.ready ≡ t.ready
+  pub taken : t'.taken ≡ t.taken
+  pub latest : t'.latest ≡ t.latest
+  pub pending : t'.pending ≡ t.pending
+
+none_of : (q : List Pending) → length q ≡ 0 → q ≡ []
+none_of [] z = refl
+none_of (u ∷ q) z = absurd (omega (arith, z))
+
+module _ (t t' : Table) (emptied : IsEmptied t t') (none : t.pending ≡ 0) (geo : Geometry) (queue : Queue) where
+  held_nothing : (q : List Pending) → Holds geo t queue q → q ≡ []
+  held_nothing q holds = none_of q (sym holds.ties.pending ∙ none)
+
+  holds_nothing : Holds geo t queue [] → Holds geo t' (record queue { next = 0 }) []
+  holds_nothing holds =
+      let ties = holds.ties in
+      let length_none = ap length emptied.nodes in
+      record {
+        ties = record {
+          represents = begun_anew (home_of geo) queue 0 ties.represents;
+          next = sym length_none;
+          node = λ b e m. absurd (nobody b e m);
+          waiters = λ b c e f m n. absurd (nobody b e m);
+          alive = λ b e i m o. absurd (nobody b e m);
+          ready = λ b e m. absurd (nobody b e m);
+          stacked = λ b i m. let s = ties.stacked b i (subst (λ v. Contains (stack_at v b) i) emptied.ready m) in absurd (nobody b s.0 s.1);
+          latest = λ c is. ap (λ v. slice_index_or v.items (place_of geo c) 0) emptied.latest ∙ ties.latest c is;
+          places = ap (λ v. length v.items) emptied.latest ∙ ties.places;
+          blocks = ap count_of emptied.ready ∙ ties.blocks;
+          pending = emptied.pending ∙ ties.pending;
+          room = omega (arith, length_none);
+          spare = omega (arith, length_none);
+        };
+        none = ap (λ v. v.items) emptied.taken ∙ holds.none;
+      }
+    where
+      nobody : (b : ℕ) (e : Entry) → Contains (queue.lists b) e → ⊥
+      nobody b e m = contains_none e (subst (λ l. Contains l e) (none_listed_of_none (home_of geo) queue holds.ties.represents b) m)
+
+  pub begins_anew : (q : List Pending) → Holds geo t queue q → Holds geo t' (record queue { next = 0 }) q
+  begins_anew q holds =
+      let empty = held_nothing q holds in
+      subst (λ l. Holds geo t' (record queue { next = 0 }) l) (sym empty) (holds_nothing (subst (λ l. Holds geo t queue l) empty holds))

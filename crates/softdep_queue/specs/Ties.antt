@@ -1,0 +1,75 @@
+-- How the table holds the pending updates: it shows the entries of a queue, each entry's id its place in the table.
+use Rattle.std.specs.Prelude.{◌≡◌, ℕ, ◌<◌, ◌≤◌, ◌^◌, not, ◌&&◌, ◌==◌, if◌then◌else◌, List, [], ◌⊎◌, ◌↔◌, Option, Some, None, IsTrue, length, map, reverse, slice_index_or}
+use Rattle.std.specs.List.{Contains}
+use Rattle.std.specs.Vec.{vec_capacity}
+use Rattle.model.specs.Layout.{Geometry, block_count}
+use Rattle.ordering.specs.Cuts.{Cell, Pending, cell_of}
+use Rattle.queue_model.specs.Blocks.{home_of}
+use Rattle.queue_model.specs.Entries.{Entry, Queue, Represents, has_id, AreTaken}
+use Rattle.model.specs.Cells.{Update}
+use Rattle.updates.specs.declared.change.Change.{Change}
+use Rattle.updates.specs.Values.{change}
+use Rattle.updates.specs.Places.{IsCell, place_of, place_count}
+use Rattle.chains.specs.Chains.{numbers, IsChain}
+use Rattle.stacks.specs.Stacks.{stack_at, count_of, room_of}
+use Rattle.softdep_queue.specs.declared.table.Node.{Node}
+use Rattle.softdep_queue.specs.declared.table.Table.{Table}
+use Rattle.softdep_queue.specs.Counts.{occurrences, count_in, code}
+
+-- the node of an id
+abbrev pub node_at : List Node → ℕ → Node
+node_at nodes i = slice_index_or nodes i (record { home = 0; change = None; waiting = 0; waiters = 0 })
+
+-- the ids of those that wait for it
+abbrev pub waiters_of : Table → ℕ → List ℕ
+waiters_of t i = numbers t.chains (node_at t.nodes.items i).waiters
+
+-- a change of the program is this one of the model
+abbrev pub Shows : Option Change → Update → Type 0
+Shows None u = ⊥
+Shows (Some c) u = change c ≡ u
+
+-- a node shows an entry of a block, which still waits for so many
+pub record IsNodeOf (geo : Geometry) (t : Table) (b : ℕ) (e : Entry) (due : ℕ) : Type 0 where
+  pub home : (node_at t.nodes.items e.id).home ≡ b
+  pub on_volume : b < block_count geo
+  pub change : Shows (node_at t.nodes.items e.id).change e.change
+  pub cell : IsCell geo (cell_of e.change)
+  pub waiting : (node_at t.nodes.items e.id).waiting ≡ due
+  pub few : length e.waits < 2 ^ 64
+  pub chain : IsChain t.chains (node_at t.nodes.items e.id).waiters
+
+-- The table shows the entries of a queue, of which each still waits for so many. Those that are ready stand in the stack of their block, or were taken from it.
+pub record TiesBy (geo : Geometry) (t : Table) (queue : Queue) (q : List Pending) (due : ℕ → Entry → ℕ) (IsReady : ℕ → Entry → Type 0) : Type 0 where
+  pub represents : Represents (home_of geo) queue q
+  pub next : queue.next ≡ length t.nodes.items
+  pub node : (b : ℕ) (e : Entry) → Contains (queue.lists b) e → IsNodeOf geo t b e (due b e)
+  pub waiters : (b c : ℕ) (e f : Entry) → Contains (queue.lists b) e → Contains (queue.lists c) f → occurrences f.id (waiters_of t e.id) ≡ occurrences e.id f.waits
+  pub alive : (b : ℕ) (e : Entry) (i : ℕ) → Contains (queue.lists b) e → Contains (waiters_of t e.id) i → IsTrue (queue.pending i)
+  pub ready : (b : ℕ) (e : Entry) → Contains (queue.lists b) e → (Contains (stack_at t.ready b) e.id ⊎ Contains t.taken.items e.id) ↔ IsReady b e
+  pub stacked : (b i : ℕ) → Contains (stack_at t.ready b) i → (e : Entry) × Contains (queue.lists b) e × (e.id ≡ i) × (Contains t.taken.items i → ⊥)
+  pub latest : (c : Cell) → IsCell geo c → slice_index_or t.latest.items (place_of geo c) 0 ≡ code (queue.last c)
+  pub places : length t.latest.items ≡ place_count geo
+  pub blocks : count_of t.ready ≡ block_count geo
+  pub pending : t.pending ≡ length q
+  pub room : length t.nodes.items ≤ room_of t.ready
+  pub spare : length t.nodes.items ≤ vec_capacity t.taken
+
+-- those are ready that wait for nothing
+abbrev pub Ties : Geometry → Table → Queue → List Pending → (ℕ → Entry → ℕ) → Type 0
+Ties geo t queue q due = TiesBy geo t queue q due (λ b e. due b e ≡ 0)
+
+-- nothing is taken, and each entry still waits for what is pending
+pub record Holds (geo : Geometry) (t : Table) (queue : Queue) (q : List Pending) : Type 0 where
+  pub ties : Ties geo t queue q (λ b e. count_in queue.pending e.waits)
+  pub none : t.taken.items ≡ []
+
+-- what entries of a block still wait for, where these of block a were taken
+abbrev pub due_after : Queue → ℕ → List Entry → ℕ → Entry → ℕ
+due_after queue a es b e = if b == a then count_in (λ i. queue.pending i && not (has_id es i)) e.waits else count_in queue.pending e.waits
+
+-- these entries of a block were taken, the newest of them first
+pub record Takes (geo : Geometry) (t : Table) (queue : Queue) (q : List Pending) (a : ℕ) (es : List Entry) : Type 0 where
+  pub ties : Ties geo t queue q (due_after queue a es)
+  pub taken : t.taken.items ≡ reverse (map (λ (e : Entry). e.id) es)
+  pub each : AreTaken queue a es

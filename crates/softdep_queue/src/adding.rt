@@ -1,0 +1,115 @@
+ghost use Rattle.std.specs.Prelude.{◌≡◌, ℕ, ◌+◌, ◌≤◌, List, [], ◌∷◌, length, map, OnOk, IfOk};
+ghost use Rattle.std.specs.List.{All};
+ghost use Rattle.model.specs.Layout.{Geometry as Numbers};
+ghost use Rattle.ordering.specs.Cuts.{Pending};
+ghost use Rattle.queue_model.specs.Blocks.{home_of};
+ghost use Rattle.queue_model.specs.Entries.{Queue, empty_queue, issued};
+ghost use Rattle.updates.specs.Values.{cell};
+ghost use Rattle.updates.specs.Places.{IsCell, AreCells};
+ghost use Rattle.softdep_queue.specs.Ties.{Holds};
+ghost use Rattle.softdep_queue.specs.Rooms.{HasRoom, IsTable};
+ghost use Rattle.softdep_queue.specs.Adding.{update_of, lasts, MayWait, IsBehind};
+
+use crate::table::{Node, Table};
+use chains::{Chain, Chains};
+use layout::Geometry;
+use ready::Ready;
+use std::alloc::{AllocError, Global};
+use updates::{Cell, Change, places};
+
+impl Table {
+    /// The table in which nothing is pending.
+    pub fn new(alloc: Global, geometry: &Geometry) -> Result<Table, AllocError>
+        ensures { IfOk result (λ table. Holds geometry.now table empty_queue []) }
+    {
+        Ok(Table {
+            nodes: Vec::new(alloc),
+            chains: Chains::new(alloc),
+            ready: Ready::new(alloc, geometry.blocks())?,
+            latest: vec![in alloc; 0; places(geometry)]?,
+            taken: Vec::new(alloc),
+            pending: 0,
+        })
+    }
+
+    /// Makes room for so many updates more, which come after so many cells in all, their own counted.
+    pub fn make_room(&mut self, updates: usize, cells: usize) -> Result<(), AllocError>
+        ensures room { OnOk result (HasRoom self.new updates cells) }
+        ensures held { (geo : Numbers) (queue : Queue) (q : List Pending) → Holds geo self.old queue q → Holds geo self.new queue q }
+    {
+        self.nodes.reserve(updates)?;
+        let numbers = self.nodes.len().saturating_add(updates);
+        self.taken.reserve(numbers)?;
+        self.ready.make_room(numbers)?;
+        self.chains.reserve(cells)
+    }
+
+    /// Where nothing is pending, forgets what was: the numbers begin anew. The memory is kept.
+    pub fn begin_anew(&mut self)
+        ensures { (geo : Numbers) (queue : Queue) (q : List Pending) → Holds geo self.old queue q → (queue' : Queue) × Holds geo self.new queue' q }
+    {
+        if self.pending == 0 {
+            self.nodes.clear();
+            self.chains.clear();
+        }
+    }
+
+    /// Adds an update, which waits for the last pending one of its own cell and of each of these.
+    pub fn add(&mut self, geometry: &Geometry, change: Change, after: &[Cell])
+        requires held { IsTable geometry.now self.old }
+        requires cells { AreCells geometry.now (update_of change after.now) }
+        requires room { HasRoom self.old 1 (1 + length after.now) }
+        ensures held { (queue : Queue) (q : List Pending) → Holds geometry.now self.old queue q
+            → Holds geometry.now self.new (issued (home_of geometry.now) (update_of change after.now) queue) (update_of change after.now ∷ q) }
+        ensures room { (updates cells : ℕ) → HasRoom self.old (updates + 1) (cells + (1 + length after.now)) → HasRoom self.new updates cells }
+    {
+        let number = self.nodes.len() as u32;
+        let own = change.cell();
+        let waiting = self.wait(geometry, own, after, number);
+        let home = own.home(geometry);
+        self.latest[own.place(geometry)] = number + 1;
+        if waiting == 0 {
+            self.ready.push(home, number);
+        }
+        self.nodes.push_reserved(Node {
+            home,
+            change: Some(change),
+            waiting,
+            waiters: Chain::empty(),
+        });
+        self.pending += 1;
+    }
+
+    /// Puts an update behind the last pending one of its own cell and of each of these, and says behind how many.
+    fn wait(&mut self, geometry: &Geometry, own: Cell, after: &[Cell], number: u32) -> usize
+        requires held { IsTable geometry.now self.old }
+        requires own { IsCell geometry.now (cell own) }
+        requires after { All (IsCell geometry.now) (map cell after.now) }
+        requires room { 1 + length after.now ≤ self.old.chains.room }
+        ensures behind { IsBehind self.old self.new number (lasts geometry.now self.old (cell own ∷ map cell after.now)) }
+        ensures count { result ≡ length (lasts geometry.now self.old (cell own ∷ map cell after.now)) }
+    {
+        let mut waiting = self.wait_for(geometry, own, number);
+        for earlier in after {
+            waiting += self.wait_for(geometry, *earlier, number);
+        }
+        waiting
+    }
+
+    /// Puts an update behind the last pending one of a cell, if there is one, and says behind how many.
+    fn wait_for(&mut self, geometry: &Geometry, earlier: Cell, number: u32) -> usize
+        requires cell { IsCell geometry.now (cell earlier) }
+        requires last { MayWait geometry.now self.old (cell earlier) }
+        ensures behind { IsBehind self.old self.new number (lasts geometry.now self.old (cell earlier ∷ [])) }
+        ensures count { result ≡ length (lasts geometry.now self.old (cell earlier ∷ [])) }
+    {
+        let last = self.latest[earlier.place(geometry)];
+        if last == 0 {
+            return 0;
+        }
+        let place = (last - 1) as usize;
+        let waiters = self.nodes[place].waiters;
+        self.nodes[place].waiters = self.chains.put(number, waiters);
+        1
+    }
+}
