@@ -38,7 +38,7 @@ module _ (home : Cell → ℕ) (queue : Queue) (q : List Pending) (r : Represent
   pub is_pending : (a : ℕ) (e : Entry) → Contains (queue.lists a) e → IsTrue (queue.pending e.id)
   is_pending a e m = r.pending e.id ∙ has_from r.entries e (within a e m)
 
-  listed : (e : Entry) → Contains r.entries e → Contains (queue.lists (home (cell_of e.change))) e
+  pub listed : (e : Entry) → Contains r.entries e → Contains (queue.lists (home (cell_of e.change))) e
   listed e m = subst (λ l. Contains l e) (sym (r.lists (home (cell_of e.change)))) (at_to home (home (cell_of e.change)) r.entries e m refl)
 
   pub entry_of : (i : ℕ) → IsTrue (queue.pending i) → (e : Entry) × Contains (queue.lists (home (cell_of e.change))) e × (e.id ≡ i)

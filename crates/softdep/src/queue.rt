@@ -5,10 +5,14 @@ ghost use Rattle.ordering.specs.Cuts.{IsClosed};
 ghost use Rattle.queue_model.specs.Blocks.{home_of};
 ghost use Rattle.queue_model.specs.Files.{updates};
 ghost use Rattle.queue_model.specs.Sync.{IsLeastReady};
+ghost use Rattle.std.specs.Prelude.{IsTrue};
+ghost use Rattle.std.specs.Option.{option_copied};
+ghost use Rattle.model.specs.Layout.{is_data_address};
+ghost use Rattle.softdep_queue.specs.Contents.{last_bytes};
 ghost use Rattle.softdep.specs.Queued.{fresh_queue, pending_of};
 
 use http_server::Log;
-use layout::{Geometry, Refusal};
+use layout::{Block, Geometry, Refusal};
 use softdep_queue::Table;
 use std::alloc::Global;
 use std::marker::Model;
@@ -64,5 +68,13 @@ impl Queue {
         ensures closed { IsClosed (updates self.now.written) self.now.cut }
     {
         self.table.least_ready()
+    }
+
+    /// The bytes that the last pending update of a data block gives it; `None` where no update of it is pending.
+    pub fn contents(&self, address: u32) -> Option<&Block>
+        requires { IsTrue (is_data_address self.now.geometry address) }
+        ensures { option_copied result ≡ last_bytes (pending_of self.now) address }
+    {
+        self.table.contents(&self.geometry, address)
     }
 }

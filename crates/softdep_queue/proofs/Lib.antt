@@ -11,3 +11,4 @@ mod Asked
 mod Rooms
 mod Waits
 mod Additions
+mod Contained

@@ -6,3 +6,4 @@ pub mod Adding
 pub mod Taking
 pub mod Retiring
 pub mod Returning
+pub mod Contents

@@ -7,8 +7,17 @@ ghost use Rattle.queue_model.specs.Sync.{HasReady, IsLeastReady};
 ghost use Rattle.queue_model.specs.Entries.{Queue};
 ghost use Rattle.stacks.specs.Stacks.{count_of};
 ghost use Rattle.softdep_queue.specs.Ties.{Holds};
+ghost use Rattle.std.specs.Prelude.{IsTrue, Some};
+ghost use Rattle.model.specs.Cells.{SetBytes};
+ghost use Rattle.softdep_queue.specs.Ties.{Shows};
+ghost use Rattle.std.specs.Option.{option_copied};
+ghost use Rattle.model.specs.Layout.{is_data_address};
+ghost use Rattle.softdep_queue.specs.Rooms.{IsTable};
+ghost use Rattle.softdep_queue.specs.Contents.{last_bytes};
 
 use crate::Table;
+use layout::{Block, Geometry};
+use updates::{Cell, Change};
 
 impl Table {
     /// How many updates are pending.
@@ -33,5 +42,28 @@ impl Table {
         ensures on_volume { IfSome result (λ address. address < count_of self.now.ready) }
     {
         self.ready.least()
+    }
+
+    /// The bytes that the last pending update of a data block gives it; `None` where no update of it is pending.
+    pub fn contents(&self, geometry: &Geometry, address: u32) -> Option<&Block>
+        requires address { IsTrue (is_data_address geometry.now address) }
+        requires held { IsTable geometry.now self.now }
+        ensures { (queue : Queue) (q : List Pending) → Holds geometry.now self.now queue q → option_copied result ≡ last_bytes q address }
+    {
+        let last = self.latest[Cell::Block(address).place(geometry)];
+        if last == 0 {
+            return None;
+        }
+        bytes_in(&self.nodes[(last - 1) as usize].change)
+    }
+}
+
+/// The bytes of a change of a whole block.
+fn bytes_in(change: &Option<Change>) -> Option<&Block>
+    ensures { (a : ℕ) (bytes : List ℕ) → Shows change.now (SetBytes a bytes) → option_copied result ≡ Some bytes }
+{
+    match change {
+        Some(Change::SetBytes(_, bytes)) => Some(bytes),
+        _ => None,
     }
 }
