@@ -116,7 +116,10 @@ mod tests {
         assert_eq!(rt; ready.least(), Some(5));
         assert_eq!(rt; ready.pop(5), Some(0));
         assert_eq!(rt; ready.least(), Some(70));
-        assert_eq!(rt; (ready.pop(70), ready.pop(70), ready.pop(70)), (Some(1), Some(2), None));
+        assert_eq!(rt;
+            (ready.pop(70), ready.pop(70), ready.pop(70)),
+            (Some(1), Some(2), None)
+        );
         assert_eq!(rt; ready.least(), None);
         Ok(())
     }
