@@ -53,6 +53,13 @@ impl Queue {
         })
     }
 
+    /// The geometry of the volume.
+    pub fn geometry(&self) -> Geometry
+        ensures { result ≡ self.now.geometry }
+    {
+        self.geometry
+    }
+
     /// How many updates are pending.
     pub fn pending(&self) -> usize
         ensures count { result ≡ length (pending_of self.now) }
