@@ -4,8 +4,8 @@ use Rattle.std.proofs.lemmas.Bool.{cases_eq, cases_lt, cond-true, cond-false, eq
 use Rattle.std.specs.Vec.{vec_len, with_items}
 use Rattle.std.proofs.lemmas.List.{with_items_is, ext_get_or, get_or_past, get_or-replicate, length-replicate}
 use Rattle.std.proofs.lemmas.List.FromFn.{length-map-range_with_len, get_or-map-range_with_len}
-use Rattle.marks.specs.Marks.{IsLeastMarked, NothingMarked}
-use Rattle.marks.specs.Words.{bit, bits, Tells, ChangesBit, ClearsBit, IsLeastOfWord, IsFirstWord, NoWord, IsLadder}
+use Rattle.marks.specs.Marks.{IsLeastMarked, IsNextMarked, NothingMarked, NothingMarkedFrom}
+use Rattle.marks.specs.Words.{bit, bits, Tells, ChangesBit, ClearsBit, IsLeastOfWord, IsFirstWord, NoWord, IsLadder, NoneInWord, IsNextBit, NoBitFrom}
 use Rattle.marks.proofs.Bits.{bit_of_no_word, word_of_bit}
 
 -- ---- the list of marks
@@ -240,3 +240,57 @@ module _ (count : ℕ) (numbers groups tops : List ℕ) (ladder : IsLadder count
         marked = mark_is_bit numbers count n low ∙ least.is_set;
         least = λ m below. let inside : m < count = omega arith in mark_is_bit numbers count m inside ∙ least.least m below;
       }
+
+  -- and the least set bit from one on is its next mark
+  pub next_mark : (from n : ℕ) → IsNextBit numbers from n → IsNextMarked (bits numbers count) from n
+  next_mark from n next =
+      let low : n < count = within n next.is_set in
+      record {
+        above = next.above;
+        within = omega (arith, length_of_bits numbers count, low);
+        marked = mark_is_bit numbers count n low ∙ next.is_set;
+        least = λ m high below. mark_is_bit numbers count m (omega (arith, below, low)) ∙ next.least m high below;
+      }
+
+  pub no_mark_from : (from : ℕ) → NoBitFrom numbers from → NothingMarkedFrom (bits numbers count) from
+  no_mark_from from none n high = elim (cases_lt n count) [
+    | inl low ↦ mark_is_bit numbers count n low ∙ none n high
+    | inr past ↦ no_mark_past numbers count n past
+  ]
+
+-- ---- the next bit from one on
+
+-- past the word of a bit the next bit is the least one of the next word that is not 0
+pub next_past : (words : List ℕ) (from word number : ℕ) → NoneInWord words from → from / 64 < word → ((w : ℕ) → from / 64 < w → w < word → get_or words w 0 ≡ 0) → IsLeastOfWord words word number → IsNextBit words from number
+next_past words from word number none past empty least = record {
+  above = omega (arith, past, least.in_word);
+  is_set = least.is_set;
+  least = λ n high low. elim (cases_eq (n / 64) (from / 64)) [
+    | inl same ↦ none n high same
+    | inr other ↦ elim (cases_eq (n / 64) word) [
+      | inl here ↦ least.least n here low
+      | inr before ↦ bit_of_no_word words n (empty (n / 64) (omega (arith, high, other)) (omega (arith, low, before, least.in_word)))
+    ]
+  ];
+}
+
+pub none_past_word : (words : List ℕ) (from : ℕ) → NoneInWord words from → ((w : ℕ) → from / 64 < w → get_or words w 0 ≡ 0) → NoBitFrom words from
+none_past_word words from none empty n high = elim (cases_eq (n / 64) (from / 64)) [
+  | inl same ↦ none n high same
+  | inr other ↦ bit_of_no_word words n (empty (n / 64) (omega (arith, high, other)))
+]
+
+module _ (above below : List ℕ) (tells : Tells above below) where
+  -- a word is 0 if the bit above it is not set, and is not if it is
+  pub no_word : (w : ℕ) → bit above w ≡ false → get_or below w 0 ≡ 0
+  no_word w e = let low : get_or below w 0 ≤ 0 = ltb-false 0 (get_or below w 0) (sym (tells w) ∙ e) in omega (arith, low)
+
+  pub some_word : (w : ℕ) → bit above w ≡ true → 0 < get_or below w 0
+  some_word w e = ltb-true 0 (get_or below w 0) (sym (tells w) ∙ e)
+
+  pub next_told : (from word number : ℕ) → NoneInWord below from → IsNextBit above (from / 64 + 1) word → IsLeastOfWord below word number → IsNextBit below from number
+  next_told from word number none next least =
+      next_past below from word number none (omega (arith, next.above)) (λ w high low. no_word w (next.least w (omega (arith, high)) low)) least
+
+  pub none_told : (from : ℕ) → NoneInWord below from → NoBitFrom above (from / 64 + 1) → NoBitFrom below from
+  none_told from none empty = none_past_word below from none (λ w high. no_word w (empty w (omega (arith, high))))

@@ -51,3 +51,31 @@ pub record IsFirstWord (words : List ℕ) (word : ℕ) : Type 0 where
 -- each word is 0
 abbrev pub NoWord : List ℕ → Type 0
 NoWord words = (w : ℕ) → slice_index words w ≡ 0
+
+-- the number is the least one from this one on whose bit is set in the same word, or there is none
+pub record IsNextInWord (words : List ℕ) (from number : ℕ) : Type 0 where
+  pub above : from ≤ number
+  pub in_word : number / 64 ≡ from / 64
+  pub is_set : bit words number ≡ true
+  pub least : (n : ℕ) → from ≤ n → n < number → bit words n ≡ false
+
+abbrev pub NoneInWord : List ℕ → ℕ → Type 0
+NoneInWord words from = (n : ℕ) → from ≤ n → n / 64 ≡ from / 64 → bit words n ≡ false
+
+-- the word is the first one from this one on that is not 0, or there is none
+pub record IsNextWord (words : List ℕ) (from word : ℕ) : Type 0 where
+  pub above : from ≤ word
+  pub some : 0 < slice_index words word
+  pub first : (w : ℕ) → from ≤ w → w < word → slice_index words w ≡ 0
+
+abbrev pub NoWordFrom : List ℕ → ℕ → Type 0
+NoWordFrom words from = (w : ℕ) → from ≤ w → slice_index words w ≡ 0
+
+-- the number is the least one from this one on whose bit is set, or there is none
+pub record IsNextBit (words : List ℕ) (from number : ℕ) : Type 0 where
+  pub above : from ≤ number
+  pub is_set : bit words number ≡ true
+  pub least : (n : ℕ) → from ≤ n → n < number → bit words n ≡ false
+
+abbrev pub NoBitFrom : List ℕ → ℕ → Type 0
+NoBitFrom words from = (n : ℕ) → from ≤ n → bit words n ≡ false

@@ -6,11 +6,11 @@
 mod words;
 
 ghost use Rattle.std.specs.Prelude.{◌≡◌, ◌<◌, true, false, length, replicate, slice_set, slice_index_or, IfOk, MatchOption};
-ghost use Rattle.marks.specs.Marks.{IsLeastMarked, NothingMarked};
+ghost use Rattle.marks.specs.Marks.{IsLeastMarked, IsNextMarked, NothingMarked, NothingMarkedFrom};
 
 use std::alloc::{AllocError, Global};
 use std::marker::Model;
-use words::{clear_bit, first_word, has_bit, least_bit, set_bit, zeroes};
+use words::{clear_bit, first_word, has_bit, least_bit, next_number, set_bit, zeroes};
 
 /// Marks of the numbers below a bound: a list that has, for each of them, whether it is marked.
 #[derive(Drop)]
@@ -102,6 +102,14 @@ impl Marks {
         let number = least_bit(&self.numbers, word);
         Some(number as u32)
     }
+
+    /// The least marked number from this one on, or `None` where none is marked.
+    pub fn next(&self, from: u32) -> Option<u32>
+        ensures { MatchOption result (NothingMarkedFrom self.now from) (λ number. IsNextMarked self.now from number) }
+    {
+        let number = next_number(&self.numbers, &self.groups, &self.tops, from as usize)?;
+        Some(number as u32)
+    }
 }
 
 #[cfg(test)]
@@ -165,6 +173,26 @@ mod tests {
         let mut one = Marks::new(rt.alloc(), 1)?;
         mark(&mut one, 0);
         assert_eq!(rt; one.least(), Some(0));
+        assert_eq!(rt; (one.next(0), one.next(1)), (Some(0), None));
+        Ok(())
+    }
+
+    #[test]
+    fn finds_the_next_of_what_is_marked(rt: HostRuntime) -> Result<(), AllocError> {
+        let mut marks = Marks::new(rt.alloc(), 600_000)?;
+        assert_eq!(rt; marks.next(0), None);
+        let numbers = [1, 63, 64, 130, 4_095, 4_096, 262_143, 262_144, 599_999];
+        for number in numbers {
+            mark(&mut marks, number);
+        }
+        let mut from = 0;
+        for number in numbers {
+            assert_eq!(rt; marks.next(from), Some(number), "from {from}");
+            assert_eq!(rt; marks.next(number), Some(number));
+            from = number + 1;
+        }
+        assert_eq!(rt; marks.next(600_000), None);
+        assert_eq!(rt; marks.next(u32::MAX), None);
         Ok(())
     }
 }
