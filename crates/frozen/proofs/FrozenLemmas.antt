@@ -74,22 +74,29 @@ module _ (kept : Kept) (frame : KeepsFrame kept) where
     }
 
 -- one more data block leaves the frame as it is
-pub frame_stays : (kept : Kept) (a : ℕ) (block : List ℕ) → KeepsFrame kept → IsTrue (is_data_address kept.geometry a) → IsBlock block
+-- a block behind the superblock may stand in the place of another, if it has a group's magic and number where it is that group's block of maps
+pub frame_with : (kept : Kept) (a : ℕ) (block : List ℕ) → KeepsFrame kept → 0 < a → a < block_count kept.geometry → IsBlock block → ((g : ℕ) → group_block kept.geometry g ≡ a → IsGroupBlock g block)
     → KeepsFrame (record { geometry = kept.geometry; blocks = slice_set kept.blocks a (Some block) })
-frame_stays kept a block frame at is = record {
+frame_with kept a block frame behind on_volume is maps = record {
   geometry = frame.geometry;
   count = length-set kept.blocks a (Some block) ∙ frame.count;
   whole = λ b bytes e. elim (cases_eq b a) [
     | inl same ↦ subst IsBlock (same_Some block bytes (sym (here b same) ∙ e)) is
     | inr differs ↦ frame.whole b bytes (sym (other b differs) ∙ e)
   ];
-  frame = λ b t. subst IsSome (sym (other b (no_data b t))) (frame.frame b t);
-  first = subst (λ o. IsSuper kept.geometry (unwrap_or o [])) (sym (other 0 (no_data 0 (first_is_frame kept frame)))) frame.first;
-  group_blocks = λ g b. subst (λ o. IsGroupBlock g (unwrap_or o [])) (sym (other (group_block kept.geometry g) (no_data (group_block kept.geometry g) (maps_are_frame kept frame g b)))) (frame.group_blocks g b);
+  frame = λ b t. elim (cases_eq b a) [
+    | inl same ↦ subst IsSome (sym (here b same)) refl
+    | inr differs ↦ subst IsSome (sym (other b differs)) (frame.frame b t)
+  ];
+  first = subst (λ o. IsSuper kept.geometry (unwrap_or o [])) (sym (other 0 (λ e. omega (arith, behind, e)))) frame.first;
+  group_blocks = λ g b. elim (cases_eq (group_block kept.geometry g) a) [
+    | inl same ↦ subst (λ o. IsGroupBlock g (unwrap_or o [])) (sym (here (group_block kept.geometry g) same)) (maps g same)
+    | inr differs ↦ subst (λ o. IsGroupBlock g (unwrap_or o [])) (sym (other (group_block kept.geometry g) differs)) (frame.group_blocks g b)
+  ];
 }
   where
     low : a < length kept.blocks
-    low = omega (arith, (data_range kept.geometry frame.geometry a at).1, frame.count)
+    low = omega (arith, on_volume, frame.count)
 
     here : (b : ℕ) → b ≡ a → kept_at (slice_set kept.blocks a (Some block)) b ≡ Some block
     here b same = ap (kept_at (slice_set kept.blocks a (Some block))) same ∙ get_or-set_same kept.blocks a (Some block) None low
@@ -97,6 +104,9 @@ frame_stays kept a block frame at is = record {
     other : (b : ℕ) → (b ≡ a → ⊥) → kept_at (slice_set kept.blocks a (Some block)) b ≡ kept_at kept.blocks b
     other b differs = get_or-set_other kept.blocks a b (Some block) None differs
 
-    no_data : (b : ℕ) → IsTrue (is_frame kept.geometry b) → b ≡ a → ⊥
-    no_data b t same =
-        both_ways (is_data_address kept.geometry a) (subst (λ n. IsFalse (is_data_address kept.geometry n)) same (not-true (is_data_address kept.geometry b) (and_parts (ltb b (block_count kept.geometry)) (not (is_data_address kept.geometry b)) t).1)) at
+-- so may any block in the place of a data block
+pub frame_stays : (kept : Kept) (a : ℕ) (block : List ℕ) → KeepsFrame kept → IsTrue (is_data_address kept.geometry a) → IsBlock block
+    → KeepsFrame (record { geometry = kept.geometry; blocks = slice_set kept.blocks a (Some block) })
+frame_stays kept a block frame at is =
+    let range = data_range kept.geometry frame.geometry a at in
+    frame_with kept a block frame (omega (arith, range.0)) (omega (arith, range.1)) is (λ g e. absurd (maps_are_no_data kept.geometry frame.geometry g a at e))

@@ -1,3 +1,4 @@
 pub mod Kept
 pub mod Loading
 pub mod Shared
+pub mod Installed

@@ -1,21 +1,31 @@
-ghost use Rattle.std.specs.Prelude.{◌≡◌, ℕ, ◌/◌, ◌<◌, IsTrue};
+ghost use Rattle.std.specs.Prelude.{◌≡◌, ℕ, ◌/◌, ◌<◌, IsTrue, map};
 ghost use Rattle.std.specs.Option.{option_copied, option_map_or};
 ghost use Rattle.frozen.specs.Kept.{KeepsFrame, KeepsMetadata, frozen_view, kept_at, kept_bytes};
 ghost use Rattle.model.specs.Layout.{inode_count, group_block, inode_block, is_number};
 ghost use Rattle.model.specs.Uses.{record_use, use_at, claim_at, is_sound_at, is_directory_at};
 ghost use Rattle.model.specs.Slots.{Absent, slot, slot_in};
 ghost use Rattle.model.specs.Image.{IsGroupBlock};
+ghost use Rattle.std.specs.List.{All};
+ghost use Rattle.frozen.specs.Installed.{FitsIn, standing, with_blocks};
 
 use crate::Held;
 use inode::{INDIRECT_POSITION, Record};
 use layout::{Block, Geometry};
 use std::marker::Model;
+use std::sync::Arc;
 
 /// The metadata of an image as it was at one moment: its superblock, its blocks of maps and of inodes, the indirect
 /// blocks that sound inodes claim, and the blocks that sound directories claim. None of them is missing.
 #[derive(Drop)]
 pub struct Frozen {
     held: Held,
+}
+
+/// A block, and the address at which it is to stand.
+#[derive(Drop)]
+pub struct Placed {
+    pub address: u32,
+    pub block: Arc<Block>,
 }
 
 impl Model for Frozen {
@@ -129,5 +139,15 @@ impl Frozen {
         }
         let claimed = self.held.claim_at(directory, position)?;
         self.held.block(claimed)
+    }
+
+    /// Puts these blocks in the places of those of their addresses, or keeps them as more, the first first. What is kept
+    /// then has to be all metadata again.
+    pub fn install(&mut self, blocks: Vec<Placed>)
+        requires fits { All (FitsIn self.old.geometry) blocks.items }
+        requires metadata { KeepsMetadata (with_blocks self.old (map standing blocks.items)) }
+        ensures { self.new ≡ with_blocks self.old (map standing blocks.items) }
+    {
+        self.held.install(blocks);
     }
 }

@@ -1,11 +1,15 @@
-ghost use Rattle.std.specs.Prelude.{◌≡◌, ◌<◌, ◌*◌, IsTrue, Some, OnOk, OnErr, slice_set};
+ghost use Rattle.std.specs.Prelude.{◌≡◌, ◌<◌, ◌*◌, IsTrue, Some, OnOk, OnErr, slice_set, map};
+ghost use Rattle.std.specs.Arc.{arc_value};
 ghost use Rattle.std.specs.Option.{option_copied};
 ghost use Rattle.frozen.specs.Kept.{KeepsFrame, frozen_view, kept_at, kept_bytes, is_frame};
 ghost use Rattle.model.specs.Layout.{inode_count, group_block, inode_block, is_data_address, is_number};
 ghost use Rattle.model.specs.Uses.{record_use, is_used, value_at, use_at, claim_at, is_sound_at, is_directory_at};
 ghost use Rattle.model.specs.View.{u32_at};
 ghost use Rattle.model.specs.Image.{IsGroupBlock};
+ghost use Rattle.frozen.specs.Installed.{FitsIn, standing, with_block, with_blocks};
+ghost use Rattle.std.specs.List.{All};
 
+use crate::Placed;
 use inode::{
     DIRECT_POINTERS, INDIRECT_POSITION, RECORD_BYTES, Record, a_record_is_read_from_its_bytes,
 };
@@ -155,6 +159,25 @@ impl Held {
         let shared = Arc::new(alloc, *block)?;
         self.blocks[address as usize] = Some(shared);
         Ok(())
+    }
+
+    /// Puts these blocks in the places of those of their addresses, or keeps them as more, the first first.
+    pub(crate) fn install(&mut self, blocks: Vec<Placed>)
+        requires { All (FitsIn self.old.geometry) blocks.items }
+        ensures { self.new ≡ with_blocks self.old (map standing blocks.items) }
+    {
+        for placed in blocks {
+            self.put(placed);
+        }
+    }
+
+    /// Puts a block in the place of the one of its address, or keeps it as one more.
+    fn put(&mut self, placed: Placed)
+        requires { FitsIn self.old.geometry placed }
+        ensures put { self.new ≡ with_block self.old placed.address (arc_value placed.block) }
+        ensures frame { KeepsFrame self.new }
+    {
+        self.blocks[placed.address as usize] = Some(placed.block);
     }
 
     /// Whether the number is that of an inode that is looked at.

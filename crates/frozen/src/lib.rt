@@ -7,6 +7,6 @@ mod loading;
 #[cfg(test)]
 mod tests;
 
-pub use frozen::Frozen;
+pub use frozen::{Frozen, Placed};
 pub(crate) use held::Held;
 pub use loading::load;
