@@ -1,0 +1,184 @@
+ghost use Rattle.std.specs.Prelude.{◌≡◌, ℕ, ◌<◌, List, [], ◌∷◌, ◌++◌, OnOk, IfOk, map, slice_index_or, replicate, None, unwrap_or, MatchOption, length, IsTrue, IsFalse, ◌≤◌};
+ghost use Rattle.std.specs.List.{All};
+ghost use Rattle.std.specs.Arc.{arc_value};
+ghost use Rattle.model.specs.Layout.{Geometry as Numbers};
+ghost use Rattle.model.specs.Cells.{Update as Changed, updated, updated_all};
+ghost use Rattle.machine.specs.Room.{IsFreeBlock, has_number, unmarked_blocks};
+ghost use Rattle.free_space.specs.Free.{IsFreeOf, IsLeastNumber, IsNextBlock};
+ghost use Rattle.ordering.specs.Cuts.{cell_of};
+ghost use Rattle.updates.specs.Values.{change as change_of};
+ghost use Rattle.updates.specs.Places.{IsCell, IsUpdate};
+ghost use Rattle.model.specs.View.{View};
+ghost use Rattle.model.specs.Metadata.{SameMetadata};
+ghost use Rattle.model.specs.Image.{IsBlock, image_view};
+ghost use Rattle.frozen.specs.Kept.{Kept, KeepsMetadata, IsKeptOf, frozen_view, kept_at};
+ghost use Rattle.metadata.specs.Shown.{Shows};
+ghost use Rattle.frozen.specs.Installed.{standing, with_blocks};
+ghost use Rattle.metadata.specs.Staged.{IsStaged, NoneAt, IsLastAt, AreBitsOf, IsBitOf, after, bit, bit as update_of, changes};
+
+use crate::{Bit, Staged};
+use free_space::FreeSpace;
+use frozen::{Frozen, Placed};
+use layout::{BLOCK_BYTES, Block};
+use std::alloc::{AllocError, Global};
+use std::marker::Model;
+use std::sync::Arc;
+use updates::{Change, Update};
+
+/// The metadata that users see.
+#[derive(Drop)]
+pub struct Metadata {
+    frozen: Frozen,
+    free: FreeSpace,
+}
+
+impl Model for Metadata {
+    ghost use Rattle.frozen.specs.Kept.{Kept};
+    ghost use Rattle.metadata.specs.Shown.{IsMetadata};
+
+    ghost Value = { Kept };
+
+    ghost view = { λ metadata. metadata.frozen };
+
+    ghost invariant = { λ metadata. IsMetadata metadata.frozen metadata.free };
+}
+
+impl Metadata {
+    /// The metadata that was loaded. Takes memory for the marks of what may be given out.
+    pub fn new(alloc: Global, frozen: Frozen) -> Result<Metadata, AllocError>
+        ensures { IfOk result (λ metadata. metadata ≡ frozen) }
+    {
+        let free = FreeSpace::of(alloc, &frozen)?;
+        Ok(Metadata { frozen, free })
+    }
+
+    /// Its blocks as they are now.
+    pub fn frozen(&self) -> &Frozen
+        ensures { result.now ≡ self.now }
+    {
+        &self.frozen
+    }
+
+    /// How many data blocks are not marked.
+    pub fn unmarked_blocks(&self) -> u32
+        ensures { result ≡ unmarked_blocks self.now.geometry (frozen_view self.now) }
+    {
+        self.free.unmarked_blocks()
+    }
+
+    /// The least inode number that may be given out; `None` where each is marked.
+    pub fn least_number(&self) -> Option<u32>
+        ensures { MatchOption result (IsFalse (has_number self.now.geometry (frozen_view self.now)))
+            (λ number. IsTrue (has_number self.now.geometry (frozen_view self.now)) × IsLeastNumber self.now.geometry (frozen_view self.now) number) }
+    {
+        self.free.least_number()
+    }
+
+    /// The least data block from this address on that may be given out; `None` where there is none.
+    pub fn next_block(&self, from: u32) -> Option<u32>
+        ensures { MatchOption result ((a : ℕ) → from ≤ a → IsFreeBlock self.now.geometry (frozen_view self.now) a → ⊥) (IsNextBlock self.now.geometry (frozen_view self.now) from) }
+    {
+        self.free.next_block(from)
+    }
+
+    /// Makes these changes ready, the first first. Takes memory for each; what users see stays.
+    pub fn stage(&self, alloc: Global, updates: &[Update]) -> Result<Staged, AllocError>
+        requires { All (IsUpdate self.now.geometry) updates.now }
+        ensures { IfOk result (IsStaged self.now (changes updates.now)) }
+    {
+        let mut staged = Staged::new(alloc);
+        for update in updates {
+            self.stage_one(alloc, &mut staged, &update.change)?;
+        }
+        Ok(staged)
+    }
+
+    /// Lets users see what was made ready. What is kept then has to be all metadata again.
+    pub fn install(&mut self, staged: Staged)
+        requires staged { (us : List Changed) × IsStaged self.old us staged }
+        requires metadata { KeepsMetadata (after self.old staged) }
+        ensures { self.new ≡ after self.old staged }
+    {
+        note_all(&mut self.free, staged.bits.as_slice());
+        self.frozen.install(staged.blocks);
+    }
+
+    /// Makes one more change ready.
+    fn stage_one(
+        &self,
+        alloc: Global,
+        staged: &mut Staged,
+        change: &Change,
+    ) -> Result<(), AllocError>
+        requires { IsCell self.now.geometry (cell_of (change_of change.now)) }
+        ensures { OnOk result ((us : List Changed) → IsStaged self.now us staged.old → IsStaged self.now (us ++ change_of change.now ∷ []) staged.new) }
+    {
+        let geometry = self.frozen.geometry();
+        let address = change.cell().home(&geometry);
+        let mut block = self.copy_of(staged.blocks.as_slice(), address);
+        change.put(&geometry, &mut block);
+        let block = share(alloc, &block)?;
+        staged.blocks.push(Placed { address, block })?;
+        staged.note(change)
+    }
+
+    /// A copy of a block as it is with these in their places, and zeroes where it is none that is kept.
+    fn copy_of(&self, blocks: &[Placed], address: u32) -> Block
+        requires { address < length self.now.blocks }
+        ensures { result ≡ unwrap_or (kept_at (with_blocks self.now (map standing blocks.now)).blocks address) (replicate 1024 0) }
+    {
+        if let Some(place) = last_at(blocks, address) {
+            return *blocks[place].block;
+        }
+        match self.frozen.block(address) {
+            Some(block) => *block,
+            None => [0; BLOCK_BYTES],
+        }
+    }
+}
+
+/// Notes these new values of bits, the first first.
+fn note_all(free: &mut FreeSpace, bits: &[Bit])
+    requires { AreBitsOf free.old bits.now }
+    ensures { (geo : Numbers) (view : View) → All (IsBitOf geo) bits.now → IsFreeOf geo view free.old → IsFreeOf geo (updated_all view (map bit bits.now)) free.new }
+{
+    for bit in bits {
+        note(free, *bit);
+    }
+}
+
+/// Notes a new value of a bit.
+fn note(free: &mut FreeSpace, bit: Bit)
+    requires { AreBitsOf free.old (bit ∷ []) }
+    ensures { (geo : Numbers) (view : View) → IsBitOf geo bit → IsFreeOf geo view free.old → IsFreeOf geo (updated view (update_of bit)) free.new }
+{
+    match bit {
+        Bit::Number(number, marked) => free.set_number(number, marked),
+        Bit::Block(address, marked) => free.set_block(address, marked),
+    }
+}
+
+/// The last of these blocks that is to stand at an address.
+fn last_at(blocks: &[Placed], address: u32) -> Option<usize>
+    ensures { MatchOption result (NoneAt blocks.now address) (IsLastAt blocks.now address) }
+{
+    blocks.iter().rposition(|placed| placed.address == address)
+}
+
+/// A block with these bytes that may be shared.
+fn share(alloc: Global, block: &Block) -> Result<Arc<Block>, AllocError>
+    ensures bytes { IfOk result (λ shared. arc_value shared ≡ block.now) }
+    ensures whole { IfOk result (λ shared. IsBlock (arc_value shared)) }
+{
+    Ok(Arc::new(alloc, *block)?)
+}
+
+/// What is kept of an image shows what the image holds.
+pub fn what_is_kept_of_an_image_shows_it()
+    ensures { (kept : Kept) (image : List (List ℕ)) → IsKeptOf kept image → Shows kept (image_view kept.geometry image) }
+{}
+
+/// It is the metadata of each view that it shows, where all metadata is kept.
+pub fn what_is_kept_is_the_metadata_of_what_it_shows()
+    ensures { (kept : Kept) (users : View) → KeepsMetadata kept → Shows kept users → SameMetadata kept.geometry (frozen_view kept) users }
+{}
