@@ -1,0 +1,11 @@
+use Rattle.std.proofs.Common.{◌≡◌, ◌*◌, map}
+use Rattle.frozen.specs.Kept.{frozen_view}
+use Rattle.machine.specs.Effects.{names_below}
+use Rattle.live_paths.specs.Listed.{name_of}
+use Rattle.live_paths.proofs.listing.add_block.Given as goal
+
+-- the names of the slots before
+abbrev pub invariant-loop-slot : goal.invariant-loop-slot
+invariant-loop-slot l =
+    map name_of l.fn.names.items ≡ names_below l.frozen.geometry (frozen_view l.frozen) l.directory (16 * l.position)
+    → map name_of l.names.items ≡ names_below l.frozen.geometry (frozen_view l.frozen) l.directory l.slot

@@ -1,0 +1,5 @@
+pub mod Shown
+pub mod Parts
+pub mod Sought
+pub mod Walks
+pub mod Listed
