@@ -4,7 +4,10 @@ use Rattle.std.proofs.lemmas.List.{append_assoc, map-append, reverse-append}
 use Rattle.model.specs.Layout.{Geometry}
 use Rattle.model.specs.View.{View}
 use Rattle.model.specs.Image.{image_view}
-use Rattle.ordering.specs.Cuts.{Pending, IsClosed, seen, rest, joined, users_view}
+use Rattle.queue_model.specs.Sync.{Flushes, IsLeastReady}
+use Rattle.queue_model.specs.Sync as sync
+use Rattle.queue_model.specs.Flush.{ready}
+use Rattle.ordering.specs.Cuts.{Cell, Pending, IsClosed, seen, rest, joined, users_view}
 use Rattle.queue_model.specs.Blocks.{home_of}
 use Rattle.queue_model.specs.Flush.{taken}
 use Rattle.queue_model.specs.Files.{updates}
@@ -13,7 +16,7 @@ use Rattle.queue_model.specs.History as history
 use Rattle.queue_model.proofs.FlushLemmas.{ready_closed, taken_rest}
 use Rattle.queue_model.proofs.HistoryLemmas.{none_closed, none_seen, none_rest, joined_none, joined_joined, joined_rest, write_joins, history_closed, all_on_device}
 use Rattle.softdep.specs.Queued.{Queued, pending_of, flushed}
-use Rattle.softdep.specs.Syncing.{HasPut, IsHistory}
+use Rattle.softdep.specs.Syncing.{HasPut, IsHistory, AreFlushes, images_of}
 use Rattle.softdep.proofs.Flushed.{ready_of, pending_flushed}
 
 -- ---- what is on the device
@@ -87,3 +90,36 @@ history_done geo image held q image' held' q' h none =
 
 pub fewer : (queue : Queued) (a : ℕ) → IsClosed (updates queue.written) queue.cut → taken (ready_of queue a) + length (pending_of (flushed queue a)) ≡ length (pending_of queue)
 fewer queue a closed = ap (λ q. taken (ready_of queue a) + length q) (pending_flushed queue a closed) ∙ taken_rest (pending_of queue) (ready_of queue a) (ready_closed (home_of queue.geometry) a (pending_of queue))
+
+-- ---- block after block
+
+pub flushes_nothing : (geo : Geometry) (image : List (List ℕ)) (held : List (List (List ℕ))) (q : List Pending) → AreFlushes geo image held q image held q
+flushes_nothing geo image held q = record {
+  blocks = [];
+  flushes = sync.Stops;
+  more = [];
+  held_now = sym (append-nil held);
+  images = refl;
+}
+
+module _ (home : Cell → ℕ) (a : ℕ) where
+  flushes_push : {disk disk' : View} {q q' : List Pending} {blocks : List ℕ} → Flushes home disk q blocks disk' q' → IsLeastReady home q' a
+      → Flushes home disk q (blocks ++ a ∷ []) (seen disk' q' (ready home a q')) (rest q' (ready home a q'))
+  flushes_push sync.Stops least = sync.Goes a least sync.Stops
+  flushes_push (sync.Goes b ready_b flushes) least = sync.Goes b ready_b (flushes_push flushes least)
+
+  images_push : {disk disk' : View} {q q' : List Pending} {blocks : List ℕ} → Flushes home disk q blocks disk' q'
+      → images_of home disk q (blocks ++ a ∷ []) ≡ images_of home disk q blocks ++ seen disk' q' (ready home a q') ∷ []
+  images_push sync.Stops = refl
+  images_push {disk = disk} {q = q} (sync.Goes b ready_b flushes) = ap (λ l. seen disk q (ready home b q) ∷ l) (images_push flushes)
+
+pub flushes_more : (geo : Geometry) (image : List (List ℕ)) (held : List (List (List ℕ))) (q : List Pending) (image1 : List (List ℕ)) (held1 : List (List (List ℕ))) (q1 : List Pending) (image2 : List (List ℕ)) (held2 : List (List (List ℕ))) (a : ℕ)
+    → AreFlushes geo image held q image1 held1 q1 → IsLeastReady (home_of geo) q1 a → image_view geo image2 ≡ seen (image_view geo image1) q1 (ready (home_of geo) a q1) → held2 ≡ held1 ++ image2 ∷ []
+    → AreFlushes geo image held q image2 held2 (rest q1 (ready (home_of geo) a q1))
+flushes_more geo image held q image1 held1 q1 image2 held2 a h least view held_now = record {
+  blocks = h.blocks ++ a ∷ [];
+  flushes = subst (λ d. Flushes (home_of geo) (image_view geo image) q (h.blocks ++ a ∷ []) d (rest q1 (ready (home_of geo) a q1))) (sym view) (flushes_push (home_of geo) a h.flushes least);
+  more = h.more ++ image2 ∷ [];
+  held_now = held_now ∙ ap (λ l. l ++ image2 ∷ []) h.held_now ∙ append_assoc held h.more (image2 ∷ []);
+  images = map-append (image_view geo) h.more (image2 ∷ []) ∙ ap₂ (λ l v. l ++ v ∷ []) h.images view ∙ sym (images_push (home_of geo) a h.flushes);
+}

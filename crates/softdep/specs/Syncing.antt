@@ -1,10 +1,14 @@
 -- What a sync does to a queue and a device, whether it comes to its end or not.
-use Rattle.std.specs.Prelude.{◌≡◌, ℕ, Bool, List, [], ◌++◌, map, reverse}
+use Rattle.std.specs.Prelude.{◌≡◌, ℕ, Bool, List, [], ◌∷◌, ◌++◌, map, reverse}
 use Rattle.model.specs.Layout.{Geometry}
 use Rattle.model.specs.Image.{image_view}
-use Rattle.ordering.specs.Cuts.{Pending, IsClosed, seen, rest, joined}
+use Rattle.model.specs.View.{View}
+use Rattle.ordering.specs.Cuts.{Cell, Pending, IsClosed, seen, rest, joined}
 use Rattle.queue_model.specs.Files.{updates}
 use Rattle.queue_model.specs.History.{History}
+use Rattle.queue_model.specs.Blocks.{home_of}
+use Rattle.queue_model.specs.Flush.{ready}
+use Rattle.queue_model.specs.Sync.{Flushes}
 use Rattle.softdep.specs.Queued.{Queued, pending_of}
 
 -- nothing is issued, and a closed cut of what was pending is on the device too
@@ -23,3 +27,16 @@ pub record IsHistory (geo : Geometry) (image : List (List ℕ)) (held : List (Li
   pub held_now : held' ≡ held ++ more
   pub device : image_view geo image' ≡ seen (image_view geo image) q cut
   pub pending : q' ≡ rest q cut
+
+-- what a device holds after the flush of each of these blocks, the first first
+abbrev pub images_of : (Cell → ℕ) → View → List Pending → List ℕ → List View
+images_of home disk q [] = []
+images_of home disk q (a ∷ blocks) = seen disk q (ready home a q) ∷ images_of home (seen disk q (ready home a q)) (rest q (ready home a q)) blocks
+
+-- The device was flushed block after block, each the least then that had a ready update, and held no other images.
+pub record AreFlushes (geo : Geometry) (image : List (List ℕ)) (held : List (List (List ℕ))) (q : List Pending) (image' : List (List ℕ)) (held' : List (List (List ℕ))) (q' : List Pending) : Type 0 where
+  pub blocks : List ℕ
+  pub flushes : Flushes (home_of geo) (image_view geo image) q blocks (image_view geo image') q'
+  pub more : List (List (List ℕ))
+  pub held_now : held' ≡ held ++ more
+  pub images : map (image_view geo) more ≡ images_of (home_of geo) (image_view geo image) q blocks

@@ -7,7 +7,7 @@ ghost use Rattle.queue_model.specs.Blocks.{home_of};
 ghost use Rattle.queue_model.specs.Flush.{ready, taken};
 ghost use Rattle.device.specs.Writes.{HasFailed};
 ghost use Rattle.softdep.specs.Queued.{pending_of, flushed};
-ghost use Rattle.softdep.specs.Syncing.{HasPut, IsHistory};
+ghost use Rattle.softdep.specs.Syncing.{HasPut, IsHistory, AreFlushes};
 
 use crate::Queue;
 use device::Device;
@@ -60,6 +60,7 @@ impl Queue {
         ensures view { OnOk result (D.honest device.new → image_view self.old.geometry (D.image device.new) ≡ users_view (image_view self.old.geometry (D.image device.old)) (pending_of self.old)) }
         ensures put { HasPut self.old self.new }
         ensures history { D.honest device.new → IsHistory self.old.geometry (D.image device.old) (D.held device.old) (pending_of self.old) (D.image device.new) (D.held device.new) (pending_of self.new) }
+        ensures flushes { D.honest device.new → AreFlushes self.old.geometry (D.image device.old) (D.held device.old) (pending_of self.old) (D.image device.new) (D.held device.new) (pending_of self.new) }
         ensures few { length (D.held device.new) + length (pending_of self.new) ≤ length (D.held device.old) + length (pending_of self.old) }
         ensures error { IsOkUnless result Refusal.Device }
         ensures cause { IsErrOf result Refusal.Device → HasFailed (D.failures device.old) (D.failures device.new) }

@@ -2,14 +2,15 @@ use Rattle.std.proofs.Common.{◌≡◌, ◌+◌, ◌<◌, ◌≤◌, [], ◌∷
 use Rattle.std.proofs.lemmas.List.{length-set}
 use Rattle.model.specs.Layout.{block_count}
 use Rattle.model.specs.Image.{image_view}
-use Rattle.ordering.specs.Cuts.{seen}
+use Rattle.ordering.specs.Cuts.{seen, rest}
 use Rattle.queue_model.specs.Blocks.{home_of}
 use Rattle.queue_model.specs.Flush.{ready, taken}
 use Rattle.queue_model.proofs.FlushLemmas.{ready_closed}
 use Rattle.softdep.specs.Queued.{Queued, pending_of}
-use Rattle.softdep.specs.Syncing.{HasPut, IsHistory}
+use Rattle.queue_model.specs.Sync.{IsLeastReady}
+use Rattle.softdep.specs.Syncing.{HasPut, IsHistory, AreFlushes}
 use Rattle.softdep.proofs.Flushed.{ready_of, pending_flushed}
-use Rattle.softdep.proofs.Synced.{put_nothing, put_more, history_nothing, history_more, history_done, fewer}
+use Rattle.softdep.proofs.Synced.{put_nothing, put_more, history_nothing, history_more, history_done, flushes_nothing, flushes_more, fewer}
 use Rattle.softdep.proofs.queue.Queue.sync.Given.{Over}
 use Rattle.softdep.proofs.queue.Queue.sync.Goals as goal
 
@@ -22,6 +23,7 @@ loop-address-init g c = record {
   failures = refl;
   honest = λ h. h;
   history = λ h. history_nothing c.args.self.now.geometry (g.D.Device.image c.args.device.now) (g.D.Device.held c.args.device.now) (pending_of c.args.self.now);
+  flushes = λ h. flushes_nothing c.args.self.now.geometry (g.D.Device.image c.args.device.now) (g.D.Device.held c.args.device.now) (pending_of c.args.self.now);
 }
 
 -- ---- one flush
@@ -68,6 +70,16 @@ loop-address-preserved g c =
           (sym (ap pending_of c.in_ok-flush.ensures.flushed ∙ pending_flushed now c.in-Some.address c.in-Some.ensures.closed))
           (history_more geo (g.D.Device.image c.args.device.now) (g.D.Device.held c.args.device.now) (pending_of c.args.self.now) (g.D.Device.image c.loop-address.device) (g.D.Device.held c.loop-address.device) (pending_of now)
           (g.D.Device.image c.flush.new.device) (g.D.Device.held c.flush.new.device) (ready_of now c.in-Some.address) before (ready_closed (home_of now.geometry) c.in-Some.address (pending_of now)) view w.2);
+      flushes = λ h.
+          let geo = c.args.self.now.geometry in
+          let now = c.loop-address.self in
+          let before = i.flushes (c.in_ok-flush.ensures.honest h) in
+          let view = subst (λ x. image_view x (g.D.Device.image c.flush.new.device) ≡ seen (image_view x (g.D.Device.image c.loop-address.device)) (pending_of now) (ready (home_of x) c.in-Some.address (pending_of now))) i.put.geometry (c.in_ok-flush.ensures.view h) in
+          let least = subst (λ x. IsLeastReady (home_of x) (pending_of now) c.in-Some.address) i.put.geometry c.in-Some.ensures.least in
+          subst (AreFlushes geo (g.D.Device.image c.args.device.now) (g.D.Device.held c.args.device.now) (pending_of c.args.self.now) (g.D.Device.image c.flush.new.device) (g.D.Device.held c.flush.new.device))
+          (sym (ap pending_of c.in_ok-flush.ensures.flushed ∙ pending_flushed now c.in-Some.address c.in-Some.ensures.closed ∙ ap (λ x. rest (pending_of now) (ready (home_of x) c.in-Some.address (pending_of now))) i.put.geometry))
+          (flushes_more geo (g.D.Device.image c.args.device.now) (g.D.Device.held c.args.device.now) (pending_of c.args.self.now) (g.D.Device.image c.loop-address.device) (g.D.Device.held c.loop-address.device) (pending_of now)
+          (g.D.Device.image c.flush.new.device) (g.D.Device.held c.flush.new.device) c.in-Some.address before least view w.2);
     }
 
 pub returns-clause-view : goal.returns-clause-view

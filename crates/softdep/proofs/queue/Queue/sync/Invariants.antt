@@ -3,7 +3,7 @@ use Rattle.model.specs.Layout.{block_count}
 use Rattle.ordering.specs.Cuts.{IsClosed}
 use Rattle.queue_model.specs.Files.{updates}
 use Rattle.softdep.specs.Queued.{pending_of}
-use Rattle.softdep.specs.Syncing.{HasPut, IsHistory}
+use Rattle.softdep.specs.Syncing.{HasPut, IsHistory, AreFlushes}
 use Rattle.softdep.proofs.queue.Queue.sync.Given as goal
 
 abbrev pub invariant-loop-address : goal.invariant-loop-address
@@ -15,6 +15,7 @@ invariant-loop-address g l = record {
   failures : g.D.Device.failures l.device ≡ g.D.Device.failures l.fn.device;
   honest : g.D.Device.honest l.device → g.D.Device.honest l.fn.device;
   history : g.D.Device.honest l.device → IsHistory l.fn.self.geometry (g.D.Device.image l.fn.device) (g.D.Device.held l.fn.device) (pending_of l.fn.self) (g.D.Device.image l.device) (g.D.Device.held l.device) (pending_of l.self);
+  flushes : g.D.Device.honest l.device → AreFlushes l.fn.self.geometry (g.D.Device.image l.fn.device) (g.D.Device.held l.fn.device) (pending_of l.fn.self) (g.D.Device.image l.device) (g.D.Device.held l.device) (pending_of l.self);
 }
 
 abbrev pub decreases-loop-address : goal.decreases-loop-address

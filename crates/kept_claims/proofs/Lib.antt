@@ -1,0 +1,6 @@
+mod Views
+mod Since
+mod Grows
+mod Naming
+mod Data
+mod Commands

@@ -1,0 +1,246 @@
+-- The plans of the commands that change names give new metadata its bytes.
+use Rattle.std.proofs.Common.{◌≡◌, ◌<◌, ◌+◌, ◌-◌, ◌/◌, ℕ, true, false, List, [], ◌∷◌, inl, inr, refl, sym, ap, ◌∙◌, subst, IsTrue, IsFalse, arith}
+use Rattle.std.proofs.lemmas.Bool.{and_parts, both_ways}
+use Rattle.model.specs.Layout.{Geometry}
+use Rattle.model.specs.View.{View, Inode, free_inode, new_file}
+use Rattle.model.specs.Cells.{SetInode, SetNumber, SetBlock, SetBytes}
+use Rattle.model.specs.Uses.{blocks_of, is_sound_at, is_directory, value_at, IsClaim}
+use Rattle.model.specs.Reach.{IsReachableDirectory}
+use Rattle.model.specs.Rules.{ObeysRules}
+use Rattle.model.specs.Slots.{Slot, Empty, Good, slot}
+use Rattle.model.proofs.SlotLemmas.{reachable_directory, directory_number}
+use Rattle.ordering.specs.Cuts.{Cell, Record, NumberBit, BlockBit, Block, Pending, users_view}
+use Rattle.ordering.proofs.Data.{directory_mode}
+use Rattle.ordering.proofs.Records.{put_here, put_there, put_same}
+use Rattle.machine.specs.Cells.{with_slot}
+use Rattle.machine.specs.Effects.{with_links, new_directory}
+use Rattle.plans_data.specs.Append.{Holder, InRecord, InTable, InNewTable, IsKeptIn}
+use Rattle.plans_data.specs.Freeing.{cleared, freeing}
+use Rattle.plans_data.proofs.Blocks.{claims_indirect}
+use Rattle.plans_data.proofs.Used.{Direct, Middle, Last, uses}
+use Rattle.plans_naming.specs.Entries.{StandsAt, slot_written, no_entry}
+use Rattle.plans_naming.specs.Grow.{CanGrow, CanEnterGrown, empty_block, grown}
+use Rattle.plans_naming.specs.Create.{CanCreate, CanCreateGrown, born, creating, creating_grown}
+use Rattle.plans_naming.specs.Link.{CanLink, CanLinkGrown, raised, linking, linking_grown}
+use Rattle.plans_naming.specs.Make.{CanMake, CanMakeIn, CanMakeGrown, made, making, making_grown}
+use Rattle.plans_naming.specs.Move.{CanMove, CanMoveGrown, left, moving, moving_grown}
+use Rattle.plans_naming.specs.RemoveDirectory.{CanRemove, removing, removing_name}
+use Rattle.plans_naming.specs.Rename.{CanRename, renaming}
+use Rattle.plans_naming.specs.Unlink.{CanUnlink, lowered, unlinking, unlinking_last}
+use Rattle.kept_claims.proofs.Since.{Since, nothing, Data, Or, start as nothing_yet, number_on, block_on, bytes_on, given_on, record_on, links_on, empty_on, freeing_on, no_table, unmarked_no_table, data_no_table}
+use Rattle.kept_claims.proofs.Grows.{Gets, Grown, appended_on}
+
+-- the block is no new indirect block
+abbrev pub NotTable : ℕ → Holder → Type 0
+NotTable c InRecord = Unit {0}
+NotTable c (InTable table) = Unit {0}
+NotTable c (InNewTable x table) = c ≡ x → ⊥
+
+pub grown_no_table : (new : ℕ → ℕ → Type 0) → ((a : ℕ) → new 268 a → ⊥) → (b c : ℕ) (holder : Holder) → NotTable c holder → Grown new b holder 268 c → ⊥
+grown_no_table new none b c InRecord other (inl o) = none c o
+grown_no_table new none b c InRecord other (inr d) = omega (arith, d.0)
+grown_no_table new none b c (InTable table) other (inl o) = none c o
+grown_no_table new none b c (InTable table) other (inr d) = omega (arith, d.0)
+grown_no_table new none b c (InNewTable x table) other (inl (inl o)) = none c o
+grown_no_table new none b c (InNewTable x table) other (inl (inr d)) = omega (arith, d.0)
+grown_no_table new none b c (InNewTable x table) other (inr e) = other e.1
+
+not_own : (geo : Geometry) (v : View) (n k b : ℕ) (holder : Holder) → IsKeptIn geo v n k b holder → NotTable b holder
+not_own geo v n k b InRecord kept = tt
+not_own geo v n k b (InTable table) kept = tt
+not_own geo v n k b (InNewTable x table) kept = λ e. (kept.1).other (sym e)
+
+not_claimed : (geo : Geometry) (v : View) → ObeysRules geo v → (n k b : ℕ) (holder : Holder) → IsKeptIn geo v n k b holder → (d j c : ℕ) → IsClaim geo v d j c → NotTable c holder
+not_claimed geo v rules n k b InRecord kept d j c claim = tt
+not_claimed geo v rules n k b (InTable table) kept d j c claim = tt
+not_claimed geo v rules n k b (InNewTable x table) kept d j c claim = λ e. both_ways (v.block_marked c) (subst (λ y. IsFalse (v.block_marked y)) (sym e) ((kept.1).free).unmarked) (rules.rule3.marked d j c claim)
+
+-- clearing bits leaves the records
+cleared_records : (disk : View) (n : ℕ) (blocks : List ℕ) (p : List Pending) → (users_view disk (cleared n blocks p)).inode ≡ (users_view disk p).inode
+cleared_records disk n [] p = refl
+cleared_records disk n (b ∷ bs) p = cleared_records disk n bs (record { change = SetBlock b false; after = Record n ∷ [] } ∷ p)
+
+module _ (geo : Geometry) (disk : View) (q : List Pending) (rules : ObeysRules geo (users_view disk q)) where
+  abbrev start : View
+  start = users_view disk q
+
+  reachable_mode : (d : ℕ) → IsReachableDirectory geo start d → (start.inode d).mode ≡ 2
+  reachable_mode d r = directory_mode geo start d (reachable_directory geo start d r)
+
+  -- a file is no directory, and a free number none
+  not_file : (i d : ℕ) → (start.inode i).mode ≡ 1 → IsReachableDirectory geo start d → d ≡ i → ⊥
+  not_file i d one r e = let same = ap (λ j. (start.inode j).mode) e in let two = reachable_mode d r in omega (arith, one, two, same)
+
+  not_free : (n d : ℕ) → IsFalse (start.number_marked n) → IsReachableDirectory geo start d → d ≡ n → ⊥
+  not_free n d free r e =
+      let two = reachable_mode d r in
+      both_ways (start.number_marked d) (subst (λ m. IsFalse (start.number_marked m)) (sym e) free)
+      (rules.rule4 d (directory_number geo start d (reachable_directory geo start d r)) (λ z. omega (arith, z, two)))
+
+  -- ---- pieces
+
+  slot_on : (p : List Pending) (new : ℕ → ℕ → Type 0) → Since geo disk q p new → (d s block : ℕ) (what : Slot) → StandsAt geo start d s block what → (new 268 block → ⊥)
+      → (bytes : List ℕ) (t : ℕ) (entry : List ℕ) (after : List Cell) → Since geo disk q (slot_written block bytes t entry after ∷ p) new
+  slot_on p new s d t block what place other bytes u entry after =
+      bytes_on geo disk q p new s block (with_slot bytes u entry) after (no_table geo disk q p new s block (data_no_table geo start rules d (t / 16) block place.below place.claim) other)
+
+  gets : (d b : ℕ) (holder : Holder) → IsReachableDirectory geo start d → CanGrow geo start d b holder → Gets geo start d (blocks_of (start.inode d).size) b ((start.inode d).size + 1024) holder
+  gets d b holder r can = record {
+    whole = can.whole;
+    sound = (and_parts (is_sound_at geo start d) (is_directory (start.inode d)) (reachable_directory geo start d r)).0;
+    next = refl;
+    room = can.room;
+    blocks = omega arith;
+    free = can.free;
+    kept = can.kept;
+  }
+
+  -- directory d grows, and slot s of its new block is written
+  module _ (p : List Pending) (new : ℕ → ℕ → Type 0) (s : Since geo disk q p new) (none : (a : ℕ) → new 268 a → ⊥) (d l b : ℕ) (holder : Holder) (t : ℕ) (name : List ℕ) (after : List Cell)
+      (can : CanEnterGrown geo start d b holder t name after) (here : (users_view disk p).inode d ≡ with_links (start.inode d) l)
+      (same : 12 < blocks_of (start.inode d).size → (users_view disk p).bytes (start.inode d).indirect ≡ start.bytes (start.inode d).indirect) where
+    grown_on : Since geo disk q (grown d (with_links (start.inode d) l) b holder p) (Grown new b holder)
+    grown_on = appended_on geo disk q rules p new s none d l (blocks_of (start.inode d).size) b ((start.inode d).size + 1024) empty_block here holder same (gets d b holder can.reachable can.grow)
+
+    entered_on : (entry : List ℕ) (after' : List Cell) → Since geo disk q (slot_written b empty_block t entry after' ∷ grown d (with_links (start.inode d) l) b holder p) (Grown new b holder)
+    entered_on entry after' = bytes_on geo disk q (grown d (with_links (start.inode d) l) b holder p) (Grown new b holder) grown_on b (with_slot empty_block t entry) after'
+        (no_table geo disk q (grown d (with_links (start.inode d) l) b holder p) (Grown new b holder) grown_on b (unmarked_no_table geo start rules b can.grow.free.unmarked)
+        (grown_no_table new none b b holder (not_own geo start d (blocks_of (start.inode d).size) b holder can.grow.kept)))
+
+  born_on : (n : ℕ) → Since geo disk q (born n new_file [] q) nothing
+  born_on n =
+      let s = number_on geo disk q q nothing (nothing_yet geo disk q) n true [] in
+      empty_on geo disk q (record { change = SetNumber n true; after = [] } ∷ q) nothing s n new_file (NumberBit n ∷ []) refl
+
+  raised_on : (i : ℕ) → Since geo disk q (raised i (start.inode i) q) nothing
+  raised_on i = links_on geo disk q q nothing (nothing_yet geo disk q) i (with_links (start.inode i) ((start.inode i).links + 1)) [] ((start.inode i).links + 1) refl
+
+  -- ---- commands
+
+  pub creating_since : (n d s block : ℕ) (name entry : List ℕ) (after : List Cell) → CanCreate geo start n d s block name entry after → Since geo disk q (creating n block (start.bytes block) s entry after q) nothing
+  creating_since n d s block name entry after can = slot_on (born n new_file [] q) nothing (born_on n) d s block Empty can.place (λ m. m) (start.bytes block) s entry after
+
+  pub creating_grown_since : (n d b : ℕ) (kept : Holder) (s : ℕ) (name entry : List ℕ) (after : List Cell) → CanCreateGrown geo start n d b kept s name entry after
+      → Since geo disk q (creating_grown n d (start.inode d) b kept s entry after q) (Grown nothing b kept)
+  creating_grown_since n d b kept s name entry after can =
+      entered_on (born n new_file [] q) nothing (born_on n) (λ a m. m) d (start.inode d).links b kept s name after can.enter
+      (put_there start.inode n d new_file (not_free n d can.unmarked can.enter.reachable)) (λ many. refl) entry after
+
+  pub linking_since : (i d s block : ℕ) (name entry : List ℕ) (after : List Cell) → CanLink geo start i d s block name entry after → Since geo disk q (linking i (start.inode i) block (start.bytes block) s entry after q) nothing
+  linking_since i d s block name entry after can = slot_on (raised i (start.inode i) q) nothing (raised_on i) d s block Empty can.place (λ m. m) (start.bytes block) s entry after
+
+  pub linking_grown_since : (i d b : ℕ) (kept : Holder) (s : ℕ) (name entry : List ℕ) (after : List Cell) → CanLinkGrown geo start i d b kept s name entry after
+      → Since geo disk q (linking_grown i (start.inode i) d (start.inode d) b kept s entry after q) (Grown nothing b kept)
+  linking_grown_since i d b kept s name entry after can =
+      entered_on (raised i (start.inode i) q) nothing (raised_on i) (λ a m. m) d (start.inode d).links b kept s name after can.enter
+      (put_there start.inode i d (with_links (start.inode i) ((start.inode i).links + 1)) (not_file i d can.file can.enter.reachable)) (λ many. refl) entry after
+
+  pub unlinking_since : (i d s block : ℕ) (name : List ℕ) → CanUnlink geo start i d s block name → Since geo disk q (unlinking i (start.inode i) block (start.bytes block) s q) nothing
+  unlinking_since i d s block name can =
+      let f = slot_on q nothing (nothing_yet geo disk q) d s block (Good i name) can.place (λ m. m) (start.bytes block) s no_entry [] in
+      links_on geo disk q (slot_written block (start.bytes block) s no_entry [] ∷ q) nothing f i (with_links (start.inode i) ((start.inode i).links - 1)) (Block block ∷ []) ((start.inode i).links - 1) refl
+
+  pub unlinking_last_since : (i d s block : ℕ) (name : List ℕ) (blocks : List ℕ) → CanUnlink geo start i d s block name → Since geo disk q (unlinking_last i blocks block (start.bytes block) s q) nothing
+  unlinking_last_since i d s block name blocks can =
+      freeing_on geo disk q i blocks (Block block ∷ []) (slot_written block (start.bytes block) s no_entry [] ∷ q) nothing
+      (slot_on q nothing (nothing_yet geo disk q) d s block (Good i name) can.place (λ m. m) (start.bytes block) s no_entry [])
+
+  -- a new directory, whose block is a
+  made_on : (i a : ℕ) (dots : List ℕ) (d : ℕ) → CanMake geo start i a d dots → Since geo disk q (made i a dots d (start.inode d) q) (Or nothing (Data a))
+  made_on i a dots d can =
+      let s1 = number_on geo disk q q nothing (nothing_yet geo disk q) i true [] in
+      let s2 = block_on geo disk q (record { change = SetNumber i true; after = [] } ∷ q) nothing s1 a true [] in
+      let p2 : List Pending = record { change = SetBlock a true; after = [] } ∷ record { change = SetNumber i true; after = [] } ∷ q in
+      let s3 = links_on geo disk q p2 nothing s2 d (with_links (start.inode d) ((start.inode d).links + 1)) [] ((start.inode d).links + 1) refl in
+      let p3 = raised d (start.inode d) p2 in
+      let s4 = given_on geo disk q p3 nothing s3 a dots (BlockBit a ∷ Record d ∷ []) (Data a) (λ k c m. m.1) (no_table geo disk q p3 nothing s3 a (unmarked_no_table geo start rules a can.block_unmarked) (λ m. m)) in
+      let p4 : List Pending = record { change = SetBytes a dots; after = BlockBit a ∷ Record d ∷ [] } ∷ p3 in
+      record_on geo disk q p4 (Or nothing (Data a)) s4 i (new_directory a) (NumberBit i ∷ Block a ∷ []) (λ k c m. elim (uses geo (new_directory a) k m.used) [
+        | Direct low few ↦
+            let zero_is : k ≡ 0 = omega (arith, few) in
+            inr (inr (omega (arith, zero_is), sym m.value ∙ ap (value_at (users_view disk p4) (new_directory a)) zero_is))
+        | Middle low high few address ↦ absurd (omega (arith, low, few))
+        | Last at few ↦ absurd (omega (arith, few))
+      ])
+
+  pub making_since : (i a : ℕ) (dots : List ℕ) (d s block : ℕ) (name entry : List ℕ) (after : List Cell) → CanMakeIn geo start i a dots d s block name entry after
+      → Since geo disk q (making i a dots d (start.inode d) block (start.bytes block) s entry after q) (Or nothing (Data a))
+  making_since i a dots d s block name entry after can =
+      slot_on (made i a dots d (start.inode d) q) (Or nothing (Data a)) (made_on i a dots d can.make) d s block Empty can.place
+      (λ m. elim m [ inl o ↦ o | inr e ↦ omega (arith, e.0) ]) (start.bytes block) s entry after
+
+  pub making_grown_since : (i a : ℕ) (dots : List ℕ) (d b : ℕ) (kept : Holder) (s : ℕ) (name entry : List ℕ) (after : List Cell) → CanMakeGrown geo start i a dots d b kept s name entry after
+      → Since geo disk q (making_grown i a dots d (start.inode d) b kept s entry after q) (Grown (Or nothing (Data a)) b kept)
+  making_grown_since i a dots d b kept s name entry after can =
+      entered_on (made i a dots d (start.inode d) q) (Or nothing (Data a)) (made_on i a dots d can.make) (λ c m. elim m [ inl o ↦ o | inr e ↦ omega (arith, e.0) ])
+      d ((start.inode d).links + 1) b kept s name after can.enter
+      (put_there (users_view disk (raised d (start.inode d) q)).inode i d (new_directory a) (not_free i d can.make.unmarked can.enter.reachable) ∙ put_here start.inode d (with_links (start.inode d) ((start.inode d).links + 1)))
+      (λ many. put_there start.bytes a (start.inode d).indirect dots (apart many)) entry after
+    where
+      sound : IsTrue (is_sound_at geo start d)
+      sound = (and_parts (is_sound_at geo start d) (is_directory (start.inode d)) (reachable_directory geo start d can.enter.reachable)).0
+
+      apart : 12 < blocks_of (start.inode d).size → (start.inode d).indirect ≡ a → ⊥
+      apart many e =
+          let mine = claims_indirect geo start rules d sound many in
+          both_ways (start.block_marked a) can.make.block_unmarked (rules.rule3.marked d 268 a (subst (λ c. IsClaim geo start d 268 c) e mine))
+
+  -- the slot of a directory that is removed is emptied
+  emptied_on : (i b d s block : ℕ) (name : List ℕ) (after : List Cell) → CanRemove geo start i b d s block name after → Since geo disk q (slot_written block (start.bytes block) s no_entry after ∷ q) nothing
+  emptied_on i b d s block name after can = slot_on q nothing (nothing_yet geo disk q) d s block (Good i name) can.place (λ m. m) (start.bytes block) s no_entry after
+
+  pub removing_since : (i b d s block : ℕ) (name : List ℕ) (after : List Cell) (blocks : List ℕ) → CanRemove geo start i b d s block name after
+      → Since geo disk q (removing i blocks d (start.inode d) block (start.bytes block) s after q) nothing
+  removing_since i b d s block name after blocks can =
+      links_on geo disk q (freeing i blocks (Block block ∷ []) p1) nothing (freeing_on geo disk q i blocks (Block block ∷ []) p1 nothing (emptied_on i b d s block name after can))
+      d (with_links (start.inode d) ((start.inode d).links - 1)) (Block block ∷ []) ((start.inode d).links - 1) (ap (λ y. with_links y ((start.inode d).links - 1)) (sym is))
+    where
+      -- an empty directory does not hold its own entry
+      apart : d ≡ i → ⊥
+      apart e = can.empty s i can.place.after_dots (name, subst (λ n. slot geo start n s ≡ Good i name) e can.place.holds)
+
+      p1 : List Pending
+      p1 = slot_written block (start.bytes block) s no_entry after ∷ q
+
+      is : (users_view disk (freeing i blocks (Block block ∷ []) p1)).inode d ≡ start.inode d
+      is = ap (λ (f : ℕ → Inode). f d) (cleared_records disk i blocks (record { change = SetNumber i false; after = Record i ∷ [] } ∷ record { change = SetInode i free_inode; after = Block block ∷ [] } ∷ p1))
+          ∙ put_there start.inode i d free_inode apart
+
+  pub removing_name_since : (i b d s block : ℕ) (name : List ℕ) (after : List Cell) → CanRemove geo start i b d s block name after
+      → Since geo disk q (removing_name i (start.inode i) d (start.inode d) block (start.bytes block) s after q) nothing
+  removing_name_since i b d s block name after can =
+      let p1 : List Pending = slot_written block (start.bytes block) s no_entry after ∷ q in
+      let x = with_links (start.inode i) ((start.inode i).links - 2) in
+      let s2 = links_on geo disk q p1 nothing (emptied_on i b d s block name after can) i (with_links (start.inode i) ((start.inode i).links - 2)) (Block block ∷ []) ((start.inode i).links - 2) refl in
+      links_on geo disk q (lowered i (start.inode i) 2 block p1) nothing s2 d (with_links (start.inode d) ((start.inode d).links - 1)) (Block block ∷ []) ((start.inode d).links - 1)
+      (put_same start.inode i x (λ m y. with_links y ((start.inode d).links - 1)) refl d)
+
+  pub renaming_since : (i d s block : ℕ) (name other entry : List ℕ) (after : List Cell) → CanRename geo start i d s block name other entry after → Since geo disk q (renaming block (start.bytes block) s entry after q) nothing
+  renaming_since i d s block name other entry after can = slot_on q nothing (nothing_yet geo disk q) d s block (Good i name) can.place (λ m. m) (start.bytes block) s entry after
+
+  -- the old slot is emptied, and then the file has its old record again
+  left_on : (p : List Pending) (new : ℕ → ℕ → Type 0) → Since geo disk q p new → (i d s block : ℕ) (name : List ℕ) (after : List Cell) → StandsAt geo start d s block (Good i name) → (new 268 block → ⊥)
+      → (users_view disk p).inode i ≡ with_links (start.inode i) ((start.inode i).links + 1) → Since geo disk q (left i (start.inode i) block (start.bytes block) s after p) new
+  left_on p new f i d s block name after place other is =
+      links_on geo disk q (slot_written block (start.bytes block) s no_entry after ∷ p) new (slot_on p new f d s block (Good i name) place other (start.bytes block) s no_entry after)
+      i (start.inode i) (Block block ∷ []) (start.inode i).links (sym (ap (λ y. with_links y (start.inode i).links) is))
+
+  pub moving_since : (i d' s' block' : ℕ) (name' entry : List ℕ) (after' : List Cell) (d s block : ℕ) (name : List ℕ) (after : List Cell) → CanMove geo start i d' s' block' name' entry after' d s block name after
+      → Since geo disk q (moving i (start.inode i) block' (start.bytes block') s' entry after' block (start.bytes block) s after q) nothing
+  moving_since i d' s' block' name' entry after' d s block name after can =
+      left_on (linking i (start.inode i) block' (start.bytes block') s' entry after' q) nothing (linking_since i d' s' block' name' entry after' can.to) i d s block name after can.from (λ m. m)
+      (put_here start.inode i (with_links (start.inode i) ((start.inode i).links + 1)))
+
+  -- a directory that grows leaves other records
+  other_record : (i d : ℕ) (parent : Inode) (b : ℕ) (holder : Holder) (p : List Pending) → (i ≡ d → ⊥) → (users_view disk (grown d parent b holder p)).inode i ≡ (users_view disk p).inode i
+  other_record i d parent b InRecord p other = put_there (users_view disk p).inode d i _ other
+  other_record i d parent b (InTable table) p other = put_there (users_view disk p).inode d i _ other
+  other_record i d parent b (InNewTable x table) p other = put_there (users_view disk p).inode d i _ other
+
+  pub moving_grown_since : (i d' b : ℕ) (kept : Holder) (s' : ℕ) (name' entry : List ℕ) (after' : List Cell) (d s block : ℕ) (name : List ℕ) (after : List Cell) → CanMoveGrown geo start i d' b kept s' name' entry after' d s block name after
+      → Since geo disk q (moving_grown i (start.inode i) d' (start.inode d') b kept s' entry after' block (start.bytes block) s after q) (Grown nothing b kept)
+  moving_grown_since i d' b kept s' name' entry after' d s block name after can =
+      let can_grow = can.to.enter.grow in
+      left_on (linking_grown i (start.inode i) d' (start.inode d') b kept s' entry after' q) (Grown nothing b kept) (linking_grown_since i d' b kept s' name' entry after' can.to) i d s block name after can.from
+      (grown_no_table nothing (λ a m. m) b block kept (not_claimed geo start rules d' (blocks_of (start.inode d').size) b kept can_grow.kept d (s / 16) block can.from.claim))
+      (other_record i d' (start.inode d') b kept (raised i (start.inode i) q) (λ e. not_file i d' can.to.file can.to.enter.reachable (sym e)) ∙ put_here start.inode i (with_links (start.inode i) ((start.inode i).links + 1)))
