@@ -1,0 +1,4 @@
+mod ChoiceLemmas
+mod FreeCounts
+mod RoomLemmas
+mod ShownLemmas

@@ -1,0 +1,67 @@
+-- What a command chose that enters a name into a directory.
+use Rattle.std.specs.Prelude.{◌≡◌, ◌≢◌, ℕ, ◌+◌, ◌/◌, Bool, if◌then◌else◌, Option, Some, MatchOption, IfSome, IsTrue, IsFalse}
+use Rattle.std.specs.Option.{option_map_or}
+use Rattle.model.specs.Layout.{Geometry}
+use Rattle.model.specs.View.{View}
+use Rattle.model.specs.Uses.{blocks_of, claim_at, direct_positions}
+use Rattle.model.specs.Slots.{Empty, slot}
+use Rattle.machine.specs.Room.{IsFreeBlock, has_room, blocks_to_enter}
+use Rattle.free_space.specs.Free.{IsNextBlock}
+use Rattle.live_places.specs.declared.choosing.Place.{Place}
+use Rattle.live_places.specs.declared.choosing.Place.TheVariants.{Slot, NewBlock}
+use Rattle.live_places.specs.declared.choosing.Places.{Places}
+
+-- how many blocks a new entry of directory d takes, with the one for a new directory itself
+abbrev pub blocks_needed : Geometry → View → ℕ → Bool → ℕ
+blocks_needed geo view d own = (if own then 1 else 0) + blocks_to_enter geo view d
+
+-- a new directory's own block, exactly where one is asked for
+abbrev pub IsOwn : Geometry → View → Bool → Option ℕ → Type 0
+IsOwn geo view own block = MatchOption block (IsFalse own) (λ b. IsTrue own × IsFreeBlock geo view b)
+
+-- Slot s of directory d is empty, and stands in this block of it.
+pub record IsEmptySlot (geo : Geometry) (view : View) (d s block : ℕ) : Type 0 where
+  pub empty : slot geo view d s ≡ Empty
+  pub stands : claim_at geo view d (s / 16) ≡ Some block
+  pub room : IsTrue (has_room geo view d)
+
+-- a block for the pointers of directory d, exactly where all places for pointers in its record are in use and it has none
+abbrev pub IsTableOf : Geometry → View → ℕ → ℕ → Option ℕ → Type 0
+IsTableOf geo view d block table =
+    MatchOption table (blocks_of (view.inode d).size ≢ direct_positions)
+    (λ x. (blocks_of (view.inode d).size ≡ direct_positions) × IsFreeBlock geo view x × (x ≢ block))
+
+-- Directory d has no empty slot, and these blocks may be given out.
+pub record IsNewBlock (geo : Geometry) (view : View) (d block : ℕ) (pointers : Option ℕ) : Type 0 where
+  pub none : IsFalse (has_room geo view d)
+  pub free : IsFreeBlock geo view block
+  pub table : IsTableOf geo view d block pointers
+
+-- a new entry of directory d may go there
+abbrev pub IsPlace : Geometry → View → ℕ → Place → Type 0
+IsPlace geo view d (Slot s block) = IsEmptySlot geo view d s block
+IsPlace geo view d (NewBlock block table) = IsNewBlock geo view d block table
+
+-- the new blocks of the directory are others than this one
+abbrev pub IsOther : Place → ℕ → Type 0
+IsOther (Slot s block) a = Unit {0}
+IsOther (NewBlock block table) a = (block ≢ a) × IfSome table (λ x. x ≢ a)
+
+-- the first address behind a block, and 0 behind none
+abbrev pub behind : Option ℕ → ℕ
+behind block = option_map_or (λ a. a + 1) block 0
+
+-- new blocks are the least ones from an address on that may be given out
+abbrev pub AreLeastFrom : Geometry → View → ℕ → Place → Type 0
+AreLeastFrom geo view from (Slot s block) = Unit {0}
+AreLeastFrom geo view from (NewBlock block table) = IsNextBlock geo view from block × IfSome table (IsNextBlock geo view (block + 1))
+
+-- A place for a new entry of directory d, and a block for a new directory itself where one is asked for.
+pub record AreChosen (geo : Geometry) (view : View) (d : ℕ) (asked : Bool) (places : Places) : Type 0 where
+  pub own : IsOwn geo view asked places.own
+  pub place : IsPlace geo view d places.place
+  -- no block is chosen twice
+  pub apart : IfSome places.own (IsOther places.place)
+  -- and they are the least ones, in ascending order
+  pub first : IfSome places.own (IsNextBlock geo view 0)
+  pub next : AreLeastFrom geo view (behind places.own) places.place

@@ -1,0 +1,3 @@
+pub mod Chosen
+pub mod Rooms
+pub mod Taken
