@@ -189,7 +189,7 @@ mod tests {
         for number in numbers {
             assert_eq!(rt; marks.next(from), Some(number), "from {from}");
             assert_eq!(rt; marks.next(number), Some(number));
-            from = number + 1;
+            from = number.saturating_add(1);
         }
         assert_eq!(rt; marks.next(600_000), None);
         assert_eq!(rt; marks.next(u32::MAX), None);
