@@ -1,14 +1,13 @@
 -- Marks of what may be given out: how many there are, and what a loop over all of them leaves.
 use Rattle.std.specs.Option.{MatchOption}
-use Rattle.std.proofs.Common.{Option, Some, None, ◌≡◌, ◌<◌, ◌≤◌, ◌+◌, ◌-◌, ◌^◌, ℕ, zero, suc, Bool, not, ◌&&◌, ltb, true, false, cond, List, length, get_or, set, IsTrue, IsFalse, inl, inr, refl, sym, ap, ◌∙◌, subst, arith, get_or-set_same, get_or-set_other, length-set}
-use Rattle.std.proofs.lemmas.Bool.{cases_eq, cases_lt, cond-true, cond-false, and_parts, and_from, lt-ltb, le-ltb, not-true, not_from_false, false≢true, false_from_ne_true}
-use Rattle.std.proofs.lemmas.List.{get_or_past}
+use Rattle.std.proofs.Common.{Option, Some, None, ◌≡◌, ◌<◌, ◌≤◌, ◌+◌, ◌-◌, ◌^◌, ℕ, suc, Bool, not, ◌&&◌, ltb, true, false, cond, List, length, get_or, set, IsTrue, IsFalse, inl, inr, refl, sym, ap, ◌∙◌, arith, get_or-set_same, get_or-set_other, length-set}
+use Rattle.std.proofs.lemmas.Bool.{cases_eq, cases_lt, and_parts, and_from, lt-ltb, le-ltb, not-true, not_from_false, false≢true}
 use Rattle.model.proofs.Addresses.{data_range}
 use Rattle.model.specs.Layout.{Geometry, IsGeometry, is_number, inode_count, is_data_address, block_count}
 use Rattle.model.specs.View.{View}
 use Rattle.model.specs.Reach.{sum_below}
 use Rattle.model.proofs.GroupNumbers.{before_same, before_all}
-use Rattle.model.proofs.Sums.{sum-same, sum-small, sum-lt, sum-changed}
+use Rattle.model.proofs.Sums.{sum-small, sum-changed}
 use Rattle.model.proofs.SlotLemmas.{number_below}
 use Rattle.machine.specs.Room.{IsFreeNumber, has_number}
 use Rattle.machine.proofs.Decisions.{any_none, any_here}

@@ -1,10 +1,9 @@
 -- What is kept of an image, and the views that it shows.
-use Rattle.std.proofs.Common.{inl, inr, ◌≡◌, ℕ, Bool, ◌&&◌, cond, List, [], Option, Some, None, IsSome, unwrap_or, IsTrue, false, true, refl, sym, ap, ◌∙◌}
-use Rattle.std.proofs.lemmas.Bool.{cases_Bool, cond-true, cond-false, and_parts}
-use Rattle.model.specs.Layout.{Geometry, is_number, is_data_address}
-use Rattle.model.specs.View.{View, Inode, free_inode}
+use Rattle.std.proofs.Common.{inl, inr, ◌≡◌, ℕ, Bool, ◌&&◌, List, [], IsSome, unwrap_or, IsTrue, false, sym, ap, ◌∙◌}
+use Rattle.std.proofs.lemmas.Bool.{cases_Bool, cond-true, cond-false}
+use Rattle.model.specs.Layout.{is_number, is_data_address}
+use Rattle.model.specs.View.{View, free_inode}
 use Rattle.model.specs.Metadata.{SameMetadata}
-use Rattle.model.specs.Uses.{is_directory_at, IsClaim, indirect_position}
 use Rattle.model.specs.Image.{block_at, image_view}
 use Rattle.frozen.specs.Kept.{Kept, KeepsMetadata, IsKeptOf, frozen_view, kept_at, kept_bytes}
 use Rattle.frozen.proofs.ClaimLemmas.{there}

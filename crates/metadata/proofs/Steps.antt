@@ -1,17 +1,17 @@
 -- One more change: the blocks in memory show what users see with it.
-use Rattle.std.proofs.Common.{◌+◌, ◌&&◌, take, Result, Ok, Err, OnOk, zero, suc, All, map, slice_index_or, ◌≡◌, ◌<◌, ◌≤◌, ℕ, Bool, not, ltb, cond, List, [], ◌∷◌, ◌++◌, ◌⊎◌, length, Option, Some, None, IsSome, unwrap_or, replicate, IsTrue, IsFalse, false, true, refl, sym, ap, ◌∙◌, subst, arith, inl, inr, set as slice_set, get_or-set_same, get_or-set_other}
+use Rattle.std.proofs.Common.{◌+◌, ◌&&◌, take, Result, Ok, Err, OnOk, zero, suc, All, map, slice_index_or, ◌≡◌, ◌<◌, ℕ, not, List, [], ◌∷◌, ◌++◌, ◌⊎◌, length, Option, Some, None, IsSome, unwrap_or, replicate, IsTrue, false, true, refl, sym, ap, ◌∙◌, subst, arith, inl, inr, set as slice_set, get_or-set_same, get_or-set_other}
 use mathlib.Core.Path.{fun_ext}
-use Rattle.std.proofs.lemmas.Bool.{cond-true, cases_eq, cases_Bool, false_from_ne_true}
+use Rattle.std.proofs.lemmas.Bool.{cond-true, cases_eq, cases_Bool}
 use Rattle.std.proofs.lemmas.Option.{same_Some}
 use Rattle.std.proofs.Math.Seq.{take-suc}
 use Rattle.std.proofs.lemmas.List.{length-set, map-append}
 use Rattle.std.proofs.lemmas.List.Elements.{Contains-append_cases, All-push}
 use Rattle.std.specs.Arc.{arc_value}
-use Rattle.model.specs.Layout.{Geometry, IsGeometry, block_count, group_block, group_of_address, is_number, is_data_address}
+use Rattle.model.specs.Layout.{Geometry, block_count, group_block, group_of_address, is_number, is_data_address}
 use Rattle.free_space.specs.Free.{Free, IsFreeOf}
 use Rattle.model.specs.Image.{IsBlock, IsGroupBlock}
 use Rattle.model.proofs.Addresses.{maps_group, address_in_group}
-use Rattle.model.specs.View.{View, Inode, view_of}
+use Rattle.model.specs.View.{View, view_of}
 use Rattle.model.specs.Cells.{Update, SetInode, SetNumber, SetBlock, SetBytes, updated, updated_all, put_at}
 use Rattle.model.proofs.Places.{put_here, put_there, data_write, maps_are_no_data, inodes_are_no_data}
 use Rattle.ordering.specs.Cuts.{cell_of}

@@ -1,4 +1,4 @@
-use Rattle.std.proofs.Common.{◌≡◌, ◌+◌, Bool, false, true, cond, get_or, sym, ap, ◌∙◌, arith}
+use Rattle.std.proofs.Common.{◌+◌, false, cond, get_or, sym, ap, ◌∙◌, arith}
 use Rattle.model.specs.Reach.{sum_below}
 use Rattle.free_space.proofs.FreeLemmas.{sum_next, sum_zero}
 use Rattle.free_space.proofs.count.Goals.{then-is_marked, else-is_marked}

@@ -1,5 +1,4 @@
-use Rattle.std.proofs.Common.{◌≡◌, ◌<◌, ℕ, Bool, not, ◌&&◌, length, set, true, false, get_or, sym, ap, ◌∙◌, subst, arith, length-set, List}
-use Rattle.std.proofs.lemmas.Bool.{and_parts}
+use Rattle.std.proofs.Common.{◌≡◌, ◌<◌, ℕ, Bool, not, ◌&&◌, length, set, true, false, get_or, sym, ap, ◌∙◌, arith, length-set}
 use Rattle.model.specs.Layout.{is_data_address, block_count}
 use Rattle.frozen.specs.Kept.{frozen_view}
 use Rattle.free_space.proofs.FreeLemmas.{passes, passes_not, all_done, address_within}

@@ -1,4 +1,4 @@
-use Rattle.std.proofs.Common.{ap, sym, subst, Bool, List}
+use Rattle.std.proofs.Common.{sym, subst}
 use Rattle.free_space.specs.Free.{Free, AreFreeNumbers}
 use Rattle.free_space.proofs.FreeLemmas.{none_free, least_free, match_with}
 use Rattle.free_space.proofs.FreeSpace.least_number.Goals as goal

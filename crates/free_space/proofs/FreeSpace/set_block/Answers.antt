@@ -1,5 +1,5 @@
 use Rattle.std.proofs.Common.{◌<◌, length, sym, subst, arith}
-use Rattle.free_space.specs.Free.{Free, IsCounted}
+use Rattle.free_space.specs.Free.{Free}
 use Rattle.free_space.proofs.FreeLemmas.{counted_less, counted_more, some_counted, more_counted}
 use Rattle.free_space.proofs.FreeSpace.set_block.Goals as goal
 

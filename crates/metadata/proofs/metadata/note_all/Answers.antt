@@ -1,4 +1,4 @@
-use Rattle.std.proofs.Common.{◌≡◌, map, sym, subst}
+use Rattle.std.proofs.Common.{map, sym, subst}
 use Rattle.std.proofs.lemmas.List.{take_all}
 use Rattle.model.specs.Cells.{updated_all}
 use Rattle.free_space.specs.Free.{IsFreeOf}

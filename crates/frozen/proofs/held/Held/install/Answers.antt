@@ -1,4 +1,4 @@
-use Rattle.std.proofs.Common.{◌≡◌, ◌∷◌, [], All, length, map, suc, sym, ap, ◌∙◌, subst, arith}
+use Rattle.std.proofs.Common.{All, map, suc, sym, ap, ◌∙◌, subst, arith}
 use Rattle.std.proofs.lemmas.List.{nil_from_length}
 use Rattle.frozen.specs.Kept.{Kept}
 use Rattle.frozen.specs.Installed.{FitsIn, standing, with_blocks}

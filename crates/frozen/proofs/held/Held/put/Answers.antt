@@ -1,4 +1,4 @@
-use Rattle.std.proofs.Common.{◌≡◌, sym, ap, subst, ◌∙◌, Some, slice_set, List, ℕ, Option}
+use Rattle.std.proofs.Common.{◌≡◌, sym, ap, subst, ◌∙◌, Some}
 use Rattle.std.proofs.lemmas.List.{map-set}
 use Rattle.std.specs.Option.{option_map}
 use Rattle.std.specs.Arc.{arc_value}

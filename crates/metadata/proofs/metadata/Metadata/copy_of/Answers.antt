@@ -1,7 +1,5 @@
-use Rattle.std.proofs.Common.{◌≡◌, ◌<◌, ℕ, List, Option, Some, unwrap_or, replicate, length, map, slice_index_or, sym, ap, ◌∙◌, subst, arith}
-use Rattle.std.specs.Arc.{arc_value}
+use Rattle.std.proofs.Common.{ℕ, unwrap_or, replicate, sym, ap, ◌∙◌}
 use Rattle.frozen.specs.Kept.{Kept, kept_at}
-use Rattle.frozen.specs.Installed.{standing, with_blocks}
 use Rattle.metadata.proofs.Steps.{none_at, last_at}
 use Rattle.metadata.proofs.metadata.Metadata.copy_of.Goals as goal
 

@@ -1,10 +1,10 @@
-use Rattle.std.proofs.Common.{◌≡◌, All, map, sym, ap, subst}
+use Rattle.std.proofs.Common.{All, map, sym, subst}
 use Rattle.frozen.specs.Kept.{Kept, KeepsMetadata, frozen_view}
 use Rattle.frozen.specs.Installed.{FitsIn}
 use Rattle.free_space.specs.Free.{IsFreeOf}
 use Rattle.model.specs.Cells.{updated_all}
 use Rattle.metadata.specs.Shown.{IsMetadata}
-use Rattle.metadata.specs.Staged.{AreBitsOf, IsStaged, IsBitOf, after, bit}
+use Rattle.metadata.specs.Staged.{IsStaged, IsBitOf, after, bit}
 use Rattle.metadata.proofs.Steps.{free_after, bits_are, same_after}
 use Rattle.metadata.proofs.metadata.Metadata.install.Goals as goal
 

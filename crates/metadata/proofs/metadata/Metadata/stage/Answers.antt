@@ -1,4 +1,4 @@
-use Rattle.std.proofs.Common.{take, ◌∷◌, [], ap, subst}
+use Rattle.std.proofs.Common.{take, subst}
 use Rattle.std.proofs.lemmas.List.{take_all}
 use Rattle.metadata.specs.Staged.{IsStaged, changes}
 use Rattle.metadata.proofs.Steps.{none_staged, changes_more}

@@ -1,4 +1,4 @@
-use Rattle.std.proofs.Common.{Vec, Global, ◌≡◌, ◌<◌, ◌∷◌, [], ℕ, List, length, unwrap_or, replicate, map, ◌++◌, sym, ap, ◌∙◌, subst, arith}
+use Rattle.std.proofs.Common.{Vec, Global, ◌≡◌, ◌<◌, ◌∷◌, [], ℕ, List, unwrap_or, replicate, map, ◌++◌, sym, ap, ◌∙◌, subst, arith}
 use Rattle.std.specs.Arc.{arc_value}
 use Rattle.model.specs.Layout.{Geometry, block_count, group_block}
 use Rattle.model.specs.View.{view_of}
@@ -7,12 +7,11 @@ use Rattle.model.specs.Image.{IsBlock, IsGroupBlock}
 use Rattle.ordering.specs.Cuts.{cell_of}
 use Rattle.queue_model.specs.Blocks.{home_of}
 use Rattle.updates.specs.Values.{change, cell}
-use Rattle.updates.specs.Places.{IsCell}
 use Rattle.updates.specs.Alone.{ChangesAlone}
 use Rattle.frozen.specs.declared.frozen.Placed.{Placed}
 use Rattle.frozen.specs.Kept.{Kept, KeepsMetadata, kept_at}
 use Rattle.frozen.specs.Installed.{standing, with_blocks}
-use Rattle.metadata.specs.Staged.{bit, bits_of, after}
+use Rattle.metadata.specs.Staged.{after}
 use Rattle.metadata.proofs.Steps.{staged_one_more, on_ok}
 use Rattle.metadata.proofs.metadata.Metadata.stage_one.Goals as goal
 
