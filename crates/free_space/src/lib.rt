@@ -42,7 +42,8 @@ impl Model for FreeSpace {
 }
 
 impl FreeSpace {
-    /// What may be given out of a volume with these maps. Takes memory, a quarter of a byte for each number and block.
+    /// What may be given out of a volume with these maps. Takes memory, an eighth of a byte for each number and
+    /// each address, and little more.
     pub fn of(alloc: Global, frozen: &Frozen) -> Result<FreeSpace, AllocError>
         ensures { IfOk result (IsFreeOf frozen.now.geometry (frozen_view frozen.now)) }
     {
