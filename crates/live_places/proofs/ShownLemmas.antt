@@ -105,6 +105,7 @@ module _ (kept : Kept) (view : View) (shown : IsShownBy kept view) where
     place_there : (place : Place) → IsPlace kept.geometry (frozen_view kept) d place → IsPlace kept.geometry view d place
     place_there (Slot s block) is = record {
       empty = sym (same.slots d s) ∙ is.empty;
+      first = λ t low e. is.first t low (same.slots d t ∙ e);
       stands = sym (claim_there d (s / 16)) ∙ is.stands;
       room = sym (room_there d) ∙ is.room;
     }

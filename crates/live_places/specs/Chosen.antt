@@ -1,5 +1,5 @@
 -- What a command chose that enters a name into a directory.
-use Rattle.std.specs.Prelude.{◌≡◌, ◌≢◌, ℕ, ◌+◌, ◌/◌, Bool, if◌then◌else◌, Option, Some, MatchOption, IfSome, IsTrue, IsFalse}
+use Rattle.std.specs.Prelude.{◌≡◌, ◌≢◌, ℕ, ◌<◌, ◌+◌, ◌/◌, Bool, if◌then◌else◌, Option, Some, MatchOption, IfSome, IsTrue, IsFalse}
 use Rattle.std.specs.Option.{option_map_or}
 use Rattle.model.specs.Layout.{Geometry}
 use Rattle.model.specs.View.{View}
@@ -19,9 +19,10 @@ blocks_needed geo view d own = (if own then 1 else 0) + blocks_to_enter geo view
 abbrev pub IsOwn : Geometry → View → Bool → Option ℕ → Type 0
 IsOwn geo view own block = MatchOption block (IsFalse own) (λ b. IsTrue own × IsFreeBlock geo view b)
 
--- Slot s of directory d is empty, and stands in this block of it.
+-- Slot s is the first empty one of directory d, and stands in this block of it.
 pub record IsEmptySlot (geo : Geometry) (view : View) (d s block : ℕ) : Type 0 where
   pub empty : slot geo view d s ≡ Empty
+  pub first : (t : ℕ) → t < s → slot geo view d t ≢ Empty
   pub stands : claim_at geo view d (s / 16) ≡ Some block
   pub room : IsTrue (has_room geo view d)
 
