@@ -229,7 +229,7 @@ impl Slots {
 }
 
 /// The bytes of an entry, with zeroes where nothing is looked at.
-fn entry(number: u32, name: &[u8]) -> [u8; SLOT_BYTES]
+pub fn entry(number: u32, name: &[u8]) -> [u8; SLOT_BYTES]
     requires { length name.now ≤ 56 }
     ensures { result ≡ entry_bytes number name.now }
 {
@@ -240,8 +240,8 @@ fn entry(number: u32, name: &[u8]) -> [u8; SLOT_BYTES]
     bytes
 }
 
-/// Puts these bytes over those of slot `j`.
-fn replace(block: &mut Block, j: usize, bytes: &[u8; SLOT_BYTES])
+/// Puts these bytes over those of slot `j` of a block.
+pub fn replace(block: &mut Block, j: usize, bytes: &[u8; SLOT_BYTES])
     requires { j < 16 }
     ensures { block.new ≡ with_slot block.old j bytes.now }
 {

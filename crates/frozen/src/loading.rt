@@ -24,6 +24,8 @@ use std::sync::Arc;
 pub fn load<D: Device>(alloc: Global, device: &mut D) -> Result<Frozen, Refusal>
     // Where each read gave what stood there, the blocks are an image, and this is what it holds.
     ensures ok { IfOk result (λ frozen. D.honest device.new → IsKeptOf frozen (D.image device.old)) }
+    // The device has as many blocks as the volume, honest or not.
+    ensures count { IfOk result (λ frozen. length (D.image device.old) ≡ block_count frozen.geometry) }
     ensures refused { IfErr result (λ refusal. LoadRefuses (D.honest device.new) (D.image device.old) refusal) }
     ensures cause { IsErrOf result Refusal.Device → HasFailed (D.failures device.old) (D.failures device.new) }
 

@@ -54,7 +54,8 @@ impl Metadata {
 
     /// Its blocks as they are now.
     pub fn frozen(&self) -> &Frozen
-        ensures { result.now ≡ self.now }
+        ensures same { result.now ≡ self.now }
+        ensures metadata { KeepsMetadata self.now }
     {
         &self.frozen
     }

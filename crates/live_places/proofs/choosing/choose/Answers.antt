@@ -22,14 +22,14 @@ returns-in_err-room-clause-refused c = λ view shown.
     let p = err_from_is_err_and c.from_residual.result c.from_residual.ensures.1 in
     rw (p.1, p.2)
     (too_big c.args.metadata.now view shown c.args.directory c.requires c.args.own c.in_err-room.field-0.0 c.in_err-room.ensures.full.0
-    (full_there c.frozen.result.now c.args.metadata.now c.args.directory c.frozen.ensures c.in_err-room.ensures.full.1))
+    (full_there c.frozen.result.now c.args.metadata.now c.args.directory c.frozen.ensures.same c.in_err-room.ensures.full.1))
 
 pub returns-in_err-place-clause-refused : goal.returns-in_err-place-clause-refused
 returns-in_err-place-clause-refused c = λ view shown.
     let kept = c.args.metadata.now in
     let d = c.args.directory in
     let room = c.in_ok-room.room in
-    let is = room_there c.frozen.result.now kept d room c.frozen.ensures c.in_ok-room.ensures.room in
+    let is = room_there c.frozen.result.now kept d room c.frozen.ensures.same c.in_ok-room.ensures.room in
     let p = err_from_is_err_and c.from_residual-in_err-place.result c.from_residual-in_err-place.ensures.1 in
     rw (p.1, p.2)
     (too_few kept view shown d c.requires c.args.own room is (free_below kept.geometry (frozen_view kept) 0 + blocks_for room)
@@ -41,7 +41,7 @@ returns-then-not-own-clause-chosen c = λ view shown.
     let kept = c.args.metadata.now in
     let d = c.args.directory in
     let room = c.in_ok-room.room in
-    let is = room_there c.frozen.result.now kept d room c.frozen.ensures c.in_ok-room.ensures.room in
+    let is = room_there c.frozen.result.now kept d room c.frozen.ensures.same c.in_ok-room.ensures.room in
     let placed = c.in_ok-place.ensures.placed d is in
     enough kept view shown d c.requires c.args.own room is (free_below kept.geometry (frozen_view kept) 0 + blocks_for room)
     (needed_alone kept.geometry (frozen_view kept) d c.args.own room is c.if-not-own.true)
@@ -53,7 +53,7 @@ returns-in_err-block-clause-refused c = λ view shown.
     let kept = c.args.metadata.now in
     let d = c.args.directory in
     let room = c.in_ok-room.room in
-    let is = room_there c.frozen.result.now kept d room c.frozen.ensures c.in_ok-room.ensures.room in
+    let is = room_there c.frozen.result.now kept d room c.frozen.ensures.same c.in_ok-room.ensures.room in
     let p = err_from_is_err_and c.from_residual-in_err-block.result c.from_residual-in_err-block.ensures.1 in
     rw (p.1, p.2)
     (too_few kept view shown d c.requires c.args.own room is (blocks_needed kept.geometry (frozen_view kept) d c.args.own) refl
@@ -65,7 +65,7 @@ returns-in_err-place-2-clause-refused c = λ view shown.
     let kept = c.args.metadata.now in
     let d = c.args.directory in
     let room = c.in_ok-room.room in
-    let is = room_there c.frozen.result.now kept d room c.frozen.ensures c.in_ok-room.ensures.room in
+    let is = room_there c.frozen.result.now kept d room c.frozen.ensures.same c.in_ok-room.ensures.room in
     let p = err_from_is_err_and c.from_residual-in_err-place-2.result c.from_residual-in_err-place-2.ensures.1 in
     rw (p.1, p.2)
     (too_few kept view shown d c.requires c.args.own room is (free_below kept.geometry (frozen_view kept) (c.in_ok-block.block + 1) + blocks_for room)
@@ -77,7 +77,7 @@ returns-clause-chosen c = λ view shown.
     let kept = c.args.metadata.now in
     let d = c.args.directory in
     let room = c.in_ok-room.room in
-    let is = room_there c.frozen.result.now kept d room c.frozen.ensures c.in_ok-room.ensures.room in
+    let is = room_there c.frozen.result.now kept d room c.frozen.ensures.same c.in_ok-room.ensures.room in
     let placed = c.in_ok-place-2.ensures.placed d is in
     enough kept view shown d c.requires c.args.own room is (free_below kept.geometry (frozen_view kept) (c.in_ok-block.block + 1) + blocks_for room)
     (needed_both kept.geometry (frozen_view kept) d c.args.own room is c.if-not-own.false c.in_ok-block.block c.in_ok-block.ensures.taken)
