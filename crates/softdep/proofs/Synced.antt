@@ -123,3 +123,7 @@ flushes_more geo image held q image1 held1 q1 image2 held2 a h least view held_n
   held_now = held_now ∙ ap (λ l. l ++ image2 ∷ []) h.held_now ∙ append_assoc held h.more (image2 ∷ []);
   images = map-append (image_view geo) h.more (image2 ∷ []) ∙ ap₂ (λ l v. l ++ v ∷ []) h.images view ∙ sym (images_push (home_of geo) a h.flushes);
 }
+
+-- what is pending after it is the rest of a closed cut
+pub rest_put : (old new : Queued) → IsClosed (updates old.written) old.cut → HasPut old new → (cut : List Bool) × IsClosed (pending_of old) cut × (pending_of new ≡ rest (pending_of old) cut)
+rest_put old new closed put = (put.put, put.closed, put_pending old new closed put)

@@ -1,8 +1,8 @@
-ghost use Rattle.std.specs.Prelude.{◌≡◌, ℕ, ◌<◌, ◌≤◌, ◌+◌, ◌∷◌, ◌++◌, [], List, length, IfOk, OnOk, OnErr, IsErrOf, IsOkUnless, slice_set};
+ghost use Rattle.std.specs.Prelude.{◌≡◌, ℕ, ◌<◌, ◌≤◌, ◌+◌, ◌∷◌, ◌++◌, [], Bool, List, length, IfOk, OnOk, OnErr, IsErrOf, IsOkUnless, slice_set};
 ghost use Rattle.layout.specs.declared.refusal.Refusal.TheVariants.{Device as DeviceRefusal};
 ghost use Rattle.model.specs.Layout.{block_count};
 ghost use Rattle.model.specs.Image.{image_view};
-ghost use Rattle.ordering.specs.Cuts.{seen, users_view};
+ghost use Rattle.ordering.specs.Cuts.{IsClosed, rest, seen, users_view};
 ghost use Rattle.queue_model.specs.Blocks.{home_of};
 ghost use Rattle.queue_model.specs.Flush.{ready, taken};
 ghost use Rattle.device.specs.Writes.{HasFailed};
@@ -20,6 +20,7 @@ impl Queue {
         requires address { address < block_count self.old.geometry }
         requires count { length (D.image device.old) ≡ block_count self.old.geometry }
         ensures flushed { OnOk result (self.new ≡ flushed self.old address) }
+        ensures rest { OnOk result (pending_of self.new ≡ rest (pending_of self.old) (ready (home_of self.old.geometry) address (pending_of self.old))) }
         ensures count { IfOk result (λ count. count ≡ taken (ready (home_of self.old.geometry) address (pending_of self.old))) }
         ensures untouched { IfOk result (λ count. count ≡ 0 → device.new ≡ device.old) }
         ensures written { IfOk result (λ count. 0 < count → (block : List ℕ) × (D.image device.new ≡ slice_set (D.image device.old) address block) × (D.held device.new ≡ D.held device.old ++ D.image device.new ∷ [])) }
@@ -59,6 +60,8 @@ impl Queue {
         ensures pending { OnOk result (pending_of self.new ≡ []) }
         ensures view { OnOk result (D.honest device.new → image_view self.old.geometry (D.image device.new) ≡ users_view (image_view self.old.geometry (D.image device.old)) (pending_of self.old)) }
         ensures put { HasPut self.old self.new }
+        ensures count { length (D.image device.new) ≡ block_count self.new.geometry }
+        ensures rest { (cut : List Bool) × IsClosed (pending_of self.old) cut × (pending_of self.new ≡ rest (pending_of self.old) cut) }
         ensures history { D.honest device.new → IsHistory self.old.geometry (D.image device.old) (D.held device.old) (pending_of self.old) (D.image device.new) (D.held device.new) (pending_of self.new) }
         ensures flushes { D.honest device.new → AreFlushes self.old.geometry (D.image device.old) (D.held device.old) (pending_of self.old) (D.image device.new) (D.held device.new) (pending_of self.new) }
         ensures few { length (D.held device.new) + length (pending_of self.new) ≤ length (D.held device.old) + length (pending_of self.old) }

@@ -1,13 +1,14 @@
 use Rattle.std.proofs.Common.{◌≡◌, ◌<◌, ◌≤◌, [], Some, refl, sym, ap, ◌∙◌, subst, length, arith, slice_set, ◌++◌, ◌∷◌}
 use Rattle.model.specs.Image.{image_view}
-use Rattle.ordering.specs.Cuts.{seen}
+use Rattle.ordering.specs.Cuts.{IsClosed, seen}
+use Rattle.queue_model.specs.Files.{updates}
 use Rattle.queue_model.specs.Blocks.{home_of}
 use Rattle.queue_model.specs.Flush.{ready, taken}
 use Rattle.queue_model.specs.Entries as entries
 use Rattle.queue_model.proofs.FlushLemmas.{ready_closed, none_taken}
 use Rattle.softdep.specs.Queued.{Queued, IsQueue, after, fresh_queue, pending_of, flushed}
 use Rattle.softdep.proofs.Issued.{after_push}
-use Rattle.softdep.proofs.Flushed.{queue_flushed, queue_unflushed, flushed_view, flushed_count}
+use Rattle.softdep.proofs.Flushed.{queue_flushed, queue_unflushed, flushed_view, flushed_count, pending_flushed}
 use Rattle.softdep.proofs.queue.Queue.flush.Given.{Over}
 use Rattle.softdep.proofs.queue.Queue.flush.Goals as goal
 
@@ -121,3 +122,15 @@ returns-in-Ok-clause-view g c honest =
     (c.in-Ok.ensures.written ∙ ap (λ image. slice_set image c.args.address c.take-count.new.block) c.in_ok-read.ensures.same) low in
     subst (λ (w : Queued). image_view w.geometry (g.D.Device.image c.write.new.self) ≡ seen (image_view w.geometry (g.D.Device.image c.args.device.now)) (pending_of w) (ready (home_of w.geometry) c.args.address (pending_of w))) c.self.view_is
     (subst (λ x. image_view x (g.D.Device.image c.write.new.self) ≡ seen (image_view x (g.D.Device.image c.args.device.now)) (pending_of (before g c)) (ready (home_of x) c.args.address (pending_of (before g c)))) (sym c.self.invariant.same) view)
+
+-- ---- what is pending then
+
+pub returns-then-not-has_ready-clause-rest : goal.returns-then-not-has_ready-clause-rest
+returns-then-not-has_ready-clause-rest g c =
+    ap pending_of (returns-then-not-has_ready-clause-flushed g c)
+    ∙ pending_flushed c.args.self.now c.args.address (subst (λ (w : Queued). IsClosed (updates w.written) w.cut) c.self.view_is c.self.invariant.closed)
+
+pub returns-in-Ok-clause-rest : goal.returns-in-Ok-clause-rest
+returns-in-Ok-clause-rest g c =
+    ap pending_of (returns-in-Ok-clause-flushed g c)
+    ∙ pending_flushed c.args.self.now c.args.address (subst (λ (w : Queued). IsClosed (updates w.written) w.cut) c.self.view_is c.self.invariant.closed)

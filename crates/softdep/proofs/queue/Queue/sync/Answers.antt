@@ -10,7 +10,7 @@ use Rattle.softdep.specs.Queued.{Queued, pending_of}
 use Rattle.queue_model.specs.Sync.{IsLeastReady}
 use Rattle.softdep.specs.Syncing.{HasPut, IsHistory, AreFlushes}
 use Rattle.softdep.proofs.Flushed.{ready_of, pending_flushed}
-use Rattle.softdep.proofs.Synced.{put_nothing, put_more, history_nothing, history_more, history_done, flushes_nothing, flushes_more, fewer}
+use Rattle.softdep.proofs.Synced.{put_nothing, put_more, history_nothing, history_more, history_done, flushes_nothing, flushes_more, fewer, rest_put}
 use Rattle.softdep.proofs.queue.Queue.sync.Given.{Over}
 use Rattle.softdep.proofs.queue.Queue.sync.Goals as goal
 
@@ -88,3 +88,13 @@ returns-clause-view g c h =
     let before = c.loop-address.invariant.history (c.in_ok-sync.ensures.honest h) in
     ap (image_view geo) c.in_ok-sync.ensures.same
     ∙ history_done geo (g.D.Device.image c.args.device.now) (g.D.Device.held c.args.device.now) (pending_of c.args.self.now) (g.D.Device.image c.loop-address.device) (g.D.Device.held c.loop-address.device) (pending_of c.loop-address.self) before c.in_default.ensures.least
+
+pub returns-clause-rest : goal.returns-clause-rest
+returns-clause-rest g c = rest_put c.args.self.now c.loop-address.self c.loop-address.invariant.closed c.loop-address.invariant.put
+
+pub returns-in_err-sync-clause-rest : goal.returns-in_err-sync-clause-rest
+returns-in_err-sync-clause-rest g c = rest_put c.args.self.now c.loop-address.self c.loop-address.invariant.closed c.loop-address.invariant.put
+
+pub returns-in_err-flush-clause-rest : goal.returns-in_err-flush-clause-rest
+returns-in_err-flush-clause-rest g c =
+    rest_put c.args.self.now c.flush.new.self c.loop-address.invariant.closed (subst (HasPut c.args.self.now) (sym c.in_err-flush.ensures.refused) c.loop-address.invariant.put)
