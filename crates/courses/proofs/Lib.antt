@@ -6,7 +6,7 @@ mod Pieces
 mod DataPlans
 mod NamingPlans
 mod PlansLead
-mod LifeCourses
+pub mod LifeCourses
 mod Spared
 mod Images
 mod Runs
@@ -15,4 +15,4 @@ mod AcceptedWrites
 mod SafeModes
 mod Doing
 mod Serving
-mod ServiceLemmas
+pub mod ServiceLemmas

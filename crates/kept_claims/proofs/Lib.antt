@@ -3,4 +3,4 @@ mod Since
 mod Grows
 mod Naming
 mod Data
-mod Commands
+pub mod Commands
