@@ -1,0 +1,84 @@
+ghost use Rattle.std.specs.Prelude.{◌≡◌, ◌≤◌, ◌<◌, ◌∷◌, ◌++◌, ℕ, IsSome, IsTrue, List, OnOk, length, map};
+ghost use Rattle.std.specs.List.{All, Contains};
+ghost use Rattle.frozen.specs.Kept.{frozen_view};
+ghost use Rattle.model.specs.Layout.{is_data_address};
+ghost use Rattle.model.specs.Uses.{IsClaim, indirect_position, is_directory_at};
+ghost use Rattle.model.specs.View.{View};
+ghost use Rattle.machine.specs.Cells.{IsEntryFor};
+ghost use Rattle.metadata.specs.Shown.{Shows};
+ghost use Rattle.ordering.specs.Cuts.{Cell as OrderedCell};
+ghost use Rattle.plans_naming.specs.Entries.{HasBlocks, slot_written};
+ghost use Rattle.updates.specs.Places.{IsCell};
+ghost use Rattle.updates.specs.Values.{cell};
+ghost use Rattle.live_states.specs.Drafts.{GoesOn};
+
+use crate::Plan;
+use dirent::{SLOT_BYTES, SLOTS, replace};
+use layout::Block;
+use metadata::Metadata;
+use std::alloc::{AllocError, Global};
+use updates::{Cell, Change};
+
+/// The bytes of an entry that gives a number this name.
+pub fn entry(number: u32, name: &[u8]) -> [u8; SLOT_BYTES]
+    requires { length name.now ≤ 56 }
+    ensures { IsEntryFor number name.now result }
+{
+    dirent::entry(number, name)
+}
+
+/// The bytes of a block that a directory has at some position, as users see them.
+pub fn bytes_of(metadata: &Metadata, directory: u32, position: u32, block: u32) -> &Block
+    requires directory { IsTrue (is_directory_at metadata.now.geometry (frozen_view metadata.now) directory) }
+    requires claim { IsClaim metadata.now.geometry (frozen_view metadata.now) directory position block }
+    ensures bytes { (view : View) → Shows metadata.now view → view.bytes block ≡ result.now }
+{
+    match metadata.frozen().block(block) {
+        Some(bytes) => bytes,
+        None => unreachable!(),
+    }
+}
+
+/// Adds the update that puts 64 bytes into a slot of a directory's block which holds these bytes, after these cells.
+pub fn put_slot(
+    alloc: Global,
+    plan: &mut Plan,
+    block: u32,
+    bytes: &Block,
+    slot: u32,
+    entry: &[u8; SLOT_BYTES],
+    after: Vec<Cell>,
+) -> Result<(), AllocError>
+    requires block { IsTrue (is_data_address plan.old.geometry block) }
+    requires after { All (IsCell plan.old.geometry) (map cell after.items) }
+    ensures { OnOk result (GoesOn plan.old plan.new (λ q. slot_written block bytes.now slot entry.now (map cell after.items) ∷ q)) }
+{
+    let mut bytes = *bytes;
+    replace(&mut bytes, slot as usize % SLOTS, entry);
+    let change = Change::SetBytes(block, Box::new(alloc, bytes)?);
+    plan.push(change, after)
+}
+
+/// Adds the cells of a directory's blocks of slots behind these.
+pub fn add_blocks(
+    metadata: &Metadata,
+    directory: u32,
+    cells: &mut Vec<Cell>,
+) -> Result<(), AllocError>
+    ensures kept { OnOk result ((c : OrderedCell) → Contains (map cell cells.old.items) c → Contains (map cell cells.new.items) c) }
+    ensures blocks { OnOk result ((view : View) → Shows metadata.now view → HasBlocks metadata.now.geometry view directory (map cell cells.new.items)) }
+    ensures cells { OnOk result (All (IsCell metadata.now.geometry) (map cell cells.old.items) → All (IsCell metadata.now.geometry) (map cell cells.new.items)) }
+{
+    let frozen = metadata.frozen();
+    let count = if frozen.is_sound_at(directory) {
+        frozen.record(directory).blocks()
+    } else {
+        0
+    };
+    for position in 0..count {
+        if let Some(block) = frozen.claim_at(directory, position) {
+            cells.push(Cell::Block(block))?;
+        }
+    }
+    Ok(())
+}

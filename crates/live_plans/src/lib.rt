@@ -1,0 +1,19 @@
+//! The plans of the commands that change names: the updates of cells by which a command is carried out, in the order of
+//! their issue, each with the cells that have to reach the device before it. Here is what the plans of several commands
+//! have in common: the list in the making, the entry that a path leads to, and how a name is entered into a directory.
+//!
+//! A plan is made on the metadata of the volume that is held in memory, and changes nothing.
+#![tactic(auto)]
+
+mod entering;
+mod entries;
+mod growing;
+mod locating;
+mod plan;
+#[cfg(test)]
+mod tests;
+
+pub use entering::{NewEntry, enter};
+pub use entries::{add_blocks, bytes_of, entry, put_slot};
+pub use locating::{Found, locate};
+pub use plan::Plan;

@@ -1,0 +1,72 @@
+ghost use Rattle.std.specs.Prelude.{◌≡◌, ◌∷◌, [], OnOk, map};
+ghost use Rattle.std.specs.List.{All};
+ghost use Rattle.ordering.specs.Cuts.{cell_of};
+ghost use Rattle.updates.specs.Places.{IsCell};
+ghost use Rattle.updates.specs.Values.{cell, change as change_of};
+ghost use Rattle.live_states.specs.Drafts.{AreOf, GoesOn};
+
+use layout::Geometry;
+use std::alloc::{AllocError, Global};
+use std::marker::Model;
+use updates::{Cell, Change, Update};
+
+/// The updates of a command in the making, in the order of their issue, each in the name of one file.
+#[derive(Drop)]
+pub struct Plan {
+    geometry: Geometry,
+    file: u32,
+    updates: Vec<Update>,
+}
+
+impl Model for Plan {
+    ghost use Rattle.live_states.specs.Drafts.{AreOf, Draft};
+
+    ghost Value = { Draft };
+
+    ghost view = { λ plan. record { geometry = plan.geometry; file = plan.file; updates = plan.updates.items } };
+
+    ghost invariant = { λ plan. AreOf plan.geometry plan.file plan.updates.items };
+}
+
+impl Plan {
+    /// No updates yet, in the name of a file.
+    pub fn new(alloc: Global, geometry: Geometry, file: u32) -> Plan
+        ensures { result ≡ record { geometry = geometry; file = file; updates = [] } }
+    {
+        Plan {
+            geometry,
+            file,
+            updates: Vec::new(alloc),
+        }
+    }
+
+    /// Adds one more update, which has to reach the device after the last updates of these cells.
+    pub fn push(&mut self, change: Change, after: Vec<Cell>) -> Result<(), AllocError>
+        requires changed { IsCell self.old.geometry (cell_of (change_of change)) }
+        requires after { All (IsCell self.old.geometry) (map cell after.items) }
+        ensures { OnOk result (GoesOn self.old self.new (λ q. record { change = change_of change; after = map cell after.items } ∷ q)) }
+    {
+        let file = Some(self.file);
+        self.updates.push(Update {
+            change,
+            file,
+            after,
+        })?;
+        Ok(())
+    }
+
+    /// The file in whose name they are.
+    pub fn file(&self) -> u32
+        ensures { result ≡ self.now.file }
+    {
+        self.file
+    }
+
+    /// The updates.
+    pub fn into_updates(self) -> Vec<Update>
+        ensures updates { result.items ≡ self.updates }
+        ensures of_volume { AreOf self.geometry self.file result.items }
+    {
+        self.updates
+    }
+}

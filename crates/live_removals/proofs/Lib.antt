@@ -1,0 +1,9 @@
+mod Clearing
+mod Given
+mod Leaving
+mod Naming
+mod Refusals
+mod Removals
+mod Showing
+mod Unlinks
+mod Volumes

@@ -1,0 +1,96 @@
+-- The updates of an unlink carry it out.
+use Rattle.std.proofs.Common.{◌≡◌, ◌<◌, ◌≤◌, ◌-◌, ◌⊎◌, ℕ, Bool, List, ◌∷◌, [], Some, refl, sym, ap, ◌∙◌, subst, IsFalse}
+use Rattle.model.specs.Layout.{Geometry}
+use Rattle.model.specs.Rules.{ObeysRules}
+use Rattle.model.specs.View.{View}
+use Rattle.ordering.specs.Cuts.{Block, Pending, users_view}
+use Rattle.machine.specs.Causes.{Accepts}
+use Rattle.machine.specs.Command.{Done, Unlink}
+use Rattle.machine.specs.Paths.{holder, name_in, number_at, parts_of, slot_at}
+use Rattle.machine.specs.State.{State, is_open}
+use Rattle.plans_data.specs.Carried.{Stands}
+use Rattle.plans_data.specs.Freeing.{freeing}
+use Rattle.plans_data.specs.Now.{now}
+use Rattle.plans_naming.specs.Entries.{no_entry, slot_written}
+use Rattle.plans_naming.specs.Plans.{entry_block, unlink_plan, unlink_plan_last}
+use Rattle.plans_naming.specs.Unlink.{CanUnlink, StaysWith, lowered, safe_but, unlinking, unlinking_last}
+use Rattle.plans_naming.proofs.AcceptedCommands.{accepted_unlink}
+use Rattle.courses.specs.Done.{IsDoneBy, UnlinksFile, UnlinksName}
+use Rattle.frozen.specs.Kept.{Kept, KeepsMetadata}
+use Rattle.metadata.specs.Shown.{Shows}
+use Rattle.metadata.proofs.ShownLemmas.{shows_metadata}
+use Rattle.live_paths.specs.Shown.{IsShownBy}
+use Rattle.live_states.specs.Drafts.{Draft, over}
+use Rattle.live_states.specs.Planned.{IsIdle, IsOfVolume, IsPlanned, safe_after}
+use Rattle.live_plans.specs.declared.locating.Found.{Found}
+use Rattle.live_removals.specs.Blocks.{claimed}
+use Rattle.live_removals.specs.Entries.{IsFileAt}
+use Rattle.live_removals.specs.Links.{Goes, LosesLinks, Stays}
+use Rattle.live_removals.specs.Removed.{Leaves, Unlinked}
+use Rattle.live_removals.proofs.Given.{claimed_are_given_up, held_as_before}
+use Rattle.live_removals.proofs.Leaving.{done_as, goes_closed, leaves_file, leaves_geometry, stays_linked}
+use Rattle.live_removals.proofs.Refusals.{file_accepted, unlink_refusal}
+use Rattle.live_removals.proofs.Volumes.{OnVolume, on_volume}
+
+-- a file that loses a name stays, or goes
+abbrev pub StaysOrGoes : Type 0
+StaysOrGoes = (geo : Geometry) (old : State) → ObeysRules geo old.view → (i d s block : ℕ) (name : List ℕ) → CanUnlink geo old.view i d s block name
+    → StaysWith old i ((old.view.inode i).links - 1) ⊎ (((old.view.inode i).links ≡ 1) × IsFalse (is_open old i))
+
+module _ (decided : StaysOrGoes) (kept : Kept) (path : List ℕ) (found : Found) (disk : View) (q : List Pending) (old : State) (on : OnVolume kept path found disk q old) where
+  abbrev view : View
+  view = users_view disk q
+
+  -- the plan by the path
+  staying : unlink_plan kept.geometry view path q ≡ lowered found.number (view.inode found.number) 1 found.block (slot_written found.block (view.bytes found.block) found.slot no_entry [] ∷ q)
+  staying =
+      ap (λ n. unlinking n (view.inode n) (entry_block kept.geometry view path) (view.bytes (entry_block kept.geometry view path)) (slot_at kept.geometry view path) q) on.number
+      ∙ ap (λ b. unlinking found.number (view.inode found.number) b (view.bytes b) (slot_at kept.geometry view path) q) on.block
+      ∙ ap (λ s. unlinking found.number (view.inode found.number) found.block (view.bytes found.block) s q) on.slot
+
+  going : unlink_plan_last kept.geometry view path (claimed kept.geometry view (number_at kept.geometry view path)) q
+      ≡ freeing found.number (claimed kept.geometry view found.number) (Block found.block ∷ []) (slot_written found.block (view.bytes found.block) found.slot no_entry [] ∷ q)
+  going =
+      ap (λ n. unlinking_last n (claimed kept.geometry view n) (entry_block kept.geometry view path) (view.bytes (entry_block kept.geometry view path)) (slot_at kept.geometry view path) q) on.number
+      ∙ ap (λ b. unlinking_last found.number (claimed kept.geometry view found.number) b (view.bytes b) (slot_at kept.geometry view path) q) on.block
+      ∙ ap (λ s. unlinking_last found.number (claimed kept.geometry view found.number) found.block (view.bytes found.block) s q) on.slot
+
+  module _ (safe : ℕ → Bool) (stands : Stands kept.geometry disk q old safe) (idle : IsIdle old) (accepts : Accepts kept.geometry (now disk q old) (Unlink path)) (draft : Draft) (leaves : Leaves kept.geometry view found 1 [] draft) where
+    done_by : LosesLinks kept.geometry view found.number 1 found.block leaves.emptied draft
+        → IsDoneBy kept.geometry disk q old safe (Unlink path) Done draft.file (over q draft.updates) (now disk (over q draft.updates) old) (safe_but (number_at kept.geometry view path) safe)
+    done_by (Stays more goes) =
+        let n = number_at kept.geometry view path in
+        done_as kept.geometry disk q old safe (Unlink path) n draft.file (unlink_plan kept.geometry view path q) (over q draft.updates) old.held (safe_but n safe) (safe_but n safe)
+        (on.number ∙ sym (leaves_file kept.geometry view found 1 [] draft leaves))
+        (staying ∙ sym (goes.pending q ∙ ap (lowered found.number (view.inode found.number) 1 found.block) (leaves.empties.pending q)))
+        refl refl
+        (UnlinksName path (stays_linked old n (view.inode n).links 1 (subst (λ m. 1 < (view.inode m).links) (sym on.number) more)))
+    done_by (Goes few goes) =
+        let n = number_at kept.geometry view path in
+        let st = now disk q old in
+        let can = accepted_unlink kept.geometry st on.balance stands.geometry path accepts in
+        let last = goes_closed st n (view.inode n).links 1 (subst (λ m. (view.inode m).links ≤ 1) (sym on.number) few) (idle.closed n)
+        (decided kept.geometry st on.balance.rules n (holder kept.geometry view path) (slot_at kept.geometry view path) (entry_block kept.geometry view path) (name_in path) can) in
+        done_as kept.geometry disk q old safe (Unlink path) n draft.file (unlink_plan_last kept.geometry view path (claimed kept.geometry view n) q) (over q draft.updates) _ (safe_but n safe) (safe_but n safe)
+        (on.number ∙ sym (leaves_file kept.geometry view found 1 [] draft leaves))
+        (going ∙ sym (goes.pending q ∙ ap (freeing found.number (claimed kept.geometry view found.number) (Block found.block ∷ [])) (leaves.empties.pending q)))
+        (held_as_before kept.geometry st n idle.free) refl
+        (UnlinksFile path (claimed kept.geometry view n) last.0 (record { closed = last.1; given_up = claimed_are_given_up kept.geometry st n idle.free }))
+
+    pub unlink_done : IsDoneBy kept.geometry disk q old safe (Unlink path) Done draft.file (over q draft.updates) (now disk (over q draft.updates) old) (safe_after kept.geometry old.view (Unlink path) safe)
+    unlink_done =
+        subst (λ v. IsDoneBy kept.geometry disk q old safe (Unlink path) Done draft.file (over q draft.updates) (now disk (over q draft.updates) old) (safe_but (number_at kept.geometry v path) safe)) stands.same
+        (done_by leaves.loses)
+
+pub unlink_planned : StaysOrGoes → (kept : Kept) (path : List ℕ) (ps : List (List ℕ)) (found : Found) (draft : Draft) → KeepsMetadata kept → IsOfVolume kept → parts_of path ≡ Some ps
+    → ((view : View) → IsShownBy kept view → IsFileAt kept.geometry view ps found) → ((view : View) → Shows kept view → Unlinked kept.geometry view found draft) → IsPlanned kept (Unlink path) Done draft
+unlink_planned decided kept path ps found draft keeps volume is at unlinked = record {
+  geometry = leaves_geometry kept.geometry volume.old.view found 1 [] draft (unlinked volume.old.view volume.shows);
+  accepted = accepted;
+  done = λ disk q old safe stands shows idle.
+      let on = on_volume kept path ps found keeps is (λ view shown. (at view shown).at) disk q old safe stands shows in
+      unlink_done decided kept path found disk q old on safe stands idle (accepted (now disk q old) on.seen) draft (unlinked (users_view disk q) on.seen);
+}
+  where
+    accepted : (old : State) → Shows kept old.view → Accepts kept.geometry old (Unlink path)
+    accepted old shows = (unlink_refusal kept.geometry old path ps is ∙ file_accepted kept.geometry old.view ps found (at old.view (shows_metadata kept old.view keeps shows)), tt)

@@ -1,0 +1,32 @@
+-- The updates by which an entry goes.
+use Rattle.std.specs.Prelude.{ℕ, List, [], ◌∷◌}
+use Rattle.model.specs.Layout.{Geometry}
+use Rattle.model.specs.View.{View}
+use Rattle.ordering.specs.Cuts.{Cell}
+use Rattle.plans_naming.specs.Entries.{HasBlocks, no_entry, slot_written}
+use Rattle.plans_naming.specs.Unlink.{lowered}
+use Rattle.live_states.specs.Drafts.{Draft, GoesOn}
+use Rattle.live_plans.specs.declared.locating.Found.{Found}
+use Rattle.live_removals.specs.Links.{LosesLinks}
+
+-- no updates yet
+abbrev pub no_updates : Geometry → ℕ → Draft
+no_updates geo file = record { geometry = geo; file = file; updates = [] }
+
+-- the slot is emptied, after these cells, and then what it named has so many links less
+pub record Leaves (geo : Geometry) (view : View) (found : Found) (fewer : ℕ) (after : List Cell) (draft : Draft) : Type 0 where
+  pub emptied : Draft
+  pub empties : GoesOn (no_updates geo found.number) emptied (λ q. slot_written found.block (view.bytes found.block) found.slot no_entry after ∷ q)
+  pub loses : LosesLinks geo view found.number fewer found.block emptied draft
+
+-- the name of a file goes
+abbrev pub Unlinked : Geometry → View → Found → Draft → Type 0
+Unlinked geo view found draft = Leaves geo view found 1 [] draft
+
+-- a directory goes, after its own blocks, and then a link of its parent
+pub record Removed (geo : Geometry) (view : View) (found : Found) (draft : Draft) : Type 0 where
+  pub after : List Cell
+  pub own_first : HasBlocks geo view found.number after
+  pub left : Draft
+  pub leaves : Leaves geo view found 2 after left
+  pub lowers : GoesOn left draft (lowered found.directory (view.inode found.directory) 1 found.block)

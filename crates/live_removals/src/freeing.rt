@@ -1,0 +1,150 @@
+ghost use Rattle.std.specs.Prelude.{◌≡◌, ◌∷◌, [], ◌<◌, ◌≤◌, IfOk, IsTrue, OnOk, map};
+ghost use Rattle.std.specs.List.{All};
+ghost use Rattle.frozen.specs.Kept.{frozen_view};
+ghost use Rattle.metadata.specs.Shown.{Shows};
+ghost use Rattle.model.specs.Layout.{is_data_address, is_number};
+ghost use Rattle.model.specs.View.{View};
+ghost use Rattle.ordering.specs.Cuts.{Block as BlockCell, Record as RecordCell};
+ghost use Rattle.plans_data.specs.Freeing.{cleared, freeing};
+ghost use Rattle.plans_naming.specs.Entries.{no_entry, slot_written};
+ghost use Rattle.plans_naming.specs.Unlink.{lowered};
+ghost use Rattle.updates.specs.Places.{IsCell};
+ghost use Rattle.updates.specs.Values.{cell};
+ghost use Rattle.live_states.specs.Drafts.{GoesOn};
+ghost use Rattle.live_removals.specs.Blocks.{claimed};
+ghost use Rattle.live_removals.specs.Links.{LosesLinks};
+ghost use Rattle.live_removals.specs.Entries.{IsEntry};
+
+use dirent::{SLOT_BYTES, SLOTS};
+use frozen::Frozen;
+use inode::{DIRECT_POINTERS, FREE, INDIRECT_POSITION, Record};
+use live_plans::{Found, Plan, bytes_of, put_slot};
+use metadata::Metadata;
+use std::alloc::{AllocError, Global};
+use updates::{Cell, Change};
+
+/// Adds the update that empties the slot of an entry, after these cells.
+pub(crate) fn empty(
+    alloc: Global,
+    metadata: &Metadata,
+    plan: &mut Plan,
+    found: &Found,
+    after: Vec<Cell>,
+) -> Result<(), AllocError>
+    requires geometry { plan.old.geometry ≡ metadata.now.geometry }
+    requires entry { IsEntry metadata.now.geometry (frozen_view metadata.now) found.now }
+    requires after { All (IsCell plan.old.geometry) (map cell after.items) }
+    ensures { OnOk result ((view : View) → Shows metadata.now view
+        → GoesOn plan.old plan.new (λ q. slot_written found.now.block (view.bytes found.now.block) found.now.slot no_entry (map cell after.items) ∷ q)) }
+{
+    let position = found.slot / SLOTS as u32;
+    let bytes = bytes_of(metadata, found.directory, position, found.block);
+    put_slot(
+        alloc,
+        plan,
+        found.block,
+        bytes,
+        found.slot,
+        &[0; SLOT_BYTES],
+        after,
+    )
+}
+
+/// Adds the updates by which a number loses this many links, after the last update of a block: where it has more, its
+/// record with so many less; else those that free it with its blocks.
+pub(crate) fn lose_links(
+    alloc: Global,
+    metadata: &Metadata,
+    plan: &mut Plan,
+    number: u32,
+    fewer: u16,
+    block: u32,
+) -> Result<(), AllocError>
+    requires geometry { plan.old.geometry ≡ metadata.now.geometry }
+    requires number { IsTrue (is_number metadata.now.geometry number) }
+    requires block { IsTrue (is_data_address metadata.now.geometry block) }
+    ensures { OnOk result ((view : View) → Shows metadata.now view → LosesLinks metadata.now.geometry view number fewer block plan.old plan.new) }
+{
+    let record = metadata.frozen().record(number);
+    if record.links > fewer {
+        lower(alloc, metadata, plan, number, fewer, block)
+    } else {
+        free(alloc, metadata.frozen(), plan, number, block)
+    }
+}
+
+/// Adds the update by which a record has this many links less, after the last update of a block.
+pub(crate) fn lower(
+    alloc: Global,
+    metadata: &Metadata,
+    plan: &mut Plan,
+    number: u32,
+    fewer: u16,
+    block: u32,
+) -> Result<(), AllocError>
+    requires geometry { plan.old.geometry ≡ metadata.now.geometry }
+    requires number { IsTrue (is_number metadata.now.geometry number) }
+    requires block { IsTrue (is_data_address metadata.now.geometry block) }
+    requires enough { fewer ≤ ((frozen_view metadata.now).inode number).links }
+    ensures { OnOk result (GoesOn plan.old plan.new (lowered number ((frozen_view metadata.now).inode number) fewer block)) }
+{
+    let mut record = metadata.frozen().record(number);
+    record.links -= fewer;
+    let mut after = Vec::new(alloc);
+    after.push(Cell::Block(block))?;
+    plan.push(Change::SetInode(number, record), after)
+}
+
+/// Adds the updates that free a number, after the last update of a block, and then its bit and all blocks that it
+/// claims.
+fn free(
+    alloc: Global,
+    frozen: &Frozen,
+    plan: &mut Plan,
+    number: u32,
+    block: u32,
+) -> Result<(), AllocError>
+    requires geometry { plan.old.geometry ≡ frozen.now.geometry }
+    requires number { IsTrue (is_number frozen.now.geometry number) }
+    requires block { IsTrue (is_data_address frozen.now.geometry block) }
+    ensures { OnOk result (GoesOn plan.old plan.new (freeing number (claimed frozen.now.geometry (frozen_view frozen.now) number) (BlockCell block ∷ []))) }
+{
+    let mut after = Vec::new(alloc);
+    after.push(Cell::Block(block))?;
+    let free = Record {
+        mode: FREE,
+        links: 0,
+        size: 0,
+        direct: [0; DIRECT_POINTERS],
+        indirect: 0,
+    };
+    plan.push(Change::SetInode(number, free), after)?;
+    plan.push(
+        Change::SetNumber(number, false),
+        after_record(alloc, number)?,
+    )?;
+    clear(alloc, frozen, plan, number)
+}
+
+/// Adds the updates that clear the bits of all blocks that a number claims, each after the last update of its record.
+fn clear(alloc: Global, frozen: &Frozen, plan: &mut Plan, number: u32) -> Result<(), AllocError>
+    requires geometry { plan.old.geometry ≡ frozen.now.geometry }
+    requires number { IsTrue (is_number frozen.now.geometry number) }
+    ensures { OnOk result (GoesOn plan.old plan.new (cleared number (claimed frozen.now.geometry (frozen_view frozen.now) number))) }
+{
+    for position in 0..INDIRECT_POSITION + 1 {
+        if let Some(block) = frozen.claim_at(number, position) {
+            plan.push(Change::SetBlock(block, false), after_record(alloc, number)?)?;
+        }
+    }
+    Ok(())
+}
+
+/// A list of one cell, the record of a number.
+fn after_record(alloc: Global, number: u32) -> Result<Vec<Cell>, AllocError>
+    ensures { IfOk result (λ cells. map cell cells.items ≡ RecordCell number ∷ []) }
+{
+    let mut cells = Vec::new(alloc);
+    cells.push(Cell::Record(number))?;
+    Ok(cells)
+}

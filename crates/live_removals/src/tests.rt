@@ -1,0 +1,301 @@
+use crate::removing::{directory_at, removed};
+use crate::unlinking::{file_at, unlinked};
+use device::{Before, Device, MemDevice, format};
+use dirent::{SLOT_BYTES, SLOTS, replace};
+use frozen::load;
+use layout::{BLOCK_BYTES, Block, Geometry, Refusal};
+use live_paths::Path;
+use metadata::Metadata;
+use std::alloc::Global;
+use std::test::Fail;
+use updates::{Cell, Change, Update};
+
+/// The bytes that differ from a fresh image of one group of 32 blocks and 16 inodes: the block, the byte, the value. The
+/// root, in block 4, names directory 3 "a", file 4 "f", file 5 "g", directory 6 "d" and directory 7 "e" in its slots from
+/// 2 on. Directory 3, in block 5, names file 4 "f" in slot 2. File 4 is empty. File 5 has 13 blocks, in blocks 6 to 17 and
+/// 19, and its indirect block is block 18. Directory 6, in block 20, and directory 7, in block 21, have their dots alone;
+/// directory 7 has a link too many.
+const CHANGES: [(u32, usize, u8); 74] = [
+    (2, 256, 2),
+    (2, 258, 5),
+    (2, 261, 4),
+    (2, 264, 4),
+    (2, 384, 2),
+    (2, 386, 2),
+    (2, 389, 4),
+    (2, 392, 5),
+    (2, 512, 1),
+    (2, 514, 2),
+    (2, 640, 1),
+    (2, 642, 1),
+    (2, 645, 52),
+    (2, 648, 6),
+    (2, 652, 7),
+    (2, 656, 8),
+    (2, 660, 9),
+    (2, 664, 10),
+    (2, 668, 11),
+    (2, 672, 12),
+    (2, 676, 13),
+    (2, 680, 14),
+    (2, 684, 15),
+    (2, 688, 16),
+    (2, 692, 17),
+    (2, 696, 18),
+    (2, 768, 2),
+    (2, 770, 2),
+    (2, 773, 4),
+    (2, 776, 20),
+    (2, 896, 2),
+    (2, 898, 3),
+    (2, 901, 4),
+    (2, 904, 21),
+    (4, 128, 3),
+    (4, 132, 1),
+    (4, 136, 97),
+    (4, 192, 4),
+    (4, 196, 1),
+    (4, 200, 102),
+    (4, 256, 5),
+    (4, 260, 1),
+    (4, 264, 103),
+    (4, 320, 6),
+    (4, 324, 1),
+    (4, 328, 100),
+    (4, 384, 7),
+    (4, 388, 1),
+    (4, 392, 101),
+    (5, 0, 3),
+    (5, 4, 1),
+    (5, 8, 46),
+    (5, 64, 2),
+    (5, 68, 2),
+    (5, 72, 46),
+    (5, 73, 46),
+    (5, 128, 4),
+    (5, 132, 1),
+    (5, 136, 102),
+    (18, 0, 19),
+    (20, 0, 6),
+    (20, 4, 1),
+    (20, 8, 46),
+    (20, 64, 2),
+    (20, 68, 2),
+    (20, 72, 46),
+    (20, 73, 46),
+    (21, 0, 7),
+    (21, 4, 1),
+    (21, 8, 46),
+    (21, 64, 2),
+    (21, 68, 2),
+    (21, 72, 46),
+    (21, 73, 46),
+];
+
+/// What an update does.
+#[derive(Clone, Copy, Debug, PartialEq, Eq)]
+enum Step {
+    /// A record gets this mode and so many links.
+    Record(u32, u16, u16),
+    /// The bit of a number is cleared.
+    Number(u32),
+    /// The bit of a block is cleared.
+    Bit(u32),
+    /// This slot of a block is emptied.
+    Slot(u32, usize),
+    /// Anything else.
+    Other,
+}
+
+/// The metadata of this image.
+fn image(alloc: Global) -> Result<Metadata, Refusal> {
+    let geometry = Geometry::new(1, 32, 16)?;
+    let bytes = vec![in alloc; 0u8; geometry.blocks() as usize * BLOCK_BYTES]?;
+    let mut device = MemDevice::from_bytes(alloc, bytes.as_slice())?;
+    if device.blocks() != geometry.blocks() {
+        return Err(Refusal::BadLength);
+    }
+    format(&mut device, &geometry, Before::Anything)?;
+    for (address, byte, value) in &CHANGES {
+        set_byte(&mut device, *address, *byte, *value)?;
+    }
+    Ok(Metadata::new(alloc, load(alloc, &mut device)?)?)
+}
+
+/// Changes one byte of a block.
+fn set_byte(device: &mut MemDevice, address: u32, byte: usize, value: u8) -> Result<(), Refusal> {
+    if address >= device.blocks() || byte >= BLOCK_BYTES {
+        return Err(Refusal::BadIndex);
+    }
+    let mut block = [0; BLOCK_BYTES];
+    device.read(address, &mut block)?;
+    block[byte] = value;
+    device.write(address, &block)?;
+    Ok(())
+}
+
+/// The updates of an unlink, on whatever metadata.
+fn unlinking(alloc: Global, metadata: &Metadata, path: &[u8]) -> Result<Vec<Update>, Refusal> {
+    let parsed = Path::parse(path)?;
+    let found = file_at(metadata.frozen(), &parsed)?;
+    Ok(unlinked(alloc, metadata, &found)?.into_updates())
+}
+
+/// The updates of the removal of a directory, on metadata where the parent has a link.
+fn removing(alloc: Global, metadata: &Metadata, path: &[u8]) -> Result<Vec<Update>, Refusal> {
+    let parsed = Path::parse(path)?;
+    let found = directory_at(metadata.frozen(), &parsed)?;
+    if metadata.frozen().record(found.directory).links == 0 {
+        return Err(Refusal::Damaged);
+    }
+    Ok(removed(alloc, metadata, &found)?.into_updates())
+}
+
+/// The slot without which two blocks are the same, and which is empty in the second one.
+fn emptied_slot(old: &Block, new: &Block) -> Option<usize> {
+    for slot in 0..SLOTS {
+        let mut block = *old;
+        replace(&mut block, slot, &[0; SLOT_BYTES]);
+        if block == *new {
+            return Some(slot);
+        }
+    }
+    None
+}
+
+/// What a change does.
+fn step_of(metadata: &Metadata, change: &Change) -> Step {
+    match change {
+        Change::SetInode(number, record) => Step::Record(*number, record.mode, record.links),
+        Change::SetNumber(number, false) => Step::Number(*number),
+        Change::SetBlock(address, false) => Step::Bit(*address),
+        Change::SetBytes(address, bytes) => match metadata.frozen().block(*address) {
+            Some(old) => match emptied_slot(old, bytes) {
+                Some(slot) => Step::Slot(*address, slot),
+                None => Step::Other,
+            },
+            None => Step::Other,
+        },
+        _ => Step::Other,
+    }
+}
+
+/// What updates of a file do, each after one cell at most.
+fn steps(
+    alloc: Global,
+    metadata: &Metadata,
+    updates: &[Update],
+    file: u32,
+) -> Result<Vec<(Step, Option<Cell>)>, Refusal> {
+    let mut steps = Vec::new(alloc);
+    for update in updates {
+        if update.file != Some(file) || update.after.len() > 1 {
+            return Err(Refusal::Damaged);
+        }
+        let after = update.after.first().copied();
+        steps.push((step_of(metadata, &update.change), after))?;
+    }
+    Ok(steps)
+}
+
+#[test]
+fn a_file_loses_one_of_two_names(rt: HostRuntime) -> Result<(), Refusal> {
+    let alloc = rt.alloc();
+    let metadata = image(alloc)?;
+    let updates = unlinking(alloc, &metadata, b"/a/f")?;
+    let done = steps(alloc, &metadata, updates.as_slice(), 4)?;
+    assert_eq!(rt;
+        done.as_slice(),
+        &[
+            (Step::Slot(5, 2), None),
+            (Step::Record(4, 1, 1), Some(Cell::Block(5)))
+        ][..]
+    );
+    Ok(())
+}
+
+#[test]
+fn a_file_goes_with_its_last_name(rt: HostRuntime) -> Result<(), Refusal> {
+    let alloc = rt.alloc();
+    let metadata = image(alloc)?;
+    let updates = unlinking(alloc, &metadata, b"/g")?;
+    let done = steps(alloc, &metadata, updates.as_slice(), 5)?;
+    let record = Some(Cell::Record(5));
+    let mut wanted = vec![in alloc;
+        (Step::Slot(4, 4), None),
+        (Step::Record(5, 0, 0), Some(Cell::Block(4))),
+        (Step::Number(5), record),
+    ]?;
+    for block in 6..18 {
+        wanted.push((Step::Bit(block), record))?;
+    }
+    wanted.push((Step::Bit(19), record))?;
+    wanted.push((Step::Bit(18), record))?;
+    assert_eq!(rt; done.as_slice(), wanted.as_slice());
+    Ok(())
+}
+
+#[test]
+fn a_directory_goes_with_its_block(rt: HostRuntime) -> Result<(), Refusal> {
+    let alloc = rt.alloc();
+    let metadata = image(alloc)?;
+    let updates = removing(alloc, &metadata, b"/d")?;
+    let done = steps(alloc, &metadata, updates.as_slice(), 6)?;
+    assert_eq!(rt;
+        done.as_slice(),
+        &[
+            (Step::Slot(4, 5), Some(Cell::Block(20))),
+            (Step::Record(6, 0, 0), Some(Cell::Block(4))),
+            (Step::Number(6), Some(Cell::Record(6))),
+            (Step::Bit(20), Some(Cell::Record(6))),
+            (Step::Record(2, 2, 4), Some(Cell::Block(4)))
+        ][..]
+    );
+    Ok(())
+}
+
+#[test]
+fn a_directory_with_a_link_too_many_stays(rt: HostRuntime) -> Result<(), Refusal> {
+    let alloc = rt.alloc();
+    let metadata = image(alloc)?;
+    let updates = removing(alloc, &metadata, b"/e")?;
+    let done = steps(alloc, &metadata, updates.as_slice(), 7)?;
+    assert_eq!(rt;
+        done.as_slice(),
+        &[
+            (Step::Slot(4, 6), Some(Cell::Block(21))),
+            (Step::Record(7, 2, 1), Some(Cell::Block(4))),
+            (Step::Record(2, 2, 4), Some(Cell::Block(4)))
+        ][..]
+    );
+    Ok(())
+}
+
+#[test]
+fn each_cause_refuses(rt: HostRuntime) -> Result<(), Fail> {
+    let alloc = rt.alloc();
+    let metadata = image(alloc)?;
+    let of_files: [(&[u8], Refusal); 6] = [
+        (b"a", Refusal::BadName),
+        (b"/", Refusal::IsRoot),
+        (b"/x", Refusal::NotFound),
+        (b"/x/y", Refusal::NotFound),
+        (b"/f/y", Refusal::NotDirectory),
+        (b"/a", Refusal::IsDirectory),
+    ];
+    for (path, refusal) in of_files {
+        assert_eq!(rt; unlinking(alloc, &metadata, path).err(), Some(refusal));
+    }
+    let of_directories: [(&[u8], Refusal); 6] = [
+        (b"/d/", Refusal::BadName),
+        (b"/", Refusal::IsRoot),
+        (b"/a/x", Refusal::NotFound),
+        (b"/f/y", Refusal::NotDirectory),
+        (b"/a/f", Refusal::NotDirectory),
+        (b"/a", Refusal::NotEmpty),
+    ];
+    for (path, refusal) in of_directories {
+        assert_eq!(rt; removing(alloc, &metadata, path).err(), Some(refusal));
+    }
+    Ok(())
+}

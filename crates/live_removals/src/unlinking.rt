@@ -1,0 +1,63 @@
+ghost use Rattle.std.specs.Prelude.{◌≡◌, IfErr, IfOk, Some};
+ghost use Rattle.frozen.specs.Kept.{frozen_view};
+ghost use Rattle.machine.specs.Command.{Done, Unlink};
+ghost use Rattle.metadata.specs.Shown.{Shows};
+ghost use Rattle.model.specs.View.{View};
+ghost use Rattle.live_paths.specs.Shown.{IsShownBy};
+ghost use Rattle.live_states.specs.Planned.{IsOfVolume, IsPlanned, IsRefused};
+ghost use Rattle.live_removals.specs.Entries.{IsEntry, IsFileAt, file_refusal};
+ghost use Rattle.live_removals.specs.Removed.{Unlinked};
+
+use crate::freeing::{empty, lose_links};
+use frozen::Frozen;
+use layout::Refusal;
+use live_paths::Path;
+use live_plans::{Found, Plan, locate};
+use metadata::Metadata;
+use plans_naming::accepted_unlinks;
+use std::alloc::{AllocError, Global};
+
+/// The plan by which the name of a file goes, and the file with its last one. Refused in this order with `BadName` where
+/// the bytes are no path, with `IsRoot` for `/`, with why the path leads nowhere, and with `IsDirectory` where it leads
+/// to a directory. At any time it may be refused with `NoMemory`.
+pub fn unlink(alloc: Global, metadata: &Metadata, path: &[u8]) -> Result<Plan, Refusal>
+    requires { IsOfVolume metadata.now }
+    ensures planned { IfOk result (IsPlanned metadata.now (Unlink path.now) Done) }
+    ensures refused { IfErr result (IsRefused metadata.now (Unlink path.now)) }
+{
+    let parsed = Path::parse(path)?;
+    let found = file_at(metadata.frozen(), &parsed)?;
+    accepted_unlinks();
+    Ok(unlinked(alloc, metadata, &found)?)
+}
+
+/// The file that a path leads to. Refused with `IsRoot` for `/`, with why the path leads nowhere, and with `IsDirectory`.
+pub(crate) fn file_at(frozen: &Frozen, path: &Path) -> Result<Found, Refusal>
+    ensures found { IfOk result (λ found. (view : View) → IsShownBy frozen.now view → IsFileAt frozen.now.geometry view path.now found) }
+    ensures refused { IfErr result (λ r. (view : View) → IsShownBy frozen.now view → file_refusal frozen.now.geometry view path.now ≡ Some r) }
+{
+    if path.is_root() {
+        return Err(Refusal::IsRoot);
+    }
+    let found = locate(frozen, path)?;
+    if frozen.is_directory_at(found.number) {
+        return Err(Refusal::IsDirectory);
+    }
+    Ok(found)
+}
+
+/// The updates by which an entry goes, and a link of what it names.
+pub(crate) fn unlinked(
+    alloc: Global,
+    metadata: &Metadata,
+    found: &Found,
+) -> Result<Plan, AllocError>
+    requires { IsEntry metadata.now.geometry (frozen_view metadata.now) found.now }
+    ensures { IfOk result (λ plan. (view : View) → Shows metadata.now view → Unlinked metadata.now.geometry view found.now plan) }
+{
+    let mut plan = Plan::new(alloc, metadata.frozen().geometry(), found.number);
+    let after = Vec::new(alloc);
+    empty(alloc, metadata, &mut plan, found, after)?;
+    lose_links(alloc, metadata, &mut plan, found.number, 1, found.block)?;
+    Ok(plan)
+}
