@@ -1,0 +1,216 @@
+-- Flushes of a volume: what stays, and how they are answered.
+use Rattle.std.proofs.Common.{◌≡◌, ◌<◌, ◌≤◌, ℕ, zero, suc, Bool, false, leb, List, [], ◌∷◌, ◌++◌, length, Some, None, Ok, refl, sym, ap, ◌∙◌, subst, arith}
+use Rattle.std.specs.Prelude.{reverse, slice_set}
+use Rattle.std.specs.Bool.{then_some}
+use Rattle.std.specs.Option.{option_or}
+use Rattle.std.proofs.lemmas.Bool.{le-leb}
+use Rattle.std.proofs.lemmas.Bool.Decides.{nat_tests}
+use Rattle.std.proofs.lemmas.List.{append-nil, append_assoc, length-set, reverse-append}
+use Rattle.layout.specs.declared.refusal.Refusal.TheVariants.{BadIndex}
+use Rattle.model.specs.Image.{image_view}
+use Rattle.model.specs.Layout.{Geometry, block_count}
+use Rattle.model.specs.View.{View}
+use Rattle.ordering.specs.Cuts.{Cell, Pending, IsClosed, rest, seen, users_view}
+use Rattle.ordering.proofs.Flushes.{users_flushed}
+use Rattle.queue_model.specs.Blocks.{home_of}
+use Rattle.queue_model.specs.Flush.{ready, taken}
+use Rattle.queue_model.specs.Sync.{Flushes, Stops, Goes}
+use Rattle.queue_model.proofs.FlushLemmas.{none_taken, ready_closed}
+use Rattle.machine.specs.Causes.{Accepts, causes, refusal_of}
+use Rattle.machine.specs.Command.{Done, Flush, Number, Sync}
+use Rattle.machine.specs.State.{State, mounted}
+use Rattle.machine.specs.Step.{Step}
+use Rattle.courses.specs.Serves.{FlushesNone, FlushesSome, Serves, SyncsAll, flush_images}
+use Rattle.frozen.specs.Kept.{Kept}
+use Rattle.softdep.specs.Queued.{Queued, pending_of}
+use Rattle.softdep.specs.Syncing.{AreFlushes, images_of}
+use Rattle.live_states.specs.Volume.{IsVolume, state_over}
+use Rattle.live_states.proofs.Standing.{put}
+use Rattle.live.specs.Alive.{Answers, IsLive}
+use Rattle.live.specs.Held.{HeldMore}
+
+-- ---- which blocks may be flushed
+
+pub accepts_flush : (geo : Geometry) (old : State) (a : ℕ) → a < block_count geo → Accepts geo old (Flush a)
+unfolding causes
+accepts_flush geo old a low =
+    let past : leb (block_count geo) a ≡ false = grind (arith, nat_tests) in
+    (ap (λ b. option_or (then_some b BadIndex) None) past, tt)
+
+pub refuses_flush : (geo : Geometry) (old : State) (a : ℕ) → block_count geo ≤ a → refusal_of geo old (Flush a) ≡ Some BadIndex
+unfolding causes
+refuses_flush geo old a high = ap (λ b. option_or (then_some b BadIndex) None) (le-leb (block_count geo) a high)
+
+accepts_sync : (geo : Geometry) (old : State) → Accepts geo old Sync
+unfolding causes
+accepts_sync geo old = (refl, tt)
+
+-- ---- the invariant
+
+pub live_after : (honest honest' : Type 0) (image image' : List (List ℕ)) (queue queue' : Queued) (kept : Kept) → IsLive honest image queue kept
+    → queue'.geometry ≡ queue.geometry → length image' ≡ block_count queue'.geometry
+    → (cut : List Bool) → IsClosed (pending_of queue) cut → pending_of queue' ≡ rest (pending_of queue) cut
+    → (honest' → honest) → (honest' → IsVolume kept (pending_of queue) (image_view kept.geometry image) → IsVolume kept (pending_of queue') (image_view kept.geometry image'))
+    → IsLive honest' image' queue' kept
+live_after honest honest' image image' queue queue' kept live same count cut closed pending back goes = record {
+  geometry = same ∙ live.geometry;
+  alive = record {
+    count = count ∙ ap block_count (same ∙ live.geometry);
+    keeps = live.alive.keeps;
+    disk = seen live.alive.disk (pending_of queue) cut;
+    some = subst (λ q. IsVolume kept q (seen live.alive.disk (pending_of queue) cut)) (sym pending) (put kept (pending_of queue) live.alive.disk live.alive.some cut closed);
+    true = λ h. goes h (live.alive.true (back h));
+  };
+}
+
+pub still_live : (honest honest' : Type 0) (image image' : List (List ℕ)) (queue queue' : Queued) (kept : Kept) → IsLive honest image queue kept → queue' ≡ queue → image' ≡ image → (honest' → honest) → IsLive honest' image' queue' kept
+still_live honest honest' image image' queue queue' kept live same_queue same_image back =
+    subst (λ q. IsLive honest' image' q kept) (sym same_queue) (subst (λ i. IsLive honest' i queue kept) (sym same_image) (record {
+      geometry = live.geometry;
+      alive = record {
+        count = live.alive.count;
+        keeps = live.alive.keeps;
+        disk = live.alive.disk;
+        some = live.alive.some;
+        true = λ h. live.alive.true (back h);
+      };
+    }))
+
+-- a flush leaves as many blocks
+pub same_length : (image image' : List (List ℕ)) (a n : ℕ) → (n ≡ 0 → image' ≡ image) → (0 < n → (block : List ℕ) × (image' ≡ slice_set image a block)) → length image' ≡ length image
+same_length image image' a zero none some = ap length (none refl)
+same_length image image' a (suc n) none some = let is = some (omega arith) in ap length is.1 ∙ length-set image a is.0
+
+-- ---- a flush
+
+module _ (kept : Kept) (disk : View) (q : List Pending) (a : ℕ) where
+  abbrev geo : Geometry
+  geo = kept.geometry
+
+  abbrev cut : List Bool
+  cut = ready (home_of geo) a q
+
+  closed : IsClosed q cut
+  closed = ready_closed (home_of geo) a q
+
+  abbrev old : State
+  old = state_over disk q
+
+  pub flush_keeps : (disk' : View) (q' : List Pending) → disk' ≡ seen disk q cut → q' ≡ rest q cut → IsVolume kept q disk → IsVolume kept q' disk'
+  flush_keeps disk' q' view pending volume =
+      subst (IsVolume kept q') (sym view) (subst (λ p. IsVolume kept p (seen disk q cut)) (sym pending) (put kept q disk volume cut closed))
+
+  same_state : state_over (seen disk q cut) (rest q cut) ≡ old
+  same_state = ap mounted (users_flushed disk q cut closed)
+
+  serves_some : (n : ℕ) → suc n ≡ taken cut → (safe : ℕ → Bool)
+      → Serves geo disk q old safe (Flush a) (Number (suc n)) (seen disk q cut) (rest q cut) (state_over (seen disk q cut) (rest q cut)) safe (seen disk q cut ∷ [])
+  serves_some n count safe =
+      subst (λ m. Serves geo disk q old safe (Flush a) (Number m) (seen disk q cut) (rest q cut) (state_over (seen disk q cut) (rest q cut)) safe (seen disk q cut ∷ [])) (sym count)
+      (subst (λ st. Serves geo disk q old safe (Flush a) (Number (taken cut)) (seen disk q cut) (rest q cut) st safe (seen disk q cut ∷ [])) (sym same_state)
+      (FlushesSome a (omega (arith, count))))
+
+  serves_none : 0 ≡ taken cut → (safe : ℕ → Bool)
+      → Serves geo disk q old safe (Flush a) (Number 0) (seen disk q cut) (rest q cut) (state_over (seen disk q cut) (rest q cut)) safe []
+  serves_none none safe =
+      let is = none_taken disk q cut closed (sym none) in
+      subst (λ d. Serves geo disk q old safe (Flush a) (Number 0) d (rest q cut) (state_over d (rest q cut)) safe []) (sym is.0)
+      (subst (λ p. Serves geo disk q old safe (Flush a) (Number 0) disk p (state_over disk p) safe []) (sym is.1) (FlushesNone a (sym none)))
+
+  -- what is said of the device and of what is pending then
+  said : (disk' : View) (q' : List Pending) → disk' ≡ seen disk q cut → q' ≡ rest q cut → (P : View → List Pending → Type 0) → P (seen disk q cut) (rest q cut) → P disk' q'
+  said disk' q' view pending P p = subst (λ d. P d q') (sym view) (subst (P (seen disk q cut)) (sym pending) p)
+
+module _ {D : Type 0} (device device' : D) (image image' : List (List ℕ)) (held held' : List (List (List ℕ))) (queue queue' : Queued) (kept : Kept) (a : ℕ) (low : a < block_count kept.geometry)
+    (view : image_view kept.geometry image' ≡ seen (image_view kept.geometry image) (pending_of queue) (ready (home_of kept.geometry) a (pending_of queue)))
+    (pending : pending_of queue' ≡ rest (pending_of queue) (ready (home_of kept.geometry) a (pending_of queue))) where
+  abbrev d : View
+  d = image_view kept.geometry image
+
+  abbrev p : List Pending
+  p = pending_of queue
+
+  -- the flush of so many updates
+  abbrev IsAnswered : ℕ → Type 0
+  IsAnswered n = (later : List View) × HeldMore kept.geometry held held' later
+      × Answers image (record { device = device; queue = queue; kept = kept }) (Flush a) (Number n) image' (record { device = device'; queue = queue'; kept = kept }) later
+
+  answered : (n : ℕ) (later : List View) → ((safe : ℕ → Bool) → Serves kept.geometry d p (state_over d p) safe (Flush a) (Number n)
+      (seen d p (ready (home_of kept.geometry) a p)) (rest p (ready (home_of kept.geometry) a p)) (state_over (seen d p (ready (home_of kept.geometry) a p)) (rest p (ready (home_of kept.geometry) a p))) safe later)
+      → Answers image (record { device = device; queue = queue; kept = kept }) (Flush a) (Number n) image' (record { device = device'; queue = queue'; kept = kept }) later
+  answered n later serves = record {
+    step = said kept d p a (image_view kept.geometry image') (pending_of queue') view pending (λ e r. Step kept.geometry (state_over d p) (Flush a) (Ok (Number n)) (state_over e r))
+        (accepts_flush kept.geometry (state_over d p) a low, same_state kept d p a);
+    serves = λ safe stands. said kept d p a (image_view kept.geometry image') (pending_of queue') view pending
+        (λ e r. Serves kept.geometry d p (state_over d p) safe (Flush a) (Number n) e r (state_over e r) safe later) (serves safe);
+  }
+
+  pub flush_answers : (n : ℕ) → n ≡ taken (ready (home_of kept.geometry) a p) → (n ≡ 0 → held' ≡ held) → (0 < n → held' ≡ held ++ image' ∷ []) → IsAnswered n
+  flush_answers zero count none some = (
+    [],
+    record { more = []; held_now = none refl ∙ sym (append-nil held); views = refl },
+    answered 0 [] (serves_none kept d p a count),
+  )
+  flush_answers (suc n) count none some = (
+    seen d p (ready (home_of kept.geometry) a p) ∷ [],
+    record { more = image' ∷ []; held_now = some (omega arith); views = ap (λ v. v ∷ []) view },
+    answered (suc n) (seen d p (ready (home_of kept.geometry) a p) ∷ []) (serves_some kept d p a n count),
+  )
+
+-- ---- a sync
+
+flushes_keep : (kept : Kept) (disk : View) (q : List Pending) (blocks : List ℕ) (disk' : View) (q' : List Pending) → Flushes (home_of kept.geometry) disk q blocks disk' q' → IsVolume kept q disk → IsVolume kept q' disk'
+flushes_keep kept disk q blocks disk' q' Stops volume = volume
+flushes_keep kept disk q blocks disk' q' (Goes {blocks = more} a least rest_of) volume =
+    flushes_keep kept (seen disk q (ready (home_of kept.geometry) a q)) (rest q (ready (home_of kept.geometry) a q)) more disk' q' rest_of
+    (put kept q disk volume (ready (home_of kept.geometry) a q) (ready_closed (home_of kept.geometry) a q))
+
+newest_first : (home : Cell → ℕ) (disk : View) (q : List Pending) (blocks : List ℕ) (images : List View) → flush_images home disk q blocks images ≡ reverse (images_of home disk q blocks) ++ images
+newest_first home disk q [] images = refl
+newest_first home disk q (a ∷ blocks) images =
+    let image = seen disk q (ready home a q) in
+    let more = images_of home image (rest q (ready home a q)) blocks in
+    newest_first home image (rest q (ready home a q)) blocks (image ∷ images)
+    ∙ sym (append_assoc (reverse more) (image ∷ []) images) ∙ ap (λ xs. xs ++ images) (sym (reverse-append (image ∷ []) more))
+
+module _ (image image' : List (List ℕ)) (held held' : List (List (List ℕ))) (queue queue' : Queued) (kept : Kept) (same : queue.geometry ≡ kept.geometry)
+    (flushed : AreFlushes queue.geometry image held (pending_of queue) image' held' (pending_of queue')) where
+  are : AreFlushes kept.geometry image held (pending_of queue) image' held' (pending_of queue')
+  are = subst (λ geo. AreFlushes geo image held (pending_of queue) image' held' (pending_of queue')) same flushed
+
+  pub sync_keeps : IsVolume kept (pending_of queue) (image_view kept.geometry image) → IsVolume kept (pending_of queue') (image_view kept.geometry image')
+  sync_keeps = flushes_keep kept (image_view kept.geometry image) (pending_of queue) are.blocks (image_view kept.geometry image') (pending_of queue') are.flushes
+
+  pub sync_answers : {D : Type 0} (device device' : D) → pending_of queue' ≡ [] → image_view queue.geometry image' ≡ users_view (image_view queue.geometry image) (pending_of queue)
+      → (later : List View) × HeldMore kept.geometry held held' later
+      × Answers image (record { device = device; queue = queue; kept = kept }) Sync Done image' (record { device = device'; queue = queue'; kept = kept }) later
+  sync_answers device device' none view = (
+    flush_images (home_of kept.geometry) disk (pending_of queue) are.blocks [],
+    record {
+      more = are.more;
+      held_now = are.held_now;
+      views = ap reverse are.images ∙ sym (append-nil (reverse (images_of (home_of kept.geometry) disk (pending_of queue) are.blocks))) ∙ sym (newest_first (home_of kept.geometry) disk (pending_of queue) are.blocks []);
+    },
+    record {
+      step = (accepts_sync kept.geometry old, state);
+      serves = λ safe stands.
+          subst (λ p. Serves kept.geometry disk (pending_of queue) old safe Sync Done disk' p (state_over disk' p) safe (flush_images (home_of kept.geometry) disk (pending_of queue) are.blocks [])) (sym none)
+          (subst (λ st. Serves kept.geometry disk (pending_of queue) old safe Sync Done disk' [] st safe (flush_images (home_of kept.geometry) disk (pending_of queue) are.blocks [])) (sym state_none)
+          (SyncsAll are.blocks disk' (subst (Flushes (home_of kept.geometry) disk (pending_of queue) are.blocks disk') none are.flushes)));
+    },
+  )
+    where
+      disk : View
+      disk = image_view kept.geometry image
+
+      disk' : View
+      disk' = image_view kept.geometry image'
+
+      old : State
+      old = state_over disk (pending_of queue)
+
+      state_none : state_over disk' [] ≡ old
+      state_none = ap mounted (subst (λ geo. image_view geo image' ≡ users_view (image_view geo image) (pending_of queue)) same view)
+
+      state : state_over disk' (pending_of queue') ≡ old
+      state = ap (state_over disk') none ∙ state_none

@@ -1,0 +1,6 @@
+mod Carrying
+mod Commands
+mod Flushes
+mod Looks
+mod Mounting
+mod Views

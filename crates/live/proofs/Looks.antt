@@ -1,0 +1,94 @@
+-- What a path leads to, for those who look.
+use Rattle.std.proofs.Common.{◌≡◌, ℕ, not, ◌&&◌, true, false, List, [], ◌∷◌, Option, Some, None, Result, Ok, Err, IsTrue, inl, inr, refl, ap, ◌∙◌, subst}
+use Rattle.std.specs.Prelude.{is_none, unwrap_or}
+use Rattle.std.specs.Option.{option_or}
+use Rattle.std.specs.Result.{result_err, result_unwrap_or}
+use Rattle.layout.specs.declared.refusal.Refusal.{Refusal}
+use Rattle.layout.specs.declared.refusal.Refusal.TheVariants.{BadName, NotDirectory}
+use Rattle.model.specs.Image.{image_view}
+use Rattle.model.specs.Layout.{Geometry, is_number}
+use Rattle.model.specs.Uses.{is_directory, is_directory_at, is_sound}
+use Rattle.model.specs.View.{View}
+use Rattle.model.proofs.Same.{reachable_number}
+use Rattle.ordering.specs.Cuts.{Pending, users_view}
+use Rattle.machine.specs.Below.{first_of, when}
+use Rattle.machine.specs.Causes.{causes, refusal_of}
+use Rattle.machine.specs.Command.{Command, ListNames, Stat}
+use Rattle.machine.specs.Paths.{number_at, parts_of, target}
+use Rattle.machine.specs.State.{State}
+use Rattle.machine.proofs.Walks.{parts_good, target_reachable}
+use Rattle.frozen.specs.Kept.{Kept, KeepsMetadata}
+use Rattle.metadata.proofs.ShownLemmas.{shows_metadata}
+use Rattle.softdep.specs.Queued.{Queued, pending_of}
+use Rattle.live_paths.specs.Shown.{IsShownBy}
+use Rattle.live_states.specs.Volume.{IsVolume, state_over}
+use Rattle.live.specs.Alive.{MayRefuse}
+
+pub refuse : {D : Type 0} (device : D) (image : List (List ℕ)) (queue : Queued) (kept : Kept) (command : Command) (r : Refusal)
+    → refusal_of kept.geometry (state_over (image_view kept.geometry image) (pending_of queue)) command ≡ Some r → MayRefuse image (record { device = device; queue = queue; kept = kept }) command r
+refuse device image queue kept command r e = (inr (inr (inl e)), refl)
+
+-- the view of a volume's users has the metadata that is kept
+pub shown : (kept : Kept) (q : List Pending) (disk : View) → KeepsMetadata kept → IsVolume kept q disk → IsShownBy kept (users_view disk q)
+shown kept q disk keeps volume = shows_metadata kept (users_view disk q) keeps volume.shows
+
+pub same_directory : (geo : Geometry) (view other : View) (d : ℕ) → view.inode d ≡ other.inode d → is_directory_at geo view d ≡ is_directory_at geo other d
+same_directory geo view other d e = ap (λ r. (is_number geo d && is_sound r) && is_directory r) e
+
+-- ---- refusals in order
+
+list_causes : Geometry → View → Option (List (List ℕ)) → Option Refusal
+list_causes geo view o =
+    first_of (when (is_none o) BadName ∷ result_err (target geo view (unwrap_or o [])) ∷ when (not (is_directory_at geo view (result_unwrap_or (target geo view (unwrap_or o [])) 0))) NotDirectory ∷ [])
+
+stat_causes : Geometry → View → Option (List (List ℕ)) → Option Refusal
+stat_causes geo view o = first_of (when (is_none o) BadName ∷ result_err (target geo view (unwrap_or o [])) ∷ [])
+
+module _ (geo : Geometry) (old : State) (path : List ℕ) where
+  pub list_bad : parts_of path ≡ None → refusal_of geo old (ListNames path) ≡ Some BadName
+  unfolding causes list_causes
+  list_bad is = ap (list_causes geo old.view) is
+
+  pub stat_bad : parts_of path ≡ None → refusal_of geo old (Stat path) ≡ Some BadName
+  unfolding causes stat_causes
+  stat_bad is = ap (stat_causes geo old.view) is
+
+  module _ (parts : List (List ℕ)) (is : parts_of path ≡ Some parts) where
+    pub list_nowhere : (r : Refusal) → target geo old.view parts ≡ Err r → refusal_of geo old (ListNames path) ≡ Some r
+    unfolding causes list_causes
+    list_nowhere r e =
+        ap (list_causes geo old.view) is ∙ ap (λ t. option_or (result_err t) (option_or (when (not (is_directory_at geo old.view (result_unwrap_or t 0))) NotDirectory) None)) e
+
+    pub stat_nowhere : (r : Refusal) → target geo old.view parts ≡ Err r → refusal_of geo old (Stat path) ≡ Some r
+    unfolding causes stat_causes
+    stat_nowhere r e = ap (stat_causes geo old.view) is ∙ ap (λ t. option_or (result_err t) None) e
+
+    module _ (i : ℕ) (e : target geo old.view parts ≡ Ok i) where
+      pub number_there : number_at geo old.view path ≡ i
+      number_there = ap (λ o. result_unwrap_or (target geo old.view (unwrap_or o [])) 0) is ∙ ap (λ t. result_unwrap_or t 0) e
+
+      pub stat_accepts : refusal_of geo old (Stat path) ≡ None
+      unfolding causes stat_causes
+      stat_accepts = ap (stat_causes geo old.view) is ∙ ap (λ t. option_or (result_err t) None) e
+
+      list_there : refusal_of geo old (ListNames path) ≡ option_or (when (not (is_directory_at geo old.view i)) NotDirectory) None
+      unfolding causes list_causes
+      list_there =
+          ap (list_causes geo old.view) is ∙ ap (λ t. option_or (result_err t) (option_or (when (not (is_directory_at geo old.view (result_unwrap_or t 0))) NotDirectory) None)) e
+
+      pub list_of_file : is_directory_at geo old.view i ≡ false → refusal_of geo old (ListNames path) ≡ Some NotDirectory
+      list_of_file f = list_there ∙ ap (λ b. option_or (when (not b) NotDirectory) None) f
+
+      pub list_accepts : is_directory_at geo old.view i ≡ true → refusal_of geo old (ListNames path) ≡ None
+      list_accepts t = list_there ∙ ap (λ b. option_or (when (not b) NotDirectory) None) t
+
+-- a path that leads somewhere leads to a number of the volume
+pub number_of : (kept : Kept) (q : List Pending) (disk : View) → IsVolume kept q disk → (path : List ℕ) (parts : List (List ℕ)) → parts_of path ≡ Some parts
+    → (i : ℕ) → target kept.geometry (users_view disk q) parts ≡ Ok i → IsTrue (is_number kept.geometry i)
+number_of kept q disk volume path parts is i e =
+    reachable_number kept.geometry (users_view disk q) i (target_reachable kept.geometry (users_view disk q) volume.beginning.stands.balance.rules parts i (parts_good path parts is) e)
+
+-- what is said of the blocks that are lent holds of those that are kept
+pub led : (frozen kept : Kept) → frozen ≡ kept → (r : Result ℕ Refusal) (parts : List (List ℕ)) → ((view : View) → IsShownBy frozen view → r ≡ target frozen.geometry view parts)
+    → (view : View) → IsShownBy kept view → r ≡ target kept.geometry view parts
+led frozen kept e r parts = subst (λ (k : Kept). (view : View) → IsShownBy k view → r ≡ target k.geometry view parts) e

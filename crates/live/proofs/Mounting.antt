@@ -1,0 +1,60 @@
+-- What was loaded becomes a mounted volume, or its image breaks a rule.
+use Rattle.std.proofs.Common.{◌≡◌, ℕ, zero, suc, true, false, List, length, Option, Some, None, is_some, MatchOption, refl, sym, subst}
+use Rattle.model.specs.Image.{image_view}
+use Rattle.model.specs.Layout.{Geometry, block_count}
+use Rattle.model.specs.Rules.{IsLeastBroken, ObeysRules, Rule}
+use Rattle.model.specs.View.{View}
+use Rattle.model.proofs.Same.{same_rules}
+use Rattle.frozen.specs.Kept.{IsKeptOf, Kept, KeepsMetadata, frozen_view}
+use Rattle.softdep.specs.Queued.{Queued, fresh_queue}
+use Rattle.live_states.proofs.Loading.{of_an_image}
+use Rattle.live_states.proofs.Standing.{loaded}
+use Rattle.live.specs.Alive.{IsLive}
+use Rattle.live.specs.Mounting.{BreaksRule, IsMountable}
+
+-- what is told by the least rule that is broken
+pub obeyed : (geo : Geometry) (view : View) (least : Option ℕ) → MatchOption least (ObeysRules geo view) (IsLeastBroken geo view) → is_some least ≡ false → ObeysRules geo view
+obeyed geo view None told e = told
+obeyed geo view (Some n) told e = let bad : true ≡ false = e in cc
+
+pub not_obeyed : (geo : Geometry) (view : View) (least : Option ℕ) → MatchOption least (ObeysRules geo view) (IsLeastBroken geo view) → is_some least ≡ true → ObeysRules geo view → ⊥
+not_obeyed geo view None told e obeys = let bad : false ≡ true = e in cc
+not_obeyed geo view (Some n) told e obeys = told.broken (each_rule n)
+  where
+    each_rule : (n : ℕ) → Rule geo view n
+    each_rule zero = tt
+    each_rule (suc zero) = obeys.rule1
+    each_rule (suc (suc zero)) = obeys.rule2
+    each_rule (suc (suc (suc zero))) = obeys.rule3
+    each_rule (suc (suc (suc (suc zero)))) = obeys.rule4
+    each_rule (suc (suc (suc (suc (suc zero))))) = obeys.rule5
+    each_rule (suc (suc (suc (suc (suc (suc zero)))))) = obeys.rule6
+    each_rule (suc (suc (suc (suc (suc (suc (suc zero))))))) = obeys.rule7
+    each_rule (suc (suc (suc (suc (suc (suc (suc (suc zero)))))))) = obeys.rule8
+    each_rule (suc (suc (suc (suc (suc (suc (suc (suc (suc n))))))))) = tt
+
+module _ (honest : Type 0) (image : List (List ℕ)) (kept : Kept) (of : honest → IsKeptOf kept image) where
+  pub breaks : (ObeysRules kept.geometry (frozen_view kept) → ⊥) → honest → BreaksRule image
+  breaks broken h = record {
+    geometry = kept.geometry;
+    is_image = (of h).is_image;
+    breaks = λ obeys. broken ((same_rules kept.geometry (frozen_view kept) (image_view kept.geometry image) (of h).metadata).1 obeys);
+  }
+
+  module _ (keeps : KeepsMetadata kept) (obeys : ObeysRules kept.geometry (frozen_view kept)) where
+    pub mountable : honest → IsMountable kept.geometry image
+    mountable h = record { is_image = (of h).is_image; obeys = (loaded kept image keeps (of h) obeys).0 }
+
+    pub live_fresh : (queue : Queued) → queue ≡ fresh_queue kept.geometry → length image ≡ block_count kept.geometry → IsLive honest image queue kept
+    live_fresh queue fresh count =
+        let is = of_an_image kept keeps in
+        subst (λ q. IsLive honest image q kept) (sym fresh) (record {
+          geometry = refl;
+          alive = record {
+            count = count;
+            keeps = keeps;
+            disk = image_view kept.geometry is.0;
+            some = (loaded kept is.0 keeps is.1 obeys).1;
+            true = λ h. (loaded kept image keeps (of h) obeys).1;
+          };
+        })

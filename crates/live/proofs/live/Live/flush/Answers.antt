@@ -1,0 +1,61 @@
+use Rattle.std.proofs.Common.{◌≡◌, ◌<◌, ◌≤◌, List, inl, inr, refl, sym, ap, ◌∙◌, subst}
+use Rattle.model.specs.Image.{image_view}
+use Rattle.model.specs.Layout.{block_count}
+use Rattle.model.specs.View.{View}
+use Rattle.ordering.specs.Cuts.{rest, seen}
+use Rattle.queue_model.specs.Blocks.{home_of}
+use Rattle.queue_model.specs.Flush.{ready, taken}
+use Rattle.queue_model.proofs.FlushLemmas.{ready_closed}
+use Rattle.machine.specs.Command.{Flush, Number}
+use Rattle.softdep.specs.Queued.{Queued, pending_of}
+use Rattle.live.specs.Alive.{Alive, Answers}
+use Rattle.live.specs.Held.{HeldMore}
+use Rattle.live.proofs.Flushes.{flush_answers, flush_keeps, live_after, refuses_flush, same_length, still_live}
+use Rattle.live.proofs.live.Live.flush.Goals as goal
+
+pub returns-then-address-blocks-clause-refused : goal.returns-then-address-blocks-clause-refused
+returns-then-address-blocks-clause-refused g c h =
+    let kept = c.args.self.now.kept in
+    let geometry = c.geometry.ensures.geometry ∙ ap (λ k. k.geometry) c.frozen.ensures.same ∙ ap (λ (l : Alive _). l.kept.geometry) c.self.view_is in
+    (inr (inr (inl (refuses_flush kept.geometry _ c.args.address (subst (λ n. n ≤ c.args.address) (c.blocks-2.ensures.count ∙ ap block_count geometry) c.if-address-blocks.true)))), refl)
+
+pub invariant_of-self : goal.invariant_of-self
+invariant_of-self g c =
+    still_live (g.D.Device.honest c.self.inside.device) (g.D.Device.honest c.flush.new.device) (g.D.Device.image c.self.inside.device) (g.D.Device.image c.flush.new.device)
+    c.self.inside.queue c.flush.new.self c.self.inside.metadata c.self.invariant c.in_err-count.ensures.refused c.in_err-count.ensures.image c.in_err-count.ensures.honest
+
+pub invariant_of-self-2 : goal.invariant_of-self-2
+invariant_of-self-2 g c =
+    let e = c.in_ok-count.ensures in
+    let a = c.args.address in
+    let queue = c.self.inside.queue in
+    let kept = c.self.inside.metadata in
+    let image = g.D.Device.image c.self.inside.device in
+    let image' = g.D.Device.image c.flush.new.device in
+    let same : queue.geometry ≡ kept.geometry = c.self.invariant.geometry in
+    let same' : c.flush.new.self.geometry ≡ queue.geometry = ap (λ (q : Queued). q.geometry) e.flushed in
+    let pending = subst (λ geo. pending_of c.flush.new.self ≡ rest (pending_of queue) (ready (home_of geo) a (pending_of queue))) same e.rest in
+    live_after (g.D.Device.honest c.self.inside.device) (g.D.Device.honest c.flush.new.device) image image' queue c.flush.new.self kept c.self.invariant same'
+    (same_length image image' a c.in_ok-count.count (λ z. ap g.D.Device.image (e.untouched z)) (λ s. let w = e.written s in (w.0, w.1)) ∙ c.self.invariant.alive.count ∙ ap block_count (sym (same' ∙ same)))
+    (ready (home_of kept.geometry) a (pending_of queue)) (ready_closed (home_of kept.geometry) a (pending_of queue)) pending e.honest
+    (λ h. flush_keeps kept (image_view kept.geometry image) (pending_of queue) a (image_view kept.geometry image') (pending_of c.flush.new.self)
+    (subst (λ geo. image_view geo image' ≡ seen (image_view geo image) (pending_of queue) (ready (home_of geo) a (pending_of queue))) same (e.view h)) pending)
+
+pub returns-clause-done : goal.returns-clause-done
+returns-clause-done g c = λ h.
+    let e = c.in_ok-count.ensures in
+    let a = c.args.address in
+    let queue = c.self.inside.queue in
+    let kept = c.self.inside.metadata in
+    let image = g.D.Device.image c.self.inside.device in
+    let image' = g.D.Device.image c.flush.new.device in
+    let same : queue.geometry ≡ kept.geometry = c.self.invariant.geometry in
+    let pending = subst (λ geo. pending_of c.flush.new.self ≡ rest (pending_of queue) (ready (home_of geo) a (pending_of queue))) same e.rest in
+    let blocks = c.blocks-2.ensures.count ∙ ap block_count (c.geometry.ensures.geometry ∙ ap (λ k. k.geometry) c.frozen.ensures.same) in
+    subst (λ (l : Alive _). (later : List View) × HeldMore l.kept.geometry (g.D.Device.held l.device) (g.D.Device.held c.flush.new.device) later
+    × Answers (g.D.Device.image l.device) l (Flush a) (Number c.in_ok-count.count) image' (record { device = c.flush.new.device; queue = c.flush.new.self; kept = kept }) later) c.self.view_is
+    (flush_answers c.self.inside.device c.flush.new.device image image' (g.D.Device.held c.self.inside.device) (g.D.Device.held c.flush.new.device) queue c.flush.new.self kept a
+    (subst (λ n. a < n) blocks c.if-address-blocks.false)
+    (subst (λ geo. image_view geo image' ≡ seen (image_view geo image) (pending_of queue) (ready (home_of geo) a (pending_of queue))) same (e.view h)) pending
+    c.in_ok-count.count (subst (λ geo. c.in_ok-count.count ≡ taken (ready (home_of geo) a (pending_of queue))) same e.count)
+    (λ z. ap g.D.Device.held (e.untouched z)) (λ s. (e.written s).2))

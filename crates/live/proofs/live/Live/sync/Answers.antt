@@ -1,0 +1,35 @@
+use Rattle.std.proofs.Common.{List, subst}
+use Rattle.model.specs.View.{View}
+use Rattle.machine.specs.Command.{Done, Sync}
+use Rattle.live.specs.Alive.{Alive, Answers}
+use Rattle.live.specs.Held.{HeldMore}
+use Rattle.live.proofs.Flushes.{live_after, sync_answers, sync_keeps}
+use Rattle.live.proofs.live.Live.sync.Goals as goal
+
+pub invariant_of-self : goal.invariant_of-self
+invariant_of-self g c =
+    let e = c.in_err-sync.ensures in
+    let image = g.D.Device.image c.self.inside.device in
+    let image' = g.D.Device.image c.sync.new.device in
+    live_after (g.D.Device.honest c.self.inside.device) (g.D.Device.honest c.sync.new.device) image image' c.self.inside.queue c.sync.new.self c.self.inside.metadata c.self.invariant
+    e.put.geometry e.count e.rest.0 e.rest.1 e.rest.2 e.honest
+    (λ h. sync_keeps image image' (g.D.Device.held c.self.inside.device) (g.D.Device.held c.sync.new.device) c.self.inside.queue c.sync.new.self c.self.inside.metadata c.self.invariant.geometry (e.flushes h))
+
+pub invariant_of-self-2 : goal.invariant_of-self-2
+invariant_of-self-2 g c =
+    let e = c.in_ok-sync.ensures in
+    let image = g.D.Device.image c.self.inside.device in
+    let image' = g.D.Device.image c.sync.new.device in
+    live_after (g.D.Device.honest c.self.inside.device) (g.D.Device.honest c.sync.new.device) image image' c.self.inside.queue c.sync.new.self c.self.inside.metadata c.self.invariant
+    e.put.geometry e.count e.rest.0 e.rest.1 e.rest.2 e.honest
+    (λ h. sync_keeps image image' (g.D.Device.held c.self.inside.device) (g.D.Device.held c.sync.new.device) c.self.inside.queue c.sync.new.self c.self.inside.metadata c.self.invariant.geometry (e.flushes h))
+
+pub returns-clause-done : goal.returns-clause-done
+returns-clause-done g c = λ h.
+    let e = c.in_ok-sync.ensures in
+    let image = g.D.Device.image c.self.inside.device in
+    let image' = g.D.Device.image c.sync.new.device in
+    subst (λ (l : Alive _). (later : List View) × HeldMore l.kept.geometry (g.D.Device.held l.device) (g.D.Device.held c.sync.new.device) later
+    × Answers (g.D.Device.image l.device) l Sync Done image' (record { device = c.sync.new.device; queue = c.sync.new.self; kept = c.self.inside.metadata }) later) c.self.view_is
+    (sync_answers image image' (g.D.Device.held c.self.inside.device) (g.D.Device.held c.sync.new.device) c.self.inside.queue c.sync.new.self c.self.inside.metadata c.self.invariant.geometry (e.flushes h)
+    c.self.inside.device c.sync.new.device e.pending (e.view h))

@@ -1,0 +1,24 @@
+-- Which images can be mounted.
+use Rattle.std.specs.Prelude.{ℕ, List}
+use Rattle.layout.specs.declared.refusal.Refusal.{Refusal}
+use Rattle.layout.specs.declared.refusal.Refusal.TheVariants.{Damaged}
+use Rattle.model.specs.Image.{IsImage, image_view}
+use Rattle.model.specs.Layout.{Geometry}
+use Rattle.model.specs.Rules.{ObeysRules}
+use Rattle.frozen.specs.Loading.{LoadRefuses}
+
+-- it is an image of this geometry, which obeys the rules
+pub record IsMountable (geo : Geometry) (image : List (List ℕ)) : Type 0 where
+  pub is_image : IsImage geo image
+  pub obeys : ObeysRules geo (image_view geo image)
+
+-- it is an image that breaks one
+pub record BreaksRule (image : List (List ℕ)) : Type 0 where
+  pub geometry : Geometry
+  pub is_image : IsImage geometry image
+  pub breaks : ObeysRules geometry (image_view geometry image) → ⊥
+
+-- An image that is read honestly is refused as damaged only where it breaks a rule, and else as one that cannot be loaded.
+abbrev pub MountRefuses : Type 0 → List (List ℕ) → Refusal → Type 0
+MountRefuses honest image Damaged = honest → BreaksRule image
+MountRefuses honest image r = LoadRefuses honest image r

@@ -1,0 +1,63 @@
+ghost use Rattle.std.specs.Prelude.{◌≡◌, ℕ, [], IfErr, IfOk, IsErrOf, List, MatchOption, OnErr, OnOk};
+ghost use Rattle.device.specs.Writes.{HasFailed};
+ghost use Rattle.machine.specs.Command.{Done, Flush, Number, Sync};
+ghost use Rattle.machine.specs.Room.{unmarked_blocks};
+ghost use Rattle.model.specs.View.{View};
+ghost use Rattle.ordering.specs.Cuts.{users_view};
+ghost use Rattle.queue_model.specs.Blocks.{home_of};
+ghost use Rattle.queue_model.specs.Sync.{IsLeastReady};
+ghost use Rattle.softdep.specs.Queued.{pending_of};
+ghost use Rattle.live.specs.Alive.{Answers, MayRefuse, disk_of};
+ghost use Rattle.live.specs.Held.{HeldMore};
+
+use crate::Live;
+use device::Device;
+use layout::Refusal;
+
+impl<D: Device> Live<D> {
+    /// How many data blocks are not marked.
+    pub fn unmarked_blocks(&self) -> u32
+        ensures { D.honest self.now.device → result ≡ unmarked_blocks self.now.kept.geometry (users_view (disk_of (D.image self.now.device) self.now) (pending_of self.now.queue)) }
+    {
+        self.metadata.unmarked_blocks()
+    }
+
+    /// The least block with an update that may go to the device; `None` where nothing is pending.
+    pub fn least_ready(&self) -> Option<u32>
+        ensures { MatchOption result (pending_of self.now.queue ≡ []) (λ address. IsLeastReady (home_of self.now.kept.geometry) (pending_of self.now.queue) address) }
+    {
+        self.queue.least_ready()
+    }
+
+    /// Writes a block with those of its pending updates that may go to the device, and counts them. Refused with `BadIndex`
+    /// where the volume has no such block.
+    pub fn flush(&mut self, address: u32) -> Result<usize, Refusal>
+        // What the device held after it is what the flush wrote.
+        ensures done { IfOk result (λ count. D.honest self.new.device → (later : List View) × HeldMore self.old.kept.geometry (D.held self.old.device) (D.held self.new.device) later
+            × Answers (D.image self.old.device) self.old (Flush address) (Number count) (D.image self.new.device) self.new later) }
+        ensures refused { IfErr result (λ r. D.honest self.new.device → MayRefuse (D.image self.old.device) self.old (Flush address) r) }
+        ensures untouched { OnErr result ((self.new.queue ≡ self.old.queue) × (self.new.kept ≡ self.old.kept) × (D.image self.new.device ≡ D.image self.old.device) × (D.held self.new.device ≡ D.held self.old.device)) }
+        ensures cause { IsErrOf result Refusal.Device → HasFailed (D.failures self.old.device) (D.failures self.new.device) }
+        ensures honest { D.honest self.new.device → D.honest self.old.device }
+    {
+        if address >= self.metadata.frozen().geometry().blocks() {
+            return Err(Refusal::BadIndex);
+        }
+        let count = self.queue.flush(&mut self.device, address)?;
+        Ok(count)
+    }
+
+    /// Flushes the least block with an update that may go, until nothing is pending, and waits for the medium. A fault of
+    /// the device ends it; what was written before stays written.
+    pub fn sync(&mut self) -> Result<(), Refusal>
+        ensures done { OnOk result (D.honest self.new.device → (later : List View) × HeldMore self.old.kept.geometry (D.held self.old.device) (D.held self.new.device) later
+            × Answers (D.image self.old.device) self.old Sync Done (D.image self.new.device) self.new later) }
+        ensures refused { IfErr result (λ r. D.honest self.new.device → MayRefuse (D.image self.old.device) self.old Sync r) }
+        ensures metadata { self.new.kept ≡ self.old.kept }
+        ensures cause { IsErrOf result Refusal.Device → HasFailed (D.failures self.old.device) (D.failures self.new.device) }
+        ensures honest { D.honest self.new.device → D.honest self.old.device }
+    {
+        self.queue.sync(&mut self.device)?;
+        Ok(())
+    }
+}

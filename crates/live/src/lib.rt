@@ -1,0 +1,17 @@
+//! The mounted volume: an image that obeys the rules of soft updates is mounted at once, without a check, and commands
+//! change what its users see. No command writes to the device: it issues updates, which reach the device when a block is
+//! flushed or the volume is synced, in an order in which the device obeys the rules at each stop.
+//!
+//! A command is refused with the first cause in the order that its documentation gives, and changes nothing then. Any
+//! command may be refused with `NoMemory`, and one that reaches the device with `Device`.
+#![tactic(auto)]
+
+mod flushing;
+mod live;
+mod looking;
+mod removing;
+#[cfg(test)]
+mod tests;
+
+pub use live::Live;
+pub use looking::Status;

@@ -1,0 +1,92 @@
+ghost use Rattle.std.specs.Prelude.{◌≡◌, ℕ, Bool, [], IfErr, IfOk, List, OnErr, OnOk, IsOkUnless};
+ghost use Rattle.layout.specs.declared.refusal.Refusal.TheVariants.{NoMemory};
+ghost use Rattle.ordering.specs.Cuts.{IsClosed, seen};
+ghost use Rattle.model.specs.Rules.{ObeysRules};
+ghost use Rattle.machine.specs.Command.{Answer, Command};
+ghost use Rattle.softdep.specs.Queued.{pending_of};
+ghost use Rattle.live_states.specs.Planned.{IsPlanned};
+ghost use Rattle.live.specs.Alive.{Answers, disk_of};
+ghost use Rattle.live.specs.Mounting.{IsMountable, MountRefuses};
+
+use device::Device;
+use frozen::load;
+use layout::Refusal;
+use live_plans::Plan;
+use metadata::Metadata;
+use rules::obeys;
+use softdep::Queue;
+use std::alloc::Global;
+use std::marker::Model;
+
+/// A mounted volume, which owns its device.
+#[derive(Drop)]
+pub struct Live<D: Device> {
+    pub(crate) device: D,
+    pub(crate) queue: Queue,
+    pub(crate) metadata: Metadata,
+}
+
+impl<D: Device> Model for Live<D> {
+    ghost use Rattle.live.specs.Alive.{Alive, IsLive};
+
+    ghost Value = { Alive D };
+
+    ghost view = { λ live. record { device = live.device; queue = live.queue; kept = live.metadata } };
+
+    ghost invariant = { λ live. IsLive (D.honest live.device) (D.image live.device) live.queue live.metadata };
+}
+
+impl<D: Device + Drop> Live<D> {
+    /// Mounts the volume of a device: it reads the metadata, and writes nothing. It is refused with `BadLength`,
+    /// `BadSuper`, `BadGroup`, `Device` or `NoMemory` as an image that cannot be loaded, and with `Damaged` where the
+    /// image breaks a rule that holds at each stop of a volume.
+    pub fn mount(alloc: Global, mut device: D) -> Result<Live<D>, Refusal>
+        ensures image { IfOk result (λ live. D.image live.device ≡ D.image device) }
+        ensures held { IfOk result (λ live. D.held live.device ≡ D.held device) }
+        ensures pending { IfOk result (λ live. pending_of live.queue ≡ []) }
+        ensures mounted { IfOk result (λ live. D.honest live.device → IsMountable live.kept.geometry (D.image device)) }
+        ensures refused { IfErr result (λ r. (after : D) × (D.image after ≡ D.image device) × (D.held after ≡ D.held device) × MountRefuses (D.honest after) (D.image device) r) }
+    {
+        let frozen = load(alloc, &mut device)?;
+        if obeys(alloc, &frozen)?.is_some() {
+            return Err(Refusal::Damaged);
+        }
+        let metadata = Metadata::new(alloc, frozen)?;
+        let queue = Queue::new(alloc, metadata.frozen().geometry())?;
+        Ok(Live {
+            device,
+            queue,
+            metadata,
+        })
+    }
+}
+
+impl<D: Device> Live<D> {
+    /// The device. Where it was honest so far, what it holds obeys the rules, and so does whatever it may hold next: what
+    /// it holds with any closed part of what is pending.
+    pub fn device(&self) -> &D
+        ensures device { result.now ≡ self.now.device }
+        ensures obeys { D.honest self.now.device → ObeysRules self.now.kept.geometry (disk_of (D.image self.now.device) self.now) }
+        ensures stops { D.honest self.now.device → (cut : List Bool) → IsClosed (pending_of self.now.queue) cut
+            → ObeysRules self.now.kept.geometry (seen (disk_of (D.image self.now.device) self.now) (pending_of self.now.queue) cut) }
+    {
+        live_states::each_stop_of_a_volume_is_safe();
+        &self.device
+    }
+
+    /// Carries out a command by its plan, all of it or nothing.
+    pub(crate) fn carry_out(&mut self, alloc: Global, plan: Plan) -> Result<(), Refusal>
+        requires { (command : Command) × (answer : Answer) × IsPlanned self.old.kept command answer plan }
+        ensures done { OnOk result ((command : Command) (answer : Answer) → IsPlanned self.old.kept command answer plan
+            → D.honest self.old.device → Answers (D.image self.old.device) self.old command answer (D.image self.new.device) self.new []) }
+        ensures device { self.new.device ≡ self.old.device }
+        ensures untouched { OnErr result (self.new ≡ self.old) }
+        ensures error { IsOkUnless result Refusal.NoMemory }
+    {
+        let updates = plan.into_updates();
+        let staged = self.metadata.stage(alloc, updates.as_slice())?;
+        self.queue.issue(updates)?;
+        self.metadata.install(staged);
+        Ok(())
+    }
+}

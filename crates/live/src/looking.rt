@@ -1,0 +1,61 @@
+ghost use Rattle.std.specs.Prelude.{◌≡◌, IfErr, IfOk, Ok, map};
+ghost use Rattle.live_paths.specs.Listed.{name_of};
+ghost use Rattle.machine.specs.Command.{ListNames, Listed, Stat, Status as StatusOf};
+ghost use Rattle.machine.specs.Step.{Step};
+ghost use Rattle.live.specs.Alive.{MayRefuse, state_of};
+
+use crate::Live;
+use device::Device;
+use layout::Refusal;
+use live_paths::{Named, Path, names, target};
+use std::alloc::Global;
+
+/// What an inode is.
+#[derive(Clone, Copy, Debug, PartialEq, Eq)]
+pub struct Status {
+    /// Its number.
+    pub number: u32,
+    /// 1 of a file, 2 of a directory.
+    pub mode: u16,
+    /// How many entries name it.
+    pub links: u16,
+    /// How many bytes it has.
+    pub size: u32,
+}
+
+impl<D: Device> Live<D> {
+    /// The names in a directory, but for its dots, in the order of its slots. Refused with `BadName` where this is no path,
+    /// with `NotFound` or `NotDirectory` where it leads nowhere, and with `NotDirectory` where it leads to no directory.
+    pub fn list(&self, alloc: Global, path: &[u8]) -> Result<Vec<Named>, Refusal>
+        ensures listed { IfOk result (λ names. D.honest self.now.device → Step self.now.kept.geometry (state_of (D.image self.now.device) self.now) (ListNames path.now)
+            (Ok (Listed (map name_of names.items))) (state_of (D.image self.now.device) self.now)) }
+        ensures refused { IfErr result (λ r. D.honest self.now.device → MayRefuse (D.image self.now.device) self.now (ListNames path.now) r) }
+    {
+        let frozen = self.metadata.frozen();
+        let path = Path::parse(path)?;
+        let directory = target(frozen, &path)?;
+        if !frozen.is_directory_at(directory) {
+            return Err(Refusal::NotDirectory);
+        }
+        Ok(names(alloc, frozen, directory)?)
+    }
+
+    /// What a path leads to. Refused with `BadName` where this is no path, and with `NotFound` or `NotDirectory` where it
+    /// leads nowhere.
+    pub fn stat(&self, path: &[u8]) -> Result<Status, Refusal>
+        ensures status { IfOk result (λ status. D.honest self.now.device → Step self.now.kept.geometry (state_of (D.image self.now.device) self.now) (Stat path.now)
+            (Ok (StatusOf status.number status.mode status.links status.size)) (state_of (D.image self.now.device) self.now)) }
+        ensures refused { IfErr result (λ r. D.honest self.now.device → MayRefuse (D.image self.now.device) self.now (Stat path.now) r) }
+    {
+        let frozen = self.metadata.frozen();
+        let path = Path::parse(path)?;
+        let number = target(frozen, &path)?;
+        let record = frozen.record(number);
+        Ok(Status {
+            number,
+            mode: record.mode,
+            links: record.links,
+            size: record.size,
+        })
+    }
+}

@@ -1,0 +1,37 @@
+ghost use Rattle.std.specs.Prelude.{◌≡◌, [], IfErr, OnErr, OnOk};
+ghost use Rattle.machine.specs.Command.{Done, Rmdir, Unlink};
+ghost use Rattle.live.specs.Alive.{Answers, MayRefuse};
+
+use crate::Live;
+use device::Device;
+use layout::Refusal;
+use std::alloc::Global;
+
+impl<D: Device> Live<D> {
+    /// Takes a name from a file; with its last one the file goes, and its blocks are free. Refused with `BadName` where this
+    /// is no path, with `IsRoot`, with `NotFound` or `NotDirectory` where it leads nowhere, and with `IsDirectory` where
+    /// it leads to a directory.
+    pub fn unlink(&mut self, alloc: Global, path: &[u8]) -> Result<(), Refusal>
+        ensures done { OnOk result (D.honest self.old.device → Answers (D.image self.old.device) self.old (Unlink path.now) Done (D.image self.new.device) self.new []) }
+        ensures refused { IfErr result (λ r. D.honest self.old.device → MayRefuse (D.image self.old.device) self.old (Unlink path.now) r) }
+        ensures untouched { OnErr result (self.new ≡ self.old) }
+        ensures device { self.new.device ≡ self.old.device }
+    {
+        let plan = live_removals::unlink(alloc, &self.metadata, path)?;
+        self.carry_out(alloc, plan)?;
+        Ok(())
+    }
+
+    /// Removes a directory that has no names. Refused with `BadName` where this is no path, with `IsRoot`, with `NotFound`
+    /// or `NotDirectory` where it leads nowhere, with `NotDirectory` where it leads to a file, and with `NotEmpty`.
+    pub fn rmdir(&mut self, alloc: Global, path: &[u8]) -> Result<(), Refusal>
+        ensures done { OnOk result (D.honest self.old.device → Answers (D.image self.old.device) self.old (Rmdir path.now) Done (D.image self.new.device) self.new []) }
+        ensures refused { IfErr result (λ r. D.honest self.old.device → MayRefuse (D.image self.old.device) self.old (Rmdir path.now) r) }
+        ensures untouched { OnErr result (self.new ≡ self.old) }
+        ensures device { self.new.device ≡ self.old.device }
+    {
+        let plan = live_removals::rmdir(alloc, &self.metadata, path)?;
+        self.carry_out(alloc, plan)?;
+        Ok(())
+    }
+}
