@@ -6,12 +6,12 @@
 //! command may be refused with `NoMemory`, and one that reaches the device with `Device`.
 #![tactic(auto)]
 
+mod creating;
 mod flushing;
 mod live;
 mod looking;
 mod removing;
-#[cfg(test)]
-mod tests;
+mod renaming;
 
 pub use live::Live;
 pub use looking::Status;

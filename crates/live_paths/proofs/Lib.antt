@@ -3,5 +3,5 @@ mod ListedLemmas
 mod LookupLemmas
 mod PartLemmas
 mod ScanLemmas
-mod ShownLemmas
-mod WalkLemmas
+pub mod ShownLemmas
+pub mod WalkLemmas

@@ -5,7 +5,7 @@ use Rattle.std.specs.List.{last_or, list_all, onto_first}
 use Rattle.std.proofs.lemmas.Bool.{and_from, and_parts, both_ways, cases_Bool, cond-true, cond-false, le-leb}
 use Rattle.std.proofs.lemmas.Bool.Decides.{nat_tests}
 use Rattle.std.proofs.lemmas.List.{drop_more}
-use Rattle.std.proofs.lemmas.List.Sums.{list_all-from_AllPass}
+use Rattle.std.proofs.lemmas.List.Sums.{AllPass-from_list_all, list_all-from_AllPass}
 use Rattle.std.proofs.lemmas.List.Splits.{slice_split_at, slice_split_none}
 use Rattle.machine.specs.Paths.{parts_of, is_part, last_part}
 use Rattle.machine.proofs.Tests.{and_false, and_true}
@@ -105,3 +105,33 @@ last_is_part (b ∷ bytes) name good some e =
 pub same_parts : (tail : List ℕ) (parts : List (List ℕ)) → parts_behind tail ≡ parts → (parts ≡ [] → ⊥) → pieces tail ≡ parts
 same_parts [] parts e some = absurd (some (sym e))
 same_parts (b ∷ bytes) parts e some = e
+
+-- ---- a path without its first part
+module _ (tail first : List ℕ) (rest : List (List ℕ)) (some : eqb (length tail) 0 ≡ false) (cut : pieces tail ≡ first ∷ rest) where
+  whole_parts : (xs : List ℕ) → eqb (length xs) 0 ≡ false → parts_behind xs ≡ pieces xs
+  whole_parts [] f = absurd (both_ways true f refl)
+  whole_parts (x ∷ xs) f = refl
+
+  pub split_parts : parts_behind tail ≡ first ∷ rest
+  split_parts = whole_parts tail some ∙ cut
+
+  module _ (good : All (λ part. IsTrue (is_part part)) (parts_behind tail)) where
+    good_split : IsTrue (list_all is_part (first ∷ rest))
+    good_split = subst (λ ps. IsTrue (list_all is_part ps)) split_parts (list_all-from_AllPass is_part (parts_behind tail) good)
+
+    pub first_part : IsTrue (is_part first)
+    first_part = (and_parts (is_part first) (list_all is_part rest) good_split).0
+
+    good_rest : IsTrue (list_all is_part rest)
+    good_rest = (and_parts (is_part first) (list_all is_part rest) good_split).1
+
+    behind_is : (behind : List ℕ) → IsTrue (list_all is_part (pieces behind)) → pieces behind ≡ parts_behind behind
+    behind_is [] all = absurd (both_ways false refl all)
+    behind_is (x ∷ xs) all = refl
+
+    module _ (behind : List ℕ) (is : rest ≡ pieces behind) where
+      pub rest_is : rest ≡ parts_behind behind
+      rest_is = is ∙ behind_is behind (subst (λ ps. IsTrue (list_all is_part ps)) is good_rest)
+
+      pub rest_good : All (λ part. IsTrue (is_part part)) (parts_behind behind)
+      rest_good = AllPass-from_list_all is_part (parts_behind behind) (subst (λ ps. IsTrue (list_all is_part ps)) rest_is good_rest)

@@ -1,4 +1,4 @@
-ghost use Rattle.std.specs.Prelude.{◌≡◌, ◌<◌, ◌↔◌, [], ◌∷◌, length, nat_le, IfSome, IsTrue, MatchResult, Some, None};
+ghost use Rattle.std.specs.Prelude.{◌≡◌, ◌<◌, ◌↔◌, [], ◌∷◌, length, nat_le, IfSome, IsTrue, MatchOption, MatchResult, Some, None};
 ghost use Rattle.std.specs.List.{last_or, list_all};
 ghost use Rattle.std.specs.Option.{option_map_or};
 ghost use Rattle.layout.specs.declared.refusal.Refusal.TheVariants.{BadName};
@@ -62,6 +62,21 @@ impl<'a> Path<'a> {
         ensures part { (self.now ≡ [] → ⊥) → IsTrue (machine.is_part result.now) }
     {
         last_piece(self.tail)
+    }
+
+    /// The first part, and the path of the parts behind it; `None` of `/`.
+    pub fn split_first(&self) -> Option<(&'a [u8], Path<'a>)>
+        ensures parts { MatchOption result (self.now ≡ []) (λ split. self.now ≡ split.0.now ∷ split.1) }
+        ensures part { IfSome result (λ split. IsTrue (machine.is_part split.0.now)) }
+    {
+        if self.tail.is_empty() {
+            return None;
+        }
+        let (first, behind) = split_first_piece(self.tail);
+        match behind {
+            Some(tail) => Some((first, Path { tail })),
+            None => Some((first, Path { tail: &[] })),
+        }
     }
 
     /// What stands behind the first `/`.

@@ -1,0 +1,41 @@
+ghost use Rattle.std.specs.Prelude.{◌≡◌, [], IfErr, IfOk, OnErr, OnOk};
+ghost use Rattle.machine.specs.Command.{Create, Done, Link, Number};
+ghost use Rattle.live.specs.Alive.{Answers, MayRefuse};
+
+use crate::Live;
+use device::Device;
+use layout::Refusal;
+use std::alloc::Global;
+
+impl<D: Device> Live<D> {
+    /// Creates a file without bytes, and gives its number. Refused with `BadName` where this is no path, with `IsRoot`, with
+    /// `NotFound` or `NotDirectory` where the walk to the last part ends before, with `Exists`, with `NoInode` where each
+    /// number is marked, with `TooBig` where the directory is full, and with `NoBlock` where it needs more blocks than are
+    /// unmarked.
+    pub fn create(&mut self, alloc: Global, path: &[u8]) -> Result<u32, Refusal>
+        ensures done { IfOk result (λ number. D.honest self.old.device → Answers (D.image self.old.device) self.old (Create path.now) (Number number) (D.image self.new.device) self.new []) }
+        ensures refused { IfErr result (λ r. D.honest self.old.device → MayRefuse (D.image self.old.device) self.old (Create path.now) r) }
+        ensures untouched { OnErr result (self.new ≡ self.old) }
+        ensures device { self.new.device ≡ self.old.device }
+    {
+        let plan = live_creations::create(alloc, &self.metadata, path)?;
+        let number = plan.file();
+        self.carry_out(alloc, plan)?;
+        Ok(number)
+    }
+
+    /// Gives the file of a path another name too. Refused with `BadName` of the path and then of the other one, with
+    /// `IsRoot` of the other one, with `NotFound` or `NotDirectory` where the path leads nowhere, with `IsDirectory`
+    /// where it leads to a directory, with `NotFound` or `NotDirectory` where the walk to the other name's directory ends
+    /// before, with `Exists`, with `TooManyLinks` where the file has 32,767 links, with `TooBig`, and with `NoBlock`.
+    pub fn link(&mut self, alloc: Global, path: &[u8], other: &[u8]) -> Result<(), Refusal>
+        ensures done { OnOk result (D.honest self.old.device → Answers (D.image self.old.device) self.old (Link path.now other.now) Done (D.image self.new.device) self.new []) }
+        ensures refused { IfErr result (λ r. D.honest self.old.device → MayRefuse (D.image self.old.device) self.old (Link path.now other.now) r) }
+        ensures untouched { OnErr result (self.new ≡ self.old) }
+        ensures device { self.new.device ≡ self.old.device }
+    {
+        let plan = live_creations::link(alloc, &self.metadata, path, other)?;
+        self.carry_out(alloc, plan)?;
+        Ok(())
+    }
+}

@@ -1,0 +1,4 @@
+mod FirstUpdates
+mod Names
+mod Planning
+mod Refusals

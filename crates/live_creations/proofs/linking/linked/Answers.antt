@@ -1,0 +1,14 @@
+-- The record with a link more, and then the entry.
+use Rattle.std.proofs.Common.{map, ap, refl, ◌∙◌}
+use Rattle.frozen.specs.Kept.{Kept, frozen_view}
+use Rattle.updates.specs.Values.{cell}
+use Rattle.live_creations.proofs.FirstUpdates.{raises_links}
+use Rattle.live_creations.proofs.linking.linked.Goals as goal
+
+pub returns : goal.returns
+returns c = λ view shows.
+    let n = c.args.new.now.number in
+    raises_links c.args.metadata.now.geometry c.geometry.result view c.args.new.now c.new-plan.result c.push.new.self c.enter.new.plan (map cell c.new.result.items) _ _
+    c.new-plan.ensures (c.geometry.ensures.geometry ∙ ap (λ (k : Kept). k.geometry) c.frozen-frozen.ensures.same) (ap (map cell) c.new.ensures.items)
+    (c.raised.view_is ∙ c.record-raised.ensures ∙ ap (λ (k : Kept). (frozen_view k).inode n) c.frozen-frozen.ensures.same ∙ shows.inode n) refl
+    c.in_ok-push.ensures (c.in_ok-enter.ensures view shows)

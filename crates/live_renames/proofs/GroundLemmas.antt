@@ -1,0 +1,224 @@
+-- The grounds of a directory, as they are gathered part after part.
+use Rattle.std.proofs.Common.{◌≡◌, ◌<◌, ◌≤◌, ◌/◌, ◌++◌, ℕ, zero, suc, true, false, List, [], ◌∷◌, inl, inr, refl, sym, ap, ◌∙◌, subst, arith, IsTrue, Option, Some, None, Result, Ok, Err, Contains, ltb, All, map}
+use Rattle.std.specs.Option.{option_map}
+use Rattle.std.proofs.lemmas.Bool.{and_parts}
+use Rattle.std.proofs.lemmas.Bool.Decides.{nat_tests}
+use Rattle.std.proofs.lemmas.List.Elements.{All-push, Contains-append_left, Contains-push}
+use Rattle.std.proofs.lemmas.List.{map-append}
+use Rattle.updates.specs.declared.cell.Cell as program
+use Rattle.updates.specs.Values.{cell}
+use Rattle.model.specs.Layout.{Geometry, is_number, root}
+use Rattle.model.specs.View.{View}
+use Rattle.model.specs.Uses.{IsClaim, claim_at, direct_positions, indirect_position, is_directory_at, is_sound_at, is_directory, is_used}
+use Rattle.model.specs.Slots.{Good, slot, number_in}
+use Rattle.model.specs.Reach.{Path}
+use Rattle.model.proofs.Same.{SameFacts, same_facts, claims_indirect_of}
+use Rattle.model.proofs.SlotLemmas.{chosen, slot_content, slot_stands}
+use Rattle.model.proofs.UseLemmas.{claim_from, claim_parts}
+use Rattle.ordering.specs.Cuts.{Cell, Record, Block}
+use Rattle.ordering.specs.OneSlot.{AreGrounds, ArePointersKnown, IsKnown}
+use Rattle.frozen.specs.Kept.{Kept, KeepsMetadata, frozen_view}
+use Rattle.layout.specs.declared.refusal.Refusal.{Refusal}
+use Rattle.layout.specs.declared.refusal.Refusal.TheVariants.{NotDirectory, NotFound, IsRoot}
+use Rattle.machine.specs.Paths.{is_part, last_part, lookup, slot_of, walk}
+use Rattle.machine.proofs.Walks.{part_behind, slot_fits}
+use Rattle.metadata.specs.Shown.{Shows}
+use Rattle.metadata.proofs.ShownLemmas.{shows_metadata}
+use Rattle.plans_naming.specs.Move.{HasGrounds}
+use Rattle.updates.specs.Places.{IsCell}
+use Rattle.live_plans.specs.Found.{IsFoundAt}
+use Rattle.live_plans.specs.declared.locating.Found.{Found}
+use Rattle.live_renames.specs.Gathered.{Gathers, HasDirectory, IsGrounded}
+
+not_some : {P : Type 0} (x : ℕ) → Some x ≡ None → P
+not_some x e = absurd cc
+
+pub some_same : (x y : ℕ) → Some x ≡ Some y → x ≡ y
+some_same x y e = cc
+
+not_ok : {P : Type 0} (r : Refusal) (x : ℕ) → Err r ≡ Ok x → P
+not_ok r x e = absurd cc
+
+-- ---- cells
+module _ (geo : Geometry) where
+  pub gathers_none : (cells : List Cell) → Gathers geo cells cells
+  gathers_none cells = record { kept = λ c k. k; cells = λ all. all }
+
+  pub gathers_both : (a b c : List Cell) → Gathers geo a b → Gathers geo b c → Gathers geo a c
+  gathers_both a b c g h = record { kept = λ x k. h.kept x (g.kept x k); cells = λ all. h.cells (g.cells all) }
+
+  -- one cell more
+  module _ (xs ys : List program.Cell) (x : program.Cell) (is : ys ≡ xs ++ x ∷ []) where
+    pushed_is : map cell ys ≡ map cell xs ++ cell x ∷ []
+    pushed_is = ap (map cell) is ∙ map-append cell xs (x ∷ [])
+
+    pub holds_pushed : Contains (map cell ys) (cell x)
+    holds_pushed = subst (λ zs. Contains zs (cell x)) (sym pushed_is) (Contains-push (map cell xs) (cell x))
+
+    pub pushed : IsCell geo (cell x) → Gathers geo (map cell xs) (map cell ys)
+    pushed good = record {
+      kept = λ c k. subst (λ zs. Contains zs c) (sym pushed_is) (Contains-append_left (map cell xs) (cell x ∷ []) c k);
+      cells = λ all. subst (All (IsCell geo)) (sym pushed_is) (All-push (IsCell geo) (map cell xs) (cell x) all good);
+    }
+
+-- ---- more cells
+module _ (geo : Geometry) (v : View) (old new : List Cell) (kept : (c : Cell) → Contains old c → Contains new c) where
+  known_more : (block : ℕ) (c : Cell) → IsKnown old block c → IsKnown new block c
+  known_more block c (inl k) = inl (kept c k)
+  known_more block c (inr e) = inr e
+
+  pointers_more : (block d : ℕ) → ArePointersKnown geo v old block d → ArePointersKnown geo v new block d
+  pointers_more block d known = λ k used low high. known_more block (Block (v.inode d).indirect) (known k used low high)
+
+  grounds_more : (block n d : ℕ) (p : Path geo v n d) → AreGrounds geo v old block n d p → AreGrounds geo v new block n d p
+  grounds_more block zero d p g = (known_more block (Record root) g.0, pointers_more block root g.1)
+  grounds_more block (suc n) d p g =
+      (grounds_more block n p.0 p.2 g.0, known_more block (Record d) g.1, pointers_more block d g.2, (λ b claim. known_more block (Block b) (g.3 b claim)))
+
+  pub grounded_more : (d : ℕ) → IsGrounded geo v d old → IsGrounded geo v d new
+  grounded_more d h = λ block. let g = h block in record { steps = g.steps; path = g.path; grounds = grounds_more block g.steps d g.path g.grounds }
+
+-- ---- one directory
+module _ (geo : Geometry) (v : View) where
+  -- pointers that are in use stand in the indirect block that is claimed
+  pub table_claimed : (d k : ℕ) → IsTrue (is_directory_at geo v d) → IsTrue (is_used geo (v.inode d) k) → direct_positions ≤ k → k < indirect_position → claim_at geo v d indirect_position ≡ Some (v.inode d).indirect
+  table_claimed d k dir used low high =
+      let sound = (and_parts (is_sound_at geo v d) (is_directory (v.inode d)) dir).0 in
+      let past : ltb k direct_positions ≡ false = grind (arith, nat_tests) in
+      let below : ltb k indirect_position ≡ true = grind (arith, nat_tests) in
+      claim_from geo v d indirect_position (v.inode d).indirect (claims_indirect_of geo v d k sound past below used)
+
+  pub has_table : (d table : ℕ) (after : List Cell) → IsTrue (is_directory_at geo v d) → claim_at geo v d indirect_position ≡ Some table → Contains after (Record d) → Contains after (Block table) → HasDirectory geo v d after
+  has_table d table after dir claim first known = record {
+    record_first = first;
+    pointers = λ block k used low high. inl (subst (λ a. Contains after (Block a)) (some_same table (v.inode d).indirect (sym claim ∙ table_claimed d k dir used low high)) known);
+  }
+
+  pub has_none : (d : ℕ) (after : List Cell) → IsTrue (is_directory_at geo v d) → claim_at geo v d indirect_position ≡ None → Contains after (Record d) → HasDirectory geo v d after
+  has_none d after dir none first = record {
+    record_first = first;
+    pointers = λ block k used low high. not_some (v.inode d).indirect (sym (table_claimed d k dir used low high) ∙ none);
+  }
+
+  pub root_grounded : (after : List Cell) → IsTrue (is_directory_at geo v root) → HasDirectory geo v root after → IsGrounded geo v root after
+  root_grounded after dir has = λ block. record { steps = 0; path = (refl, dir); grounds = (inl has.record_first, has.pointers block) }
+
+  pub next_grounded : (after : List Cell) (d s e b : ℕ) (name : List ℕ) → IsGrounded geo v d after → IsTrue (is_part name) → slot geo v d s ≡ Good e name → IsTrue (is_directory_at geo v e) → HasDirectory geo v e after
+      → claim_at geo v d (s / 16) ≡ Some b → Contains after (Block b) → IsGrounded geo v e after
+  next_grounded after d s e b name grounded part good dir has claim known = λ block.
+      let h = grounded block in
+      let behind = part_behind s name part (slot_fits geo v d s e name good) in
+      record {
+        steps = suc h.steps;
+        path = (d, s, h.path, behind, (name, good), dir);
+        grounds = (h.grounds, inl has.record_first, has.pointers block, (λ a claims. inl (subst (λ z. Contains after (Block z)) (some_same b a (sym claim ∙ claim_from geo v d (s / 16) a claims)) known)));
+      }
+
+  -- ---- a walk, part after part
+  abbrev on : List (List ℕ) → Option ℕ → Result ℕ Refusal
+  on parts o = elim o [ None ↦ Err NotFound | Some i ↦ walk geo v i parts ]
+
+  pub walk_directory : (parts : List (List ℕ)) (d e : ℕ) → walk geo v d parts ≡ Ok e → IsTrue (is_directory_at geo v d)
+  unfolding walk
+  walk_directory [] d e way = not_ok IsRoot e way
+  walk_directory (part ∷ []) d e way = elim (chosen (is_directory_at geo v d) (Ok d) (Err NotDirectory) (Ok e) way) [ inl h ↦ h.0 | inr h ↦ not_ok NotDirectory e h.1 ]
+  walk_directory (part ∷ next ∷ parts) d e way =
+      elim (chosen (is_directory_at geo v d) (on (next ∷ parts) (lookup geo v d part)) (Err NotDirectory) (Ok e) way) [ inl h ↦ h.0 | inr h ↦ not_ok NotDirectory e h.1 ]
+
+  abbrev found : ℕ → Result ℕ Refusal
+  found x = Ok x
+
+  same_found : (x y : ℕ) → found x ≡ found y → x ≡ y
+  same_found x y e = cc
+
+  pub walk_end : (part : List ℕ) (d e : ℕ) → walk geo v d (part ∷ []) ≡ Ok e → d ≡ e
+  unfolding walk
+  walk_end part d e way = elim (chosen (is_directory_at geo v d) (Ok d) (Err NotDirectory) (Ok e) way) [ inl h ↦ same_found d e h.1 | inr h ↦ not_ok NotDirectory e h.1 ]
+
+  goes_on : (parts : List (List ℕ)) (e : ℕ) (o : Option ℕ) → on parts o ≡ Ok e → (i : ℕ) × (o ≡ Some i) × (walk geo v i parts ≡ Ok e)
+  goes_on parts e None way = not_ok NotFound e way
+  goes_on parts e (Some i) way = (i, refl, way)
+
+  pub walk_step : (part next : List ℕ) (parts : List (List ℕ)) (d e : ℕ) → walk geo v d (part ∷ next ∷ parts) ≡ Ok e → (i : ℕ) × (lookup geo v d part ≡ Some i) × (walk geo v i (next ∷ parts) ≡ Ok e)
+  unfolding walk
+  walk_step part next parts d e way = elim (chosen (is_directory_at geo v d) (on (next ∷ parts) (lookup geo v d part)) (Err NotDirectory) (Ok e) way) [
+    | inl h ↦ goes_on (next ∷ parts) e (lookup geo v d part) h.1
+    | inr h ↦ not_ok NotDirectory e h.1
+  ]
+
+  pub walk_into : (parts : List (List ℕ)) (d e : ℕ) → walk geo v d parts ≡ Ok e → IsTrue (is_directory_at geo v e)
+  unfolding walk
+  walk_into [] d e way = not_ok IsRoot e way
+  walk_into (part ∷ []) d e way = elim (chosen (is_directory_at geo v d) (Ok d) (Err NotDirectory) (Ok e) way) [
+    | inl h ↦ subst (λ i. IsTrue (is_directory_at geo v i)) (same_found d e h.1) h.0
+    | inr h ↦ not_ok NotDirectory e h.1
+  ]
+  walk_into (part ∷ next ∷ parts) d e way = elim (chosen (is_directory_at geo v d) (on (next ∷ parts) (lookup geo v d part)) (Err NotDirectory) (Ok e) way) [
+    | inl h ↦ let more = goes_on (next ∷ parts) e (lookup geo v d part) h.1 in walk_into (next ∷ parts) more.0 e more.2
+    | inr h ↦ not_ok NotDirectory e h.1
+  ]
+
+  -- what stands in the first slot of a name is what the name stands for
+  pub lookup_at : (d s i : ℕ) (name : List ℕ) → slot_of geo v d name ≡ Some s → slot geo v d s ≡ Good i name → lookup geo v d name ≡ Some i
+  unfolding lookup
+  lookup_at d s i name first good = ap (option_map (λ t. number_in (slot geo v d t))) first ∙ ap (λ x. Some (number_in x)) good
+
+  pub lookup_none : (d i : ℕ) (name : List ℕ) → slot_of geo v d name ≡ None → lookup geo v d name ≡ Some i → ⊥
+  unfolding lookup
+  lookup_none d i name none some = not_some i (sym some ∙ ap (option_map (λ t. number_in (slot geo v d t))) none)
+
+  pub named_directory : (d i j : ℕ) (name : List ℕ) → lookup geo v d name ≡ Some i → lookup geo v d name ≡ Some j → IsTrue (is_directory_at geo v i) → IsTrue (is_directory_at geo v j)
+  named_directory d i j name e f dir = subst (λ n. IsTrue (is_directory_at geo v n)) (some_same i j (sym e ∙ f)) dir
+
+  -- no walk without parts leads anywhere
+  pub walk_none : (parts : List (List ℕ)) (d e : ℕ) → parts ≡ [] → walk geo v d parts ≡ Ok e → ⊥
+  unfolding walk
+  walk_none [] d e none way = not_ok IsRoot e way
+  walk_none (part ∷ parts) d e none way = cc
+
+  pub slot_claimed : (d s i : ℕ) (name : List ℕ) → slot geo v d s ≡ Good i name → claim_at geo v d (s / 16) ≡ None → ⊥
+  slot_claimed d s i name good none = let at = slot_content geo v d s (Good i name) (λ e. cc) good in not_some at.block (sym at.claimed ∙ none)
+
+  -- ---- the last directory
+  pointers_last : (after : List Cell) (block n d : ℕ) (p : Path geo v n d) → AreGrounds geo v after block n d p → ArePointersKnown geo v after block d
+  pointers_last after block zero d p g = subst (λ e. ArePointersKnown geo v after block e) (sym p.0) g.1
+  pointers_last after block (suc n) d p g = g.2
+
+  pub pointers_of : (after : List Cell) (block d : ℕ) → HasGrounds geo v d block after → ArePointersKnown geo v after block d
+  pointers_of after block d h = pointers_last after block h.steps d h.path h.grounds
+
+-- ---- the entry that was found
+module _ (geo : Geometry) (v : View) (ps : List (List ℕ)) (found : Found) (is : IsFoundAt geo v ps found) where
+  pub found_directory : IsTrue (is_directory_at geo v found.directory)
+  found_directory = (slot_content geo v found.directory found.slot (Good found.number (last_part ps)) (λ e. cc) is.entry).directory
+
+  pub found_claim : IsClaim geo v found.directory (found.slot / 16) found.block
+  found_claim = claim_parts geo v found.directory (found.slot / 16) found.block is.block
+
+  pub found_number : IsTrue (is_number geo found.number)
+  found_number = (slot_stands geo v found.directory found.slot found.number (last_part ps) is.entry).number
+
+-- ---- in each view that is shown
+module _ (kept : Kept) (view : View) (keeps : KeepsMetadata kept) (shows : Shows kept view) where
+  facts : SameFacts kept.geometry (frozen_view kept) view
+  facts = same_facts kept.geometry (frozen_view kept) view (shows_metadata kept view keeps shows)
+
+  directory_there : (e : ℕ) → IsTrue (is_directory_at kept.geometry (frozen_view kept) e) → IsTrue (is_directory_at kept.geometry view e)
+  directory_there e t = sym (facts.directory_at e) ∙ t
+
+  path_there : (n d : ℕ) → Path kept.geometry (frozen_view kept) n d → Path kept.geometry view n d
+  path_there zero d p = (p.0, directory_there root p.1)
+  path_there (suc n) d p = (p.0, p.1, path_there n p.0 p.2, p.3, (p.4.0, sym (facts.slots p.0 p.1) ∙ p.4.1), directory_there d p.5)
+
+  module _ (after : List Cell) (block : ℕ) where
+    pointers_there : (d : ℕ) → ArePointersKnown kept.geometry (frozen_view kept) after block d → ArePointersKnown kept.geometry view after block d
+    pointers_there d known =
+        subst (λ x. (k : ℕ) → IsTrue (is_used kept.geometry x k) → direct_positions ≤ k → k < indirect_position → IsKnown after block (Block x.indirect)) (shows.inode d) known
+
+    grounds_there : (n d : ℕ) (p : Path kept.geometry (frozen_view kept) n d) → AreGrounds kept.geometry (frozen_view kept) after block n d p → AreGrounds kept.geometry view after block n d (path_there n d p)
+    unfolding path_there
+    grounds_there zero d p g = (g.0, pointers_there root g.1)
+    grounds_there (suc n) d p g = (grounds_there n p.0 p.2 g.0, g.1, pointers_there d g.2, (λ b claim. g.3 b (facts.uses p.0 (p.1 / 16) ∙ claim.0, claim.1)))
+
+    pub has_grounds_there : (d : ℕ) → HasGrounds kept.geometry (frozen_view kept) d block after → HasGrounds kept.geometry view d block after
+    has_grounds_there d h = record { steps = h.steps; path = path_there h.steps d h.path; grounds = grounds_there h.steps d h.path h.grounds }

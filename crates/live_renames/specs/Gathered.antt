@@ -1,0 +1,23 @@
+-- The cells on which a name in a directory rests, as they are gathered.
+use Rattle.std.specs.Prelude.{ℕ, List}
+use Rattle.std.specs.List.{All, Contains}
+use Rattle.model.specs.Layout.{Geometry}
+use Rattle.model.specs.View.{View}
+use Rattle.ordering.specs.Cuts.{Cell, Record}
+use Rattle.ordering.specs.OneSlot.{ArePointersKnown}
+use Rattle.plans_naming.specs.Move.{HasGrounds}
+use Rattle.updates.specs.Places.{IsCell}
+
+-- No cell was taken away, and what came is a cell of the volume.
+pub record Gathers (geo : Geometry) (old new : List Cell) : Type 0 where
+  pub kept : (c : Cell) → Contains old c → Contains new c
+  pub cells : All (IsCell geo) old → All (IsCell geo) new
+
+-- The record of directory d is among these cells, and the indirect block of its pointers where it uses some.
+pub record HasDirectory (geo : Geometry) (view : View) (d : ℕ) (after : List Cell) : Type 0 where
+  pub record_first : Contains after (Record d)
+  pub pointers : (block : ℕ) → ArePointersKnown geo view after block d
+
+-- the grounds of directory d are among these cells, whichever block is written
+abbrev pub IsGrounded : Geometry → View → ℕ → List Cell → Type 0
+IsGrounded geo view d after = (block : ℕ) → HasGrounds geo view d block after

@@ -1,0 +1,4 @@
+pub mod Gathered
+pub mod Moved
+pub mod Refused
+pub mod Renamed

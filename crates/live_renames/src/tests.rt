@@ -1,0 +1,135 @@
+use crate::moving::refuse_taken;
+use crate::renaming::{find_ends, rename_in_slot};
+use device::{Before, Device, MemDevice, format};
+use frozen::load;
+use layout::{BLOCK_BYTES, Geometry, Refusal};
+use live_paths::Path;
+use metadata::Metadata;
+use std::alloc::Global;
+use std::test::Fail;
+use updates::{Change, Update};
+
+/// The bytes that differ from a fresh image of one group of 16 blocks and 16 inodes: the block, the byte, the value. The
+/// root, in block 4, names directory 3 "a" in slot 2 and file 4 "f" in slot 3. Directory 3, in block 5, has its dots
+/// alone, and file 4 is empty.
+const CHANGES: [(u32, usize, u8); 20] = [
+    (2, 258, 3),
+    (2, 384, 2),
+    (2, 386, 2),
+    (2, 389, 4),
+    (2, 392, 5),
+    (2, 512, 1),
+    (2, 514, 1),
+    (4, 128, 3),
+    (4, 132, 1),
+    (4, 136, 97),
+    (4, 192, 4),
+    (4, 196, 1),
+    (4, 200, 102),
+    (5, 0, 3),
+    (5, 4, 1),
+    (5, 8, 46),
+    (5, 64, 2),
+    (5, 68, 2),
+    (5, 72, 46),
+    (5, 73, 46),
+];
+
+/// The metadata of this image.
+fn image(alloc: Global) -> Result<Metadata, Refusal> {
+    let geometry = Geometry::new(1, 16, 16)?;
+    let bytes = vec![in alloc; 0u8; geometry.blocks() as usize * BLOCK_BYTES]?;
+    let mut device = MemDevice::from_bytes(alloc, bytes.as_slice())?;
+    if device.blocks() != geometry.blocks() {
+        return Err(Refusal::BadLength);
+    }
+    format(&mut device, &geometry, Before::Anything)?;
+    for (address, byte, value) in &CHANGES {
+        set_byte(&mut device, *address, *byte, *value)?;
+    }
+    Ok(Metadata::new(alloc, load(alloc, &mut device)?)?)
+}
+
+/// Changes one byte of a block.
+fn set_byte(device: &mut MemDevice, address: u32, byte: usize, value: u8) -> Result<(), Refusal> {
+    if address >= device.blocks() || byte >= BLOCK_BYTES {
+        return Err(Refusal::BadIndex);
+    }
+    let mut block = [0; BLOCK_BYTES];
+    device.read(address, &mut block)?;
+    block[byte] = value;
+    device.write(address, &block)?;
+    Ok(())
+}
+
+/// The number that a path leads to, its directory, and the directory of a free name.
+fn ends_of(metadata: &Metadata, path: &[u8], other: &[u8]) -> Result<(u32, u32, u32), Refusal> {
+    let from = Path::parse(path)?;
+    let to = Path::parse(other)?;
+    let ends = find_ends(metadata.frozen(), &from, &to)?;
+    refuse_taken(metadata.frozen(), ends.directory, &to)?;
+    Ok((ends.found.number, ends.found.directory, ends.directory))
+}
+
+/// The updates by which an entry gets the last part of another path as its name, in its slot.
+fn renaming(
+    alloc: Global,
+    metadata: &Metadata,
+    path: &[u8],
+    other: &[u8],
+) -> Result<Vec<Update>, Refusal> {
+    let from = Path::parse(path)?;
+    let to = Path::parse(other)?;
+    let ends = find_ends(metadata.frozen(), &from, &to)?;
+    Ok(rename_in_slot(alloc, metadata, &ends.found, to.name())?.into_updates())
+}
+
+#[test]
+fn both_ends_are_found(rt: HostRuntime) -> Result<(), Fail> {
+    let metadata = image(rt.alloc())?;
+    assert_eq!(rt; ends_of(&metadata, b"/f", b"/g"), Ok((4, 2, 2)));
+    assert_eq!(rt; ends_of(&metadata, b"/f", b"/a/f"), Ok((4, 2, 3)));
+    assert_eq!(rt; ends_of(&metadata, b"/a", b"/a/b"), Ok((3, 2, 3)));
+    Ok(())
+}
+
+#[test]
+fn each_cause_refuses_and_the_first_of_two(rt: HostRuntime) -> Result<(), Fail> {
+    let metadata = image(rt.alloc())?;
+    let refused: [(&[u8], &[u8], Refusal); 12] = [
+        (b"f", b"/g", Refusal::BadName),
+        (b"/f", b"", Refusal::BadName),
+        (b"/", b"g", Refusal::BadName),
+        (b"/", b"/g", Refusal::IsRoot),
+        (b"/f", b"/", Refusal::IsRoot),
+        (b"/x", b"/", Refusal::IsRoot),
+        (b"/x", b"/f/g", Refusal::NotFound),
+        (b"/f/x", b"/x/g", Refusal::NotDirectory),
+        (b"/f", b"/x/g", Refusal::NotFound),
+        (b"/f", b"/f/g", Refusal::NotDirectory),
+        (b"/f", b"/a", Refusal::Exists),
+        (b"/a", b"/a", Refusal::Exists),
+    ];
+    for (path, other, refusal) in refused {
+        assert_eq!(rt; ends_of(&metadata, path, other), Err(refusal));
+    }
+    Ok(())
+}
+
+#[test]
+fn a_directory_gets_another_name_in_its_slot(rt: HostRuntime) -> Result<(), Refusal> {
+    let alloc = rt.alloc();
+    let metadata = image(alloc)?;
+    let updates = renaming(alloc, &metadata, b"/a", b"/bc")?;
+    assert_eq!(rt; updates.len(), 1);
+    for update in &updates {
+        assert_eq!(rt; update.file, Some(3));
+        assert_eq!(rt; update.after.len(), 1);
+        let Change::SetBytes(4, bytes) = &update.change else {
+            return Err(Refusal::Damaged);
+        };
+        assert_eq!(rt; &bytes[128..138], &[3, 0, 0, 0, 2, 0, 0, 0, 98, 99][..]);
+        assert_eq!(rt; &bytes[192..201], &[4, 0, 0, 0, 1, 0, 0, 0, 102][..]);
+    }
+    Ok(())
+}
