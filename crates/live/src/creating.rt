@@ -1,5 +1,5 @@
 ghost use Rattle.std.specs.Prelude.{◌≡◌, [], IfErr, IfOk, OnErr, OnOk};
-ghost use Rattle.machine.specs.Command.{Create, Done, Link, Number};
+ghost use Rattle.machine.specs.Command.{Create, Done, Link, Mkdir, Number};
 ghost use Rattle.live.specs.Alive.{Answers, MayRefuse};
 
 use crate::Live;
@@ -19,6 +19,20 @@ impl<D: Device> Live<D> {
         ensures device { self.new.device ≡ self.old.device }
     {
         let plan = live_creations::create(alloc, &self.metadata, path)?;
+        let number = plan.file();
+        self.carry_out(alloc, plan)?;
+        Ok(number)
+    }
+
+    /// Makes an empty directory, and gives its number. Refused as `create`, and, after `Exists`, with `TooManyLinks` where
+    /// its parent has 32,767 links; it needs a block for its dots too.
+    pub fn mkdir(&mut self, alloc: Global, path: &[u8]) -> Result<u32, Refusal>
+        ensures done { IfOk result (λ number. D.honest self.old.device → Answers (D.image self.old.device) self.old (Mkdir path.now) (Number number) (D.image self.new.device) self.new []) }
+        ensures refused { IfErr result (λ r. D.honest self.old.device → MayRefuse (D.image self.old.device) self.old (Mkdir path.now) r) }
+        ensures untouched { OnErr result (self.new ≡ self.old) }
+        ensures device { self.new.device ≡ self.old.device }
+    {
+        let plan = live_creations::mkdir(alloc, &self.metadata, path)?;
         let number = plan.file();
         self.carry_out(alloc, plan)?;
         Ok(number)

@@ -1,0 +1,21 @@
+-- The bits, the parent's record, the dots, the new record, and then the entry.
+use Rattle.std.proofs.Common.{◌+◌, map, sym, ap, ◌∙◌, subst}
+use Rattle.frozen.specs.Kept.{Kept}
+use Rattle.machine.specs.Effects.{AreDots, with_links}
+use Rattle.model.specs.View.{Inode}
+use Rattle.updates.specs.Values.{cell}
+use Rattle.live_creations.proofs.FirstUpdates.{makes_directory}
+use Rattle.live_creations.proofs.making.made.Goals as goal
+
+pub returns : goal.returns
+returns c = λ view shows.
+    let new = c.args.new.now in
+    makes_directory c.args.metadata.now.geometry c.geometry.result view new c.args.own c.in_ok-dots.dots.value
+    c.new-plan.result c.push.new.self c.push-2.new.self c.push-3.new.self c.push-4.new.self c.push-5.new.self c.enter.new.plan
+    (map cell c.new.result.items) (map cell c.new-2.result.items) (map cell c.new-3.result.items) (map cell c.in_ok-after.after.items) (map cell c.in_ok-after-2.after.items) c.new_directory.result
+    c.new-plan.ensures (c.geometry.ensures.geometry ∙ ap (λ (k : Kept). k.geometry) c.frozen.ensures.same)
+    (ap (map cell) c.new.ensures.items) (ap (map cell) c.new-2.ensures.items) (ap (map cell) c.new-3.ensures.items)
+    (ap (map cell) c.in_ok-after.ensures.items) (ap (map cell) c.in_ok-after-2.ensures.items)
+    (c.requires.parent ∙ ap (λ (i : Inode). with_links i (i.links + 1)) (shows.inode new.directory)) c.new_directory.ensures
+    (subst (AreDots new.number new.directory) (sym c.in_ok-dots.ensures.ok) c.dots.ensures)
+    c.in_ok-push.ensures c.in_ok-push-2.ensures c.in_ok-push-3.ensures c.in_ok-push-4.ensures c.in_ok-push-5.ensures (c.in_ok-enter.ensures view shows)

@@ -1,0 +1,120 @@
+use crate::linking::file_at;
+use crate::making::{dots, new_directory};
+use crate::placing::directory_for;
+use device::{Before, Device, MemDevice, format};
+use frozen::{Frozen, load};
+use inode::{DIRECTORY, Record};
+use layout::{BLOCK_BYTES, Geometry, ROOT, Refusal};
+use live_paths::Path;
+use std::alloc::Global;
+use std::test::Fail;
+
+/// The bytes that differ from a fresh image of one group of 16 blocks and 16 inodes: the block, the byte, the value.
+/// The root, in block 4, names directory 3 "d" in slot 2 and file 4 "f" in slot 3. Directory 3 has block 5.
+const CHANGES: [(u32, usize, u8); 10] = [
+    (2, 384, 2),
+    (2, 389, 4),
+    (2, 392, 5),
+    (2, 512, 1),
+    (4, 128, 3),
+    (4, 132, 1),
+    (4, 136, b'd'),
+    (4, 192, 4),
+    (4, 196, 1),
+    (4, 200, b'f'),
+];
+
+/// The metadata of this image.
+fn image(alloc: Global) -> Result<Frozen, Refusal> {
+    let geometry = Geometry::new(1, 16, 16)?;
+    let bytes = vec![in alloc; 0u8; geometry.blocks() as usize * BLOCK_BYTES]?;
+    let mut device = MemDevice::from_bytes(alloc, bytes.as_slice())?;
+    if device.blocks() != geometry.blocks() {
+        return Err(Refusal::BadLength);
+    }
+    format(&mut device, &geometry, Before::Anything)?;
+    for (address, byte, value) in &CHANGES {
+        set_byte(&mut device, *address, *byte, *value)?;
+    }
+    load(alloc, &mut device)
+}
+
+/// Changes one byte of a block.
+fn set_byte(device: &mut MemDevice, address: u32, byte: usize, value: u8) -> Result<(), Refusal> {
+    if address >= device.blocks() || byte >= BLOCK_BYTES {
+        return Err(Refusal::BadIndex);
+    }
+    let mut block = [0; BLOCK_BYTES];
+    device.read(address, &mut block)?;
+    block[byte] = value;
+    device.write(address, &block)?;
+    Ok(())
+}
+
+/// Where the name of a path may be entered.
+fn entered(frozen: &Frozen, path: &[u8]) -> Result<u32, Refusal> {
+    directory_for(frozen, &Path::parse(path)?)
+}
+
+/// The file of a path.
+fn file(frozen: &Frozen, path: &[u8]) -> Result<u32, Refusal> {
+    file_at(frozen, &Path::parse(path)?)
+}
+
+#[test]
+fn a_new_name_goes_into_its_directory(rt: HostRuntime) -> Result<(), Fail> {
+    let frozen = image(rt.alloc())?;
+    assert_eq!(rt; entered(&frozen, b"/a"), Ok(ROOT));
+    assert_eq!(rt; entered(&frozen, b"/d/a"), Ok(3));
+    Ok(())
+}
+
+#[test]
+fn other_names_are_refused(rt: HostRuntime) -> Result<(), Fail> {
+    let frozen = image(rt.alloc())?;
+    assert_eq!(rt; entered(&frozen, b"a"), Err(Refusal::BadName));
+    assert_eq!(rt; entered(&frozen, b"/"), Err(Refusal::IsRoot));
+    assert_eq!(rt; entered(&frozen, b"/d"), Err(Refusal::Exists));
+    assert_eq!(rt; entered(&frozen, b"/e/a"), Err(Refusal::NotFound));
+    assert_eq!(rt; entered(&frozen, b"/f/a"), Err(Refusal::NotDirectory));
+    Ok(())
+}
+
+#[test]
+fn files_alone_are_linked(rt: HostRuntime) -> Result<(), Fail> {
+    let frozen = image(rt.alloc())?;
+    assert_eq!(rt; file(&frozen, b"/f"), Ok(4));
+    assert_eq!(rt; file(&frozen, b"/"), Err(Refusal::IsDirectory));
+    assert_eq!(rt; file(&frozen, b"/d"), Err(Refusal::IsDirectory));
+    assert_eq!(rt; file(&frozen, b"/d/f"), Err(Refusal::NotFound));
+    Ok(())
+}
+
+#[test]
+fn a_new_directory_names_itself_and_the_one_above(rt: HostRuntime) -> Result<(), Fail> {
+    let mut wanted = [0; BLOCK_BYTES];
+    wanted[0] = 5;
+    wanted[4] = 1;
+    wanted[8] = b'.';
+    wanted[64] = 3;
+    wanted[68] = 2;
+    wanted[72] = b'.';
+    wanted[73] = b'.';
+    assert!(rt; dots(5, 3) == wanted);
+    Ok(())
+}
+
+#[test]
+fn a_new_directory_has_one_block(rt: HostRuntime) -> Result<(), Fail> {
+    let mut direct = [0; 12];
+    direct[0] = 7;
+    let wanted = Record {
+        mode: DIRECTORY,
+        links: 2,
+        size: 1024,
+        direct,
+        indirect: 0,
+    };
+    assert!(rt; new_directory(7) == wanted);
+    Ok(())
+}
