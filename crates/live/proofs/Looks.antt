@@ -1,11 +1,10 @@
 -- What a path leads to, for those who look.
-use Rattle.std.proofs.Common.{◌≡◌, ℕ, not, ◌&&◌, true, false, List, [], ◌∷◌, Option, Some, None, Result, Ok, Err, IsTrue, inl, inr, refl, ap, ◌∙◌, subst}
+use Rattle.std.proofs.Common.{◌≡◌, ℕ, not, ◌&&◌, true, false, List, [], ◌∷◌, Option, Some, None, Result, Ok, Err, IsTrue, inl, refl, sym, ap, ◌∙◌, subst}
 use Rattle.std.specs.Prelude.{is_none, unwrap_or}
 use Rattle.std.specs.Option.{option_or}
 use Rattle.std.specs.Result.{result_err, result_unwrap_or}
 use Rattle.layout.specs.declared.refusal.Refusal.{Refusal}
 use Rattle.layout.specs.declared.refusal.Refusal.TheVariants.{BadName, NotDirectory}
-use Rattle.model.specs.Image.{image_view}
 use Rattle.model.specs.Layout.{Geometry, is_number}
 use Rattle.model.specs.Uses.{is_directory, is_directory_at, is_sound}
 use Rattle.model.specs.View.{View}
@@ -17,16 +16,12 @@ use Rattle.machine.specs.Command.{Command, ListNames, Stat}
 use Rattle.machine.specs.Paths.{number_at, parts_of, target}
 use Rattle.machine.specs.State.{State}
 use Rattle.machine.proofs.Walks.{parts_good, target_reachable}
-use Rattle.frozen.specs.Kept.{Kept, KeepsMetadata}
+use Rattle.frozen.specs.Kept.{Kept, KeepsMetadata, frozen_view}
+use Rattle.metadata.specs.Shown.{Shows}
 use Rattle.metadata.proofs.ShownLemmas.{shows_metadata}
-use Rattle.softdep.specs.Queued.{Queued, pending_of}
 use Rattle.live_paths.specs.Shown.{IsShownBy}
-use Rattle.live_states.specs.Volume.{IsVolume, state_over}
-use Rattle.live.specs.Alive.{MayRefuse}
-
-pub refuse : {D : Type 0} (device : D) (image : List (List ℕ)) (queue : Queued) (kept : Kept) (command : Command) (r : Refusal)
-    → refusal_of kept.geometry (state_over (image_view kept.geometry image) (pending_of queue)) command ≡ Some r → MayRefuse image (record { device = device; queue = queue; kept = kept }) command r
-refuse device image queue kept command r e = (inr (inr (inl e)), refl)
+use Rattle.live_states.specs.Volume.{IsVolume}
+use Rattle.live.specs.Alive.{IsFirstCause}
 
 -- the view of a volume's users has the metadata that is kept
 pub shown : (kept : Kept) (q : List Pending) (disk : View) → KeepsMetadata kept → IsVolume kept q disk → IsShownBy kept (users_view disk q)
@@ -92,3 +87,27 @@ number_of kept q disk volume path parts is i e =
 pub led : (frozen kept : Kept) → frozen ≡ kept → (r : Result ℕ Refusal) (parts : List (List ℕ)) → ((view : View) → IsShownBy frozen view → r ≡ target frozen.geometry view parts)
     → (view : View) → IsShownBy kept view → r ≡ target kept.geometry view parts
 led frozen kept e r parts = subst (λ (k : Kept). (view : View) → IsShownBy k view → r ≡ target k.geometry view parts) e
+
+-- ---- the first cause of a refusal, whatever users see where this is kept
+
+pub list_badly : (kept : Kept) (path : List ℕ) → parts_of path ≡ None → IsFirstCause kept (ListNames path) BadName
+list_badly kept path is old shows = inl (list_bad kept.geometry old path is)
+
+pub stat_badly : (kept : Kept) (path : List ℕ) → parts_of path ≡ None → IsFirstCause kept (Stat path) BadName
+stat_badly kept path is old shows = inl (stat_bad kept.geometry old path is)
+
+module _ (frozen kept : Kept) (same : frozen ≡ kept) (keeps : KeepsMetadata kept) (path : List ℕ) (parts : List (List ℕ)) (is : parts_of path ≡ Some parts)
+    (there : Result ℕ Refusal) (leads : (view : View) → IsShownBy frozen view → there ≡ target frozen.geometry view parts) where
+  leads_to : (old : State) → Shows kept old.view → there ≡ target kept.geometry old.view parts
+  leads_to old shows = led frozen kept same there parts leads old.view (shows_metadata kept old.view keeps shows)
+
+  pub list_to_nowhere : (r : Refusal) → there ≡ Err r → IsFirstCause kept (ListNames path) r
+  list_to_nowhere r e old shows = inl (list_nowhere kept.geometry old path parts is r (sym (leads_to old shows) ∙ e))
+
+  pub stat_to_nowhere : (r : Refusal) → there ≡ Err r → IsFirstCause kept (Stat path) r
+  stat_to_nowhere r e old shows = inl (stat_nowhere kept.geometry old path parts is r (sym (leads_to old shows) ∙ e))
+
+  pub list_to_file : (i : ℕ) → there ≡ Ok i → is_directory_at frozen.geometry (frozen_view frozen) i ≡ false → IsFirstCause kept (ListNames path) NotDirectory
+  list_to_file i e file old shows =
+      inl (list_of_file kept.geometry old path parts is i (sym (leads_to old shows) ∙ e)
+      (sym (same_directory kept.geometry (frozen_view kept) old.view i (shows.inode i)) ∙ ap (λ (k : Kept). is_directory_at k.geometry (frozen_view k) i) (sym same) ∙ file))

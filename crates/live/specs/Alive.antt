@@ -4,12 +4,14 @@ use Rattle.model.specs.Image.{image_view}
 use Rattle.model.specs.View.{View}
 use Rattle.layout.specs.declared.refusal.Refusal.{Refusal}
 use Rattle.ordering.specs.Cuts.{users_view}
+use Rattle.machine.specs.Causes.{FirstRefusal}
 use Rattle.machine.specs.Command.{Answer, Command}
 use Rattle.machine.specs.State.{State}
 use Rattle.machine.specs.Step.{Step}
 use Rattle.plans_data.specs.Carried.{Stands}
 use Rattle.courses.specs.Serves.{Serves}
 use Rattle.frozen.specs.Kept.{Kept}
+use Rattle.metadata.specs.Shown.{Shows}
 use Rattle.softdep.specs.Queued.{Queued, pending_of}
 use Rattle.live_states.specs.Planned.{safe_after}
 use Rattle.live_states.specs.Volume.{IsAlive, state_over}
@@ -42,3 +44,7 @@ pub record Answers {D : Type 0} (image : List (List ℕ)) (old : Alive D) (comma
 -- It may refuse a command so, and stays as it is.
 abbrev pub MayRefuse : {D : Type 0} → List (List ℕ) → Alive D → Command → Refusal → Type 0
 MayRefuse image live command r = Step live.kept.geometry (state_of image live) command (Err r) (state_of image live)
+
+-- Whatever users see where this is kept, this is the first cause that refuses the command.
+abbrev pub IsFirstCause : Kept → Command → Refusal → Type 0
+IsFirstCause kept command r = (old : State) → Shows kept old.view → FirstRefusal kept.geometry old command r

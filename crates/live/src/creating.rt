@@ -1,5 +1,6 @@
 ghost use Rattle.std.specs.Prelude.{◌≡◌, [], IfErr, IfOk, OnErr, OnOk};
 ghost use Rattle.machine.specs.Command.{Create, Done, Link, Mkdir, Number};
+ghost use Rattle.live_states.specs.Planned.{IsRefused};
 ghost use Rattle.live.specs.Alive.{Answers, MayRefuse};
 
 use crate::Live;
@@ -15,6 +16,7 @@ impl<D: Device> Live<D> {
     pub fn create(&mut self, alloc: Global, path: &[u8]) -> Result<u32, Refusal>
         ensures done { IfOk result (λ number. D.honest self.old.device → Answers (D.image self.old.device) self.old (Create path.now) (Number number) (D.image self.new.device) self.new []) }
         ensures refused { IfErr result (λ r. D.honest self.old.device → MayRefuse (D.image self.old.device) self.old (Create path.now) r) }
+        ensures cause { IfErr result (IsRefused self.old.kept (Create path.now)) }
         ensures untouched { OnErr result (self.new ≡ self.old) }
         ensures device { self.new.device ≡ self.old.device }
     {
@@ -29,6 +31,7 @@ impl<D: Device> Live<D> {
     pub fn mkdir(&mut self, alloc: Global, path: &[u8]) -> Result<u32, Refusal>
         ensures done { IfOk result (λ number. D.honest self.old.device → Answers (D.image self.old.device) self.old (Mkdir path.now) (Number number) (D.image self.new.device) self.new []) }
         ensures refused { IfErr result (λ r. D.honest self.old.device → MayRefuse (D.image self.old.device) self.old (Mkdir path.now) r) }
+        ensures cause { IfErr result (IsRefused self.old.kept (Mkdir path.now)) }
         ensures untouched { OnErr result (self.new ≡ self.old) }
         ensures device { self.new.device ≡ self.old.device }
     {
@@ -45,6 +48,7 @@ impl<D: Device> Live<D> {
     pub fn link(&mut self, alloc: Global, path: &[u8], other: &[u8]) -> Result<(), Refusal>
         ensures done { OnOk result (D.honest self.old.device → Answers (D.image self.old.device) self.old (Link path.now other.now) Done (D.image self.new.device) self.new []) }
         ensures refused { IfErr result (λ r. D.honest self.old.device → MayRefuse (D.image self.old.device) self.old (Link path.now other.now) r) }
+        ensures cause { IfErr result (IsRefused self.old.kept (Link path.now other.now)) }
         ensures untouched { OnErr result (self.new ≡ self.old) }
         ensures device { self.new.device ≡ self.old.device }
     {

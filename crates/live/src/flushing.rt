@@ -1,7 +1,9 @@
-ghost use Rattle.std.specs.Prelude.{◌≡◌, ℕ, [], IfErr, IfOk, IsErrOf, List, MatchOption, OnErr, OnOk};
+ghost use Rattle.std.specs.Prelude.{◌≡◌, ℕ, ◌≤◌, [], ◌⊎◌, IfErr, IfOk, IsErrOf, IsOkUnless, List, MatchOption, OnErr, OnOk};
+ghost use Rattle.layout.specs.declared.refusal.Refusal.TheVariants.{BadIndex, Device as DeviceRefusal};
 ghost use Rattle.device.specs.Writes.{HasFailed};
 ghost use Rattle.machine.specs.Command.{Done, Flush, Number, Sync};
 ghost use Rattle.machine.specs.Room.{unmarked_blocks};
+ghost use Rattle.model.specs.Layout.{block_count};
 ghost use Rattle.model.specs.View.{View};
 ghost use Rattle.ordering.specs.Cuts.{users_view};
 ghost use Rattle.queue_model.specs.Blocks.{home_of};
@@ -37,6 +39,7 @@ impl<D: Device> Live<D> {
             × Answers (D.image self.old.device) self.old (Flush address) (Number count) (D.image self.new.device) self.new later) }
         ensures refused { IfErr result (λ r. D.honest self.new.device → MayRefuse (D.image self.old.device) self.old (Flush address) r) }
         ensures untouched { OnErr result ((self.new.queue ≡ self.old.queue) × (self.new.kept ≡ self.old.kept) × (D.image self.new.device ≡ D.image self.old.device) × (D.held self.new.device ≡ D.held self.old.device)) }
+        ensures error { IfErr result (λ r. (r ≡ DeviceRefusal) ⊎ ((r ≡ BadIndex) × (block_count self.old.kept.geometry ≤ address))) }
         ensures cause { IsErrOf result Refusal.Device → HasFailed (D.failures self.old.device) (D.failures self.new.device) }
         ensures honest { D.honest self.new.device → D.honest self.old.device }
     {
@@ -54,6 +57,7 @@ impl<D: Device> Live<D> {
             × Answers (D.image self.old.device) self.old Sync Done (D.image self.new.device) self.new later) }
         ensures refused { IfErr result (λ r. D.honest self.new.device → MayRefuse (D.image self.old.device) self.old Sync r) }
         ensures metadata { self.new.kept ≡ self.old.kept }
+        ensures error { IsOkUnless result Refusal.Device }
         ensures cause { IsErrOf result Refusal.Device → HasFailed (D.failures self.old.device) (D.failures self.new.device) }
         ensures honest { D.honest self.new.device → D.honest self.old.device }
     {

@@ -1,4 +1,5 @@
-ghost use Rattle.std.specs.Prelude.{◌≡◌, ℕ, Bool, [], IfErr, IfOk, List, OnErr, OnOk, IsOkUnless};
+ghost use Rattle.std.specs.Prelude.{◌≡◌, ℕ, Bool, [], IfErr, IfOk, IsErrOf, IsOkUnless, List, OnErr, OnOk};
+ghost use Rattle.device.specs.Writes.{HasFailed};
 ghost use Rattle.layout.specs.declared.refusal.Refusal.TheVariants.{NoMemory};
 ghost use Rattle.ordering.specs.Cuts.{IsClosed, seen};
 ghost use Rattle.model.specs.Rules.{ObeysRules};
@@ -46,6 +47,7 @@ impl<D: Device + Drop> Live<D> {
         ensures pending { IfOk result (λ live. pending_of live.queue ≡ []) }
         ensures mounted { IfOk result (λ live. D.honest live.device → IsMountable live.kept.geometry (D.image device)) }
         ensures refused { IfErr result (λ r. (after : D) × (D.image after ≡ D.image device) × (D.held after ≡ D.held device) × MountRefuses (D.honest after) (D.image device) r) }
+        ensures cause { IsErrOf result Refusal.Device → (after : D) × (D.image after ≡ D.image device) × HasFailed (D.failures device) (D.failures after) }
     {
         let frozen = load(alloc, &mut device)?;
         if obeys(alloc, &frozen)?.is_some() {

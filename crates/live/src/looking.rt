@@ -2,7 +2,8 @@ ghost use Rattle.std.specs.Prelude.{◌≡◌, IfErr, IfOk, Ok, map};
 ghost use Rattle.live_paths.specs.Listed.{name_of};
 ghost use Rattle.machine.specs.Command.{ListNames, Listed, Stat, Status as StatusOf};
 ghost use Rattle.machine.specs.Step.{Step};
-ghost use Rattle.live.specs.Alive.{MayRefuse, state_of};
+ghost use Rattle.live_states.specs.Planned.{IsRefused};
+ghost use Rattle.live.specs.Alive.{IsFirstCause, MayRefuse, state_of};
 
 use crate::Live;
 use device::Device;
@@ -30,6 +31,7 @@ impl<D: Device> Live<D> {
         ensures listed { IfOk result (λ names. D.honest self.now.device → Step self.now.kept.geometry (state_of (D.image self.now.device) self.now) (ListNames path.now)
             (Ok (Listed (map name_of names.items))) (state_of (D.image self.now.device) self.now)) }
         ensures refused { IfErr result (λ r. D.honest self.now.device → MayRefuse (D.image self.now.device) self.now (ListNames path.now) r) }
+        ensures cause { IfErr result (IsRefused self.now.kept (ListNames path.now)) }
     {
         let frozen = self.metadata.frozen();
         let path = Path::parse(path)?;
@@ -46,6 +48,7 @@ impl<D: Device> Live<D> {
         ensures status { IfOk result (λ status. D.honest self.now.device → Step self.now.kept.geometry (state_of (D.image self.now.device) self.now) (Stat path.now)
             (Ok (StatusOf status.number status.mode status.links status.size)) (state_of (D.image self.now.device) self.now)) }
         ensures refused { IfErr result (λ r. D.honest self.now.device → MayRefuse (D.image self.now.device) self.now (Stat path.now) r) }
+        ensures cause { IfErr result (IsFirstCause self.now.kept (Stat path.now)) }
     {
         let frozen = self.metadata.frozen();
         let path = Path::parse(path)?;

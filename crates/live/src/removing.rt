@@ -1,5 +1,6 @@
 ghost use Rattle.std.specs.Prelude.{◌≡◌, [], IfErr, OnErr, OnOk};
 ghost use Rattle.machine.specs.Command.{Done, Rmdir, Unlink};
+ghost use Rattle.live_states.specs.Planned.{IsRefused};
 ghost use Rattle.live.specs.Alive.{Answers, MayRefuse};
 
 use crate::Live;
@@ -14,6 +15,7 @@ impl<D: Device> Live<D> {
     pub fn unlink(&mut self, alloc: Global, path: &[u8]) -> Result<(), Refusal>
         ensures done { OnOk result (D.honest self.old.device → Answers (D.image self.old.device) self.old (Unlink path.now) Done (D.image self.new.device) self.new []) }
         ensures refused { IfErr result (λ r. D.honest self.old.device → MayRefuse (D.image self.old.device) self.old (Unlink path.now) r) }
+        ensures cause { IfErr result (IsRefused self.old.kept (Unlink path.now)) }
         ensures untouched { OnErr result (self.new ≡ self.old) }
         ensures device { self.new.device ≡ self.old.device }
     {
@@ -27,6 +29,7 @@ impl<D: Device> Live<D> {
     pub fn rmdir(&mut self, alloc: Global, path: &[u8]) -> Result<(), Refusal>
         ensures done { OnOk result (D.honest self.old.device → Answers (D.image self.old.device) self.old (Rmdir path.now) Done (D.image self.new.device) self.new []) }
         ensures refused { IfErr result (λ r. D.honest self.old.device → MayRefuse (D.image self.old.device) self.old (Rmdir path.now) r) }
+        ensures cause { IfErr result (IsRefused self.old.kept (Rmdir path.now)) }
         ensures untouched { OnErr result (self.new ≡ self.old) }
         ensures device { self.new.device ≡ self.old.device }
     {

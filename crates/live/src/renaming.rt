@@ -1,5 +1,6 @@
 ghost use Rattle.std.specs.Prelude.{◌≡◌, [], IfErr, OnErr, OnOk};
 ghost use Rattle.machine.specs.Command.{Done, Rename};
+ghost use Rattle.live_states.specs.Planned.{IsRefused};
 ghost use Rattle.live.specs.Alive.{Answers, MayRefuse};
 
 use crate::Live;
@@ -16,6 +17,7 @@ impl<D: Device> Live<D> {
     pub fn rename(&mut self, alloc: Global, path: &[u8], other: &[u8]) -> Result<(), Refusal>
         ensures done { OnOk result (D.honest self.old.device → Answers (D.image self.old.device) self.old (Rename path.now other.now) Done (D.image self.new.device) self.new []) }
         ensures refused { IfErr result (λ r. D.honest self.old.device → MayRefuse (D.image self.old.device) self.old (Rename path.now other.now) r) }
+        ensures cause { IfErr result (IsRefused self.old.kept (Rename path.now other.now)) }
         ensures untouched { OnErr result (self.new ≡ self.old) }
         ensures device { self.new.device ≡ self.old.device }
     {

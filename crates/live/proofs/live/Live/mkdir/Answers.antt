@@ -2,7 +2,7 @@ use Rattle.std.proofs.Common.{◌≡◌, sym, subst}
 use Rattle.std.proofs.lemmas.Result.{err_from_is_err_and}
 use Rattle.machine.specs.Command.{Mkdir, Number}
 use Rattle.softdep.specs.Queued.{pending_of}
-use Rattle.live_states.specs.Planned.{IsPlanned}
+use Rattle.live_states.specs.Planned.{IsPlanned, IsRefused}
 use Rattle.live_states.proofs.Standing.{stands_so}
 use Rattle.live.specs.Alive.{Alive, MayRefuse}
 use Rattle.live.proofs.Commands.{refused}
@@ -19,6 +19,11 @@ returns-in_err-plan-clause-refused g c =
     (λ h. subst (λ (l : Alive _). MayRefuse (g.D.Device.image l.device) l (Mkdir c.args.path.now) c.in_err-plan.field-0.0) c.self.view_is
     (refused device (g.D.Device.honest device) (g.D.Device.image device) c.self.inside.queue c.self.inside.metadata c.self.invariant (subst (λ (l : Alive _). g.D.Device.honest l.device) (sym c.self.view_is) h)
     (Mkdir c.args.path.now) c.in_err-plan.field-0.0 c.in_err-plan.ensures.refused))
+
+pub returns-in_err-plan-clause-cause : goal.returns-in_err-plan-clause-cause
+returns-in_err-plan-clause-cause g c =
+    let p = err_from_is_err_and c.from_residual.result c.from_residual.ensures.1 in
+    rw (p.1, p.2) (subst (λ (l : Alive _). IsRefused l.kept (Mkdir c.args.path.now) c.in_err-plan.field-0.0) c.self.view_is c.in_err-plan.ensures.refused)
 
 pub carry_out-requires : goal.carry_out-requires
 carry_out-requires g c =

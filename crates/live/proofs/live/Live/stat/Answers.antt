@@ -1,4 +1,4 @@
-use Rattle.std.proofs.Common.{◌≡◌, Ok, refl, sym, ap, ap₂, ◌∙◌, subst, IsTrue}
+use Rattle.std.proofs.Common.{◌≡◌, Ok, inr, refl, sym, ap, ap₂, ◌∙◌, subst, IsTrue}
 use Rattle.std.proofs.lemmas.Result.{err_from_is_err_and}
 use Rattle.layout.specs.declared.refusal.Refusal.TheVariants.{BadName}
 use Rattle.model.specs.Image.{image_view}
@@ -10,35 +10,42 @@ use Rattle.machine.specs.Step.{Step}
 use Rattle.frozen.specs.Kept.{Kept, frozen_view}
 use Rattle.softdep.specs.Queued.{pending_of}
 use Rattle.live_states.specs.Volume.{state_over}
-use Rattle.live.specs.Alive.{Alive, MayRefuse, state_of}
-use Rattle.live.proofs.Looks.{led, number_of, number_there, refuse, shown, stat_accepts, stat_bad, stat_nowhere}
+use Rattle.live.specs.Alive.{Alive, IsFirstCause, MayRefuse, state_of}
+use Rattle.live.proofs.Commands.{refused}
+use Rattle.live.proofs.Looks.{led, number_of, number_there, shown, stat_accepts, stat_badly, stat_to_nowhere}
 use Rattle.live.proofs.live.Live.stat.Goals as goal
 
 pub returns-in_err-path-clause-refused : goal.returns-in_err-path-clause-refused
 returns-in_err-path-clause-refused g c =
     let p = err_from_is_err_and c.from_residual.result c.from_residual.ensures.1 in
-    let kept = c.self.inside.metadata in
-    let image = g.D.Device.image c.self.inside.device in
-    let state = state_over (image_view kept.geometry image) (pending_of c.self.inside.queue) in
+    let device = c.self.inside.device in
     rw (p.1, p.2, c.in_err-path.ensures.1)
     (λ h. subst (λ (l : Alive _). MayRefuse (g.D.Device.image l.device) l (Stat c.args.path.now) BadName) c.self.view_is
-    (refuse c.self.inside.device image c.self.inside.queue kept (Stat c.args.path.now) BadName (stat_bad kept.geometry state c.args.path.now c.in_err-path.ensures.0)))
+    (refused device (g.D.Device.honest device) (g.D.Device.image device) c.self.inside.queue c.self.inside.metadata c.self.invariant (subst (λ (l : Alive _). g.D.Device.honest l.device) (sym c.self.view_is) h)
+    (Stat c.args.path.now) BadName (inr (stat_badly c.self.inside.metadata c.args.path.now c.in_err-path.ensures.0))))
+
+pub returns-in_err-path-clause-cause : goal.returns-in_err-path-clause-cause
+returns-in_err-path-clause-cause g c =
+    let p = err_from_is_err_and c.from_residual.result c.from_residual.ensures.1 in
+    rw (p.1, p.2, c.in_err-path.ensures.1)
+    (subst (λ (l : Alive _). IsFirstCause l.kept (Stat c.args.path.now) BadName) c.self.view_is (stat_badly c.self.inside.metadata c.args.path.now c.in_err-path.ensures.0))
 
 pub returns-in_err-number-clause-refused : goal.returns-in_err-number-clause-refused
 returns-in_err-number-clause-refused g c =
     let p = err_from_is_err_and c.from_residual-in_err-number.result c.from_residual-in_err-number.ensures.1 in
-    let kept = c.self.inside.metadata in
-    let image = g.D.Device.image c.self.inside.device in
-    let disk = image_view kept.geometry image in
-    let q = pending_of c.self.inside.queue in
+    let device = c.self.inside.device in
     rw (p.1, p.2)
-    (λ h.
-    let volume = c.self.invariant.alive.true (subst (λ (l : Alive _). g.D.Device.honest l.device) (sym c.self.view_is) h) in
-    let seen = shown kept q disk c.frozen-frozen.ensures.metadata volume in
-    let leads = led c.frozen-frozen.result.now kept c.frozen-frozen.ensures.same c.target.result c.in_ok-path.path c.target.ensures (users_view disk q) seen in
-    subst (λ (l : Alive _). MayRefuse (g.D.Device.image l.device) l (Stat c.args.path.now) c.in_err-number.field-0.0) c.self.view_is
-    (refuse c.self.inside.device image c.self.inside.queue kept (Stat c.args.path.now) c.in_err-number.field-0.0
-    (stat_nowhere kept.geometry (state_over disk q) c.args.path.now c.in_ok-path.path c.in_ok-path.ensures c.in_err-number.field-0.0 (sym leads ∙ c.in_err-number.was))))
+    (λ h. subst (λ (l : Alive _). MayRefuse (g.D.Device.image l.device) l (Stat c.args.path.now) c.in_err-number.field-0.0) c.self.view_is
+    (refused device (g.D.Device.honest device) (g.D.Device.image device) c.self.inside.queue c.self.inside.metadata c.self.invariant (subst (λ (l : Alive _). g.D.Device.honest l.device) (sym c.self.view_is) h)
+    (Stat c.args.path.now) c.in_err-number.field-0.0 (inr (stat_to_nowhere c.frozen-frozen.result.now c.self.inside.metadata c.frozen-frozen.ensures.same c.frozen-frozen.ensures.metadata c.args.path.now c.in_ok-path.path c.in_ok-path.ensures
+    c.target.result c.target.ensures c.in_err-number.field-0.0 c.in_err-number.was))))
+
+pub returns-in_err-number-clause-cause : goal.returns-in_err-number-clause-cause
+returns-in_err-number-clause-cause g c =
+    let p = err_from_is_err_and c.from_residual-in_err-number.result c.from_residual-in_err-number.ensures.1 in
+    rw (p.1, p.2)
+    (subst (λ (l : Alive _). IsFirstCause l.kept (Stat c.args.path.now) c.in_err-number.field-0.0) c.self.view_is (stat_to_nowhere c.frozen-frozen.result.now c.self.inside.metadata c.frozen-frozen.ensures.same c.frozen-frozen.ensures.metadata c.args.path.now c.in_ok-path.path c.in_ok-path.ensures
+    c.target.result c.target.ensures c.in_err-number.field-0.0 c.in_err-number.was))
 
 pub record-record-requires : goal.record-record-requires
 record-record-requires g c =
