@@ -9,6 +9,7 @@ ghost use Rattle.ordering.specs.Cuts.{users_view};
 ghost use Rattle.queue_model.specs.Blocks.{home_of};
 ghost use Rattle.queue_model.specs.Sync.{IsLeastReady};
 ghost use Rattle.softdep.specs.Queued.{pending_of};
+ghost use Rattle.softdep.specs.Syncing.{AreFlushes};
 ghost use Rattle.live.specs.Alive.{Answers, MayRefuse, disk_of};
 ghost use Rattle.live.specs.Held.{HeldMore};
 
@@ -38,7 +39,8 @@ impl<D: Device> Live<D> {
         ensures done { IfOk result (λ count. D.honest self.new.device → (later : List View) × HeldMore self.old.kept.geometry (D.held self.old.device) (D.held self.new.device) later
             × Answers (D.image self.old.device) self.old (Flush address) (Number count) (D.image self.new.device) self.new later) }
         ensures refused { IfErr result (λ r. D.honest self.new.device → MayRefuse (D.image self.old.device) self.old (Flush address) r) }
-        ensures untouched { OnErr result ((self.new.queue ≡ self.old.queue) × (self.new.kept ≡ self.old.kept) × (D.image self.new.device ≡ D.image self.old.device) × (D.held self.new.device ≡ D.held self.old.device)) }
+        ensures untouched { OnErr result ((self.new.queue ≡ self.old.queue) × (D.image self.new.device ≡ D.image self.old.device) × (D.held self.new.device ≡ D.held self.old.device)) }
+        ensures metadata { self.new.kept ≡ self.old.kept }
         ensures error { IfErr result (λ r. (r ≡ DeviceRefusal) ⊎ ((r ≡ BadIndex) × (block_count self.old.kept.geometry ≤ address))) }
         ensures cause { IsErrOf result Refusal.Device → HasFailed (D.failures self.old.device) (D.failures self.new.device) }
         ensures honest { D.honest self.new.device → D.honest self.old.device }
@@ -57,6 +59,8 @@ impl<D: Device> Live<D> {
             × Answers (D.image self.old.device) self.old Sync Done (D.image self.new.device) self.new later) }
         ensures refused { IfErr result (λ r. D.honest self.new.device → MayRefuse (D.image self.old.device) self.old Sync r) }
         ensures metadata { self.new.kept ≡ self.old.kept }
+        // Refused or not, what the device held since is what flushes of the least ready block left.
+        ensures flushes { D.honest self.new.device → AreFlushes self.old.kept.geometry (D.image self.old.device) (D.held self.old.device) (pending_of self.old.queue) (D.image self.new.device) (D.held self.new.device) (pending_of self.new.queue) }
         ensures error { IsOkUnless result Refusal.Device }
         ensures cause { IsErrOf result Refusal.Device → HasFailed (D.failures self.old.device) (D.failures self.new.device) }
         ensures honest { D.honest self.new.device → D.honest self.old.device }

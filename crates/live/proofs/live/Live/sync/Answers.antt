@@ -1,6 +1,8 @@
 use Rattle.std.proofs.Common.{List, subst}
 use Rattle.model.specs.View.{View}
 use Rattle.machine.specs.Command.{Done, Sync}
+use Rattle.softdep.specs.Queued.{pending_of}
+use Rattle.softdep.specs.Syncing.{AreFlushes}
 use Rattle.live.specs.Alive.{Alive, Answers}
 use Rattle.live.specs.Held.{HeldMore}
 use Rattle.live.proofs.Flushes.{live_after, sync_answers, sync_keeps}
@@ -33,3 +35,23 @@ returns-clause-done g c = λ h.
     × Answers (g.D.Device.image l.device) l Sync Done image' (record { device = c.sync.new.device; queue = c.sync.new.self; kept = c.self.inside.metadata }) later) c.self.view_is
     (sync_answers image image' (g.D.Device.held c.self.inside.device) (g.D.Device.held c.sync.new.device) c.self.inside.queue c.sync.new.self c.self.inside.metadata c.self.invariant.geometry (e.flushes h)
     c.self.inside.device c.sync.new.device e.pending (e.view h))
+
+pub returns-in_err-sync-clause-flushes : goal.returns-in_err-sync-clause-flushes
+returns-in_err-sync-clause-flushes g c = λ h.
+    let e = c.in_err-sync.ensures in
+    let image = g.D.Device.image c.self.inside.device in
+    let image' = g.D.Device.image c.sync.new.device in
+    let held' = g.D.Device.held c.sync.new.device in
+    let q' = pending_of c.sync.new.self in
+    subst (λ (l : Alive _). AreFlushes l.kept.geometry (g.D.Device.image l.device) (g.D.Device.held l.device) (pending_of l.queue) image' held' q') c.self.view_is
+    (subst (λ geo. AreFlushes geo image (g.D.Device.held c.self.inside.device) (pending_of c.self.inside.queue) image' held' q') c.self.invariant.geometry (e.flushes h))
+
+pub returns-clause-flushes : goal.returns-clause-flushes
+returns-clause-flushes g c = λ h.
+    let e = c.in_ok-sync.ensures in
+    let image = g.D.Device.image c.self.inside.device in
+    let image' = g.D.Device.image c.sync.new.device in
+    let held' = g.D.Device.held c.sync.new.device in
+    let q' = pending_of c.sync.new.self in
+    subst (λ (l : Alive _). AreFlushes l.kept.geometry (g.D.Device.image l.device) (g.D.Device.held l.device) (pending_of l.queue) image' held' q') c.self.view_is
+    (subst (λ geo. AreFlushes geo image (g.D.Device.held c.self.inside.device) (pending_of c.self.inside.queue) image' held' q') c.self.invariant.geometry (e.flushes h))

@@ -1,0 +1,110 @@
+//! What a line is answered with, and how that is written.
+ghost use Rattle.std.specs.Prelude.{◌≡◌};
+
+use findings::Finding;
+use inode::DIRECTORY;
+use layout::Refusal;
+use live::Status;
+use live_paths::Named;
+use std::alloc::AllocError;
+
+/// What a line is answered with.
+#[derive(Drop)]
+pub enum Answer {
+    /// `ok`
+    Done,
+    /// `ok NUMBER`: the number of an inode, or so many blocks.
+    Number(u32),
+    /// `ok COUNT`: so many updates or writes.
+    Count(usize),
+    /// `ok ADDRESS`, or `ok none`
+    Least(Option<u32>),
+    /// `ok NAME=NUMBER NAME=NUMBER`: the names in a directory, and the numbers that they stand for.
+    Names(Vec<Named>),
+    /// `ok number NUMBER KIND links LINKS size SIZE`
+    Status(Status),
+    /// `ok FINDING; FINDING`: each as its line in a report.
+    Findings(Vec<Finding>),
+    /// `refused` with the number of the cause and its name.
+    Refused(Refusal),
+    /// `no command`: the line has another form.
+    NoCommand,
+}
+
+impl Answer {
+    ghost use Rattle.scripts.specs.Refusals.{is_refusal};
+
+    /// Whether it tells that the line was not carried out.
+    pub fn is_refusal(&self) -> bool
+        ensures { result ≡ is_refusal self.now }
+    {
+        matches!(self, Answer::Refused(_) | Answer::NoCommand)
+    }
+
+    /// Writes the answer behind a text.
+    pub fn write_to(&self, text: &mut String) -> Result<(), AllocError> {
+        match self {
+            Answer::Done => write!(text, "ok"),
+            Answer::Number(number) => write!(text, "ok {number}"),
+            Answer::Count(count) => write!(text, "ok {count}"),
+            Answer::Least(Some(address)) => write!(text, "ok {address}"),
+            Answer::Least(None) => write!(text, "ok none"),
+            Answer::Names(names) => write_names(text, names.as_slice()),
+            Answer::Status(status) => write_status(text, status),
+            Answer::Findings(findings) => write_findings(text, findings.as_slice()),
+            Answer::Refused(refusal) => write!(text, "refused {refusal}"),
+            Answer::NoCommand => write!(text, "no command"),
+        }
+    }
+}
+
+/// Writes the names in a directory.
+fn write_names(text: &mut String, names: &[Named]) -> Result<(), AllocError> {
+    write!(text, "ok")?;
+    for named in names {
+        let number = named.number;
+        write!(text, " ")?;
+        write_name(text, named.name.as_slice())?;
+        write!(text, "={number}")?;
+    }
+    Ok(())
+}
+
+/// Writes a name. Its bytes from 33 to 126 are written as they are, but for `%`; each other one as `%` and two digits.
+fn write_name(text: &mut String, name: &[u8]) -> Result<(), AllocError> {
+    for byte in name {
+        match *byte {
+            b'%' => write!(text, "%25")?,
+            33..=126 => text.push(char::from(*byte))?,
+            _ => write!(text, "%{byte:02x}")?,
+        }
+    }
+    Ok(())
+}
+
+/// Writes what an inode is.
+fn write_status(text: &mut String, status: &Status) -> Result<(), AllocError> {
+    let Status {
+        number,
+        mode,
+        links,
+        size,
+    } = *status;
+    let kind = if mode == DIRECTORY {
+        "directory"
+    } else {
+        "file"
+    };
+    write!(text, "ok number {number} {kind} links {links} size {size}")
+}
+
+/// Writes what a check found.
+fn write_findings(text: &mut String, findings: &[Finding]) -> Result<(), AllocError> {
+    write!(text, "ok")?;
+    let mut before = " ";
+    for finding in findings {
+        write!(text, "{before}{finding}")?;
+        before = "; ";
+    }
+    Ok(())
+}

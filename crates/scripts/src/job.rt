@@ -1,0 +1,96 @@
+//! What the words of the program ask for, and how it is done.
+use crate::lists::{Show, carry_out_lists};
+use crate::runs::carry_out_on;
+use anyhow::{Result, bail};
+use layout::Refusal;
+use std::fs;
+use std::os::unix::fs::FileExt;
+use std::rt::Files;
+use std::thread::Threads;
+
+/// What the words ask for.
+#[derive(Clone, Copy)]
+pub enum Job<'a> {
+    /// The lists of this file, and the answers that are shown.
+    Lists { file: &'a str, show: Show },
+    /// The commands of this file, on this image.
+    Run { image: &'a str, file: &'a str },
+}
+
+/// What is printed, and the status that the program then ends with.
+#[derive(Drop)]
+pub struct Output {
+    pub text: String,
+    pub status: u8,
+}
+
+/// Reads the words, the program's name first.
+pub fn parse(words: &[String]) -> Result<Job<'_>> {
+    match words {
+        [_, mode, file] => list_job(mode.as_str(), file.as_str()),
+        [_, mode, image, file] if mode.as_str() == "run" => Ok(Job::Run {
+            image: image.as_str(),
+            file: file.as_str(),
+        }),
+        _ => bail!("the words are lists FILE, answers FILE, or run IMAGE FILE"),
+    }
+}
+
+/// The lists of a file in this mode.
+fn list_job<'a>(mode: &str, file: &'a str) -> Result<Job<'a>> {
+    let show = match mode {
+        "lists" => Show::Wrong,
+        "answers" => Show::Each,
+        _ => bail!("no such mode of one file"),
+    };
+    Ok(Job::Lists { file, show })
+}
+
+/// Does what the words ask for.
+pub fn perform<R: Files + AllocGlobal + Threads + Sync>(rt: &R, job: &Job<'_>) -> Result<Output>
+where
+    R::File: FileExt,
+{
+    match *job {
+        Job::Lists { file, show } => lists(rt, file, show),
+        Job::Run { image, file } => run(rt, image, file),
+    }
+}
+
+/// Carries out the lists of a file.
+fn lists<R: Files + AllocGlobal + Threads + Sync>(
+    rt: &R,
+    file: &str,
+    show: Show,
+) -> Result<Output> {
+    let bytes = fs::read(rt, file)?;
+    let outcome = carry_out_lists(rt, rt.alloc(), bytes.as_slice(), show)?;
+    let mut text = outcome.text;
+    if show == Show::Wrong {
+        let lists = outcome.lists;
+        let lines = outcome.lines;
+        let wrong = outcome.wrong;
+        writeln!(text, "lists {lists} lines {lines} wrong {wrong}")?;
+    }
+    let status = if show == Show::Wrong && outcome.wrong > 0 {
+        1
+    } else {
+        0
+    };
+    Ok(Output { text, status })
+}
+
+/// Carries out the commands of a file on an image.
+fn run<R: Files + AllocGlobal>(rt: &R, image: &str, file: &str) -> Result<Output>
+where
+    R::File: FileExt,
+{
+    let bytes = fs::read(rt, file)?;
+    let count = carry_out_on(rt, image, bytes.as_slice())?;
+    let lines = count.lines;
+    let refused = count.refused;
+    Ok(Output {
+        text: format!(in rt.alloc(); "lines {lines} refused {refused}\n")?,
+        status: 0,
+    })
+}

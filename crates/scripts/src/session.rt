@@ -1,0 +1,202 @@
+//! A volume in memory, and what the lines of a list do to it.
+use crate::answer::Answer;
+use crate::carrying::carry_out;
+use crate::line::Line;
+use device::{Before, Device, MemDevice, format};
+use findings::Finding;
+use frozen::load;
+use fsck::check_one;
+use layout::{BLOCK_BYTES, Geometry, Refusal};
+use live::Live;
+use std::alloc::Global;
+use std::sync::Arc;
+use std::thread::Threads;
+
+/// A volume in memory.
+#[derive(Drop)]
+enum Volume {
+    /// There is none yet.
+    Absent,
+    /// It was made, and is not mounted yet.
+    Made(MemDevice),
+    /// It is mounted.
+    Mounted(Live<MemDevice>),
+    /// It could not be made or mounted.
+    Refused(Refusal),
+}
+
+/// The volume of a list.
+#[derive(Drop)]
+pub struct Session {
+    volume: Volume,
+    /// How many writes were made before the volume was mounted for the last time.
+    earlier_writes: usize,
+}
+
+impl Session {
+    /// Before the first list.
+    pub fn new() -> Session {
+        Session {
+            volume: Volume::Absent,
+            earlier_writes: 0,
+        }
+    }
+
+    /// Carries out a line, and gives its answer if it has one: it is a command, or out of place.
+    pub fn carry_out(
+        &mut self,
+        rt: &(impl Threads + Sync),
+        alloc: Global,
+        line: Line<'_>,
+    ) -> Option<Answer> {
+        match line {
+            Line::Volume {
+                groups,
+                blocks,
+                inodes,
+            } => {
+                self.make(alloc, groups, blocks, inodes);
+                None
+            }
+            Line::Byte {
+                address,
+                place,
+                value,
+            } => self.set_byte(address, place, value),
+            Line::Other => Some(Answer::NoCommand),
+            Line::Check | Line::Stop | Line::Writes | Line::Command(_) => {
+                self.mount(alloc);
+                Some(self.answer(rt, alloc, line))
+            }
+        }
+    }
+
+    /// Makes a fresh volume of these numbers, in place of the one that was there.
+    fn make(&mut self, alloc: Global, groups: u32, blocks: u32, inodes: u32) {
+        self.earlier_writes = 0;
+        self.volume = match Geometry::new(groups, blocks, inodes).and_then(|geometry| fresh_device(
+            alloc, &geometry,
+        )) {
+            Ok(device) => Volume::Made(device),
+            Err(refusal) => Volume::Refused(refusal),
+        };
+    }
+
+    /// Sets a byte of a block before the volume is mounted; it cannot be mounted where it has no such byte.
+    fn set_byte(&mut self, address: u32, place: u32, value: u8) -> Option<Answer> {
+        match &mut self.volume {
+            Volume::Made(device) => {
+                if let Err(refusal) = put_byte(device, address, place as usize, value) {
+                    self.volume = Volume::Refused(refusal);
+                }
+                None
+            }
+            Volume::Refused(_) => None,
+            Volume::Absent | Volume::Mounted(_) => Some(Answer::NoCommand),
+        }
+    }
+
+    /// Mounts a volume that was made.
+    fn mount(&mut self, alloc: Global) {
+        if let Volume::Made(device) = &self.volume {
+            self.volume = mounted(alloc, device);
+        }
+    }
+
+    /// The answer of a line that is a command.
+    fn answer(&mut self, rt: &(impl Threads + Sync), alloc: Global, line: Line<'_>) -> Answer {
+        match &mut self.volume {
+            Volume::Absent | Volume::Made(_) => Answer::NoCommand,
+            Volume::Refused(refusal) => Answer::Refused(*refusal),
+            Volume::Mounted(live) => match line {
+                Line::Command(command) => carry_out(alloc, live, command),
+                Line::Check => found(rt, alloc, live.device()),
+                Line::Writes => Answer::Count(
+                    self.earlier_writes.saturating_add(live.device().writes()),
+                ),
+                Line::Stop => self.stop(alloc),
+                Line::Volume { .. } | Line::Byte { .. } | Line::Other => Answer::NoCommand,
+            },
+        }
+    }
+
+    /// Mounts what the device of a mounted volume holds.
+    fn stop(&mut self, alloc: Global) -> Answer {
+        let Volume::Mounted(live) = &self.volume else {
+            return Answer::NoCommand;
+        };
+        let device = live.device();
+        self.earlier_writes = self.earlier_writes.saturating_add(device.writes());
+        self.volume = mounted(alloc, device);
+        match &self.volume {
+            Volume::Refused(refusal) => Answer::Refused(*refusal),
+            Volume::Absent | Volume::Made(_) | Volume::Mounted(_) => Answer::Done,
+        }
+    }
+}
+
+/// A device in memory with a fresh volume.
+fn fresh_device(alloc: Global, geometry: &Geometry) -> Result<MemDevice, Refusal> {
+    let bytes = vec![in alloc; 0u8; geometry.blocks() as usize * BLOCK_BYTES]?;
+    let mut device = MemDevice::from_bytes(alloc, bytes.as_slice())?;
+    format_all(&mut device, geometry)?;
+    Ok(device)
+}
+
+/// Formats a device, unless it is of another length.
+fn format_all<D: Device>(device: &mut D, geometry: &Geometry) -> Result<(), Refusal> {
+    if device.blocks() != geometry.blocks() {
+        return Err(Refusal::BadLength);
+    }
+    format(device, geometry, Before::Anything)
+}
+
+/// Sets a byte of a block, unless the device has no such byte.
+fn put_byte<D: Device>(
+    device: &mut D,
+    address: u32,
+    place: usize,
+    value: u8,
+) -> Result<(), Refusal> {
+    if address >= device.blocks() || place >= BLOCK_BYTES {
+        return Err(Refusal::BadIndex);
+    }
+    let mut block = [0; BLOCK_BYTES];
+    device.read(address, &mut block)?;
+    block[place] = value;
+    device.write(address, &block)?;
+    Ok(())
+}
+
+/// What a device holds, mounted on a device of its own that was never written.
+fn mounted(alloc: Global, device: &MemDevice) -> Volume {
+    match copy_of(alloc, device).and_then(|copy| Live::mount(alloc, copy)) {
+        Ok(live) => Volume::Mounted(live),
+        Err(refusal) => Volume::Refused(refusal),
+    }
+}
+
+/// A device that holds what this one holds, and was never written.
+fn copy_of(alloc: Global, device: &MemDevice) -> Result<MemDevice, Refusal> {
+    device.image_after(alloc, device.writes())
+}
+
+/// The answer of a check of what a device holds.
+fn found(rt: &(impl Threads + Sync), alloc: Global, device: &MemDevice) -> Answer {
+    match findings_of(rt, alloc, device) {
+        Ok(findings) => Answer::Findings(findings),
+        Err(refusal) => Answer::Refused(refusal),
+    }
+}
+
+/// What a check finds on what a device holds.
+fn findings_of(
+    rt: &(impl Threads + Sync),
+    alloc: Global,
+    device: &MemDevice,
+) -> Result<Vec<Finding>, Refusal> {
+    let mut copy = copy_of(alloc, device)?;
+    let frozen = Arc::new(alloc, load(alloc, &mut copy)?)?;
+    let checked = check_one(rt, alloc, &frozen)?;
+    Ok(checked.findings().to_vec(alloc)?)
+}
