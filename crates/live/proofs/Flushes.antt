@@ -18,15 +18,16 @@ use Rattle.queue_model.specs.Sync.{Flushes, Stops, Goes}
 use Rattle.queue_model.proofs.FlushLemmas.{none_taken, ready_closed}
 use Rattle.machine.specs.Causes.{Accepts, causes, refusal_of}
 use Rattle.machine.specs.Command.{Done, Flush, Number, Sync}
-use Rattle.machine.specs.State.{State, mounted}
+use Rattle.machine.specs.State.{State}
 use Rattle.machine.specs.Step.{Step}
 use Rattle.courses.specs.Serves.{FlushesNone, FlushesSome, Serves, SyncsAll, flush_images}
 use Rattle.frozen.specs.Kept.{Kept}
 use Rattle.softdep.specs.Queued.{Queued, pending_of}
 use Rattle.softdep.specs.Syncing.{AreFlushes, images_of}
+use Rattle.live_states.specs.Holdings.{Beside, Holdings, held_by, opened_by}
 use Rattle.live_states.specs.Volume.{IsVolume, state_over}
 use Rattle.live_states.proofs.Standing.{put}
-use Rattle.live.specs.Alive.{Answers, IsLive}
+use Rattle.live.specs.Alive.{Alive, Answers, IsLive}
 use Rattle.live.specs.Held.{HeldMore}
 
 -- ---- which blocks may be flushed
@@ -47,25 +48,26 @@ accepts_sync geo old = (refl, tt)
 
 -- ---- the invariant
 
-pub live_after : (honest honest' : Type 0) (image image' : List (List ℕ)) (queue queue' : Queued) (kept : Kept) → IsLive honest image queue kept
+pub live_after : (honest honest' : Type 0) (image image' : List (List ℕ)) (queue queue' : Queued) (kept : Kept) (holdings : Holdings) → IsLive honest image queue kept holdings
     → queue'.geometry ≡ queue.geometry → length image' ≡ block_count queue'.geometry
     → (cut : List Bool) → IsClosed (pending_of queue) cut → pending_of queue' ≡ rest (pending_of queue) cut
-    → (honest' → honest) → (honest' → IsVolume kept (pending_of queue) (image_view kept.geometry image) → IsVolume kept (pending_of queue') (image_view kept.geometry image'))
-    → IsLive honest' image' queue' kept
-live_after honest honest' image image' queue queue' kept live same count cut closed pending back goes = record {
+    → (honest' → honest) → (honest' → IsVolume kept holdings (pending_of queue) (image_view kept.geometry image) → IsVolume kept holdings (pending_of queue') (image_view kept.geometry image'))
+    → IsLive honest' image' queue' kept holdings
+live_after honest honest' image image' queue queue' kept holdings live same count cut closed pending back goes = record {
   geometry = same ∙ live.geometry;
   alive = record {
     count = count ∙ ap block_count (same ∙ live.geometry);
     keeps = live.alive.keeps;
     disk = seen live.alive.disk (pending_of queue) cut;
-    some = subst (λ q. IsVolume kept q (seen live.alive.disk (pending_of queue) cut)) (sym pending) (put kept (pending_of queue) live.alive.disk live.alive.some cut closed);
+    some = subst (λ q. IsVolume kept holdings q (seen live.alive.disk (pending_of queue) cut)) (sym pending) (put kept holdings (pending_of queue) live.alive.disk live.alive.some cut closed);
     true = λ h. goes h (live.alive.true (back h));
   };
+  no_snapshot = live.no_snapshot;
 }
 
-pub still_live : (honest honest' : Type 0) (image image' : List (List ℕ)) (queue queue' : Queued) (kept : Kept) → IsLive honest image queue kept → queue' ≡ queue → image' ≡ image → (honest' → honest) → IsLive honest' image' queue' kept
-still_live honest honest' image image' queue queue' kept live same_queue same_image back =
-    subst (λ q. IsLive honest' image' q kept) (sym same_queue) (subst (λ i. IsLive honest' i queue kept) (sym same_image) (record {
+pub still_live : (honest honest' : Type 0) (image image' : List (List ℕ)) (queue queue' : Queued) (kept : Kept) (holdings : Holdings) → IsLive honest image queue kept holdings → queue' ≡ queue → image' ≡ image → (honest' → honest) → IsLive honest' image' queue' kept holdings
+still_live honest honest' image image' queue queue' kept holdings live same_queue same_image back =
+    subst (λ q. IsLive honest' image' q kept holdings) (sym same_queue) (subst (λ i. IsLive honest' i queue kept holdings) (sym same_image) (record {
       geometry = live.geometry;
       alive = record {
         count = live.alive.count;
@@ -74,6 +76,7 @@ still_live honest honest' image image' queue queue' kept live same_queue same_im
         some = live.alive.some;
         true = λ h. live.alive.true (back h);
       };
+      no_snapshot = live.no_snapshot;
     }))
 
 -- a flush leaves as many blocks
@@ -83,7 +86,7 @@ same_length image image' a (suc n) none some = let is = some (omega arith) in ap
 
 -- ---- a flush
 
-module _ (kept : Kept) (disk : View) (q : List Pending) (a : ℕ) where
+module _ (kept : Kept) (holdings : Holdings) (disk : View) (q : List Pending) (a : ℕ) where
   abbrev geo : Geometry
   geo = kept.geometry
 
@@ -93,35 +96,39 @@ module _ (kept : Kept) (disk : View) (q : List Pending) (a : ℕ) where
   closed : IsClosed q cut
   closed = ready_closed (home_of geo) a q
 
-  abbrev old : State
-  old = state_over disk q
-
-  pub flush_keeps : (disk' : View) (q' : List Pending) → disk' ≡ seen disk q cut → q' ≡ rest q cut → IsVolume kept q disk → IsVolume kept q' disk'
+  pub flush_keeps : (disk' : View) (q' : List Pending) → disk' ≡ seen disk q cut → q' ≡ rest q cut → IsVolume kept holdings q disk → IsVolume kept holdings q' disk'
   flush_keeps disk' q' view pending volume =
-      subst (IsVolume kept q') (sym view) (subst (λ p. IsVolume kept p (seen disk q cut)) (sym pending) (put kept q disk volume cut closed))
+      subst (IsVolume kept holdings q') (sym view) (subst (λ p. IsVolume kept holdings p (seen disk q cut)) (sym pending) (put kept holdings q disk volume cut closed))
 
-  same_state : state_over (seen disk q cut) (rest q cut) ≡ old
-  same_state = ap mounted (users_flushed disk q cut closed)
+  module _ (beside : Beside) where
+    abbrev old : State
+    old = state_over disk q holdings beside
 
-  serves_some : (n : ℕ) → suc n ≡ taken cut → (safe : ℕ → Bool)
-      → Serves geo disk q old safe (Flush a) (Number (suc n)) (seen disk q cut) (rest q cut) (state_over (seen disk q cut) (rest q cut)) safe (seen disk q cut ∷ [])
-  serves_some n count safe =
-      subst (λ m. Serves geo disk q old safe (Flush a) (Number m) (seen disk q cut) (rest q cut) (state_over (seen disk q cut) (rest q cut)) safe (seen disk q cut ∷ [])) (sym count)
-      (subst (λ st. Serves geo disk q old safe (Flush a) (Number (taken cut)) (seen disk q cut) (rest q cut) st safe (seen disk q cut ∷ [])) (sym same_state)
-      (FlushesSome a (omega (arith, count))))
+    abbrev as_seen : View → State
+    as_seen view = record { view = view; opened = opened_by holdings; held = held_by holdings; frozen = beside.frozen; plan = beside.plan }
 
-  serves_none : 0 ≡ taken cut → (safe : ℕ → Bool)
-      → Serves geo disk q old safe (Flush a) (Number 0) (seen disk q cut) (rest q cut) (state_over (seen disk q cut) (rest q cut)) safe []
-  serves_none none safe =
-      let is = none_taken disk q cut closed (sym none) in
-      subst (λ d. Serves geo disk q old safe (Flush a) (Number 0) d (rest q cut) (state_over d (rest q cut)) safe []) (sym is.0)
-      (subst (λ p. Serves geo disk q old safe (Flush a) (Number 0) disk p (state_over disk p) safe []) (sym is.1) (FlushesNone a (sym none)))
+    same_state : state_over (seen disk q cut) (rest q cut) holdings beside ≡ old
+    same_state = ap as_seen (users_flushed disk q cut closed)
+
+    serves_some : (n : ℕ) → suc n ≡ taken cut → (safe : ℕ → Bool)
+        → Serves geo disk q old safe (Flush a) (Number (suc n)) (seen disk q cut) (rest q cut) (state_over (seen disk q cut) (rest q cut) holdings beside) safe (seen disk q cut ∷ [])
+    serves_some n count safe =
+        subst (λ m. Serves geo disk q old safe (Flush a) (Number m) (seen disk q cut) (rest q cut) (state_over (seen disk q cut) (rest q cut) holdings beside) safe (seen disk q cut ∷ [])) (sym count)
+        (subst (λ st. Serves geo disk q old safe (Flush a) (Number (taken cut)) (seen disk q cut) (rest q cut) st safe (seen disk q cut ∷ [])) (sym same_state)
+        (FlushesSome a (omega (arith, count))))
+
+    serves_none : 0 ≡ taken cut → (safe : ℕ → Bool)
+        → Serves geo disk q old safe (Flush a) (Number 0) (seen disk q cut) (rest q cut) (state_over (seen disk q cut) (rest q cut) holdings beside) safe []
+    serves_none none safe =
+        let is = none_taken disk q cut closed (sym none) in
+        subst (λ d. Serves geo disk q old safe (Flush a) (Number 0) d (rest q cut) (state_over d (rest q cut) holdings beside) safe []) (sym is.0)
+        (subst (λ p. Serves geo disk q old safe (Flush a) (Number 0) disk p (state_over disk p holdings beside) safe []) (sym is.1) (FlushesNone a (sym none)))
 
   -- what is said of the device and of what is pending then
   said : (disk' : View) (q' : List Pending) → disk' ≡ seen disk q cut → q' ≡ rest q cut → (P : View → List Pending → Type 0) → P (seen disk q cut) (rest q cut) → P disk' q'
   said disk' q' view pending P p = subst (λ d. P d q') (sym view) (subst (P (seen disk q cut)) (sym pending) p)
 
-module _ {D : Type 0} (device device' : D) (image image' : List (List ℕ)) (held held' : List (List (List ℕ))) (queue queue' : Queued) (kept : Kept) (a : ℕ) (low : a < block_count kept.geometry)
+module _ {D : Type 0} (device device' : D) (image image' : List (List ℕ)) (held held' : List (List (List ℕ))) (queue queue' : Queued) (kept : Kept) (holdings : Holdings) (a : ℕ) (low : a < block_count kept.geometry)
     (view : image_view kept.geometry image' ≡ seen (image_view kept.geometry image) (pending_of queue) (ready (home_of kept.geometry) a (pending_of queue)))
     (pending : pending_of queue' ≡ rest (pending_of queue) (ready (home_of kept.geometry) a (pending_of queue))) where
   abbrev d : View
@@ -130,40 +137,49 @@ module _ {D : Type 0} (device device' : D) (image image' : List (List ℕ)) (hel
   abbrev p : List Pending
   p = pending_of queue
 
+  abbrev taken_now : List Bool
+  taken_now = ready (home_of kept.geometry) a p
+
+  abbrev before : Alive D
+  before = record { device = device; queue = queue; kept = kept; holdings = holdings }
+
+  abbrev behind : Alive D
+  behind = record { device = device'; queue = queue'; kept = kept; holdings = holdings }
+
   -- the flush of so many updates
   abbrev IsAnswered : ℕ → Type 0
-  IsAnswered n = (later : List View) × HeldMore kept.geometry held held' later
-      × Answers image (record { device = device; queue = queue; kept = kept }) (Flush a) (Number n) image' (record { device = device'; queue = queue'; kept = kept }) later
+  IsAnswered n = (later : List View) × HeldMore kept.geometry held held' later × Answers image before (Flush a) (Number n) image' behind later
 
-  answered : (n : ℕ) (later : List View) → ((safe : ℕ → Bool) → Serves kept.geometry d p (state_over d p) safe (Flush a) (Number n)
-      (seen d p (ready (home_of kept.geometry) a p)) (rest p (ready (home_of kept.geometry) a p)) (state_over (seen d p (ready (home_of kept.geometry) a p)) (rest p (ready (home_of kept.geometry) a p))) safe later)
-      → Answers image (record { device = device; queue = queue; kept = kept }) (Flush a) (Number n) image' (record { device = device'; queue = queue'; kept = kept }) later
-  answered n later serves = record {
-    step = said kept d p a (image_view kept.geometry image') (pending_of queue') view pending (λ e r. Step kept.geometry (state_over d p) (Flush a) (Ok (Number n)) (state_over e r))
-        (accepts_flush kept.geometry (state_over d p) a low, same_state kept d p a);
-    serves = λ safe stands. said kept d p a (image_view kept.geometry image') (pending_of queue') view pending
-        (λ e r. Serves kept.geometry d p (state_over d p) safe (Flush a) (Number n) e r (state_over e r) safe later) (serves safe);
+  answered : (n : ℕ) (later : List View) → ((beside : Beside) (safe : ℕ → Bool) → Serves kept.geometry d p (state_over d p holdings beside) safe (Flush a) (Number n)
+      (seen d p taken_now) (rest p taken_now) (state_over (seen d p taken_now) (rest p taken_now) holdings beside) safe later)
+      → Answers image before (Flush a) (Number n) image' behind later
+  answered n later serves beside belongs = record {
+    step = λ stands. said kept holdings d p a (image_view kept.geometry image') (pending_of queue') view pending
+        (λ e r. Step kept.geometry (state_over d p holdings beside) (Flush a) (Ok (Number n)) (state_over e r holdings beside))
+        (accepts_flush kept.geometry (state_over d p holdings beside) a low, same_state kept holdings d p a beside);
+    serves = λ safe stands. said kept holdings d p a (image_view kept.geometry image') (pending_of queue') view pending
+        (λ e r. Serves kept.geometry d p (state_over d p holdings beside) safe (Flush a) (Number n) e r (state_over e r holdings beside) safe later) (serves beside safe);
   }
 
-  pub flush_answers : (n : ℕ) → n ≡ taken (ready (home_of kept.geometry) a p) → (n ≡ 0 → held' ≡ held) → (0 < n → held' ≡ held ++ image' ∷ []) → IsAnswered n
+  pub flush_answers : (n : ℕ) → n ≡ taken taken_now → (n ≡ 0 → held' ≡ held) → (0 < n → held' ≡ held ++ image' ∷ []) → IsAnswered n
   flush_answers zero count none some = (
     [],
     record { more = []; held_now = none refl ∙ sym (append-nil held); views = refl },
-    answered 0 [] (serves_none kept d p a count),
+    answered 0 [] (λ beside. serves_none kept holdings d p a beside count),
   )
   flush_answers (suc n) count none some = (
-    seen d p (ready (home_of kept.geometry) a p) ∷ [],
+    seen d p taken_now ∷ [],
     record { more = image' ∷ []; held_now = some (omega arith); views = ap (λ v. v ∷ []) view },
-    answered (suc n) (seen d p (ready (home_of kept.geometry) a p) ∷ []) (serves_some kept d p a n count),
+    answered (suc n) (seen d p taken_now ∷ []) (λ beside. serves_some kept holdings d p a beside n count),
   )
 
 -- ---- a sync
 
-flushes_keep : (kept : Kept) (disk : View) (q : List Pending) (blocks : List ℕ) (disk' : View) (q' : List Pending) → Flushes (home_of kept.geometry) disk q blocks disk' q' → IsVolume kept q disk → IsVolume kept q' disk'
-flushes_keep kept disk q blocks disk' q' Stops volume = volume
-flushes_keep kept disk q blocks disk' q' (Goes {blocks = more} a least rest_of) volume =
-    flushes_keep kept (seen disk q (ready (home_of kept.geometry) a q)) (rest q (ready (home_of kept.geometry) a q)) more disk' q' rest_of
-    (put kept q disk volume (ready (home_of kept.geometry) a q) (ready_closed (home_of kept.geometry) a q))
+flushes_keep : (kept : Kept) (holdings : Holdings) (disk : View) (q : List Pending) (blocks : List ℕ) (disk' : View) (q' : List Pending) → Flushes (home_of kept.geometry) disk q blocks disk' q' → IsVolume kept holdings q disk → IsVolume kept holdings q' disk'
+flushes_keep kept holdings disk q blocks disk' q' Stops volume = volume
+flushes_keep kept holdings disk q blocks disk' q' (Goes {blocks = more} a least rest_of) volume =
+    flushes_keep kept holdings (seen disk q (ready (home_of kept.geometry) a q)) (rest q (ready (home_of kept.geometry) a q)) more disk' q' rest_of
+    (put kept holdings q disk volume (ready (home_of kept.geometry) a q) (ready_closed (home_of kept.geometry) a q))
 
 newest_first : (home : Cell → ℕ) (disk : View) (q : List Pending) (blocks : List ℕ) (images : List View) → flush_images home disk q blocks images ≡ reverse (images_of home disk q blocks) ++ images
 newest_first home disk q [] images = refl
@@ -173,17 +189,17 @@ newest_first home disk q (a ∷ blocks) images =
     newest_first home image (rest q (ready home a q)) blocks (image ∷ images)
     ∙ sym (append_assoc (reverse more) (image ∷ []) images) ∙ ap (λ xs. xs ++ images) (sym (reverse-append (image ∷ []) more))
 
-module _ (image image' : List (List ℕ)) (held held' : List (List (List ℕ))) (queue queue' : Queued) (kept : Kept) (same : queue.geometry ≡ kept.geometry)
+module _ (image image' : List (List ℕ)) (held held' : List (List (List ℕ))) (queue queue' : Queued) (kept : Kept) (holdings : Holdings) (same : queue.geometry ≡ kept.geometry)
     (flushed : AreFlushes queue.geometry image held (pending_of queue) image' held' (pending_of queue')) where
   are : AreFlushes kept.geometry image held (pending_of queue) image' held' (pending_of queue')
   are = subst (λ geo. AreFlushes geo image held (pending_of queue) image' held' (pending_of queue')) same flushed
 
-  pub sync_keeps : IsVolume kept (pending_of queue) (image_view kept.geometry image) → IsVolume kept (pending_of queue') (image_view kept.geometry image')
-  sync_keeps = flushes_keep kept (image_view kept.geometry image) (pending_of queue) are.blocks (image_view kept.geometry image') (pending_of queue') are.flushes
+  pub sync_keeps : IsVolume kept holdings (pending_of queue) (image_view kept.geometry image) → IsVolume kept holdings (pending_of queue') (image_view kept.geometry image')
+  sync_keeps = flushes_keep kept holdings (image_view kept.geometry image) (pending_of queue) are.blocks (image_view kept.geometry image') (pending_of queue') are.flushes
 
   pub sync_answers : {D : Type 0} (device device' : D) → pending_of queue' ≡ [] → image_view queue.geometry image' ≡ users_view (image_view queue.geometry image) (pending_of queue)
       → (later : List View) × HeldMore kept.geometry held held' later
-      × Answers image (record { device = device; queue = queue; kept = kept }) Sync Done image' (record { device = device'; queue = queue'; kept = kept }) later
+      × Answers image (record { device = device; queue = queue; kept = kept; holdings = holdings }) Sync Done image' (record { device = device'; queue = queue'; kept = kept; holdings = holdings }) later
   sync_answers device device' none view = (
     flush_images (home_of kept.geometry) disk (pending_of queue) are.blocks [],
     record {
@@ -191,11 +207,11 @@ module _ (image image' : List (List ℕ)) (held held' : List (List (List ℕ))) 
       held_now = are.held_now;
       views = ap reverse are.images ∙ sym (append-nil (reverse (images_of (home_of kept.geometry) disk (pending_of queue) are.blocks))) ∙ sym (newest_first (home_of kept.geometry) disk (pending_of queue) are.blocks []);
     },
-    record {
-      step = (accepts_sync kept.geometry old, state);
+    λ beside belongs. record {
+      step = λ stands. (accepts_sync kept.geometry (old beside), ap (λ p. state_over disk' p holdings beside) none ∙ state_none beside);
       serves = λ safe stands.
-          subst (λ p. Serves kept.geometry disk (pending_of queue) old safe Sync Done disk' p (state_over disk' p) safe (flush_images (home_of kept.geometry) disk (pending_of queue) are.blocks [])) (sym none)
-          (subst (λ st. Serves kept.geometry disk (pending_of queue) old safe Sync Done disk' [] st safe (flush_images (home_of kept.geometry) disk (pending_of queue) are.blocks [])) (sym state_none)
+          subst (λ p. Serves kept.geometry disk (pending_of queue) (old beside) safe Sync Done disk' p (state_over disk' p holdings beside) safe (flush_images (home_of kept.geometry) disk (pending_of queue) are.blocks [])) (sym none)
+          (subst (λ st. Serves kept.geometry disk (pending_of queue) (old beside) safe Sync Done disk' [] st safe (flush_images (home_of kept.geometry) disk (pending_of queue) are.blocks [])) (sym (state_none beside))
           (SyncsAll are.blocks disk' (subst (Flushes (home_of kept.geometry) disk (pending_of queue) are.blocks disk') none are.flushes)));
     },
   )
@@ -206,11 +222,11 @@ module _ (image image' : List (List ℕ)) (held held' : List (List (List ℕ))) 
       disk' : View
       disk' = image_view kept.geometry image'
 
-      old : State
-      old = state_over disk (pending_of queue)
+      old : Beside → State
+      old beside = state_over disk (pending_of queue) holdings beside
 
-      state_none : state_over disk' [] ≡ old
-      state_none = ap mounted (subst (λ geo. image_view geo image' ≡ users_view (image_view geo image) (pending_of queue)) same view)
+      as_seen : Beside → View → State
+      as_seen beside view = record { view = view; opened = opened_by holdings; held = held_by holdings; frozen = beside.frozen; plan = beside.plan }
 
-      state : state_over disk' (pending_of queue') ≡ old
-      state = ap (state_over disk') none ∙ state_none
+      state_none : (beside : Beside) → state_over disk' [] holdings beside ≡ old beside
+      state_none beside = ap (as_seen beside) (subst (λ geo. image_view geo image' ≡ users_view (image_view geo image) (pending_of queue)) same view)

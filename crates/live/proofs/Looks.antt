@@ -1,5 +1,5 @@
 -- What a path leads to, for those who look.
-use Rattle.std.proofs.Common.{◌≡◌, ℕ, not, ◌&&◌, true, false, List, [], ◌∷◌, Option, Some, None, Result, Ok, Err, IsTrue, inl, refl, sym, ap, ◌∙◌, subst}
+use Rattle.std.proofs.Common.{◌≡◌, ℕ, not, ◌&&◌, true, false, List, [], ◌∷◌, Option, Some, None, Result, Ok, Err, IsTrue, inl, sym, ap, ◌∙◌, subst}
 use Rattle.std.specs.Prelude.{is_none, unwrap_or}
 use Rattle.std.specs.Option.{option_or}
 use Rattle.std.specs.Result.{result_err, result_unwrap_or}
@@ -12,7 +12,7 @@ use Rattle.model.proofs.Same.{reachable_number}
 use Rattle.ordering.specs.Cuts.{Pending, users_view}
 use Rattle.machine.specs.Below.{first_of, when}
 use Rattle.machine.specs.Causes.{causes, refusal_of}
-use Rattle.machine.specs.Command.{Command, ListNames, Stat}
+use Rattle.machine.specs.Command.{ListNames, Stat}
 use Rattle.machine.specs.Paths.{number_at, parts_of, target}
 use Rattle.machine.specs.State.{State}
 use Rattle.machine.proofs.Walks.{parts_good, target_reachable}
@@ -20,12 +20,13 @@ use Rattle.frozen.specs.Kept.{Kept, KeepsMetadata, frozen_view}
 use Rattle.metadata.specs.Shown.{Shows}
 use Rattle.metadata.proofs.ShownLemmas.{shows_metadata}
 use Rattle.live_paths.specs.Shown.{IsShownBy}
+use Rattle.live_states.specs.Holdings.{Holdings}
 use Rattle.live_states.specs.Volume.{IsVolume}
 use Rattle.live.specs.Alive.{IsFirstCause}
 
 -- the view of a volume's users has the metadata that is kept
-pub shown : (kept : Kept) (q : List Pending) (disk : View) → KeepsMetadata kept → IsVolume kept q disk → IsShownBy kept (users_view disk q)
-shown kept q disk keeps volume = shows_metadata kept (users_view disk q) keeps volume.shows
+pub shown : (kept : Kept) (holdings : Holdings) (q : List Pending) (disk : View) → KeepsMetadata kept → IsVolume kept holdings q disk → IsShownBy kept (users_view disk q)
+shown kept holdings q disk keeps volume = shows_metadata kept (users_view disk q) keeps volume.shows
 
 pub same_directory : (geo : Geometry) (view other : View) (d : ℕ) → view.inode d ≡ other.inode d → is_directory_at geo view d ≡ is_directory_at geo other d
 same_directory geo view other d e = ap (λ r. (is_number geo d && is_sound r) && is_directory r) e
@@ -78,9 +79,9 @@ module _ (geo : Geometry) (old : State) (path : List ℕ) where
       list_accepts t = list_there ∙ ap (λ b. option_or (when (not b) NotDirectory) None) t
 
 -- a path that leads somewhere leads to a number of the volume
-pub number_of : (kept : Kept) (q : List Pending) (disk : View) → IsVolume kept q disk → (path : List ℕ) (parts : List (List ℕ)) → parts_of path ≡ Some parts
+pub number_of : (kept : Kept) (holdings : Holdings) (q : List Pending) (disk : View) → IsVolume kept holdings q disk → (path : List ℕ) (parts : List (List ℕ)) → parts_of path ≡ Some parts
     → (i : ℕ) → target kept.geometry (users_view disk q) parts ≡ Ok i → IsTrue (is_number kept.geometry i)
-number_of kept q disk volume path parts is i e =
+number_of kept holdings q disk volume path parts is i e =
     reachable_number kept.geometry (users_view disk q) i (target_reachable kept.geometry (users_view disk q) volume.beginning.stands.balance.rules parts i (parts_good path parts is) e)
 
 -- what is said of the blocks that are lent holds of those that are kept

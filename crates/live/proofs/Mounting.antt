@@ -7,6 +7,7 @@ use Rattle.model.specs.View.{View}
 use Rattle.model.proofs.Same.{same_rules}
 use Rattle.frozen.specs.Kept.{IsKeptOf, Kept, KeepsMetadata, frozen_view}
 use Rattle.softdep.specs.Queued.{Queued, fresh_queue}
+use Rattle.live_states.specs.Holdings.{Holdings, IsIdle}
 use Rattle.live_states.proofs.Loading.{of_an_image}
 use Rattle.live_states.proofs.Standing.{loaded}
 use Rattle.live.specs.Alive.{IsLive}
@@ -43,18 +44,19 @@ module _ (honest : Type 0) (image : List (List ℕ)) (kept : Kept) (of : honest 
 
   module _ (keeps : KeepsMetadata kept) (obeys : ObeysRules kept.geometry (frozen_view kept)) where
     pub mountable : honest → IsMountable kept.geometry image
-    mountable h = record { is_image = (of h).is_image; obeys = (loaded kept image keeps (of h) obeys).0 }
+    mountable h = record { is_image = (of h).is_image; obeys = (same_rules kept.geometry (frozen_view kept) (image_view kept.geometry image) (of h).metadata).0 obeys }
 
-    pub live_fresh : (queue : Queued) → queue ≡ fresh_queue kept.geometry → length image ≡ block_count kept.geometry → IsLive honest image queue kept
-    live_fresh queue fresh count =
+    pub live_fresh : (queue : Queued) (holdings : Holdings) → queue ≡ fresh_queue kept.geometry → IsIdle holdings → length image ≡ block_count kept.geometry → IsLive honest image queue kept holdings
+    live_fresh queue holdings fresh idle count =
         let is = of_an_image kept keeps in
-        subst (λ q. IsLive honest image q kept) (sym fresh) (record {
+        subst (λ q. IsLive honest image q kept holdings) (sym fresh) (record {
           geometry = refl;
           alive = record {
             count = count;
             keeps = keeps;
             disk = image_view kept.geometry is.0;
-            some = (loaded kept is.0 keeps is.1 obeys).1;
-            true = λ h. (loaded kept image keeps (of h) obeys).1;
+            some = (loaded kept is.0 holdings keeps is.1 obeys idle).1;
+            true = λ h. (loaded kept image holdings keeps (of h) obeys idle).1;
           };
+          no_snapshot = idle.snapshot;
         })

@@ -1,5 +1,5 @@
 -- The value of a mounted volume, what its users see, and how commands are answered.
-use Rattle.std.specs.Prelude.{◌≡◌, ℕ, Bool, List, Ok, Err}
+use Rattle.std.specs.Prelude.{◌≡◌, ℕ, Bool, false, List, None, Ok, Err}
 use Rattle.model.specs.Image.{image_view}
 use Rattle.model.specs.View.{View}
 use Rattle.layout.specs.declared.refusal.Refusal.{Refusal}
@@ -13,37 +13,51 @@ use Rattle.courses.specs.Serves.{Serves}
 use Rattle.frozen.specs.Kept.{Kept}
 use Rattle.metadata.specs.Shown.{Shows}
 use Rattle.softdep.specs.Queued.{Queued, pending_of}
+use Rattle.live_states.specs.Holdings.{Beside, Holdings, IsImageOf}
 use Rattle.live_states.specs.Planned.{safe_after}
 use Rattle.live_states.specs.Volume.{IsAlive, state_over}
 
--- the device, the updates that were issued, and the metadata in memory
+-- the device, the updates that were issued, the metadata in memory, and what is open and held
 pub record Alive (D : Type 0) : Type 0 where
   pub device : D
   pub queue : Queued
   pub kept : Kept
+  pub holdings : Holdings
 
--- the device holds an image of the volume, and the metadata in memory is what users see over it where it is honest
-pub record IsLive (honest : Type 0) (image : List (List ℕ)) (queue : Queued) (kept : Kept) : Type 0 where
+-- the device holds an image of the volume, and the metadata in memory is what users see over it where it is honest; there is no snapshot yet
+pub record IsLive (honest : Type 0) (image : List (List ℕ)) (queue : Queued) (kept : Kept) (holdings : Holdings) : Type 0 where
   pub geometry : queue.geometry ≡ kept.geometry
-  pub alive : IsAlive honest image (pending_of queue) kept
+  pub alive : IsAlive honest image (pending_of queue) kept holdings
+  pub no_snapshot : holdings.snapshot ≡ None
 
--- what an image holds that the device of a volume has, and what its users see over it
+-- what an image holds that the device of a volume has, and what its users see over it, whatever stands beside the volume
 abbrev pub disk_of : {D : Type 0} → List (List ℕ) → Alive D → View
 disk_of image live = image_view live.kept.geometry image
 
-abbrev pub state_of : {D : Type 0} → List (List ℕ) → Alive D → State
-state_of image live = state_over (disk_of image live) (pending_of live.queue)
+abbrev pub state_of : {D : Type 0} → List (List ℕ) → Alive D → Beside → State
+state_of image live beside = state_over (disk_of image live) (pending_of live.queue) live.holdings beside
 
--- Over images old and new of its device a volume answered a command so: by a step of the machine, and, whichever files no stop is to lose, by the updates of its plan, or by flushes that left these images on the device.
-pub record Answers {D : Type 0} (image : List (List ℕ)) (old : Alive D) (command : Command) (answer : Answer) (image' : List (List ℕ)) (new : Alive D) (later : List View) : Type 0 where
-  pub step : Step old.kept.geometry (state_of image old) command (Ok answer) (state_of image' new)
-  pub serves : (safe : ℕ → Bool) → Stands old.kept.geometry (disk_of image old) (pending_of old.queue) (state_of image old) safe
-      → Serves old.kept.geometry (disk_of image old) (pending_of old.queue) (state_of image old) safe command answer
-      (disk_of image' new) (pending_of new.queue) (state_of image' new) (safe_after old.kept.geometry (users_view (disk_of image old) (pending_of old.queue)) command safe) later
+-- Over images old and new of its device a volume answered a command so, where it stands with this beside it: by a step of the machine, and, whichever files no stop is to lose, by the updates of its plan, or by flushes that left these images on the device.
+pub record AnswersBeside {D : Type 0} (beside : Beside) (image : List (List ℕ)) (old : Alive D) (command : Command) (answer : Answer) (image' : List (List ℕ)) (new : Alive D) (later : List View) : Type 0 where
+  pub step : Stands old.kept.geometry (disk_of image old) (pending_of old.queue) (state_of image old beside) (λ f. false)
+      → Step old.kept.geometry (state_of image old beside) command (Ok answer) (state_of image' new beside)
+  pub serves : (safe : ℕ → Bool) → Stands old.kept.geometry (disk_of image old) (pending_of old.queue) (state_of image old beside) safe
+      → Serves old.kept.geometry (disk_of image old) (pending_of old.queue) (state_of image old beside) safe command answer
+      (disk_of image' new) (pending_of new.queue) (state_of image' new beside) (safe_after old.kept.geometry (users_view (disk_of image old) (pending_of old.queue)) command safe) later
+
+-- And so whatever stands beside it that belongs to it.
+abbrev pub Answers : {D : Type 0} → List (List ℕ) → Alive D → Command → Answer → List (List ℕ) → Alive D → List View → Type 0
+Answers image old command answer image' new later = (beside : Beside) → IsImageOf old.holdings.snapshot beside.frozen → AnswersBeside beside image old command answer image' new later
 
 -- It may refuse a command so, and stays as it is.
 abbrev pub MayRefuse : {D : Type 0} → List (List ℕ) → Alive D → Command → Refusal → Type 0
-MayRefuse image live command r = Step live.kept.geometry (state_of image live) command (Err r) (state_of image live)
+MayRefuse image live command r = (beside : Beside) → IsImageOf live.holdings.snapshot beside.frozen → Step live.kept.geometry (state_of image live beside) command (Err r) (state_of image live beside)
+
+-- The volume stands, with something beside it that belongs to it.
+pub record StandsSo {D : Type 0} (image : List (List ℕ)) (live : Alive D) : Type 0 where
+  pub beside : Beside
+  pub belongs : IsImageOf live.holdings.snapshot beside.frozen
+  pub stands : Stands live.kept.geometry (disk_of image live) (pending_of live.queue) (state_of image live beside) (λ f. false)
 
 -- Whatever users see where this is kept, this is the first cause that refuses the command.
 abbrev pub IsFirstCause : Kept → Command → Refusal → Type 0

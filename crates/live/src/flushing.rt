@@ -41,6 +41,7 @@ impl<D: Device> Live<D> {
         ensures refused { IfErr result (λ r. D.honest self.new.device → MayRefuse (D.image self.old.device) self.old (Flush address) r) }
         ensures untouched { OnErr result ((self.new.queue ≡ self.old.queue) × (D.image self.new.device ≡ D.image self.old.device) × (D.held self.new.device ≡ D.held self.old.device)) }
         ensures metadata { self.new.kept ≡ self.old.kept }
+        ensures holdings { self.new.holdings ≡ self.old.holdings }
         ensures error { IfErr result (λ r. (r ≡ DeviceRefusal) ⊎ ((r ≡ BadIndex) × (block_count self.old.kept.geometry ≤ address))) }
         ensures cause { IsErrOf result Refusal.Device → HasFailed (D.failures self.old.device) (D.failures self.new.device) }
         ensures honest { D.honest self.new.device → D.honest self.old.device }
@@ -59,6 +60,7 @@ impl<D: Device> Live<D> {
             × Answers (D.image self.old.device) self.old Sync Done (D.image self.new.device) self.new later) }
         ensures refused { IfErr result (λ r. D.honest self.new.device → MayRefuse (D.image self.old.device) self.old Sync r) }
         ensures metadata { self.new.kept ≡ self.old.kept }
+        ensures holdings { self.new.holdings ≡ self.old.holdings }
         // Refused or not, what the device held since is what flushes of the least ready block left.
         ensures flushes { D.honest self.new.device → AreFlushes self.old.kept.geometry (D.image self.old.device) (D.held self.old.device) (pending_of self.old.queue) (D.image self.new.device) (D.held self.new.device) (pending_of self.new.queue) }
         ensures error { IsOkUnless result Refusal.Device }

@@ -5,13 +5,16 @@ ghost use Rattle.ordering.specs.Cuts.{IsClosed, seen};
 ghost use Rattle.model.specs.Rules.{ObeysRules};
 ghost use Rattle.machine.specs.Command.{Answer, Command};
 ghost use Rattle.softdep.specs.Queued.{pending_of};
-ghost use Rattle.live_states.specs.Planned.{IsPlanned};
-ghost use Rattle.live.specs.Alive.{Answers, disk_of};
+ghost use Rattle.live_states.specs.Holdings.{IsIdle};
+ghost use Rattle.live_states.specs.Planned.{IsPlannedWith};
+ghost use Rattle.live_holdings.specs.Handles.{without};
+ghost use Rattle.live.specs.Alive.{Answers, StandsSo, disk_of};
 ghost use Rattle.live.specs.Mounting.{IsMountable, MountRefuses};
 
 use device::Device;
 use frozen::load;
 use layout::Refusal;
+use live_holdings::Holdings;
 use live_plans::Plan;
 use metadata::Metadata;
 use rules::obeys;
@@ -25,6 +28,7 @@ pub struct Live<D: Device> {
     pub(crate) device: D,
     pub(crate) queue: Queue,
     pub(crate) metadata: Metadata,
+    pub(crate) holdings: Holdings,
 }
 
 impl<D: Device> Model for Live<D> {
@@ -32,9 +36,9 @@ impl<D: Device> Model for Live<D> {
 
     ghost Value = { Alive D };
 
-    ghost view = { λ live. record { device = live.device; queue = live.queue; kept = live.metadata } };
+    ghost view = { λ live. record { device = live.device; queue = live.queue; kept = live.metadata; holdings = live.holdings } };
 
-    ghost invariant = { λ live. IsLive (D.honest live.device) (D.image live.device) live.queue live.metadata };
+    ghost invariant = { λ live. IsLive (D.honest live.device) (D.image live.device) live.queue live.metadata live.holdings };
 }
 
 impl<D: Device + Drop> Live<D> {
@@ -45,6 +49,7 @@ impl<D: Device + Drop> Live<D> {
         ensures image { IfOk result (λ live. D.image live.device ≡ D.image device) }
         ensures held { IfOk result (λ live. D.held live.device ≡ D.held device) }
         ensures pending { IfOk result (λ live. pending_of live.queue ≡ []) }
+        ensures idle { IfOk result (λ live. IsIdle live.holdings) }
         ensures mounted { IfOk result (λ live. D.honest live.device → IsMountable live.kept.geometry (D.image device)) }
         ensures refused { IfErr result (λ r. (after : D) × (D.image after ≡ D.image device) × (D.held after ≡ D.held device) × MountRefuses (D.honest after) (D.image device) r) }
         ensures cause { IsErrOf result Refusal.Device → (after : D) × (D.image after ≡ D.image device) × HasFailed (D.failures device) (D.failures after) }
@@ -54,20 +59,24 @@ impl<D: Device + Drop> Live<D> {
             return Err(Refusal::Damaged);
         }
         let metadata = Metadata::new(alloc, frozen)?;
-        let queue = Queue::new(alloc, metadata.frozen().geometry())?;
+        let geometry = metadata.frozen().geometry();
+        let queue = Queue::new(alloc, geometry)?;
+        let holdings = Holdings::new(alloc, &geometry)?;
         Ok(Live {
             device,
             queue,
             metadata,
+            holdings,
         })
     }
 }
 
 impl<D: Device> Live<D> {
-    /// The device. Where it was honest so far, what it holds obeys the rules, and so does whatever it may hold next: what
+    /// The device. Where it was honest so far, the volume stands over it: what it holds obeys the rules, and so does whatever it may hold next: what
     /// it holds with any closed part of what is pending.
     pub fn device(&self) -> &D
         ensures device { result.now ≡ self.now.device }
+        ensures stands { D.honest self.now.device → StandsSo (D.image self.now.device) self.now }
         ensures obeys { D.honest self.now.device → ObeysRules self.now.kept.geometry (disk_of (D.image self.now.device) self.now) }
         ensures stops { D.honest self.now.device → (cut : List Bool) → IsClosed (pending_of self.now.queue) cut
             → ObeysRules self.now.kept.geometry (seen (disk_of (D.image self.now.device) self.now) (pending_of self.now.queue) cut) }
@@ -76,10 +85,15 @@ impl<D: Device> Live<D> {
         &self.device
     }
 
-    /// Carries out a command by its plan, all of it or nothing.
-    pub(crate) fn carry_out(&mut self, alloc: Global, plan: Plan) -> Result<(), Refusal>
-        requires { (command : Command) × (answer : Answer) × IsPlanned self.old.kept command answer plan }
-        ensures done { OnOk result ((command : Command) (answer : Answer) → IsPlanned self.old.kept command answer plan
+    /// Carries out a command by its plan, all of it or nothing; then this handle is closed, where there is one.
+    pub(crate) fn carry_out(
+        &mut self,
+        alloc: Global,
+        plan: Plan,
+        handle: Option<u32>,
+    ) -> Result<(), Refusal>
+        requires { (command : Command) × (answer : Answer) × IsPlannedWith self.old.kept self.old.holdings [] command answer plan (without self.old.holdings handle) }
+        ensures done { OnOk result ((command : Command) (answer : Answer) → IsPlannedWith self.old.kept self.old.holdings [] command answer plan (without self.old.holdings handle)
             → D.honest self.old.device → Answers (D.image self.old.device) self.old command answer (D.image self.new.device) self.new []) }
         ensures device { self.new.device ≡ self.old.device }
         ensures untouched { OnErr result (self.new ≡ self.old) }
@@ -89,6 +103,7 @@ impl<D: Device> Live<D> {
         let staged = self.metadata.stage(alloc, updates.as_slice())?;
         self.queue.issue(updates)?;
         self.metadata.install(staged);
+        self.holdings.close(handle);
         Ok(())
     }
 }

@@ -9,7 +9,7 @@ use layout::Refusal;
 use std::alloc::Global;
 
 impl<D: Device> Live<D> {
-    /// Takes a name from a file; with its last one the file goes, and its blocks are free. Refused with `BadName` where this
+    /// Takes a name from a file; with its last one a file that is not open goes, and its blocks are free. Refused with `BadName` where this
     /// is no path, with `IsRoot`, with `NotFound` or `NotDirectory` where it leads nowhere, and with `IsDirectory` where
     /// it leads to a directory.
     pub fn unlink(&mut self, alloc: Global, path: &[u8]) -> Result<(), Refusal>
@@ -19,8 +19,8 @@ impl<D: Device> Live<D> {
         ensures untouched { OnErr result (self.new ≡ self.old) }
         ensures device { self.new.device ≡ self.old.device }
     {
-        let plan = live_removals::unlink(alloc, &self.metadata, path)?;
-        self.carry_out(alloc, plan)?;
+        let plan = live_removals::unlink(alloc, &self.metadata, &self.holdings, path)?;
+        self.carry_out(alloc, plan, None)?;
         Ok(())
     }
 
@@ -34,7 +34,7 @@ impl<D: Device> Live<D> {
         ensures device { self.new.device ≡ self.old.device }
     {
         let plan = live_removals::rmdir(alloc, &self.metadata, path)?;
-        self.carry_out(alloc, plan)?;
+        self.carry_out(alloc, plan, None)?;
         Ok(())
     }
 }

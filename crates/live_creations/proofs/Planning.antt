@@ -136,7 +136,7 @@ create_planned kept path ps new draft keeps volume e name parent free is fits ac
     record {
       geometry = made_geometry kept.geometry volume.old.view new (born new.number new_file []) draft here;
       accepted = accepts;
-      done = λ disk q old safe stands shows idle.
+      done = λ disk q old safe stands shows.
           let view = users_view disk q in
           let sees = seen kept disk q old safe stands shows in
           let shown = shows_metadata kept view keeps sees in
@@ -183,7 +183,7 @@ link_planned kept path other ps qs new draft keeps volume f e name parent file i
     record {
       geometry = made_geometry kept.geometry volume.old.view new (raised new.number (volume.old.view.inode new.number)) draft here;
       accepted = accepts;
-      done = λ disk q old safe stands shows idle.
+      done = λ disk q old safe stands shows.
           let view = users_view disk q in
           let sees = seen kept disk q old safe stands shows in
           let shown = shows_metadata kept view keeps sees in
@@ -253,7 +253,7 @@ mkdir_planned kept path ps new own draft keeps volume e name parent free is fits
     record {
       geometry = made_geometry kept.geometry volume.old.view new (made new.number own here.dots new.directory (volume.old.view.inode new.directory)) draft here.makes;
       accepted = accepts;
-      done = λ disk q old safe stands shows idle.
+      done = λ disk q old safe stands shows.
           let view = users_view disk q in
           let sees = seen kept disk q old safe stands shows in
           let shown = shows_metadata kept view keeps sees in

@@ -1,11 +1,11 @@
 -- What becomes of an inode that loses its links, and what a command is done with.
-use Rattle.std.proofs.Common.{◌≡◌, ◌<◌, ◌≤◌, ◌-◌, ℕ, Bool, not, ◌&&◌, eqb, List, inl, inr, ◌⊎◌, ◌∙◌, subst, arith, IsFalse, ne_eqb, eq-eqb}
+use Rattle.std.proofs.Common.{◌≡◌, ◌<◌, ◌≤◌, ◌-◌, ℕ, Bool, true, false, not, ◌&&◌, eqb, List, inl, inr, ◌⊎◌, refl, ap, ◌∙◌, subst, arith, IsFalse, IsTrue, ne_eqb, eq-eqb}
 use Rattle.std.proofs.lemmas.Bool.{and_from, and_left, both_ways, not_from_false}
 use Rattle.model.specs.Layout.{Geometry}
 use Rattle.model.specs.View.{View}
 use Rattle.ordering.specs.Cuts.{Cell, Pending}
 use Rattle.machine.specs.Command.{Command, Done}
-use Rattle.machine.specs.State.{State, is_open}
+use Rattle.machine.specs.State.{State, is_kept, is_open}
 use Rattle.plans_data.specs.Now.{becomes, now}
 use Rattle.plans_naming.specs.Unlink.{StaysWith}
 use Rattle.courses.specs.Done.{IsDoneBy}
@@ -16,6 +16,19 @@ use Rattle.live_removals.specs.Removed.{Leaves}
 
 pub stays_linked : (old : State) (i links fewer : ℕ) → fewer < links → StaysWith old i (links - fewer)
 stays_linked old i links fewer more = and_left (eqb (links - fewer) 0) (not (is_open old i)) (ne_eqb (links - fewer) 0 (λ e. omega (arith, e, more)))
+
+-- and so does an open one
+pub stays_open : (old : State) (i links : ℕ) → IsTrue (is_open old i) → StaysWith old i links
+stays_open old i links open_now = ap (λ b. eqb links 0 && not b) open_now ∙ and_right_false (eqb links 0)
+  where
+    and_right_false : (b : Bool) → (b && false) ≡ false
+    and_right_false true = refl
+    and_right_false false = refl
+
+-- It is not open, and no snapshot keeps a block, so that it may go.
+pub record MayGo (old : State) (n : ℕ) : Type 0 where
+  pub closed : IsFalse (is_open old n)
+  pub free : (a : ℕ) → IsFalse (is_kept old a)
 
 -- an inode that is not open goes where it has no more links than it loses
 pub goes_closed : (old : State) (i links fewer : ℕ) → links ≤ fewer → IsFalse (is_open old i) → StaysWith old i (links - fewer) ⊎ ((links ≡ fewer) × IsFalse (is_open old i))

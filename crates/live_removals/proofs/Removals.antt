@@ -1,6 +1,8 @@
 -- The updates of the removal of a directory carry it out.
-use Rattle.std.proofs.Common.{◌≡◌, ◌<◌, ◌≤◌, ◌-◌, ◌⊎◌, ℕ, Bool, List, ◌∷◌, [], Some, inl, refl, sym, ap, ◌∙◌, subst, arith, IsFalse}
+use Rattle.std.proofs.Common.{◌≡◌, ◌<◌, ◌≤◌, ◌-◌, ◌⊎◌, ℕ, Bool, List, ◌∷◌, [], None, Some, inl, refl, sym, ap, ◌∙◌, subst, arith, IsFalse}
+use Rattle.std.proofs.lemmas.Bool.{both_ways, false_from_ne_true}
 use Rattle.model.specs.Layout.{Geometry}
+use Rattle.model.specs.Uses.{is_directory_at}
 use Rattle.model.specs.Rules.{ObeysRules}
 use Rattle.model.specs.View.{Inode, View}
 use Rattle.model.proofs.Finite.{entries_exist}
@@ -9,9 +11,10 @@ use Rattle.machine.specs.Causes.{Accepts, causes}
 use Rattle.machine.specs.Cells.{block_of}
 use Rattle.machine.specs.Command.{Done, Rmdir}
 use Rattle.machine.specs.Paths.{holder, name_in, number_at, parts_of, slot_at}
-use Rattle.machine.specs.State.{State, is_open}
+use Rattle.machine.specs.State.{State, is_kept, is_open}
 use Rattle.machine.proofs.Counting.{reachable_counted}
 use Rattle.machine.proofs.Renaming.{place_at}
+use Rattle.machine.proofs.Tests.{open_tested}
 use Rattle.machine.proofs.Walks.{quiet}
 use Rattle.plans_data.specs.Carried.{Stands}
 use Rattle.plans_data.specs.Freeing.{freeing}
@@ -27,7 +30,9 @@ use Rattle.metadata.specs.Shown.{Shows}
 use Rattle.metadata.proofs.ShownLemmas.{shows_metadata}
 use Rattle.live_paths.specs.Shown.{IsShownBy}
 use Rattle.live_states.specs.Drafts.{Draft, over}
-use Rattle.live_states.specs.Planned.{IsIdle, IsOfVolume, IsPlanned, safe_after}
+use Rattle.live_states.specs.Holdings.{Holdings}
+use Rattle.live_states.specs.Planned.{IsOfVolume, IsPlannedWith, safe_after}
+use Rattle.live_states.proofs.Standing.{as_it_was, not_kept}
 use Rattle.live_plans.specs.declared.locating.Found.{Found}
 use Rattle.live_removals.specs.Blocks.{claimed}
 use Rattle.live_removals.specs.Entries.{IsDirectoryAt}
@@ -65,12 +70,20 @@ module _ (decided : StaysOrGoes) (kept : Kept) (path : List ℕ) (found : Found)
       ∙ ap (λ b. removing found.number (claimed kept.geometry view found.number) found.directory (view.inode found.directory) b (view.bytes b) (slot_at kept.geometry view path) after q) on.block
       ∙ ap (λ s. removing found.number (claimed kept.geometry view found.number) found.directory (view.inode found.directory) found.block (view.bytes found.block) s after q) on.slot
 
-  module _ (safe : ℕ → Bool) (stands : Stands kept.geometry disk q old safe) (idle : IsIdle old) (accepts : Accepts kept.geometry (now disk q old) (Rmdir path)) (draft : Draft) (removed : Removed kept.geometry view found draft) where
+  module _ (safe : ℕ → Bool) (stands : Stands kept.geometry disk q old safe) (free : (a : ℕ) → IsFalse (is_kept old a)) (accepts : Accepts kept.geometry (now disk q old) (Rmdir path)) (draft : Draft) (removed : Removed kept.geometry view found draft) where
     file : number_at kept.geometry view path ≡ draft.file
     file = on.number ∙ sym (removed.lowers.file ∙ leaves_file kept.geometry view found 2 removed.after removed.left removed.leaves)
 
     own : HasBlocks kept.geometry view (number_at kept.geometry view path) removed.after
     own = subst (λ n. HasBlocks kept.geometry view n removed.after) (sym on.number) removed.own_first
+
+    -- a directory is not open
+    closed : (after : List Cell) → HasBlocks kept.geometry view (number_at kept.geometry view path) after → IsFalse (is_open old (number_at kept.geometry view path))
+    closed after all =
+        let n = number_at kept.geometry view path in
+        let st = now disk q old in
+        let can = accepted_remove kept.geometry st on.balance stands.geometry path accepts after all in
+        false_from_ne_true (is_open old n) (λ t. both_ways (is_directory_at kept.geometry view n) (on.balance.open_file n (open_tested st n t)).1 can.directory)
 
     -- the parent's record comes last
     before : (p : List Pending) → over q removed.left.updates ≡ p → over q draft.updates ≡ lowered found.directory (view.inode found.directory) 1 found.block p
@@ -90,12 +103,12 @@ module _ (decided : StaysOrGoes) (kept : Kept) (path : List ℕ) (found : Found)
         let after = removed.after in
         let st = now disk q old in
         let can = accepted_remove kept.geometry st on.balance stands.geometry path accepts after own in
-        let last = goes_closed st n (view.inode n).links 2 (subst (λ m. (view.inode m).links ≤ 2) (sym on.number) few) (idle.closed n)
+        let last = goes_closed st n (view.inode n).links 2 (subst (λ m. (view.inode m).links ≤ 2) (sym on.number) few) (closed after own)
         (decided kept.geometry st on.balance.rules n (block_of kept.geometry view n 0) (holder kept.geometry view path) (slot_at kept.geometry view path) (entry_block kept.geometry view path) (name_in path) after can) in
         done_as kept.geometry disk q old safe (Rmdir path) n draft.file (remove_plan_last kept.geometry view path (claimed kept.geometry view n) after q) (over q draft.updates) _ safe safe file
         (going after ∙ sym (before _ (goes.pending q ∙ ap (freeing found.number (claimed kept.geometry view found.number) (Block found.block ∷ [])) (removed.leaves.empties.pending q))))
-        (held_as_before kept.geometry st n idle.free) refl
-        (RemovesDirectory path (claimed kept.geometry view n) after own last.0 (record { closed = last.1; given_up = claimed_are_given_up kept.geometry st n idle.free }))
+        (held_as_before kept.geometry st n free) refl
+        (RemovesDirectory path (claimed kept.geometry view n) after own last.0 (record { closed = last.1; given_up = claimed_are_given_up kept.geometry st n free }))
 
     pub rmdir_done : IsDoneBy kept.geometry disk q old safe (Rmdir path) Done draft.file (over q draft.updates) (now disk (over q draft.updates) old) (safe_after kept.geometry old.view (Rmdir path) safe)
     rmdir_done = done_by removed.leaves.loses
@@ -105,13 +118,17 @@ module _ (kept : Kept) (path : List ℕ) (ps : List (List ℕ)) (found : Found) 
   accepted : (old : State) → Shows kept old.view → Accepts kept.geometry old (Rmdir path)
   accepted old shows = (rmdir_refusal kept.geometry old path ps is ∙ directory_accepted kept.geometry old.view ps found (at old.view (shows_metadata kept old.view keeps shows)), tt)
 
-  pub rmdir_planned : StaysOrGoes → (draft : Draft) → ((view : View) → Shows kept view → Removed kept.geometry view found draft) → IsPlanned kept (Rmdir path) Done draft
-  rmdir_planned decided draft removed = record {
+  pub rmdir_planned : StaysOrGoes → (draft : Draft) → ((view : View) → Shows kept view → Removed kept.geometry view found draft) → (holdings : Holdings) → holdings.snapshot ≡ None
+      → IsPlannedWith kept holdings [] (Rmdir path) Done draft holdings
+  rmdir_planned decided draft removed holdings none = record {
     geometry = let r = removed volume.old.view volume.shows in r.lowers.geometry ∙ leaves_geometry kept.geometry volume.old.view found 2 r.after r.left r.leaves;
-    accepted = accepted;
-    done = λ disk q old safe stands shows idle.
+    snapshot = refl;
+    accepted = λ old shows has. accepted old shows;
+    done = λ disk q old safe stands shows has sees.
         let on = on_volume kept path ps found keeps is (λ view shown. (at view shown).at) disk q old safe stands shows in
-        rmdir_done decided kept path found disk q old on safe stands idle (accepted (now disk q old) on.seen) draft (removed (users_view disk q) on.seen);
+        subst (λ new. IsDoneBy kept.geometry disk q old safe (Rmdir path) Done draft.file (over q draft.updates) new (safe_after kept.geometry old.view (Rmdir path) safe))
+        (as_it_was old holdings (users_view disk (over q draft.updates)) has)
+        (rmdir_done decided kept path found disk q old on safe stands (not_kept holdings old none has) (accepted (now disk q old) on.seen) draft (removed (users_view disk q) on.seen));
   }
 
   -- the directory that the entry stands in has a link

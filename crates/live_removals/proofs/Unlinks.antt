@@ -1,13 +1,16 @@
 -- The updates of an unlink carry it out.
-use Rattle.std.proofs.Common.{◌≡◌, ◌<◌, ◌≤◌, ◌-◌, ◌⊎◌, ℕ, Bool, List, ◌∷◌, [], Some, refl, sym, ap, ◌∙◌, subst, IsFalse}
+use Rattle.std.proofs.Common.{◌≡◌, ◌<◌, ◌≤◌, ◌-◌, ◌⊎◌, ℕ, Bool, true, false, List, ◌∷◌, [], None, Some, refl, sym, ap, ◌∙◌, subst, arith, IsFalse, IsTrue}
 use Rattle.model.specs.Layout.{Geometry}
 use Rattle.model.specs.Rules.{ObeysRules}
-use Rattle.model.specs.View.{View}
+use Rattle.model.specs.View.{Inode, View}
+use Rattle.model.proofs.Finite.{entries_exist}
 use Rattle.ordering.specs.Cuts.{Block, Pending, users_view}
 use Rattle.machine.specs.Causes.{Accepts}
 use Rattle.machine.specs.Command.{Done, Unlink}
 use Rattle.machine.specs.Paths.{holder, name_in, number_at, parts_of, slot_at}
 use Rattle.machine.specs.State.{State, is_open}
+use Rattle.machine.proofs.Counting.{reachable_counted}
+use Rattle.machine.proofs.Walks.{parts_good, target_reachable}
 use Rattle.plans_data.specs.Carried.{Stands}
 use Rattle.plans_data.specs.Freeing.{freeing}
 use Rattle.plans_data.specs.Now.{now}
@@ -16,19 +19,21 @@ use Rattle.plans_naming.specs.Plans.{entry_block, unlink_plan, unlink_plan_last}
 use Rattle.plans_naming.specs.Unlink.{CanUnlink, StaysWith, lowered, safe_but, unlinking, unlinking_last}
 use Rattle.plans_naming.proofs.AcceptedCommands.{accepted_unlink}
 use Rattle.courses.specs.Done.{IsDoneBy, UnlinksFile, UnlinksName}
-use Rattle.frozen.specs.Kept.{Kept, KeepsMetadata}
+use Rattle.frozen.specs.Kept.{Kept, KeepsMetadata, frozen_view}
 use Rattle.metadata.specs.Shown.{Shows}
 use Rattle.metadata.proofs.ShownLemmas.{shows_metadata}
 use Rattle.live_paths.specs.Shown.{IsShownBy}
 use Rattle.live_states.specs.Drafts.{Draft, over}
-use Rattle.live_states.specs.Planned.{IsIdle, IsOfVolume, IsPlanned, safe_after}
+use Rattle.live_states.specs.Holdings.{Has, Holdings, is_open_by}
+use Rattle.live_states.specs.Planned.{IsOfVolume, IsPlannedWith, safe_after}
+use Rattle.live_states.proofs.Standing.{as_it_was, not_kept, same_open}
 use Rattle.live_plans.specs.declared.locating.Found.{Found}
 use Rattle.live_removals.specs.Blocks.{claimed}
 use Rattle.live_removals.specs.Entries.{IsFileAt}
 use Rattle.live_removals.specs.Links.{Goes, LosesLinks, Stays}
-use Rattle.live_removals.specs.Removed.{Leaves, Unlinked}
+use Rattle.live_removals.specs.Removed.{Leaves, Unlinked, Unnamed}
 use Rattle.live_removals.proofs.Given.{claimed_are_given_up, held_as_before}
-use Rattle.live_removals.proofs.Leaving.{done_as, goes_closed, leaves_file, leaves_geometry, stays_linked}
+use Rattle.live_removals.proofs.Leaving.{MayGo, done_as, goes_closed, leaves_file, leaves_geometry, stays_linked, stays_open}
 use Rattle.live_removals.proofs.Refusals.{file_accepted, unlink_refusal}
 use Rattle.live_removals.proofs.Volumes.{OnVolume, on_volume}
 
@@ -55,7 +60,7 @@ module _ (decided : StaysOrGoes) (kept : Kept) (path : List ℕ) (found : Found)
       ∙ ap (λ b. unlinking_last found.number (claimed kept.geometry view found.number) b (view.bytes b) (slot_at kept.geometry view path) q) on.block
       ∙ ap (λ s. unlinking_last found.number (claimed kept.geometry view found.number) found.block (view.bytes found.block) s q) on.slot
 
-  module _ (safe : ℕ → Bool) (stands : Stands kept.geometry disk q old safe) (idle : IsIdle old) (accepts : Accepts kept.geometry (now disk q old) (Unlink path)) (draft : Draft) (leaves : Leaves kept.geometry view found 1 [] draft) where
+  module _ (safe : ℕ → Bool) (stands : Stands kept.geometry disk q old safe) (may : MayGo old found.number) (accepts : Accepts kept.geometry (now disk q old) (Unlink path)) (draft : Draft) (leaves : Leaves kept.geometry view found 1 [] draft) where
     done_by : LosesLinks kept.geometry view found.number 1 found.block leaves.emptied draft
         → IsDoneBy kept.geometry disk q old safe (Unlink path) Done draft.file (over q draft.updates) (now disk (over q draft.updates) old) (safe_but (number_at kept.geometry view path) safe)
     done_by (Stays more goes) =
@@ -69,28 +74,78 @@ module _ (decided : StaysOrGoes) (kept : Kept) (path : List ℕ) (found : Found)
         let n = number_at kept.geometry view path in
         let st = now disk q old in
         let can = accepted_unlink kept.geometry st on.balance stands.geometry path accepts in
-        let last = goes_closed st n (view.inode n).links 1 (subst (λ m. (view.inode m).links ≤ 1) (sym on.number) few) (idle.closed n)
+        let last = goes_closed st n (view.inode n).links 1 (subst (λ m. (view.inode m).links ≤ 1) (sym on.number) few) (subst (λ m. IsFalse (is_open old m)) (sym on.number) may.closed)
         (decided kept.geometry st on.balance.rules n (holder kept.geometry view path) (slot_at kept.geometry view path) (entry_block kept.geometry view path) (name_in path) can) in
         done_as kept.geometry disk q old safe (Unlink path) n draft.file (unlink_plan_last kept.geometry view path (claimed kept.geometry view n) q) (over q draft.updates) _ (safe_but n safe) (safe_but n safe)
         (on.number ∙ sym (leaves_file kept.geometry view found 1 [] draft leaves))
         (going ∙ sym (goes.pending q ∙ ap (freeing found.number (claimed kept.geometry view found.number) (Block found.block ∷ [])) (leaves.empties.pending q)))
-        (held_as_before kept.geometry st n idle.free) refl
-        (UnlinksFile path (claimed kept.geometry view n) last.0 (record { closed = last.1; given_up = claimed_are_given_up kept.geometry st n idle.free }))
+        (held_as_before kept.geometry st n may.free) refl
+        (UnlinksFile path (claimed kept.geometry view n) last.0 (record { closed = last.1; given_up = claimed_are_given_up kept.geometry st n may.free }))
 
     pub unlink_done : IsDoneBy kept.geometry disk q old safe (Unlink path) Done draft.file (over q draft.updates) (now disk (over q draft.updates) old) (safe_after kept.geometry old.view (Unlink path) safe)
     unlink_done =
         subst (λ v. IsDoneBy kept.geometry disk q old safe (Unlink path) Done draft.file (over q draft.updates) (now disk (over q draft.updates) old) (safe_but (number_at kept.geometry v path) safe)) stands.same
         (done_by leaves.loses)
 
-pub unlink_planned : StaysOrGoes → (kept : Kept) (path : List ℕ) (ps : List (List ℕ)) (found : Found) (draft : Draft) → KeepsMetadata kept → IsOfVolume kept → parts_of path ≡ Some ps
-    → ((view : View) → IsShownBy kept view → IsFileAt kept.geometry view ps found) → ((view : View) → Shows kept view → Unlinked kept.geometry view found draft) → IsPlanned kept (Unlink path) Done draft
-unlink_planned decided kept path ps found draft keeps volume is at unlinked = record {
-  geometry = leaves_geometry kept.geometry volume.old.view found 1 [] draft (unlinked volume.old.view volume.shows);
-  accepted = accepted;
-  done = λ disk q old safe stands shows idle.
-      let on = on_volume kept path ps found keeps is (λ view shown. (at view shown).at) disk q old safe stands shows in
-      unlink_done decided kept path found disk q old on safe stands idle (accepted (now disk q old) on.seen) draft (unlinked (users_view disk q) on.seen);
-}
-  where
-    accepted : (old : State) → Shows kept old.view → Accepts kept.geometry old (Unlink path)
-    accepted old shows = (unlink_refusal kept.geometry old path ps is ∙ file_accepted kept.geometry old.view ps found (at old.view (shows_metadata kept old.view keeps shows)), tt)
+-- a file that is open loses its name
+module _ (decided : StaysOrGoes) (kept : Kept) (path : List ℕ) (found : Found) (disk : View) (q : List Pending) (old : State) (safe : ℕ → Bool) (stands : Stands kept.geometry disk q old safe)
+    (on : OnVolume kept path found disk q old) (open_now : IsTrue (is_open old found.number)) (draft : Draft) (unnamed : Unnamed kept.geometry (users_view disk q) found draft) where
+  pub unnamed_done : IsDoneBy kept.geometry disk q old safe (Unlink path) Done draft.file (over q draft.updates) (now disk (over q draft.updates) old) (safe_after kept.geometry old.view (Unlink path) safe)
+  unnamed_done =
+      let view = users_view disk q in
+      let n = number_at kept.geometry view path in
+      subst (λ v. IsDoneBy kept.geometry disk q old safe (Unlink path) Done draft.file (over q draft.updates) (now disk (over q draft.updates) old) (safe_but (number_at kept.geometry v path) safe)) stands.same
+      (done_as kept.geometry disk q old safe (Unlink path) n draft.file (unlink_plan kept.geometry view path q) (over q draft.updates) old.held (safe_but n safe) (safe_but n safe)
+      (on.number ∙ sym (unnamed.lowers.file ∙ unnamed.empties.file))
+      (staying decided kept path found disk q old on ∙ sym (unnamed.lowers.pending q ∙ ap (lowered found.number (view.inode found.number) 1 found.block) (unnamed.empties.pending q)))
+      refl refl
+      (UnlinksName path (stays_open old n ((view.inode n).links - 1) (subst (λ m. IsTrue (is_open old m)) (sym on.number) open_now))))
+
+module _ (kept : Kept) (holdings : Holdings) (none : holdings.snapshot ≡ None) (path : List ℕ) (ps : List (List ℕ)) (found : Found) (draft : Draft) (keeps : KeepsMetadata kept) (volume : IsOfVolume kept)
+    (is : parts_of path ≡ Some ps) (at : (view : View) → IsShownBy kept view → IsFileAt kept.geometry view ps found) where
+  accepted : (old : State) → Shows kept old.view → Accepts kept.geometry old (Unlink path)
+  accepted old shows = (unlink_refusal kept.geometry old path ps is ∙ file_accepted kept.geometry old.view ps found (at old.view (shows_metadata kept old.view keeps shows)), tt)
+
+  -- the updates, where users see what is kept
+  there : (disk : View) (q : List Pending) (old : State) (safe : ℕ → Bool) → Stands kept.geometry disk q old safe → Shows kept old.view → OnVolume kept path found disk q old
+  there = on_volume kept path ps found keeps is (λ view shown. (at view shown).at)
+
+  -- what is open or held stays so
+  planned_so : draft.geometry ≡ kept.geometry
+      → ((disk : View) (q : List Pending) (old : State) (safe : ℕ → Bool) → Stands kept.geometry disk q old safe → Shows kept old.view → Has holdings old
+      → IsDoneBy kept.geometry disk q old safe (Unlink path) Done draft.file (over q draft.updates) (now disk (over q draft.updates) old) (safe_after kept.geometry old.view (Unlink path) safe))
+      → IsPlannedWith kept holdings [] (Unlink path) Done draft holdings
+  planned_so geometry done = record {
+    geometry = geometry;
+    snapshot = refl;
+    accepted = λ old shows has. accepted old shows;
+    done = λ disk q old safe stands shows has sees.
+        subst (λ new. IsDoneBy kept.geometry disk q old safe (Unlink path) Done draft.file (over q draft.updates) new (safe_after kept.geometry old.view (Unlink path) safe))
+        (as_it_was old holdings (users_view disk (over q draft.updates)) has) (done disk q old safe stands shows has);
+  }
+
+  pub unlink_planned : StaysOrGoes → is_open_by holdings found.number ≡ false → ((view : View) → Shows kept view → Unlinked kept.geometry view found draft) → IsPlannedWith kept holdings [] (Unlink path) Done draft holdings
+  unlink_planned decided closed unlinked =
+      planned_so (leaves_geometry kept.geometry volume.old.view found 1 [] draft (unlinked volume.old.view volume.shows)) (λ disk q old safe stands shows has.
+      let on = there disk q old safe stands shows in
+      unlink_done decided kept path found disk q old on safe stands
+      (record { closed = same_open holdings old has found.number ∙ closed; free = not_kept holdings old none has })
+      (accepted (now disk q old) on.seen) draft (unlinked (users_view disk q) on.seen))
+
+  pub unnamed_planned : StaysOrGoes → is_open_by holdings found.number ≡ true → ((view : View) → Shows kept view → Unnamed kept.geometry view found draft) → IsPlannedWith kept holdings [] (Unlink path) Done draft holdings
+  unnamed_planned decided open_now unnamed =
+      planned_so (let u = unnamed volume.old.view volume.shows in u.lowers.geometry ∙ u.empties.geometry) (λ disk q old safe stands shows has.
+      let on = there disk q old safe stands shows in
+      unnamed_done decided kept path found disk q old safe stands on (same_open holdings old has found.number ∙ open_now) draft (unnamed (users_view disk q) on.seen))
+
+-- the file has a link
+pub file_linked : (kept : Kept) (path : List ℕ) (ps : List (List ℕ)) (found : Found) → KeepsMetadata kept → IsOfVolume kept → parts_of path ≡ Some ps → ((view : View) → IsShownBy kept view → IsFileAt kept.geometry view ps found)
+    → 1 ≤ ((frozen_view kept).inode found.number).links
+file_linked kept path ps found keeps volume is at =
+    let v = volume.old.view in
+    let there = (at v (shows_metadata kept v keeps volume.shows)).at in
+    let rules = volume.stands.balance.rules in
+    let reachable = target_reachable kept.geometry v rules ps found.number (parts_good path ps is) there.number in
+    let e = entries_exist kept.geometry v found.number in
+    let linked : 1 ≤ (v.inode found.number).links = omega (arith, rules.rule8 found.number e.0 reachable e.1, reachable_counted kept.geometry v rules found.number e.0 reachable e.1) in
+    subst (λ (i : Inode). 1 ≤ i.links) (sym (volume.shows.inode found.number)) linked

@@ -23,6 +23,12 @@ pub record Leaves (geo : Geometry) (view : View) (found : Found) (fewer : ℕ) (
 abbrev pub Unlinked : Geometry → View → Found → Draft → Type 0
 Unlinked geo view found draft = Leaves geo view found 1 [] draft
 
+-- the name of an open file goes, which stays with a link less
+pub record Unnamed (geo : Geometry) (view : View) (found : Found) (draft : Draft) : Type 0 where
+  pub emptied : Draft
+  pub empties : GoesOn (no_updates geo found.number) emptied (λ q. slot_written found.block (view.bytes found.block) found.slot no_entry [] ∷ q)
+  pub lowers : GoesOn emptied draft (lowered found.number (view.inode found.number) 1 found.block)
+
 -- a directory goes, after its own blocks, and then a link of its parent
 pub record Removed (geo : Geometry) (view : View) (found : Found) (draft : Draft) : Type 0 where
   pub after : List Cell

@@ -1,10 +1,11 @@
-ghost use Rattle.std.specs.Prelude.{◌≡◌, ◌≤◌, IfErr, IfOk, Some};
+ghost use Rattle.std.specs.Prelude.{◌≡◌, ◌≤◌, [], IfErr, IfOk, None, Some};
 ghost use Rattle.frozen.specs.Kept.{frozen_view};
 ghost use Rattle.machine.specs.Command.{Done, Rmdir};
 ghost use Rattle.metadata.specs.Shown.{Shows};
 ghost use Rattle.model.specs.View.{View};
 ghost use Rattle.live_paths.specs.Shown.{IsShownBy};
-ghost use Rattle.live_states.specs.Planned.{IsOfVolume, IsPlanned, IsRefused};
+ghost use Rattle.live_states.specs.Holdings.{Holdings};
+ghost use Rattle.live_states.specs.Planned.{IsOfVolume, IsPlannedWith, IsRefused};
 ghost use Rattle.live_removals.specs.Entries.{IsDirectoryAt, IsEntry, directory_refusal};
 ghost use Rattle.live_removals.specs.Removed.{Removed};
 
@@ -22,7 +23,7 @@ use std::alloc::{AllocError, Global};
 /// with `NotEmpty` where the directory has a name besides its dots. At any time it may be refused with `NoMemory`.
 pub fn rmdir(alloc: Global, metadata: &Metadata, path: &[u8]) -> Result<Plan, Refusal>
     requires { IsOfVolume metadata.now }
-    ensures planned { IfOk result (IsPlanned metadata.now (Rmdir path.now) Done) }
+    ensures planned { IfOk result (λ plan. (holdings : Holdings) → holdings.snapshot ≡ None → IsPlannedWith metadata.now holdings [] (Rmdir path.now) Done plan holdings) }
     ensures refused { IfErr result (IsRefused metadata.now (Rmdir path.now)) }
 {
     let parsed = Path::parse(path)?;

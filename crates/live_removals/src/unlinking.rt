@@ -1,34 +1,45 @@
-ghost use Rattle.std.specs.Prelude.{◌≡◌, IfErr, IfOk, Some};
+ghost use Rattle.std.specs.Prelude.{◌≡◌, ◌≤◌, [], IfErr, IfOk, None, Some};
 ghost use Rattle.frozen.specs.Kept.{frozen_view};
 ghost use Rattle.machine.specs.Command.{Done, Unlink};
 ghost use Rattle.metadata.specs.Shown.{Shows};
 ghost use Rattle.model.specs.View.{View};
 ghost use Rattle.live_paths.specs.Shown.{IsShownBy};
-ghost use Rattle.live_states.specs.Planned.{IsOfVolume, IsPlanned, IsRefused};
+ghost use Rattle.live_states.specs.Planned.{IsOfVolume, IsPlannedWith, IsRefused};
 ghost use Rattle.live_removals.specs.Entries.{IsEntry, IsFileAt, file_refusal};
-ghost use Rattle.live_removals.specs.Removed.{Unlinked};
+ghost use Rattle.live_removals.specs.Removed.{Unlinked, Unnamed};
 
-use crate::freeing::{empty, lose_links};
+use crate::freeing::{empty, lose_links, lower};
 use frozen::Frozen;
 use layout::Refusal;
+use live_holdings::Holdings;
 use live_paths::Path;
 use live_plans::{Found, Plan, locate};
 use metadata::Metadata;
 use plans_naming::accepted_unlinks;
 use std::alloc::{AllocError, Global};
 
-/// The plan by which the name of a file goes, and the file with its last one. Refused in this order with `BadName` where
+/// The plan by which the name of a file goes, and with its last one a file that is not open. Refused in this order with `BadName` where
 /// the bytes are no path, with `IsRoot` for `/`, with why the path leads nowhere, and with `IsDirectory` where it leads
 /// to a directory. At any time it may be refused with `NoMemory`.
-pub fn unlink(alloc: Global, metadata: &Metadata, path: &[u8]) -> Result<Plan, Refusal>
-    requires { IsOfVolume metadata.now }
-    ensures planned { IfOk result (IsPlanned metadata.now (Unlink path.now) Done) }
+pub fn unlink(
+    alloc: Global,
+    metadata: &Metadata,
+    holdings: &Holdings,
+    path: &[u8],
+) -> Result<Plan, Refusal>
+    requires volume { IsOfVolume metadata.now }
+    requires snapshot { holdings.now.snapshot ≡ None }
+    ensures planned { IfOk result (λ plan. IsPlannedWith metadata.now holdings.now [] (Unlink path.now) Done plan holdings.now) }
     ensures refused { IfErr result (IsRefused metadata.now (Unlink path.now)) }
 {
     let parsed = Path::parse(path)?;
     let found = file_at(metadata.frozen(), &parsed)?;
     accepted_unlinks();
-    Ok(unlinked(alloc, metadata, &found)?)
+    if holdings.is_open(found.number) {
+        Ok(unnamed(alloc, metadata, &found)?)
+    } else {
+        Ok(unlinked(alloc, metadata, &found)?)
+    }
 }
 
 /// The file that a path leads to. Refused with `IsRoot` for `/`, with why the path leads nowhere, and with `IsDirectory`.
@@ -59,5 +70,18 @@ pub(crate) fn unlinked(
     let after = Vec::new(alloc);
     empty(alloc, metadata, &mut plan, found, after)?;
     lose_links(alloc, metadata, &mut plan, found.number, 1, found.block)?;
+    Ok(plan)
+}
+
+/// The updates by which an entry goes, and a link of the open file that it names, which stays.
+pub(crate) fn unnamed(alloc: Global, metadata: &Metadata, found: &Found) -> Result<Plan, AllocError>
+    requires entry { IsEntry metadata.now.geometry (frozen_view metadata.now) found.now }
+    requires linked { 1 ≤ ((frozen_view metadata.now).inode found.now.number).links }
+    ensures { IfOk result (λ plan. (view : View) → Shows metadata.now view → Unnamed metadata.now.geometry view found.now plan) }
+{
+    let mut plan = Plan::new(alloc, metadata.frozen().geometry(), found.number);
+    let after = Vec::new(alloc);
+    empty(alloc, metadata, &mut plan, found, after)?;
+    lower(alloc, metadata, &mut plan, found.number, 1, found.block)?;
     Ok(plan)
 }

@@ -38,7 +38,7 @@ module _ (kept : Kept) (keeps : KeepsMetadata kept) (path other : List ℕ) (ps 
     accepted = λ old shows.
         let shown = shows_metadata kept old.view keeps shows in
         accepted_within kept.geometry old path other ps e qs f ends (are old.view shown) test (free old.view shown);
-    done = λ disk q old safe stands shows idle.
+    done = λ disk q old safe stands shows.
         let there = seen kept disk q old safe stands shows in
         renamed_done kept path other ps qs e f ends disk q old safe (are (users_view disk q) (shows_metadata kept (users_view disk q) keeps there)) there draft same is;
   }
@@ -52,7 +52,7 @@ module _ (kept : Kept) (keeps : KeepsMetadata kept) (path other : List ℕ) (ps 
     accepted = λ old shows.
         let shown = shows_metadata kept old.view keeps shows in
         accepted_across kept.geometry old path other ps e qs f ends (are old.view shown) test (none old.view shown);
-    done = λ disk q old safe stands shows idle.
+    done = λ disk q old safe stands shows.
         let there = seen kept disk q old safe stands shows in
         let shown = shows_metadata kept (users_view disk q) keeps there in
         let uses = subst (λ v. UsesAreClaims kept.geometry v) (sym stands.same) stands.balance.rules.rule3 in

@@ -32,9 +32,10 @@ use Rattle.metadata.proofs.Steps.{frame_with_all, same_geometry}
 use Rattle.kept_claims.specs.Claims.{IsMetadataClaim, GivesBytes}
 use Rattle.kept_claims.proofs.Commands.{plans_give}
 use Rattle.live_states.specs.Drafts.{Draft, over}
-use Rattle.live_states.specs.Planned.{IsPlanned, safe_after}
+use Rattle.live_states.specs.Holdings.{Beside, Holdings, IsImageOf}
+use Rattle.live_states.specs.Planned.{AreSeen, IsPlannedWith, Seen, safe_after}
 use Rattle.live_states.specs.Volume.{IsVolume, state_over}
-use Rattle.live_states.proofs.Standing.{idle}
+use Rattle.live_states.proofs.Standing.{has}
 
 -- ---- lists of updates
 
@@ -93,45 +94,50 @@ still_nothing geo view (RepairAt k) = refl
 still_nothing geo view (Flush a) = refl
 still_nothing geo view Sync = refl
 
-module _ (kept : Kept) (q : List Pending) (disk : View) (volume : IsVolume kept q disk)
-    (command : Command) (answer : Answer) (draft : Draft) (planned : IsPlanned kept command answer draft) where
+module _ (kept : Kept) (holdings : Holdings) (q : List Pending) (disk : View) (volume : IsVolume kept holdings q disk)
+    (seen : List Seen) (command : Command) (answer : Answer) (draft : Draft) (holdings' : Holdings) (planned : IsPlannedWith kept holdings seen command answer draft holdings')
+    (sees : AreSeen seen (users_view disk q)) where
   abbrev geo : Geometry
   geo = kept.geometry
-
-  abbrev old : State
-  old = state_over disk q
 
   abbrev q' : List Pending
   q' = over q draft.updates
 
-  abbrev new : State
-  new = state_over disk q'
+  module _ (beside : Beside) (frozen : IsImageOf holdings.snapshot beside.frozen) where
+    abbrev old : State
+    old = state_over disk q holdings beside
 
-  accepts : Accepts geo old command
-  accepts = planned.accepted old volume.shows
+    abbrev new : State
+    new = state_over disk q' holdings' beside
 
-  done : (safe : ℕ → Bool) → Stands geo disk q old safe → IsDoneBy geo disk q old safe command answer draft.file q' new (safe_after geo (users_view disk q) command safe)
-  done safe stands = planned.done disk q old safe stands volume.shows (idle disk q)
+    accepts : Accepts geo old command
+    accepts = planned.accepted old volume.shows (has disk q holdings beside frozen)
 
-  pub serves : (safe : ℕ → Bool) → Stands geo disk q old safe → Serves geo disk q old safe command answer disk q' new (safe_after geo (users_view disk q) command safe) []
-  serves safe stands = ByPlan command answer draft.file q' new (safe_after geo (users_view disk q) command safe) (done safe stands)
+    done : (safe : ℕ → Bool) → Stands geo disk q old safe → IsDoneBy geo disk q old safe command answer draft.file q' new (safe_after geo (users_view disk q) command safe)
+    done safe stands = planned.done disk q old safe stands volume.shows (has disk q holdings beside frozen) sees
 
-  safe' : ℕ → Bool
-  safe' = safe_after geo (users_view disk q) command nothing_safe
+    pub serves : (safe : ℕ → Bool) → Stands geo disk q old safe → Serves geo disk q old safe command answer disk q' new (safe_after geo (users_view disk q) command safe) []
+    serves safe stands = ByPlan command answer draft.file q' new (safe_after geo (users_view disk q) command safe) (done safe stands)
 
-  safely : IsSafeService geo volume.mount volume.history volume.cut disk q old nothing_safe disk q' new safe' (command ∷ []) (Ok answer ∷ []) []
-  unfolding safe'
-  safely = service_safe geo volume.mount volume.history volume.cut disk q old nothing_safe volume.beginning disk q' new (safe_after geo (users_view disk q) command nothing_safe)
-      (command ∷ []) (Ok answer ∷ []) []
-      (CarriesOut command answer disk q' new (safe_after geo (users_view disk q) command nothing_safe) [] Starts accepts (serves nothing_safe volume.beginning.stands))
+    abbrev safe' : ℕ → Bool
+    safe' = safe_after geo (users_view disk q) command nothing_safe
 
-  pub step : Step geo old command (Ok answer) new
-  step = let run = safely.run in subst (Step geo old command (Ok answer)) (sym run.2) run.1
+    module _ (stands : Stands geo disk q old nothing_safe) where
+      safely : IsSafeService geo volume.mount volume.history volume.cut disk q old nothing_safe disk q' new safe' (command ∷ []) (Ok answer ∷ []) []
+      safely = service_safe geo volume.mount volume.history volume.cut disk q old nothing_safe (record { stands = stands; moment = volume.beginning.moment }) disk q' new safe'
+          (command ∷ []) (Ok answer ∷ []) []
+          (CarriesOut command answer disk q' new safe' [] Starts accepts (serves nothing_safe stands))
 
-  begins : IsBeginning geo volume.mount safely.lived.h' safely.lived.cut' disk q' new nothing_safe
-  unfolding safe'
-  begins = subst (IsBeginning geo volume.mount safely.lived.h' safely.lived.cut' disk q' new) (still_nothing geo (users_view disk q) command)
-      (record { stands = safely.stands; moment = safely.lived.moment })
+      pub step : Step geo old command (Ok answer) new
+      step = let run = safely.run in subst (Step geo old command (Ok answer)) (sym run.2) run.1
+
+  abbrev since : IsSafeService geo volume.mount volume.history volume.cut disk q (old volume.beside volume.frozen) nothing_safe disk q' (new volume.beside volume.frozen)
+      (safe' volume.beside volume.frozen) (command ∷ []) (Ok answer ∷ []) []
+  since = safely volume.beside volume.frozen volume.beginning.stands
+
+  begins : IsBeginning geo volume.mount since.lived.h' since.lived.cut' disk q' (new volume.beside volume.frozen) nothing_safe
+  begins = subst (IsBeginning geo volume.mount since.lived.h' since.lived.cut' disk q' (new volume.beside volume.frozen)) (still_nothing geo (users_view disk q) command)
+      (record { stands = since.stands; moment = since.lived.moment })
 
   module _ (keeps : KeepsMetadata kept) (staged : Staged) (is : IsStaged kept (changes draft.updates) staged) where
     abbrev kept' : Kept
@@ -161,8 +167,8 @@ module _ (kept : Kept) (q : List Pending) (disk : View) (volume : IsVolume kept 
 
     kept_now : (i k a : ℕ) → IsMetadataClaim kept'.geometry users' i k a → IsSome (kept_at kept'.blocks a)
     kept_now i k a claim =
-        elim (plans_give geo disk q old nothing_safe volume.beginning.stands command answer draft.file q' new (safe_after geo users command nothing_safe) accepts
-        (done nothing_safe volume.beginning.stands) (over [] draft.updates) (over_after q draft.updates) i k a (subst (λ g. IsMetadataClaim g users' i k a) same claim)) [
+        elim (plans_give geo disk q (old volume.beside volume.frozen) nothing_safe volume.beginning.stands command answer draft.file q' (new volume.beside volume.frozen)
+        (safe_after geo users command nothing_safe) (accepts volume.beside volume.frozen) (done volume.beside volume.frozen nothing_safe volume.beginning.stands) (over [] draft.updates) (over_after q draft.updates) i k a (subst (λ g. IsMetadataClaim g users' i k a) same claim)) [
           | inl before ↦ is.more a (inl (kept_before i k a before))
           | inr given ↦ is.more a (inr (gives draft.updates a given))
         ]
@@ -202,11 +208,13 @@ module _ (kept : Kept) (q : List Pending) (disk : View) (volume : IsVolume kept 
       directory_blocks = directory';
     }
 
-    pub volume' : IsVolume kept' q' disk
+    pub volume' : IsVolume kept' holdings' q' disk
     volume' = record {
+      beside = volume.beside;
+      frozen = subst (λ s. IsImageOf s volume.beside.frozen) (sym planned.snapshot) volume.frozen;
       mount = volume.mount;
-      history = safely.lived.h';
-      cut = safely.lived.cut';
-      beginning = subst (λ g. IsBeginning g volume.mount safely.lived.h' safely.lived.cut' disk q' new nothing_safe) (sym same) begins;
+      history = since.lived.h';
+      cut = since.lived.cut';
+      beginning = subst (λ g. IsBeginning g volume.mount since.lived.h' since.lived.cut' disk q' (new volume.beside volume.frozen) nothing_safe) (sym same) begins;
       shows = shows';
     }

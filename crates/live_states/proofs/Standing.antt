@@ -1,6 +1,8 @@
 -- A volume stands, and goes on standing where a closed part of what is pending is written.
-use Rattle.std.proofs.Common.{◌≡◌, ℕ, Bool, true, false, cond, eqb, ltb, List, [], ◌∷◌, None, refl, sym, subst}
+use Rattle.std.proofs.Common.{◌≡◌, ℕ, Bool, true, false, List, [], ◌∷◌, Option, Some, None, IsFalse, refl, sym, ap, ap₂, subst}
+use Rattle.std.specs.Prelude.{slice_index_or}
 use Rattle.std.specs.Option.{option_map_or}
+use mathlib.Core.Path.{fun_ext}
 use Rattle.model.specs.Image.{image_view}
 use Rattle.model.specs.Rules.{ObeysRules}
 use Rattle.model.specs.View.{View}
@@ -9,9 +11,10 @@ use Rattle.ordering.specs.Cuts.{Pending, IsClosed, seen, rest, users_view}
 use Rattle.ordering.proofs.CutLemmas.{nothing, nothing_closed, nothing_seen}
 use Rattle.ordering.proofs.Flushes.{flush_agrees, users_flushed}
 use Rattle.ordering.specs.Ghosts.{at_rest}
-use Rattle.machine.specs.State.{mounted, handle_count, open_at}
+use Rattle.machine.specs.Command.{Answer, Command}
+use Rattle.machine.specs.State.{State, is_kept, is_open, mounted}
 use Rattle.machine.specs.Balance.{Balance}
-use Rattle.machine.proofs.Decisions.{any_none}
+use Rattle.courses.specs.Done.{IsDoneBy}
 use Rattle.courses.specs.Life.{IsLived, Begins, Puts}
 use Rattle.courses.specs.Serves.{IsBeginning}
 use Rattle.courses.proofs.LifeCourses.{life_lived}
@@ -19,39 +22,76 @@ use Rattle.courses.proofs.ServiceLemmas.{image_begins}
 use Rattle.frozen.specs.Kept.{Kept, KeepsMetadata, IsKeptOf, frozen_view}
 use Rattle.metadata.specs.Shown.{Shows}
 use Rattle.metadata.proofs.ShownLemmas.{shows_image}
-use Rattle.live_states.specs.Planned.{IsIdle, IsOfVolume}
+use Rattle.live_states.specs.Drafts.{Draft, over}
+use Rattle.live_states.specs.Holdings.{Beside, Has, Holdings, IsIdle, IsImageOf, going_on, held_by, is_open_by, opened_by}
+use Rattle.live_states.specs.Planned.{IsOfVolume, IsOfVolumeWith, IsPlanned, IsPlannedWith, safe_after}
 use Rattle.live_states.specs.Volume.{IsVolume, state_over}
 
-pub idle : (disk : View) (q : List Pending) → IsIdle (state_over disk q)
-idle disk q = record {
-  closed = λ i. any_none handle_count (λ h. option_map_or (λ j. eqb j i) (open_at (state_over disk q) h) false) (λ h low. none_open i (ltb h handle_count));
-  free = λ a. refl;
-}
-  where
-    none_open : (i : ℕ) (b : Bool) → option_map_or (λ j. eqb j i) (cond b None None) false ≡ false
-    none_open i true = refl
-    none_open i false = refl
+pub has : (disk : View) (q : List Pending) (holdings : Holdings) (beside : Beside) → IsImageOf holdings.snapshot beside.frozen → Has holdings (state_over disk q holdings beside)
+has disk q holdings beside frozen = record { opened = refl; held = refl; frozen = frozen }
 
-pub stands_so : (kept : Kept) (q : List Pending) (disk : View) → IsVolume kept q disk → IsOfVolume kept
-stands_so kept q disk volume = record {
+pub stands_so : (kept : Kept) (holdings : Holdings) (q : List Pending) (disk : View) → IsVolume kept holdings q disk → IsOfVolume kept
+stands_so kept holdings q disk volume = record {
   disk = disk;
   pending = q;
-  old = state_over disk q;
+  old = state_over disk q holdings volume.beside;
   safe = λ f. false;
   stands = volume.beginning.stands;
   shows = volume.shows;
-  idle = idle disk q;
 }
 
-pub loaded : (kept : Kept) (image : List (List ℕ)) → KeepsMetadata kept → IsKeptOf kept image → ObeysRules kept.geometry (frozen_view kept)
-    → ObeysRules kept.geometry (image_view kept.geometry image) × IsVolume kept [] (image_view kept.geometry image)
-loaded kept image keeps is obeys = (
+pub stands_with : (kept : Kept) (holdings : Holdings) (q : List Pending) (disk : View) → IsVolume kept holdings q disk → IsOfVolumeWith kept holdings
+unfolding stands_so
+stands_with kept holdings q disk volume = record { volume = stands_so kept holdings q disk volume; has = has disk q holdings volume.beside volume.frozen }
+
+-- what is open and held is as it was
+pub as_it_was : (old : State) (holdings : Holdings) (view : View) → Has holdings old → record old { view = view } ≡ going_on old holdings view
+as_it_was old holdings view has = ap₂ (λ (o : ℕ → Option ℕ) (h : ℕ → Bool). record old { view = view; opened = o; held = h }) has.opened has.held
+
+-- no block is kept where no snapshot stands
+pub not_kept : (holdings : Holdings) (old : State) → holdings.snapshot ≡ None → Has holdings old → (a : ℕ) → IsFalse (is_kept old a)
+not_kept holdings old none has a = by old.frozen (subst (λ s. IsImageOf s old.frozen) none has.frozen)
+  where
+    by : (o : Option View) → IsImageOf None o → option_map_or (λ (frozen : View). frozen.block_marked a) o false ≡ false
+    by None t = refl
+    by (Some view) t = absurd t
+
+-- an inode is open by these handles, or not
+pub same_open : (holdings : Holdings) (old : State) → Has holdings old → (i : ℕ) → is_open old i ≡ is_open_by holdings i
+same_open holdings old has i = ap (λ (o : ℕ → Option ℕ). is_open (record old { opened = o }) i) has.opened
+
+pub left_alone : (kept : Kept) (command : Command) (answer : Answer) (draft : Draft) → IsPlanned kept command answer draft → (holdings : Holdings) → IsPlannedWith kept holdings [] command answer draft holdings
+left_alone kept command answer draft planned holdings = record {
+  geometry = planned.geometry;
+  snapshot = refl;
+  accepted = λ old shows has. planned.accepted old shows;
+  done = λ disk q old safe stands shows has sees.
+      subst (λ new. IsDoneBy kept.geometry disk q old safe command answer draft.file (over q draft.updates) new (safe_after kept.geometry old.view command safe))
+      (as_it_was old holdings (users_view disk (over q draft.updates)) has) (planned.done disk q old safe stands shows);
+}
+
+-- nothing beside an image
+abbrev nothing_beside : Beside
+nothing_beside = record { frozen = None; plan = None }
+
+-- an idle volume is as it is mounted
+idle_mounted : (disk : View) (holdings : Holdings) → IsIdle holdings → mounted disk ≡ state_over disk [] holdings nothing_beside
+idle_mounted disk holdings idle =
+    ap₂ (λ (o : ℕ → Option ℕ) (h : ℕ → Bool). record { view = disk; opened = o; held = h; frozen = None; plan = None })
+    (fun_ext (λ h. ap (λ (l : List (Option ℕ)). slice_index_or l h None) (sym idle.opened))) (fun_ext (λ a. sym (idle.held a)))
+
+pub loaded : (kept : Kept) (image : List (List ℕ)) (holdings : Holdings) → KeepsMetadata kept → IsKeptOf kept image → ObeysRules kept.geometry (frozen_view kept) → IsIdle holdings
+    → ObeysRules kept.geometry (image_view kept.geometry image) × IsVolume kept holdings [] (image_view kept.geometry image)
+loaded kept image holdings keeps is obeys idle = (
   rules,
   record {
+    beside = nothing_beside;
+    frozen = subst (λ s. IsImageOf s None) (sym idle.snapshot) tt;
     mount = image_view kept.geometry image;
     history = [];
     cut = [];
-    beginning = image_begins kept.geometry image (λ f. false) is.is_image rules (λ f t. let bad : false ≡ true = t in cc);
+    beginning = subst (λ old. IsBeginning kept.geometry (image_view kept.geometry image) [] [] (image_view kept.geometry image) [] old (λ f. false)) (idle_mounted (image_view kept.geometry image) holdings idle)
+        (image_begins kept.geometry image (λ f. false) is.is_image rules (λ f t. let bad : false ≡ true = t in cc));
     shows = shows_image kept image is;
   },
 )
@@ -59,8 +99,8 @@ loaded kept image keeps is obeys = (
     rules : ObeysRules kept.geometry (image_view kept.geometry image)
     rules = (same_rules kept.geometry (frozen_view kept) (image_view kept.geometry image) is.metadata).0 obeys
 
-module _ (kept : Kept) (q : List Pending) (disk : View) (volume : IsVolume kept q disk) where
-  begin : IsBeginning kept.geometry volume.mount volume.history volume.cut disk q (state_over disk q) (λ f. false)
+module _ (kept : Kept) (holdings : Holdings) (q : List Pending) (disk : View) (volume : IsVolume kept holdings q disk) where
+  begin : IsBeginning kept.geometry volume.mount volume.history volume.cut disk q (state_over disk q holdings volume.beside) (λ f. false)
   begin = volume.beginning
 
   pub stop_safe : (cut : List Bool) → IsClosed q cut → ObeysRules kept.geometry (seen disk q cut)
@@ -73,11 +113,19 @@ module _ (kept : Kept) (q : List Pending) (disk : View) (volume : IsVolume kept 
     pub unseen : users_view (seen disk q cut) (rest q cut) ≡ users_view disk q
     unseen = users_flushed disk q cut closed
 
-    lived : IsLived kept.geometry volume.mount volume.history volume.cut disk q (λ a. false) (λ f. false) (seen disk q cut) (rest q cut) (λ a. false) (λ f. false) (seen disk q cut ∷ []) (Puts cut Begins closed)
-    lived = life_lived kept.geometry volume.mount volume.history volume.cut disk q (λ a. false) (λ f. false) begin.moment (seen disk q cut) (rest q cut) (λ a. false) (λ f. false) (seen disk q cut ∷ []) (Puts cut Begins closed)
+    abbrev held : ℕ → Bool
+    held = held_by holdings
 
-    pub put : IsVolume kept (rest q cut) (seen disk q cut)
+    abbrev as_seen : View → State
+    as_seen view = record { view = view; opened = opened_by holdings; held = held_by holdings; frozen = volume.beside.frozen; plan = volume.beside.plan }
+
+    lived : IsLived kept.geometry volume.mount volume.history volume.cut disk q held (λ f. false) (seen disk q cut) (rest q cut) held (λ f. false) (seen disk q cut ∷ []) (Puts cut Begins closed)
+    lived = life_lived kept.geometry volume.mount volume.history volume.cut disk q held (λ f. false) begin.moment (seen disk q cut) (rest q cut) held (λ f. false) (seen disk q cut ∷ []) (Puts cut Begins closed)
+
+    pub put : IsVolume kept holdings (rest q cut) (seen disk q cut)
     put = record {
+      beside = volume.beside;
+      frozen = volume.frozen;
       mount = volume.mount;
       history = lived.h';
       cut = lived.cut';
@@ -85,8 +133,8 @@ module _ (kept : Kept) (q : List Pending) (disk : View) (volume : IsVolume kept 
         stands = record {
           geometry = begin.stands.geometry;
           same = refl;
-          balance = subst (λ v. Balance kept.geometry (mounted v)) (sym unseen) begin.stands.balance;
-          agree = flush_agrees kept.geometry disk q (at_rest (λ a. false) (λ f. false)) cut closed begin.stands.agree;
+          balance = subst (λ v. Balance kept.geometry (as_seen v)) (sym unseen) begin.stands.balance;
+          agree = flush_agrees kept.geometry disk q (at_rest held (λ f. false)) cut closed begin.stands.agree;
           files = λ f t. let bad : false ≡ true = t in cc;
         };
         moment = lived.moment;

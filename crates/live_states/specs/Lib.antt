@@ -1,3 +1,4 @@
 pub mod Drafts
+pub mod Holdings
 pub mod Planned
 pub mod Volume

@@ -3,7 +3,7 @@
 //! its users see.
 #![tactic(auto)]
 
-ghost use Rattle.std.specs.Prelude.{◌≡◌, ℕ, Bool, List, [], Ok, IsTrue, length};
+ghost use Rattle.std.specs.Prelude.{◌≡◌, ℕ, Bool, false, List, [], Ok, IsTrue, length};
 ghost use Rattle.model.specs.Image.{IsImage, image_view};
 ghost use Rattle.model.specs.Layout.{block_count};
 ghost use Rattle.model.specs.Rules.{ObeysRules};
@@ -17,13 +17,14 @@ ghost use Rattle.frozen.specs.Kept.{IsKeptOf, Kept, KeepsMetadata, frozen_view};
 ghost use Rattle.metadata.specs.declared.staged.Staged.{Staged};
 ghost use Rattle.metadata.specs.Staged.{IsStaged, after, changes};
 ghost use Rattle.live_states.specs.Drafts.{Draft, over};
-ghost use Rattle.live_states.specs.Planned.{IsOfVolume, IsPlanned, safe_after};
+ghost use Rattle.live_states.specs.Holdings.{Beside, Holdings, IsIdle, IsImageOf};
+ghost use Rattle.live_states.specs.Planned.{AreSeen, IsOfVolume, IsOfVolumeWith, IsPlanned, IsPlannedWith, Seen, safe_after};
 ghost use Rattle.live_states.specs.Volume.{IsVolume, state_over};
 
-/// The metadata of an image that obeys the rules is that of a volume over it, with nothing pending.
+/// The metadata of an image that obeys the rules is that of a volume over it, with nothing open, held or pending.
 pub fn loaded_images_are_volumes()
-    ensures { (kept : Kept) (image : List (List ℕ)) → KeepsMetadata kept → IsKeptOf kept image → ObeysRules kept.geometry (frozen_view kept)
-        → ObeysRules kept.geometry (image_view kept.geometry image) × IsVolume kept [] (image_view kept.geometry image) }
+    ensures { (kept : Kept) (image : List (List ℕ)) (holdings : Holdings) → KeepsMetadata kept → IsKeptOf kept image → ObeysRules kept.geometry (frozen_view kept) → IsIdle holdings
+        → ObeysRules kept.geometry (image_view kept.geometry image) × IsVolume kept holdings [] (image_view kept.geometry image) }
 {}
 
 /// All metadata that is kept is that of some image.
@@ -33,36 +34,44 @@ pub fn what_is_kept_is_of_an_image()
 
 /// What is planned for a volume is planned on the metadata of a volume that stands.
 pub fn volumes_stand()
-    ensures { (kept : Kept) (q : List Pending) (disk : View) → IsVolume kept q disk → IsOfVolume kept }
+    ensures { (kept : Kept) (holdings : Holdings) (q : List Pending) (disk : View) → IsVolume kept holdings q disk → IsOfVolume kept × IsOfVolumeWith kept holdings }
+{}
+
+/// A plan that leaves alone what is open and held is one where this is.
+pub fn plans_that_leave_holdings_alone()
+    ensures { (kept : Kept) (command : Command) (answer : Answer) (draft : Draft) → IsPlanned kept command answer draft → (holdings : Holdings) → IsPlannedWith kept holdings [] command answer draft holdings }
 {}
 
 /// The updates by which a command is planned to be carried out lead from a volume to a volume, whose metadata they are
 /// made from as they are staged.
 pub fn planned_commands_keep_volumes()
-    ensures { (kept : Kept) (q : List Pending) (disk : View) → KeepsMetadata kept → IsVolume kept q disk
-        → (command : Command) (answer : Answer) (draft : Draft) → IsPlanned kept command answer draft
+    ensures { (kept : Kept) (holdings : Holdings) (q : List Pending) (disk : View) → KeepsMetadata kept → IsVolume kept holdings q disk
+        → (seen : List Seen) (command : Command) (answer : Answer) (draft : Draft) (holdings' : Holdings) → IsPlannedWith kept holdings seen command answer draft holdings' → AreSeen seen (users_view disk q)
         → (staged : Staged) → IsStaged kept (changes draft.updates) staged
-        → IsVolume (after kept staged) (over q draft.updates) disk × KeepsMetadata (after kept staged) }
+        → IsVolume (after kept staged) holdings' (over q draft.updates) disk × KeepsMetadata (after kept staged) }
 {}
 
-/// It is a step of the machine from what users saw to what they see then, and for each choice of files that no stop
-/// loses the command is carried out by a plan.
+/// It is a step of the machine from what users saw to what they see then, whatever stands beside the volume, and for each
+/// choice of files that no stop loses the command is carried out by a plan.
 pub fn planned_commands_are_steps()
-    ensures { (kept : Kept) (q : List Pending) (disk : View) → IsVolume kept q disk
-        → (command : Command) (answer : Answer) (draft : Draft) → IsPlanned kept command answer draft
-        → Step kept.geometry (state_over disk q) command (Ok answer) (state_over disk (over q draft.updates))
-        × ((safe : ℕ → Bool) → Stands kept.geometry disk q (state_over disk q) safe
-        → Serves kept.geometry disk q (state_over disk q) safe command answer disk (over q draft.updates) (state_over disk (over q draft.updates)) (safe_after kept.geometry (users_view disk q) command safe) []) }
+    ensures { (kept : Kept) (holdings : Holdings) (q : List Pending) (disk : View) → IsVolume kept holdings q disk
+        → (seen : List Seen) (command : Command) (answer : Answer) (draft : Draft) (holdings' : Holdings) → IsPlannedWith kept holdings seen command answer draft holdings' → AreSeen seen (users_view disk q)
+        → (beside : Beside) → IsImageOf holdings.snapshot beside.frozen
+        → (Stands kept.geometry disk q (state_over disk q holdings beside) (λ f. false)
+        → Step kept.geometry (state_over disk q holdings beside) command (Ok answer) (state_over disk (over q draft.updates) holdings' beside))
+        × ((safe : ℕ → Bool) → Stands kept.geometry disk q (state_over disk q holdings beside) safe
+        → Serves kept.geometry disk q (state_over disk q holdings beside) safe command answer disk (over q draft.updates) (state_over disk (over q draft.updates) holdings' beside)
+        (safe_after kept.geometry (users_view disk q) command safe) []) }
 {}
 
 /// A volume stays one where a closed part of what is pending is written; its users see what they saw.
 pub fn closed_cuts_keep_volumes()
-    ensures { (kept : Kept) (q : List Pending) (disk : View) → IsVolume kept q disk → (cut : List Bool) → IsClosed q cut
-        → IsVolume kept (rest q cut) (seen disk q cut) × (users_view (seen disk q cut) (rest q cut) ≡ users_view disk q) }
+    ensures { (kept : Kept) (holdings : Holdings) (q : List Pending) (disk : View) → IsVolume kept holdings q disk → (cut : List Bool) → IsClosed q cut
+        → IsVolume kept holdings (rest q cut) (seen disk q cut) × (users_view (seen disk q cut) (rest q cut) ≡ users_view disk q) }
 {}
 
 /// Each image of a closed part of what is pending obeys the rules, that of the device among them.
 pub fn each_stop_of_a_volume_is_safe()
-    ensures { (kept : Kept) (q : List Pending) (disk : View) → IsVolume kept q disk
+    ensures { (kept : Kept) (holdings : Holdings) (q : List Pending) (disk : View) → IsVolume kept holdings q disk
         → ObeysRules kept.geometry disk × ((cut : List Bool) → IsClosed q cut → ObeysRules kept.geometry (seen disk q cut)) }
 {}

@@ -11,7 +11,7 @@ use Rattle.live_plans.specs.declared.locating.Found.{Found}
 use Rattle.live_removals.specs.Entries.{IsFileAt, file_refusal}
 use Rattle.live_removals.proofs.Naming.{entry_kept}
 use Rattle.live_removals.proofs.Refusals.{unlink_bad, unlink_refusal}
-use Rattle.live_removals.proofs.Unlinks.{unlink_planned}
+use Rattle.live_removals.proofs.Unlinks.{file_linked, unlink_planned, unnamed_planned}
 use Rattle.live_removals.proofs.unlinking.unlink.Goals as goal
 
 found_there : (held kept : Kept) (ps : List (List ℕ)) (found : Found) → held ≡ kept → ((view : View) → IsShownBy held view → IsFileAt held.geometry view ps found)
@@ -39,8 +39,27 @@ unlinked-requires c =
     let f = c.frozen.result.now in
     entry_kept f c.args.metadata.now c.in_ok-parsed.parsed c.in_ok-found.found c.frozen.ensures.same (c.in_ok-found.ensures.found (frozen_view f) (self_shown f)).at
 
-pub returns-clause-planned : goal.returns-clause-planned
-returns-clause-planned c =
+pub unnamed-requires-clause-entry : goal.unnamed-requires-clause-entry
+unnamed-requires-clause-entry c =
+    let f = c.frozen.result.now in
+    entry_kept f c.args.metadata.now c.in_ok-parsed.parsed c.in_ok-found.found c.frozen.ensures.same (c.in_ok-found.ensures.found (frozen_view f) (self_shown f)).at
+
+pub unnamed-requires-clause-linked : goal.unnamed-requires-clause-linked
+unnamed-requires-clause-linked c =
     let kept = c.args.metadata.now in
     let at = found_there c.frozen.result.now kept c.in_ok-parsed.parsed c.in_ok-found.found c.frozen.ensures.same c.in_ok-found.ensures.found in
-    unlink_planned c.accepted_unlinks.ensures.decided kept c.args.path.now c.in_ok-parsed.parsed c.in_ok-found.found c.in_ok-unlinked.field-0 c.frozen.ensures.metadata c.requires c.in_ok-parsed.ensures at c.in_ok-unlinked.ensures
+    file_linked kept c.args.path.now c.in_ok-parsed.parsed c.in_ok-found.found c.frozen.ensures.metadata c.requires.volume c.in_ok-parsed.ensures at
+
+pub returns-in_ok-unnamed-clause-planned : goal.returns-in_ok-unnamed-clause-planned
+returns-in_ok-unnamed-clause-planned c =
+    let kept = c.args.metadata.now in
+    let at = found_there c.frozen.result.now kept c.in_ok-parsed.parsed c.in_ok-found.found c.frozen.ensures.same c.in_ok-found.ensures.found in
+    unnamed_planned kept c.args.holdings.now c.requires.snapshot c.args.path.now c.in_ok-parsed.parsed c.in_ok-found.found c.in_ok-unnamed.field-0 c.frozen.ensures.metadata c.requires.volume c.in_ok-parsed.ensures at
+    c.accepted_unlinks.ensures.decided (sym c.is_open.ensures ∙ c.if-is_open.true) c.in_ok-unnamed.ensures
+
+pub returns-in_ok-unlinked-clause-planned : goal.returns-in_ok-unlinked-clause-planned
+returns-in_ok-unlinked-clause-planned c =
+    let kept = c.args.metadata.now in
+    let at = found_there c.frozen.result.now kept c.in_ok-parsed.parsed c.in_ok-found.found c.frozen.ensures.same c.in_ok-found.ensures.found in
+    unlink_planned kept c.args.holdings.now c.requires.snapshot c.args.path.now c.in_ok-parsed.parsed c.in_ok-found.found c.in_ok-unlinked.field-0 c.frozen.ensures.metadata c.requires.volume c.in_ok-parsed.ensures at
+    c.accepted_unlinks.ensures.decided (sym c.is_open.ensures ∙ c.if-is_open.false) c.in_ok-unlinked.ensures

@@ -14,7 +14,7 @@ use Rattle.live.proofs.Flushes.{flush_answers, flush_keeps, live_after, refuses_
 use Rattle.live.proofs.live.Live.flush.Goals as goal
 
 pub returns-then-address-blocks-clause-refused : goal.returns-then-address-blocks-clause-refused
-returns-then-address-blocks-clause-refused g c h =
+returns-then-address-blocks-clause-refused g c h beside belongs =
     let kept = c.args.self.now.kept in
     let geometry = c.geometry.ensures.geometry ∙ ap (λ k. k.geometry) c.frozen.ensures.same ∙ ap (λ (l : Alive _). l.kept.geometry) c.self.view_is in
     (inr (inr (inl (refuses_flush kept.geometry _ c.args.address (subst (λ n. n ≤ c.args.address) (c.blocks-2.ensures.count ∙ ap block_count geometry) c.if-address-blocks.true)))), refl)
@@ -22,7 +22,7 @@ returns-then-address-blocks-clause-refused g c h =
 pub invariant_of-self : goal.invariant_of-self
 invariant_of-self g c =
     still_live (g.D.Device.honest c.self.inside.device) (g.D.Device.honest c.flush.new.device) (g.D.Device.image c.self.inside.device) (g.D.Device.image c.flush.new.device)
-    c.self.inside.queue c.flush.new.self c.self.inside.metadata c.self.invariant c.in_err-count.ensures.refused c.in_err-count.ensures.image c.in_err-count.ensures.honest
+    c.self.inside.queue c.flush.new.self c.self.inside.metadata c.self.inside.holdings c.self.invariant c.in_err-count.ensures.refused c.in_err-count.ensures.image c.in_err-count.ensures.honest
 
 pub invariant_of-self-2 : goal.invariant_of-self-2
 invariant_of-self-2 g c =
@@ -35,10 +35,10 @@ invariant_of-self-2 g c =
     let same : queue.geometry ≡ kept.geometry = c.self.invariant.geometry in
     let same' : c.flush.new.self.geometry ≡ queue.geometry = ap (λ (q : Queued). q.geometry) e.flushed in
     let pending = subst (λ geo. pending_of c.flush.new.self ≡ rest (pending_of queue) (ready (home_of geo) a (pending_of queue))) same e.rest in
-    live_after (g.D.Device.honest c.self.inside.device) (g.D.Device.honest c.flush.new.device) image image' queue c.flush.new.self kept c.self.invariant same'
+    live_after (g.D.Device.honest c.self.inside.device) (g.D.Device.honest c.flush.new.device) image image' queue c.flush.new.self kept c.self.inside.holdings c.self.invariant same'
     (same_length image image' a c.in_ok-count.count (λ z. ap g.D.Device.image (e.untouched z)) (λ s. let w = e.written s in (w.0, w.1)) ∙ c.self.invariant.alive.count ∙ ap block_count (sym (same' ∙ same)))
     (ready (home_of kept.geometry) a (pending_of queue)) (ready_closed (home_of kept.geometry) a (pending_of queue)) pending e.honest
-    (λ h. flush_keeps kept (image_view kept.geometry image) (pending_of queue) a (image_view kept.geometry image') (pending_of c.flush.new.self)
+    (λ h. flush_keeps kept c.self.inside.holdings (image_view kept.geometry image) (pending_of queue) a (image_view kept.geometry image') (pending_of c.flush.new.self)
     (subst (λ geo. image_view geo image' ≡ seen (image_view geo image) (pending_of queue) (ready (home_of geo) a (pending_of queue))) same (e.view h)) pending)
 
 pub returns-clause-done : goal.returns-clause-done
@@ -53,8 +53,8 @@ returns-clause-done g c = λ h.
     let pending = subst (λ geo. pending_of c.flush.new.self ≡ rest (pending_of queue) (ready (home_of geo) a (pending_of queue))) same e.rest in
     let blocks = c.blocks-2.ensures.count ∙ ap block_count (c.geometry.ensures.geometry ∙ ap (λ k. k.geometry) c.frozen.ensures.same) in
     subst (λ (l : Alive _). (later : List View) × HeldMore l.kept.geometry (g.D.Device.held l.device) (g.D.Device.held c.flush.new.device) later
-    × Answers (g.D.Device.image l.device) l (Flush a) (Number c.in_ok-count.count) image' (record { device = c.flush.new.device; queue = c.flush.new.self; kept = kept }) later) c.self.view_is
-    (flush_answers c.self.inside.device c.flush.new.device image image' (g.D.Device.held c.self.inside.device) (g.D.Device.held c.flush.new.device) queue c.flush.new.self kept a
+    × Answers (g.D.Device.image l.device) l (Flush a) (Number c.in_ok-count.count) image' (record { device = c.flush.new.device; queue = c.flush.new.self; kept = kept; holdings = c.self.inside.holdings }) later) c.self.view_is
+    (flush_answers c.self.inside.device c.flush.new.device image image' (g.D.Device.held c.self.inside.device) (g.D.Device.held c.flush.new.device) queue c.flush.new.self kept c.self.inside.holdings a
     (subst (λ n. a < n) blocks c.if-address-blocks.false)
     (subst (λ geo. image_view geo image' ≡ seen (image_view geo image) (pending_of queue) (ready (home_of geo) a (pending_of queue))) same (e.view h)) pending
     c.in_ok-count.count (subst (λ geo. c.in_ok-count.count ≡ taken (ready (home_of geo) a (pending_of queue))) same e.count)

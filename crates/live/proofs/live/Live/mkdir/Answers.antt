@@ -1,15 +1,15 @@
-use Rattle.std.proofs.Common.{◌≡◌, sym, subst}
+use Rattle.std.proofs.Common.{[], sym, subst}
 use Rattle.std.proofs.lemmas.Result.{err_from_is_err_and}
 use Rattle.machine.specs.Command.{Mkdir, Number}
 use Rattle.softdep.specs.Queued.{pending_of}
-use Rattle.live_states.specs.Planned.{IsPlanned, IsRefused}
-use Rattle.live_states.proofs.Standing.{stands_so}
+use Rattle.live_states.specs.Planned.{IsPlanned, IsPlannedWith, IsRefused}
+use Rattle.live_states.proofs.Standing.{left_alone, stands_so}
 use Rattle.live.specs.Alive.{Alive, MayRefuse}
 use Rattle.live.proofs.Commands.{refused}
 use Rattle.live.proofs.live.Live.mkdir.Goals as goal
 
 pub mkdir-requires : goal.mkdir-requires
-mkdir-requires g c = stands_so c.self.inside.metadata (pending_of c.self.inside.queue) c.self.invariant.alive.disk c.self.invariant.alive.some
+mkdir-requires g c = stands_so c.self.inside.metadata c.self.inside.holdings (pending_of c.self.inside.queue) c.self.invariant.alive.disk c.self.invariant.alive.some
 
 pub returns-in_err-plan-clause-refused : goal.returns-in_err-plan-clause-refused
 returns-in_err-plan-clause-refused g c =
@@ -17,7 +17,7 @@ returns-in_err-plan-clause-refused g c =
     let device = c.self.inside.device in
     rw (p.1, p.2)
     (λ h. subst (λ (l : Alive _). MayRefuse (g.D.Device.image l.device) l (Mkdir c.args.path.now) c.in_err-plan.field-0.0) c.self.view_is
-    (refused device (g.D.Device.honest device) (g.D.Device.image device) c.self.inside.queue c.self.inside.metadata c.self.invariant (subst (λ (l : Alive _). g.D.Device.honest l.device) (sym c.self.view_is) h)
+    (refused device (g.D.Device.honest device) (g.D.Device.image device) c.self.inside.queue c.self.inside.metadata c.self.inside.holdings c.self.invariant (subst (λ (l : Alive _). g.D.Device.honest l.device) (sym c.self.view_is) h)
     (Mkdir c.args.path.now) c.in_err-plan.field-0.0 c.in_err-plan.ensures.refused))
 
 pub returns-in_err-plan-clause-cause : goal.returns-in_err-plan-clause-cause
@@ -26,9 +26,15 @@ returns-in_err-plan-clause-cause g c =
     rw (p.1, p.2) (subst (λ (l : Alive _). IsRefused l.kept (Mkdir c.args.path.now) c.in_err-plan.field-0.0) c.self.view_is c.in_err-plan.ensures.refused)
 
 pub carry_out-requires : goal.carry_out-requires
-carry_out-requires g c =
-    (Mkdir c.args.path.now, Number c.file-number.result, subst (λ (l : Alive _). IsPlanned l.kept (Mkdir c.args.path.now) (Number c.file-number.result) c.in_ok-plan.plan) c.self.view_is (subst (λ n. IsPlanned c.self.inside.metadata (Mkdir c.args.path.now) (Number n) c.in_ok-plan.plan) (sym c.file-number.ensures) c.in_ok-plan.ensures.planned))
+carry_out-requires g c = (
+  Mkdir c.args.path.now,
+  Number c.file-number.result,
+  subst (λ (l : Alive _). IsPlannedWith l.kept l.holdings [] (Mkdir c.args.path.now) (Number c.file-number.result) c.in_ok-plan.plan l.holdings) c.self.view_is
+      (left_alone c.self.inside.metadata (Mkdir c.args.path.now) (Number c.file-number.result) c.in_ok-plan.plan (subst (λ n. IsPlanned c.self.inside.metadata (Mkdir c.args.path.now) (Number n) c.in_ok-plan.plan) (sym c.file-number.ensures) c.in_ok-plan.ensures.planned) c.self.inside.holdings),
+)
 
 pub returns-clause-done : goal.returns-clause-done
 returns-clause-done g c =
-    c.in_ok-carry_out.ensures.done (Mkdir c.args.path.now) (Number c.file-number.result) (subst (λ (l : Alive _). IsPlanned l.kept (Mkdir c.args.path.now) (Number c.file-number.result) c.in_ok-plan.plan) c.self.view_is (subst (λ n. IsPlanned c.self.inside.metadata (Mkdir c.args.path.now) (Number n) c.in_ok-plan.plan) (sym c.file-number.ensures) c.in_ok-plan.ensures.planned))
+    c.in_ok-carry_out.ensures.done (Mkdir c.args.path.now) (Number c.file-number.result)
+    (subst (λ (l : Alive _). IsPlannedWith l.kept l.holdings [] (Mkdir c.args.path.now) (Number c.file-number.result) c.in_ok-plan.plan l.holdings) c.self.view_is
+    (left_alone c.self.inside.metadata (Mkdir c.args.path.now) (Number c.file-number.result) c.in_ok-plan.plan (subst (λ n. IsPlanned c.self.inside.metadata (Mkdir c.args.path.now) (Number n) c.in_ok-plan.plan) (sym c.file-number.ensures) c.in_ok-plan.ensures.planned) c.self.inside.holdings))

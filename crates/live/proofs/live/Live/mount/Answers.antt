@@ -1,4 +1,5 @@
 use Rattle.std.proofs.Common.{◌≡◌, sym, ap, ◌∙◌, subst}
+use Rattle.std.proofs.lemmas.Result.{err_from_is_err_and}
 use Rattle.model.specs.Layout.{block_count}
 use Rattle.model.specs.Rules.{ObeysRules}
 use Rattle.frozen.specs.Kept.{IsKeptOf, Kept, frozen_view}
@@ -26,10 +27,10 @@ invariant_of-result g c =
     let image = g.D.Device.image c.args.device in
     let is : kept ≡ frozen = c.in_ok-metadata.ensures in
     let obeys : ObeysRules frozen.geometry (frozen_view frozen) = obeyed frozen.geometry (frozen_view frozen) c.in_ok-obeys.field-0 c.in_ok-obeys.ensures.obeys (sym c.is_some.ensures ∙ c.if-is_some.false) in
-    subst (λ i. IsLive honest i c.in_ok-queue.queue kept) (sym c.in_ok-frozen.ensures.same)
+    subst (λ i. IsLive honest i c.in_ok-queue.queue kept c.in_ok-holdings.holdings) (sym c.in_ok-frozen.ensures.same)
     (live_fresh honest image kept (subst (λ k. honest → IsKeptOf k image) (sym is) c.in_ok-frozen.ensures.ok) c.frozen-2.ensures.metadata
-    (subst (λ (k : Kept). ObeysRules k.geometry (frozen_view k)) (sym is) obeys) c.in_ok-queue.queue
-    (c.in_ok-queue.ensures.fresh ∙ ap fresh_queue (c.geometry.ensures.geometry ∙ ap (λ (k : Kept). k.geometry) c.frozen-2.ensures.same))
+    (subst (λ (k : Kept). ObeysRules k.geometry (frozen_view k)) (sym is) obeys) c.in_ok-queue.queue c.in_ok-holdings.holdings
+    (c.in_ok-queue.ensures.fresh ∙ ap fresh_queue (c.geometry-geometry.ensures.geometry ∙ ap (λ (k : Kept). k.geometry) c.frozen-2.ensures.same)) c.in_ok-holdings.ensures.idle
     (c.in_ok-frozen.ensures.count ∙ ap (λ (k : Kept). block_count k.geometry) (sym is)))
 
 pub returns-clause-mounted : goal.returns-clause-mounted
@@ -42,3 +43,8 @@ returns-clause-mounted g c =
     let obeys : ObeysRules frozen.geometry (frozen_view frozen) = obeyed frozen.geometry (frozen_view frozen) c.in_ok-obeys.field-0 c.in_ok-obeys.ensures.obeys (sym c.is_some.ensures ∙ c.if-is_some.false) in
     mountable honest image kept (subst (λ k. honest → IsKeptOf k image) (sym is) c.in_ok-frozen.ensures.ok) c.frozen-2.ensures.metadata
     (subst (λ (k : Kept). ObeysRules k.geometry (frozen_view k)) (sym is) obeys)
+
+pub returns-in_err-holdings-clause-refused : goal.returns-in_err-holdings-clause-refused
+returns-in_err-holdings-clause-refused g c =
+    let p = err_from_is_err_and c.from_residual-in_err-holdings.result c.from_residual-in_err-holdings.ensures.1 in
+    rw (p.1, p.2) (c.load.new.device, c.in_ok-frozen.ensures.same, c.in_ok-frozen.ensures.held, tt)

@@ -21,7 +21,7 @@ returns-in_err-path-clause-refused g c =
     let device = c.self.inside.device in
     rw (p.1, p.2, c.in_err-path.ensures.1)
     (λ h. subst (λ (l : Alive _). MayRefuse (g.D.Device.image l.device) l (Stat c.args.path.now) BadName) c.self.view_is
-    (refused device (g.D.Device.honest device) (g.D.Device.image device) c.self.inside.queue c.self.inside.metadata c.self.invariant (subst (λ (l : Alive _). g.D.Device.honest l.device) (sym c.self.view_is) h)
+    (refused device (g.D.Device.honest device) (g.D.Device.image device) c.self.inside.queue c.self.inside.metadata c.self.inside.holdings c.self.invariant (subst (λ (l : Alive _). g.D.Device.honest l.device) (sym c.self.view_is) h)
     (Stat c.args.path.now) BadName (inr (stat_badly c.self.inside.metadata c.args.path.now c.in_err-path.ensures.0))))
 
 pub returns-in_err-path-clause-cause : goal.returns-in_err-path-clause-cause
@@ -36,7 +36,7 @@ returns-in_err-number-clause-refused g c =
     let device = c.self.inside.device in
     rw (p.1, p.2)
     (λ h. subst (λ (l : Alive _). MayRefuse (g.D.Device.image l.device) l (Stat c.args.path.now) c.in_err-number.field-0.0) c.self.view_is
-    (refused device (g.D.Device.honest device) (g.D.Device.image device) c.self.inside.queue c.self.inside.metadata c.self.invariant (subst (λ (l : Alive _). g.D.Device.honest l.device) (sym c.self.view_is) h)
+    (refused device (g.D.Device.honest device) (g.D.Device.image device) c.self.inside.queue c.self.inside.metadata c.self.inside.holdings c.self.invariant (subst (λ (l : Alive _). g.D.Device.honest l.device) (sym c.self.view_is) h)
     (Stat c.args.path.now) c.in_err-number.field-0.0 (inr (stat_to_nowhere c.frozen-frozen.result.now c.self.inside.metadata c.frozen-frozen.ensures.same c.frozen-frozen.ensures.metadata c.args.path.now c.in_ok-path.path c.in_ok-path.ensures
     c.target.result c.target.ensures c.in_err-number.field-0.0 c.in_err-number.was))))
 
@@ -53,25 +53,25 @@ record-record-requires g c =
     let q = pending_of c.self.inside.queue in
     let disk = c.self.invariant.alive.disk in
     let volume = c.self.invariant.alive.some in
-    let leads = led c.frozen-frozen.result.now kept c.frozen-frozen.ensures.same c.target.result c.in_ok-path.path c.target.ensures (users_view disk q) (shown kept q disk c.frozen-frozen.ensures.metadata volume) in
+    let leads = led c.frozen-frozen.result.now kept c.frozen-frozen.ensures.same c.target.result c.in_ok-path.path c.target.ensures (users_view disk q) (shown kept c.self.inside.holdings q disk c.frozen-frozen.ensures.metadata volume) in
     subst (λ (k : Kept). IsTrue (is_number k.geometry c.in_ok-number.number)) (sym c.frozen-frozen.ensures.same)
-    (number_of kept q disk volume c.args.path.now c.in_ok-path.path c.in_ok-path.ensures c.in_ok-number.number (sym leads ∙ c.in_ok-number.was))
+    (number_of kept c.self.inside.holdings q disk volume c.args.path.now c.in_ok-path.path c.in_ok-path.ensures c.in_ok-number.number (sym leads ∙ c.in_ok-number.was))
 
 pub returns-clause-status : goal.returns-clause-status
-returns-clause-status g c = λ h.
+returns-clause-status g c = λ h beside.
     let kept = c.self.inside.metadata in
     let image = g.D.Device.image c.self.inside.device in
     let disk = image_view kept.geometry image in
     let q = pending_of c.self.inside.queue in
     let volume = c.self.invariant.alive.true (subst (λ (l : Alive _). g.D.Device.honest l.device) (sym c.self.view_is) h) in
-    let seen = shown kept q disk c.frozen-frozen.ensures.metadata volume in
+    let seen = shown kept c.self.inside.holdings q disk c.frozen-frozen.ensures.metadata volume in
     let leads = led c.frozen-frozen.result.now kept c.frozen-frozen.ensures.same c.target.result c.in_ok-path.path c.target.ensures (users_view disk q) seen in
     let is = sym leads ∙ c.in_ok-number.was in
     let inode : c.record-record.result ≡ (users_view disk q).inode c.in_ok-number.number =
     c.record-record.ensures ∙ ap (λ (k : Kept). (frozen_view k).inode c.in_ok-number.number) c.frozen-frozen.ensures.same ∙ volume.shows.inode c.in_ok-number.number in
-    let whole = c.record.view_is ∙ inode ∙ ap (λ i. (users_view disk q).inode i) (sym (number_there kept.geometry (state_over disk q) c.args.path.now c.in_ok-path.path c.in_ok-path.ensures c.in_ok-number.number is)) in
-    let number = sym (number_there kept.geometry (state_over disk q) c.args.path.now c.in_ok-path.path c.in_ok-path.ensures c.in_ok-number.number is) in
-    subst (λ (l : Alive _). Step l.kept.geometry (state_of (g.D.Device.image l.device) l) (Stat c.args.path.now) (Ok (Status c.in_ok-number.number c.record.inside.mode c.record.inside.links c.record.inside.size)) (state_of (g.D.Device.image l.device) l)) c.self.view_is (
-      (stat_accepts kept.geometry (state_over disk q) c.args.path.now c.in_ok-path.path c.in_ok-path.ensures c.in_ok-number.number is, tt),
+    let whole = c.record.view_is ∙ inode ∙ ap (λ i. (users_view disk q).inode i) (sym (number_there kept.geometry (state_over disk q c.self.inside.holdings beside) c.args.path.now c.in_ok-path.path c.in_ok-path.ensures c.in_ok-number.number is)) in
+    let number = sym (number_there kept.geometry (state_over disk q c.self.inside.holdings beside) c.args.path.now c.in_ok-path.path c.in_ok-path.ensures c.in_ok-number.number is) in
+    subst (λ (l : Alive _). Step l.kept.geometry (state_of (g.D.Device.image l.device) l beside) (Stat c.args.path.now) (Ok (Status c.in_ok-number.number c.record.inside.mode c.record.inside.links c.record.inside.size)) (state_of (g.D.Device.image l.device) l beside)) c.self.view_is (
+      (stat_accepts kept.geometry (state_over disk q c.self.inside.holdings beside) c.args.path.now c.in_ok-path.path c.in_ok-path.ensures c.in_ok-number.number is, tt),
       (ap₂ (λ n (r : Inode). Status n r.mode r.links r.size) number whole, refl),
     )

@@ -13,18 +13,18 @@ invariant_of-self g c =
     let e = c.in_err-sync.ensures in
     let image = g.D.Device.image c.self.inside.device in
     let image' = g.D.Device.image c.sync.new.device in
-    live_after (g.D.Device.honest c.self.inside.device) (g.D.Device.honest c.sync.new.device) image image' c.self.inside.queue c.sync.new.self c.self.inside.metadata c.self.invariant
+    live_after (g.D.Device.honest c.self.inside.device) (g.D.Device.honest c.sync.new.device) image image' c.self.inside.queue c.sync.new.self c.self.inside.metadata c.self.inside.holdings c.self.invariant
     e.put.geometry e.count e.rest.0 e.rest.1 e.rest.2 e.honest
-    (λ h. sync_keeps image image' (g.D.Device.held c.self.inside.device) (g.D.Device.held c.sync.new.device) c.self.inside.queue c.sync.new.self c.self.inside.metadata c.self.invariant.geometry (e.flushes h))
+    (λ h. sync_keeps image image' (g.D.Device.held c.self.inside.device) (g.D.Device.held c.sync.new.device) c.self.inside.queue c.sync.new.self c.self.inside.metadata c.self.inside.holdings c.self.invariant.geometry (e.flushes h))
 
 pub invariant_of-self-2 : goal.invariant_of-self-2
 invariant_of-self-2 g c =
     let e = c.in_ok-sync.ensures in
     let image = g.D.Device.image c.self.inside.device in
     let image' = g.D.Device.image c.sync.new.device in
-    live_after (g.D.Device.honest c.self.inside.device) (g.D.Device.honest c.sync.new.device) image image' c.self.inside.queue c.sync.new.self c.self.inside.metadata c.self.invariant
+    live_after (g.D.Device.honest c.self.inside.device) (g.D.Device.honest c.sync.new.device) image image' c.self.inside.queue c.sync.new.self c.self.inside.metadata c.self.inside.holdings c.self.invariant
     e.put.geometry e.count e.rest.0 e.rest.1 e.rest.2 e.honest
-    (λ h. sync_keeps image image' (g.D.Device.held c.self.inside.device) (g.D.Device.held c.sync.new.device) c.self.inside.queue c.sync.new.self c.self.inside.metadata c.self.invariant.geometry (e.flushes h))
+    (λ h. sync_keeps image image' (g.D.Device.held c.self.inside.device) (g.D.Device.held c.sync.new.device) c.self.inside.queue c.sync.new.self c.self.inside.metadata c.self.inside.holdings c.self.invariant.geometry (e.flushes h))
 
 pub returns-clause-done : goal.returns-clause-done
 returns-clause-done g c = λ h.
@@ -32,8 +32,8 @@ returns-clause-done g c = λ h.
     let image = g.D.Device.image c.self.inside.device in
     let image' = g.D.Device.image c.sync.new.device in
     subst (λ (l : Alive _). (later : List View) × HeldMore l.kept.geometry (g.D.Device.held l.device) (g.D.Device.held c.sync.new.device) later
-    × Answers (g.D.Device.image l.device) l Sync Done image' (record { device = c.sync.new.device; queue = c.sync.new.self; kept = c.self.inside.metadata }) later) c.self.view_is
-    (sync_answers image image' (g.D.Device.held c.self.inside.device) (g.D.Device.held c.sync.new.device) c.self.inside.queue c.sync.new.self c.self.inside.metadata c.self.invariant.geometry (e.flushes h)
+    × Answers (g.D.Device.image l.device) l Sync Done image' (record { device = c.sync.new.device; queue = c.sync.new.self; kept = c.self.inside.metadata; holdings = c.self.inside.holdings }) later) c.self.view_is
+    (sync_answers image image' (g.D.Device.held c.self.inside.device) (g.D.Device.held c.sync.new.device) c.self.inside.queue c.sync.new.self c.self.inside.metadata c.self.inside.holdings c.self.invariant.geometry (e.flushes h)
     c.self.inside.device c.sync.new.device e.pending (e.view h))
 
 pub returns-in_err-sync-clause-flushes : goal.returns-in_err-sync-clause-flushes
