@@ -1,5 +1,6 @@
 -- Handles of a volume.
 use Rattle.std.specs.Prelude.{◌≡◌, ◌<◌, ℕ, nat_lt, Option, Some, None, slice_set, IsSome, if◌then◌else◌}
+use Rattle.model.specs.Cells.{put_at}
 use Rattle.machine.specs.State.{handle_count}
 use Rattle.live_states.specs.Holdings.{Holdings, opened_by}
 
@@ -15,6 +16,12 @@ pub record IsFreeHandle (holdings : Holdings) (h : ℕ) : Type 0 where
 
 abbrev pub NoFreeHandle : Holdings → Type 0
 NoFreeHandle holdings = (h : ℕ) → h < handle_count → IsSome (opened_by holdings h)
+
+-- Handle h is opened on inode i, and nothing else changes.
+pub record IsOpened (old : Holdings) (h i : ℕ) (new : Holdings) : Type 0 where
+  pub opened : opened_by new ≡ put_at (opened_by old) h (Some i)
+  pub held : new.held ≡ old.held
+  pub snapshot : new.snapshot ≡ old.snapshot
 
 -- what is left when this handle is closed, where there is one
 abbrev pub closed : Holdings → ℕ → Holdings

@@ -2,13 +2,12 @@
 //! the metadata that the snapshot keeps.
 #![tactic(auto)]
 
-ghost use Rattle.std.specs.Prelude.{◌≡◌, ◌<◌, None, Some, IfOk, IsTrue, MatchOption, OnErr, OnOk, length, slice_set};
+ghost use Rattle.std.specs.Prelude.{◌≡◌, ◌<◌, None, IfOk, IsTrue, MatchOption, OnErr, OnOk, length, slice_set};
 ghost use Rattle.std.specs.List.{All};
-ghost use Rattle.model.specs.Cells.{put_at};
 ghost use Rattle.model.specs.Layout.{block_count};
 ghost use Rattle.frozen.specs.Kept.{frozen_view};
-ghost use Rattle.live_states.specs.Holdings.{IsIdle, is_kept_by, is_open_by, opened_by, with_held};
-ghost use Rattle.live_holdings.specs.Handles.{IsFreeHandle, NoFreeHandle, closed, handle_at, without};
+ghost use Rattle.live_states.specs.Holdings.{IsIdle, is_kept_by, is_open_by, with_held};
+ghost use Rattle.live_holdings.specs.Handles.{IsFreeHandle, IsOpened, NoFreeHandle, closed, handle_at, without};
 
 use cgmaps::{Map, bit_of};
 use frozen::Frozen;
@@ -117,9 +116,7 @@ impl Holdings {
     /// Opens a handle on an inode.
     pub fn open(&mut self, handle: u32, number: u32) -> Result<(), AllocError>
         requires { IsFreeHandle self.old handle }
-        ensures opened { OnOk result (opened_by self.new ≡ put_at (opened_by self.old) handle (Some number)) }
-        ensures held { self.new.held ≡ self.old.held }
-        ensures snapshot { self.new.snapshot ≡ self.old.snapshot }
+        ensures opened { OnOk result (IsOpened self.old handle number self.new) }
         ensures untouched { OnErr result (self.new ≡ self.old) }
     {
         if handle as usize == self.handles.len() {

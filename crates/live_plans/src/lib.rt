@@ -16,4 +16,4 @@ mod tests;
 pub use entering::{NewEntry, enter};
 pub use entries::{add_blocks, bytes_of, entry, put_slot};
 pub use locating::{Found, locate};
-pub use plan::Plan;
+pub use plan::{Plan, Planned};

@@ -28,6 +28,13 @@ impl Model for Plan {
     ghost invariant = { λ plan. AreOf plan.geometry plan.file plan.updates.items };
 }
 
+/// What carries out a command: its updates, and the blocks that are held for the snapshot once they are issued.
+#[derive(Drop)]
+pub struct Planned {
+    pub plan: Plan,
+    pub holds: Vec<u32>,
+}
+
 impl Plan {
     /// No updates yet, in the name of a file.
     pub fn new(alloc: Global, geometry: Geometry, file: u32) -> Plan
@@ -53,6 +60,17 @@ impl Plan {
             after,
         })?;
         Ok(())
+    }
+
+    /// These updates, with no block that is held.
+    pub fn without_holds(self, alloc: Global) -> Planned
+        ensures plan { result.plan ≡ self }
+        ensures holds { result.holds.items ≡ [] }
+    {
+        Planned {
+            plan: self,
+            holds: Vec::new(alloc),
+        }
     }
 
     /// The file in whose name they are.

@@ -1,3 +1,4 @@
 pub mod Loading
 pub mod Planning
+pub mod Quiet
 pub mod Standing

@@ -1,5 +1,5 @@
 -- What it is that updates carry out a command, and that a command is refused.
-use Rattle.std.specs.Prelude.{◌≡◌, ℕ, Bool, List, ◌⊎◌}
+use Rattle.std.specs.Prelude.{◌≡◌, ℕ, Bool, List, ◌⊎◌, IsTrue}
 use Rattle.std.specs.List.{All}
 use Rattle.model.specs.Layout.{Geometry}
 use Rattle.model.specs.View.{View}
@@ -10,10 +10,12 @@ use Rattle.machine.specs.Causes.{Accepts, FirstRefusal}
 use Rattle.machine.specs.Command.{Answer, Command, Unlink}
 use Rattle.machine.specs.Paths.{number_at}
 use Rattle.machine.specs.State.{State}
+use Rattle.machine.specs.Step.{Effect}
 use Rattle.plans_data.specs.Carried.{Stands}
 use Rattle.plans_data.specs.Now.{now}
 use Rattle.plans_naming.specs.Unlink.{safe_but}
 use Rattle.courses.specs.Done.{IsDoneBy}
+use Rattle.courses.specs.Serves.{is_quiet}
 use Rattle.frozen.specs.Kept.{Kept}
 use Rattle.metadata.specs.Shown.{Shows}
 use Rattle.live_states.specs.Drafts.{Draft, over}
@@ -65,5 +67,17 @@ pub record IsPlannedWith (kept : Kept) (holdings : Holdings) (seen : List Seen) 
   pub done : (disk : View) (q : List Pending) (old : State) (safe : ℕ → Bool) → Stands kept.geometry disk q old safe → Shows kept old.view → Has holdings old → AreSeen seen old.view
       → IsDoneBy kept.geometry disk q old safe command answer draft.file (over q draft.updates) (going_on old holdings' (users_view disk (over q draft.updates))) (safe_after kept.geometry old.view command safe)
 
+-- Where this is kept, open and held, this is the first cause that refuses the command; or there is no memory.
+abbrev pub IsFirstCauseWith : Kept → Holdings → Command → Refusal → Type 0
+IsFirstCauseWith kept holdings command r = (old : State) → Shows kept old.view → Has holdings old → FirstRefusal kept.geometry old command r
+
 abbrev pub IsRefusedWith : Kept → Holdings → Command → Refusal → Type 0
-IsRefusedWith kept holdings command r = (r ≡ NoMemory) ⊎ ((old : State) → Shows kept old.view → Has holdings old → FirstRefusal kept.geometry old command r)
+IsRefusedWith kept holdings command r = (r ≡ NoMemory) ⊎ IsFirstCauseWith kept holdings command r
+
+-- Where this is kept, open and held, and users see these blocks so, no cause refuses a command that leaves the image and what is held alone; this is its answer, and then this is open.
+pub record IsQuietlyDone (kept : Kept) (holdings : Holdings) (seen : List Seen) (command : Command) (answer : Answer) (holdings' : Holdings) : Type 0 where
+  pub quiet : IsTrue (is_quiet command)
+  pub snapshot : holdings'.snapshot ≡ holdings.snapshot
+  pub held : holdings'.held ≡ holdings.held
+  pub accepted : (old : State) → Shows kept old.view → Has holdings old → Accepts kept.geometry old command
+  pub effect : (old : State) → Shows kept old.view → Has holdings old → AreSeen seen old.view → Effect kept.geometry old command answer (going_on old holdings' old.view)

@@ -18,7 +18,7 @@ ghost use Rattle.metadata.specs.declared.staged.Staged.{Staged};
 ghost use Rattle.metadata.specs.Staged.{IsStaged, after, changes};
 ghost use Rattle.live_states.specs.Drafts.{Draft, over};
 ghost use Rattle.live_states.specs.Holdings.{Beside, Holdings, IsIdle, IsImageOf};
-ghost use Rattle.live_states.specs.Planned.{AreSeen, IsOfVolume, IsOfVolumeWith, IsPlanned, IsPlannedWith, Seen, safe_after};
+ghost use Rattle.live_states.specs.Planned.{AreSeen, IsOfVolume, IsOfVolumeWith, IsPlanned, IsPlannedWith, IsQuietlyDone, Seen, safe_after};
 ghost use Rattle.live_states.specs.Volume.{IsVolume, state_over};
 
 /// The metadata of an image that obeys the rules is that of a volume over it, with nothing open, held or pending.
@@ -74,4 +74,21 @@ pub fn closed_cuts_keep_volumes()
 pub fn each_stop_of_a_volume_is_safe()
     ensures { (kept : Kept) (holdings : Holdings) (q : List Pending) (disk : View) → IsVolume kept holdings q disk
         → ObeysRules kept.geometry disk × ((cut : List Bool) → IsClosed q cut → ObeysRules kept.geometry (seen disk q cut)) }
+{}
+
+/// A command that leaves the image and what is held alone leads from a volume to a volume.
+pub fn quiet_commands_keep_volumes()
+    ensures { (kept : Kept) (holdings : Holdings) (q : List Pending) (disk : View) → IsVolume kept holdings q disk
+        → (seen : List Seen) (command : Command) (answer : Answer) (holdings' : Holdings) → IsQuietlyDone kept holdings seen command answer holdings' → AreSeen seen (users_view disk q)
+        → IsVolume kept holdings' q disk }
+{}
+
+/// It is a step of the machine, whatever stands beside the volume, and served without a plan.
+pub fn quiet_commands_are_steps()
+    ensures { (kept : Kept) (holdings : Holdings) (q : List Pending) (disk : View) → IsVolume kept holdings q disk
+        → (seen : List Seen) (command : Command) (answer : Answer) (holdings' : Holdings) → IsQuietlyDone kept holdings seen command answer holdings' → AreSeen seen (users_view disk q)
+        → (beside : Beside) → IsImageOf holdings.snapshot beside.frozen
+        → Step kept.geometry (state_over disk q holdings beside) command (Ok answer) (state_over disk q holdings' beside)
+        × ((safe : ℕ → Bool) → Serves kept.geometry disk q (state_over disk q holdings beside) safe command answer disk q (state_over disk q holdings' beside)
+        (safe_after kept.geometry (users_view disk q) command safe) []) }
 {}

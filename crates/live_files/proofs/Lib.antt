@@ -1,0 +1,2 @@
+mod OpenLemmas
+mod ReadLemmas
