@@ -62,7 +62,7 @@ live_after honest honest' image image' queue queue' kept holdings live same coun
     some = subst (λ q. IsVolume kept holdings q (seen live.alive.disk (pending_of queue) cut)) (sym pending) (put kept holdings (pending_of queue) live.alive.disk live.alive.some cut closed);
     true = λ h. goes h (live.alive.true (back h));
   };
-  no_snapshot = live.no_snapshot;
+  marks = live.marks;
 }
 
 pub still_live : (honest honest' : Type 0) (image image' : List (List ℕ)) (queue queue' : Queued) (kept : Kept) (holdings : Holdings) → IsLive honest image queue kept holdings → queue' ≡ queue → image' ≡ image → (honest' → honest) → IsLive honest' image' queue' kept holdings
@@ -76,7 +76,7 @@ still_live honest honest' image image' queue queue' kept holdings live same_queu
         some = live.alive.some;
         true = λ h. live.alive.true (back h);
       };
-      no_snapshot = live.no_snapshot;
+      marks = live.marks;
     }))
 
 -- a flush leaves as many blocks
@@ -154,6 +154,8 @@ module _ {D : Type 0} (device device' : D) (image image' : List (List ℕ)) (hel
       (seen d p taken_now) (rest p taken_now) (state_over (seen d p taken_now) (rest p taken_now) holdings beside) safe later)
       → Answers image before (Flush a) (Number n) image' behind later
   answered n later serves beside belongs = record {
+    geometry = refl;
+    snapshot = refl;
     step = λ stands. said kept holdings d p a (image_view kept.geometry image') (pending_of queue') view pending
         (λ e r. Step kept.geometry (state_over d p holdings beside) (Flush a) (Ok (Number n)) (state_over e r holdings beside))
         (accepts_flush kept.geometry (state_over d p holdings beside) a low, same_state kept holdings d p a beside);
@@ -208,6 +210,8 @@ module _ (image image' : List (List ℕ)) (held held' : List (List (List ℕ))) 
       views = ap reverse are.images ∙ sym (append-nil (reverse (images_of (home_of kept.geometry) disk (pending_of queue) are.blocks))) ∙ sym (newest_first (home_of kept.geometry) disk (pending_of queue) are.blocks []);
     },
     λ beside belongs. record {
+      geometry = refl;
+      snapshot = refl;
       step = λ stands. (accepts_sync kept.geometry (old beside), ap (λ p. state_over disk' p holdings beside) none ∙ state_none beside);
       serves = λ safe stands.
           subst (λ p. Serves kept.geometry disk (pending_of queue) (old beside) safe Sync Done disk' p (state_over disk' p holdings beside) safe (flush_images (home_of kept.geometry) disk (pending_of queue) are.blocks [])) (sym none)

@@ -1,6 +1,10 @@
+mod Between
+mod ByteLemmas
 mod Carrying
 mod Commands
 mod Flushes
 mod Looks
 mod Mounting
+mod Quietly
+mod RunLemmas
 mod Views

@@ -1,5 +1,5 @@
 -- What was loaded becomes a mounted volume, or its image breaks a rule.
-use Rattle.std.proofs.Common.{◌≡◌, ℕ, zero, suc, true, false, List, length, Option, Some, None, is_some, MatchOption, refl, sym, subst}
+use Rattle.std.proofs.Common.{◌≡◌, ◌≤◌, ℕ, zero, suc, true, false, List, length, Option, Some, None, is_some, MatchOption, refl, sym, subst}
 use Rattle.model.specs.Image.{image_view}
 use Rattle.model.specs.Layout.{Geometry, block_count}
 use Rattle.model.specs.Rules.{IsLeastBroken, ObeysRules, Rule}
@@ -46,8 +46,8 @@ module _ (honest : Type 0) (image : List (List ℕ)) (kept : Kept) (of : honest 
     pub mountable : honest → IsMountable kept.geometry image
     mountable h = record { is_image = (of h).is_image; obeys = (same_rules kept.geometry (frozen_view kept) (image_view kept.geometry image) (of h).metadata).0 obeys }
 
-    pub live_fresh : (queue : Queued) (holdings : Holdings) → queue ≡ fresh_queue kept.geometry → IsIdle holdings → length image ≡ block_count kept.geometry → IsLive honest image queue kept holdings
-    live_fresh queue holdings fresh idle count =
+    pub live_fresh : (queue : Queued) (holdings : Holdings) → queue ≡ fresh_queue kept.geometry → IsIdle holdings → block_count kept.geometry ≤ length holdings.held → length image ≡ block_count kept.geometry → IsLive honest image queue kept holdings
+    live_fresh queue holdings fresh idle marks count =
         let is = of_an_image kept keeps in
         subst (λ q. IsLive honest image q kept holdings) (sym fresh) (record {
           geometry = refl;
@@ -58,5 +58,5 @@ module _ (honest : Type 0) (image : List (List ℕ)) (kept : Kept) (of : honest 
             some = (loaded kept is.0 holdings keeps is.1 obeys idle).1;
             true = λ h. (loaded kept image holdings keeps (of h) obeys idle).1;
           };
-          no_snapshot = idle.snapshot;
+          marks = marks;
         })

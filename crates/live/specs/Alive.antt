@@ -1,6 +1,7 @@
 -- The value of a mounted volume, what its users see, and how commands are answered.
-use Rattle.std.specs.Prelude.{◌≡◌, ℕ, Bool, false, List, None, Ok, Err}
+use Rattle.std.specs.Prelude.{◌≡◌, ◌≤◌, ℕ, Bool, false, List, length, Ok, Err}
 use Rattle.model.specs.Image.{image_view}
+use Rattle.model.specs.Layout.{block_count}
 use Rattle.model.specs.View.{View}
 use Rattle.layout.specs.declared.refusal.Refusal.{Refusal}
 use Rattle.ordering.specs.Cuts.{users_view}
@@ -24,11 +25,11 @@ pub record Alive (D : Type 0) : Type 0 where
   pub kept : Kept
   pub holdings : Holdings
 
--- the device holds an image of the volume, and the metadata in memory is what users see over it where it is honest; there is no snapshot yet
+-- the device holds an image of the volume, and the metadata in memory is what users see over it where it is honest; each block can be held
 pub record IsLive (honest : Type 0) (image : List (List ℕ)) (queue : Queued) (kept : Kept) (holdings : Holdings) : Type 0 where
   pub geometry : queue.geometry ≡ kept.geometry
   pub alive : IsAlive honest image (pending_of queue) kept holdings
-  pub no_snapshot : holdings.snapshot ≡ None
+  pub marks : block_count kept.geometry ≤ length holdings.held
 
 -- what an image holds that the device of a volume has, and what its users see over it, whatever stands beside the volume
 abbrev pub disk_of : {D : Type 0} → List (List ℕ) → Alive D → View
@@ -39,6 +40,8 @@ state_of image live beside = state_over (disk_of image live) (pending_of live.qu
 
 -- Over images old and new of its device a volume answered a command so, where it stands with this beside it: by a step of the machine, and, whichever files no stop is to lose, by the updates of its plan, or by flushes that left these images on the device.
 pub record AnswersBeside {D : Type 0} (beside : Beside) (image : List (List ℕ)) (old : Alive D) (command : Command) (answer : Answer) (image' : List (List ℕ)) (new : Alive D) (later : List View) : Type 0 where
+  pub geometry : new.kept.geometry ≡ old.kept.geometry
+  pub snapshot : new.holdings.snapshot ≡ old.holdings.snapshot
   pub step : Stands old.kept.geometry (disk_of image old) (pending_of old.queue) (state_of image old beside) (λ f. false)
       → Step old.kept.geometry (state_of image old beside) command (Ok answer) (state_of image' new beside)
   pub serves : (safe : ℕ → Bool) → Stands old.kept.geometry (disk_of image old) (pending_of old.queue) (state_of image old beside) safe

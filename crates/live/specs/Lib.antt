@@ -1,3 +1,4 @@
 pub mod Alive
 pub mod Held
 pub mod Mounting
+pub mod Runs

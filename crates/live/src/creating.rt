@@ -22,7 +22,7 @@ impl<D: Device> Live<D> {
     {
         let plan = live_creations::create(alloc, &self.metadata, path)?;
         let number = plan.file();
-        self.carry_out(alloc, plan, None)?;
+        self.carry_out(alloc, plan.without_holds(alloc), None)?;
         Ok(number)
     }
 
@@ -37,7 +37,7 @@ impl<D: Device> Live<D> {
     {
         let plan = live_creations::mkdir(alloc, &self.metadata, path)?;
         let number = plan.file();
-        self.carry_out(alloc, plan, None)?;
+        self.carry_out(alloc, plan.without_holds(alloc), None)?;
         Ok(number)
     }
 
@@ -53,7 +53,7 @@ impl<D: Device> Live<D> {
         ensures device { self.new.device ≡ self.old.device }
     {
         let plan = live_creations::link(alloc, &self.metadata, path, other)?;
-        self.carry_out(alloc, plan, None)?;
+        self.carry_out(alloc, plan.without_holds(alloc), None)?;
         Ok(())
     }
 }

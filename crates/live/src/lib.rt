@@ -6,12 +6,16 @@
 //! command may be refused with `NoMemory`, and one that reaches the device with `Device`.
 #![tactic(auto)]
 
+mod bytes;
 mod creating;
 mod flushing;
+mod handling;
 mod live;
 mod looking;
 mod removing;
 mod renaming;
+mod runs;
 
-pub use live::Live;
+pub use live::{Live, NotMounted};
 pub use looking::Status;
+pub use runs::{each_stop_of_a_run_is_safe, mounted_volumes_begin};

@@ -1,21 +1,23 @@
-ghost use Rattle.std.specs.Prelude.{◌≡◌, ℕ, Bool, [], IfErr, IfOk, IsErrOf, IsOkUnless, List, OnErr, OnOk};
+ghost use Rattle.std.specs.Prelude.{◌≡◌, ◌<◌, ℕ, Bool, [], IfErr, IfOk, IsErrOf, IsOkUnless, List, OnErr, OnOk};
+ghost use Rattle.std.specs.List.{All};
 ghost use Rattle.device.specs.Writes.{HasFailed};
 ghost use Rattle.layout.specs.declared.refusal.Refusal.TheVariants.{NoMemory};
-ghost use Rattle.ordering.specs.Cuts.{IsClosed, seen};
+ghost use Rattle.ordering.specs.Cuts.{IsClosed, seen, users_view};
+ghost use Rattle.model.specs.Layout.{block_count};
 ghost use Rattle.model.specs.Rules.{ObeysRules};
 ghost use Rattle.machine.specs.Command.{Answer, Command};
 ghost use Rattle.softdep.specs.Queued.{pending_of};
-ghost use Rattle.live_states.specs.Holdings.{IsIdle};
-ghost use Rattle.live_states.specs.Planned.{IsPlannedWith};
+ghost use Rattle.live_states.specs.Holdings.{IsIdle, with_held};
+ghost use Rattle.live_states.specs.Planned.{AreSeen, IsPlannedWith, Seen};
 ghost use Rattle.live_holdings.specs.Handles.{without};
-ghost use Rattle.live.specs.Alive.{Answers, StandsSo, disk_of};
+ghost use Rattle.live.specs.Alive.{Answers, IsLive, StandsSo, disk_of};
 ghost use Rattle.live.specs.Mounting.{IsMountable, MountRefuses};
 
 use device::Device;
 use frozen::load;
 use layout::Refusal;
 use live_holdings::Holdings;
-use live_plans::Plan;
+use live_plans::Planned;
 use metadata::Metadata;
 use rules::obeys;
 use softdep::Queue;
@@ -41,34 +43,76 @@ impl<D: Device> Model for Live<D> {
     ghost invariant = { λ live. IsLive (D.honest live.device) (D.image live.device) live.queue live.metadata live.holdings };
 }
 
-impl<D: Device + Drop> Live<D> {
+/// A device whose volume was not mounted, as it was, and the cause.
+#[derive(Drop)]
+pub struct NotMounted<D: Device> {
+    pub device: D,
+    pub cause: Refusal,
+}
+
+/// What a volume has in memory.
+struct Volume {
+    queue: Queue,
+    metadata: Metadata,
+    holdings: Holdings,
+}
+
+impl<D: Device> Live<D> {
     /// Mounts the volume of a device: it reads the metadata, and writes nothing. It is refused with `BadLength`,
     /// `BadSuper`, `BadGroup`, `Device` or `NoMemory` as an image that cannot be loaded, and with `Damaged` where the
-    /// image breaks a rule that holds at each stop of a volume.
-    pub fn mount(alloc: Global, mut device: D) -> Result<Live<D>, Refusal>
+    /// image breaks a rule that holds at each stop of a volume. Then the device is given back.
+    pub fn mount(alloc: Global, mut device: D) -> Result<Live<D>, NotMounted<D>>
         ensures image { IfOk result (λ live. D.image live.device ≡ D.image device) }
         ensures held { IfOk result (λ live. D.held live.device ≡ D.held device) }
         ensures pending { IfOk result (λ live. pending_of live.queue ≡ []) }
         ensures idle { IfOk result (λ live. IsIdle live.holdings) }
         ensures mounted { IfOk result (λ live. D.honest live.device → IsMountable live.kept.geometry (D.image device)) }
-        ensures refused { IfErr result (λ r. (after : D) × (D.image after ≡ D.image device) × (D.held after ≡ D.held device) × MountRefuses (D.honest after) (D.image device) r) }
-        ensures cause { IsErrOf result Refusal.Device → (after : D) × (D.image after ≡ D.image device) × HasFailed (D.failures device) (D.failures after) }
+        ensures untouched { IfErr result (λ refused. (D.image refused.device ≡ D.image device) × (D.held refused.device ≡ D.held device)) }
+        ensures refused { IfErr result (λ refused. MountRefuses (D.honest refused.device) (D.image device) refused.cause) }
+        ensures cause { IfErr result (λ refused. refused.cause ≡ Refusal.Device → HasFailed (D.failures device) (D.failures refused.device)) }
     {
-        let frozen = load(alloc, &mut device)?;
-        if obeys(alloc, &frozen)?.is_some() {
-            return Err(Refusal::Damaged);
+        match read_volume(alloc, &mut device) {
+            Ok(
+                Volume {
+                    queue,
+                    metadata,
+                    holdings,
+                },
+            ) => Ok(Live {
+                device,
+                queue,
+                metadata,
+                holdings,
+            }),
+            Err(cause) => Err(NotMounted { device, cause }),
         }
-        let metadata = Metadata::new(alloc, frozen)?;
-        let geometry = metadata.frozen().geometry();
-        let queue = Queue::new(alloc, geometry)?;
-        let holdings = Holdings::new(alloc, &geometry)?;
-        Ok(Live {
-            device,
-            queue,
-            metadata,
-            holdings,
-        })
     }
+}
+
+/// Reads what a volume has in memory from its device.
+fn read_volume<D: Device>(alloc: Global, device: &mut D) -> Result<Volume, Refusal>
+    ensures image { D.image device.new ≡ D.image device.old }
+    ensures held { D.held device.new ≡ D.held device.old }
+    ensures pending { IfOk result (λ volume. pending_of volume.queue ≡ []) }
+    ensures idle { IfOk result (λ volume. IsIdle volume.holdings) }
+    ensures live { IfOk result (λ volume. IsLive (D.honest device.new) (D.image device.old) volume.queue volume.metadata volume.holdings) }
+    ensures mounted { IfOk result (λ volume. D.honest device.new → IsMountable volume.metadata.geometry (D.image device.old)) }
+    ensures refused { IfErr result (MountRefuses (D.honest device.new) (D.image device.old)) }
+    ensures cause { IsErrOf result Refusal.Device → HasFailed (D.failures device.old) (D.failures device.new) }
+{
+    let frozen = load(alloc, device)?;
+    if obeys(alloc, &frozen)?.is_some() {
+        return Err(Refusal::Damaged);
+    }
+    let metadata = Metadata::new(alloc, frozen)?;
+    let geometry = metadata.frozen().geometry();
+    let queue = Queue::new(alloc, geometry)?;
+    let holdings = Holdings::new(alloc, &geometry)?;
+    Ok(Volume {
+        queue,
+        metadata,
+        holdings,
+    })
 }
 
 impl<D: Device> Live<D> {
@@ -85,25 +129,31 @@ impl<D: Device> Live<D> {
         &self.device
     }
 
-    /// Carries out a command by its plan, all of it or nothing; then this handle is closed, where there is one.
+    /// Carries out a command by its plan, all of it or nothing; then this handle is closed, where there is one, and the
+    /// blocks of the plan are held. Of a plan that asks for bytes of blocks that are not kept in memory it has to be known
+    /// that it carries out some command whatever those bytes are.
     pub(crate) fn carry_out(
         &mut self,
         alloc: Global,
-        plan: Plan,
+        planned: Planned,
         handle: Option<u32>,
     ) -> Result<(), Refusal>
-        requires { (command : Command) × (answer : Answer) × IsPlannedWith self.old.kept self.old.holdings [] command answer plan (without self.old.holdings handle) }
-        ensures done { OnOk result ((command : Command) (answer : Answer) → IsPlannedWith self.old.kept self.old.holdings [] command answer plan (without self.old.holdings handle)
-            → D.honest self.old.device → Answers (D.image self.old.device) self.old command answer (D.image self.new.device) self.new []) }
+        requires planned { (command : Command) × (answer : Answer) × IsPlannedWith self.old.kept self.old.holdings [] command answer planned.plan (with_held (without self.old.holdings handle) planned.holds.items) }
+        requires holds { All (λ a. a < block_count self.old.kept.geometry) planned.holds.items }
+        ensures done { OnOk result ((seen : List Seen) (command : Command) (answer : Answer)
+            → IsPlannedWith self.old.kept self.old.holdings seen command answer planned.plan (with_held (without self.old.holdings handle) planned.holds.items) → D.honest self.old.device
+            → AreSeen seen (users_view (disk_of (D.image self.old.device) self.old) (pending_of self.old.queue)) → Answers (D.image self.old.device) self.old command answer (D.image self.new.device) self.new []) }
         ensures device { self.new.device ≡ self.old.device }
         ensures untouched { OnErr result (self.new ≡ self.old) }
         ensures error { IsOkUnless result Refusal.NoMemory }
     {
+        let Planned { plan, holds } = planned;
         let updates = plan.into_updates();
         let staged = self.metadata.stage(alloc, updates.as_slice())?;
         self.queue.issue(updates)?;
         self.metadata.install(staged);
         self.holdings.close(handle);
+        self.holdings.hold(holds.as_slice());
         Ok(())
     }
 }

@@ -19,8 +19,8 @@ impl<D: Device> Live<D> {
         ensures untouched { OnErr result (self.new ≡ self.old) }
         ensures device { self.new.device ≡ self.old.device }
     {
-        let plan = live_removals::unlink(alloc, &self.metadata, &self.holdings, path)?;
-        self.carry_out(alloc, plan, None)?;
+        let planned = live_removals::unlink(alloc, &self.metadata, &self.holdings, path)?;
+        self.carry_out(alloc, planned, None)?;
         Ok(())
     }
 
@@ -33,8 +33,8 @@ impl<D: Device> Live<D> {
         ensures untouched { OnErr result (self.new ≡ self.old) }
         ensures device { self.new.device ≡ self.old.device }
     {
-        let plan = live_removals::rmdir(alloc, &self.metadata, path)?;
-        self.carry_out(alloc, plan, None)?;
+        let planned = live_removals::rmdir(alloc, &self.metadata, &self.holdings, path)?;
+        self.carry_out(alloc, planned, None)?;
         Ok(())
     }
 }

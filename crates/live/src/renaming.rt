@@ -22,7 +22,7 @@ impl<D: Device> Live<D> {
         ensures device { self.new.device ≡ self.old.device }
     {
         let plan = live_renames::rename(alloc, &self.metadata, path, other)?;
-        self.carry_out(alloc, plan, None)?;
+        self.carry_out(alloc, plan.without_holds(alloc), None)?;
         Ok(())
     }
 }

@@ -1,5 +1,5 @@
 -- Why a path is not opened, and what opening it does.
-use Rattle.std.proofs.Common.{◌≡◌, ℕ, Bool, ◌&&◌, not, true, false, List, [], ◌∷◌, Option, Some, None, Result, Ok, Err, IsSome, inl, refl, sym, ap, ap₂, ◌∙◌, subst, slice_index_or}
+use Rattle.std.proofs.Common.{◌≡◌, ◌<◌, ℕ, Bool, ◌&&◌, not, true, false, List, [], ◌∷◌, Option, Some, None, Result, Ok, Err, IsTrue, IsFalse, IsSome, inl, refl, sym, ap, ap₂, ◌∙◌, subst, slice_index_or}
 use Rattle.std.specs.Prelude.{is_none, unwrap_or}
 use Rattle.std.specs.Option.{option_or}
 use Rattle.std.specs.Result.{result_err, result_unwrap_or}
@@ -11,8 +11,9 @@ use Rattle.model.specs.Layout.{Geometry, is_number}
 use Rattle.model.specs.Uses.{is_directory, is_directory_at, is_sound}
 use Rattle.model.specs.View.{View}
 use Rattle.machine.specs.Below.{any_below, first_of, when}
-use Rattle.machine.specs.Causes.{causes, not_file, refusal_of}
+use Rattle.machine.specs.Causes.{Accepts, causes, not_file, refusal_of}
 use Rattle.machine.specs.Command.{Number, Open}
+use Rattle.machine.specs.Effects.{Opens}
 use Rattle.machine.specs.Paths.{number_at, parts_of, target}
 use Rattle.machine.specs.State.{State, handle_count}
 use Rattle.machine.proofs.Decisions.{any_here, any_none}
@@ -20,7 +21,7 @@ use Rattle.frozen.specs.Kept.{Kept, KeepsMetadata, frozen_view}
 use Rattle.metadata.specs.Shown.{Shows}
 use Rattle.metadata.proofs.ShownLemmas.{shows_metadata}
 use Rattle.live_paths.specs.Shown.{IsShownBy}
-use Rattle.live_states.specs.Holdings.{Has, Holdings, opened_by}
+use Rattle.live_states.specs.Holdings.{Has, Holdings, going_on, held_by, opened_by}
 use Rattle.live_states.specs.Planned.{IsFirstCauseWith, IsQuietlyDone}
 use Rattle.live_holdings.specs.Handles.{IsFreeHandle, IsOpened, NoFreeHandle}
 

@@ -1,4 +1,5 @@
-ghost use Rattle.std.specs.Prelude.{◌≡◌, ◌≤◌, ◌∷◌, [], List, ℕ, IfErr, IfOk, IsTrue, length, take};
+ghost use Rattle.std.specs.Prelude.{◌≡◌, ◌≤◌, ◌⊎◌, ◌∷◌, [], List, ℕ, IfErr, IfOk, IsTrue, length, take};
+ghost use Rattle.layout.specs.declared.refusal.Refusal.TheVariants.{BadHandle, BadIndex};
 ghost use Rattle.machine.specs.Command.{Bytes, Read};
 ghost use Rattle.model.specs.Layout.{is_data_address};
 ghost use Rattle.live_states.specs.Planned.{IsFirstCauseWith, IsOfVolumeWith, IsQuietlyDone};
@@ -28,6 +29,7 @@ pub fn reading_of(
     ensures block { IfOk result (λ reading. IsTrue (is_data_address metadata.now.geometry reading.block) × (reading.length ≤ 1024)) }
     ensures reads { IfOk result (λ reading. (bytes : List ℕ) → length bytes ≡ 1024
         → IsQuietlyDone metadata.now holdings.now (record { address = reading.block; bytes = bytes } ∷ []) (Read handle index) (Bytes (take reading.length bytes)) holdings.now) }
+    ensures error { IfErr result (λ r. (r ≡ BadHandle) ⊎ (r ≡ BadIndex)) }
     ensures refused { IfErr result (IsFirstCauseWith metadata.now holdings.now (Read handle index)) }
 {
     let Some(file) = holdings.file_of(handle) else {

@@ -1,7 +1,9 @@
+mod BlockLemmas
 mod Firsts
 mod ListedLemmas
 mod LookupLemmas
 mod PartLemmas
 mod ScanLemmas
+mod SlotTests
 pub mod ShownLemmas
 pub mod WalkLemmas

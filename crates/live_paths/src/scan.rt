@@ -1,15 +1,19 @@
-ghost use Rattle.std.specs.Prelude.{◌≡◌, ℕ, ◌+◌, ◌*◌, ◌<◌, ◌≤◌, IfNone, IfSome};
+ghost use Rattle.std.specs.Prelude.{◌≡◌, ℕ, ◌+◌, ◌*◌, ◌/◌, ◌%◌, ◌<◌, ◌≤◌, ◌==◌, not, IsFalse, IsTrue, IfNone, IfSome};
+ghost use Rattle.std.specs.Option.{option_copied, option_map_or};
 ghost use Rattle.frozen.specs.Kept.{frozen_view};
 ghost use Rattle.dirent.specs.Seen.{seen};
 ghost use Rattle.machine.specs.Paths as machine;
 ghost use Rattle.machine.specs.Room as room;
 ghost use Rattle.model.specs.Reach.{slot_count};
 ghost use Rattle.model.specs.Slots as model;
-ghost use Rattle.model.specs.Uses.{indirect_position};
+ghost use Rattle.model.specs.Uses.{indirect_position, is_directory_at};
+ghost use Rattle.model.specs.View as view;
 ghost use Rattle.live_paths.specs.Sought.{is_sought, IsFirst, NoneIsSought};
 
-use dirent::{SLOTS, Slot, slot_in};
+use dirent::{NAME_BYTES, SLOT_BYTES, SLOTS, Slot, slot_in};
 use frozen::Frozen;
+use inode::Record;
+use layout::{Block, u32_at};
 
 /// The first slot of a directory behind its dots.
 pub(crate) const FIRST_NAME: u32 = 2;
@@ -40,8 +44,12 @@ pub(crate) fn first(frozen: &Frozen, directory: u32, sought: &Sought) -> Option<
     ensures found { IfSome result (IsFirst frozen.now directory sought.now 0 slot_count) }
     ensures none { IfNone result (NoneIsSought frozen.now directory sought.now 0 slot_count) }
 {
+    if !frozen.is_directory_at(directory) {
+        return None;
+    }
+    let inode = frozen.record(directory);
     for position in 0..block_count(frozen, directory) {
-        if let Some(entry) = first_in_block(frozen, directory, position, sought) {
+        if let Some(entry) = first_in_block(frozen, directory, &inode, position, sought) {
             return Some(entry);
         }
     }
@@ -59,34 +67,83 @@ pub(crate) fn block_count(frozen: &Frozen, directory: u32) -> u32
     frozen.record(directory).blocks()
 }
 
+/// The block of slots that a directory, of which this is the record, has at a position; `None` where it has none. It is
+/// the answer of `directory_block`, which would read the record anew.
+fn block_at<'a>(
+    frozen: &'a Frozen,
+    directory: u32,
+    inode: &Record,
+    position: u32,
+) -> Option<&'a Block>
+    requires directory { IsTrue (is_directory_at frozen.now.geometry (frozen_view frozen.now) directory) }
+    requires inode { (frozen_view frozen.now).inode directory ≡ inode.now }
+    requires position { position < indirect_position }
+    ensures slots { (s : ℕ) → s / 16 ≡ position → model.slot frozen.now.geometry (frozen_view frozen.now) directory s
+        ≡ option_map_or (λ block. model.slot_in frozen.now.geometry block s) (option_copied result) model.Absent }
+{
+    let address = frozen.use_of(inode, position)?;
+    if frozen.geometry().place_of(address).is_none() {
+        return None;
+    }
+    match frozen.block(address) {
+        Some(block) => Some(block),
+        None => frozen.directory_block(directory, position),
+    }
+}
+
 /// The first slot that is sought among those of a directory's block at this position. The block is read where it stands.
-fn first_in_block(frozen: &Frozen, directory: u32, position: u32, sought: &Sought) -> Option<Entry>
-    requires { position < indirect_position }
+fn first_in_block(
+    frozen: &Frozen,
+    directory: u32,
+    inode: &Record,
+    position: u32,
+    sought: &Sought,
+) -> Option<Entry>
+    requires directory { IsTrue (is_directory_at frozen.now.geometry (frozen_view frozen.now) directory) }
+    requires inode { (frozen_view frozen.now).inode directory ≡ inode.now }
+    requires position { position < indirect_position }
     ensures found { IfSome result (IsFirst frozen.now directory sought.now (16 * position) (16 * (position + 1))) }
     ensures none { IfNone result (NoneIsSought frozen.now directory sought.now (16 * position) (16 * (position + 1))) }
 {
-    let block = frozen.directory_block(directory, position)?;
+    let block = block_at(frozen, directory, inode, position)?;
     let start = position * SLOTS as u32;
     let inodes = frozen.geometry().inodes();
     for slot in start..start + SLOTS as u32 {
-        let content = slot_in(block, slot, inodes);
-        if is_met(sought, slot, &content) {
-            let number = number_in(&content);
+        if is_met(sought, block, slot, inodes) {
+            let number = number_in(&slot_in(block, slot, inodes));
             return Some(Entry { slot, number });
         }
     }
     None
 }
 
-/// Whether this slot of a directory, which says this, is sought.
-fn is_met(sought: &Sought, slot: u32, content: &Slot) -> bool
-    ensures { result ≡ is_sought sought.now slot (seen content.now) }
+/// Whether a slot of a directory is sought, by what stands in the block in which it stands. Most slots are told by a few
+/// of their bytes; one that may be sought is read whole.
+fn is_met(sought: &Sought, block: &Block, slot: u32, inodes: u32) -> bool
+    ensures { result ≡ is_sought sought.now slot (model.slot_of inodes block.now slot) }
 {
     match sought {
-        Sought::Name(name) => has_name(content, name),
-        Sought::Room => is_empty(content),
-        Sought::AnyName => FIRST_NAME <= slot && number_in(content) != 0,
+        Sought::Name(name) => {
+            may_have_name(block, slot, name) && has_name(&slot_in(block, slot, inodes), name)
+        }
+        Sought::Room => is_empty(block, slot),
+        Sought::AnyName => FIRST_NAME <= slot && is_named(block, slot, inodes),
     }
+}
+
+/// Whether a slot holds the bytes of this name, and their number. Where it does not, the slot is no entry of this name.
+fn may_have_name(block: &Block, slot: u32, name: &[u8]) -> bool
+    ensures { IsFalse result → (inodes : ℕ) → IsFalse (machine.has_name (model.slot_of inodes block.now slot) name.now) }
+{
+    let start = SLOT_BYTES * (slot as usize % SLOTS);
+    let length = block[start + 4] as usize;
+    if length != name.len() || length == 0 || length > NAME_BYTES {
+        return false;
+    }
+    if block[start + 7 + length] != name[length - 1] {
+        return false;
+    }
+    &block[start + 8..start + 8 + length] == name
 }
 
 /// Whether a slot is an entry of this name.
@@ -100,10 +157,24 @@ fn has_name(content: &Slot, name: &[u8]) -> bool
 }
 
 /// Whether a slot is empty.
-fn is_empty(content: &Slot) -> bool
-    ensures { result ≡ room.is_empty (seen content.now) }
+fn is_empty(block: &Block, slot: u32) -> bool
+    ensures { (inodes : ℕ) → result ≡ room.is_empty (model.slot_of inodes block.now slot) }
 {
-    matches!(content, Slot::Empty)
+    first_number(block, slot) == 0
+}
+
+/// Whether a slot is an entry.
+fn is_named(block: &Block, slot: u32, inodes: u32) -> bool
+    ensures { result ≡ not (model.number_in (model.slot_of inodes block.now slot) == 0) }
+{
+    first_number(block, slot) != 0 && number_in(&slot_in(block, slot, inodes)) != 0
+}
+
+/// The number that stands in a slot, whether or not the slot is an entry.
+fn first_number(block: &Block, slot: u32) -> u32
+    ensures { result ≡ view.u32_at block.now (64 * (slot % 16)) }
+{
+    u32_at(block, SLOT_BYTES * (slot as usize % SLOTS))
 }
 
 /// The number that a slot names, 0 where it names none.

@@ -1,4 +1,4 @@
 mod ChoiceLemmas
-mod FreeCounts
+pub mod FreeCounts
 mod RoomLemmas
-mod ShownLemmas
+pub mod ShownLemmas

@@ -20,3 +20,4 @@ mod taking;
 mod tests;
 
 pub use choosing::{Place, Places, choose};
+pub use taking::take;

@@ -8,7 +8,7 @@ use layout::Refusal;
 use metadata::Metadata;
 
 /// The least data block from an address on that may be given out; `NoBlock` where there is none.
-pub(crate) fn take(metadata: &Metadata, from: u32) -> Result<u32, Refusal>
+pub fn take(metadata: &Metadata, from: u32) -> Result<u32, Refusal>
     ensures taken { IfOk result (IsTaken metadata.now.geometry (frozen_view metadata.now) from) }
     ensures none { IfErr result (λ r. (r ≡ NoBlock) × (unmarked_blocks metadata.now.geometry (frozen_view metadata.now) ≤ free_below metadata.now.geometry (frozen_view metadata.now) from)) }
 {

@@ -1,8 +1,8 @@
 ghost use Rattle.std.specs.Prelude.{◌≡◌, ◌≤◌, ◌<◌, ◌∷◌, ◌++◌, ℕ, IsSome, IsTrue, List, OnOk, length, map};
 ghost use Rattle.std.specs.List.{All, Contains};
 ghost use Rattle.frozen.specs.Kept.{frozen_view};
-ghost use Rattle.model.specs.Layout.{is_data_address};
-ghost use Rattle.model.specs.Uses.{IsClaim, indirect_position, is_directory_at};
+ghost use Rattle.model.specs.Layout.{is_data_address, is_number};
+ghost use Rattle.model.specs.Uses.{IsClaim, claim_at, indirect_position, is_directory_at};
 ghost use Rattle.model.specs.View.{View};
 ghost use Rattle.machine.specs.Cells.{IsEntryFor};
 ghost use Rattle.metadata.specs.Shown.{Shows};
@@ -14,6 +14,8 @@ ghost use Rattle.live_states.specs.Drafts.{GoesOn};
 
 use crate::Plan;
 use dirent::{SLOT_BYTES, SLOTS, replace};
+use frozen::Frozen;
+use inode::Record;
 use layout::Block;
 use metadata::Metadata;
 use std::alloc::{AllocError, Global};
@@ -70,15 +72,27 @@ pub fn add_blocks(
     ensures cells { OnOk result (All (IsCell metadata.now.geometry) (map cell cells.old.items) → All (IsCell metadata.now.geometry) (map cell cells.new.items)) }
 {
     let frozen = metadata.frozen();
-    let count = if frozen.is_sound_at(directory) {
-        frozen.record(directory).blocks()
-    } else {
-        0
-    };
-    for position in 0..count {
-        if let Some(block) = frozen.claim_at(directory, position) {
+    if !frozen.is_sound_at(directory) {
+        return Ok(());
+    }
+    let inode = frozen.record(directory);
+    for position in 0..inode.blocks() {
+        if let Some(block) = claim_of(frozen, &inode, position) {
             cells.push(Cell::Block(block))?;
         }
     }
     Ok(())
+}
+
+/// The block that the inodes of this record claim at a position, as `Frozen::claim_at` has it.
+fn claim_of(frozen: &Frozen, inode: &Record, position: u32) -> Option<u32>
+    ensures { (i : ℕ) → IsTrue (is_number frozen.now.geometry i) → (frozen_view frozen.now).inode i ≡ inode.now
+        → result ≡ claim_at frozen.now.geometry (frozen_view frozen.now) i position }
+{
+    let address = frozen.use_of(inode, position)?;
+    if frozen.geometry().place_of(address).is_some() {
+        Some(address)
+    } else {
+        None
+    }
 }

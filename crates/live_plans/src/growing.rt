@@ -57,7 +57,7 @@ pub(crate) fn grow(
 }
 
 /// Adds the updates that mark a block and then fill it.
-fn fill(alloc: Global, plan: &mut Plan, block: u32, bytes: &Block) -> Result<(), AllocError>
+pub fn fill(alloc: Global, plan: &mut Plan, block: u32, bytes: &Block) -> Result<(), AllocError>
     requires { IsTrue (is_data_address plan.old.geometry block) }
     ensures { OnOk result (GoesOn plan.old plan.new (filled block bytes.now)) }
 {
@@ -92,7 +92,8 @@ fn point(
     match table {
         None => {
             let pointers = bytes_of(metadata, directory, INDIRECT_POSITION, parent.indirect);
-            point_behind(alloc, plan, directory, parent, block, pointers)?;
+            let position = parent.blocks();
+            point_at(alloc, plan, directory, parent, position, block, pointers)?;
             Ok(parent.indirect)
         }
         Some(table) => {
@@ -102,47 +103,44 @@ fn point(
     }
 }
 
-/// Adds the update that puts the pointer to a new block behind the others in the indirect block of a directory, which
-/// holds these.
-fn point_behind(
+/// Adds the update that puts the pointer to a new block of an inode with this record into its indirect block, at this
+/// position. The indirect block holds these pointers.
+pub fn point_at(
     alloc: Global,
     plan: &mut Plan,
-    directory: u32,
-    parent: &Record,
+    number: u32,
+    owner: &Record,
+    position: u32,
     block: u32,
     pointers: &Block,
 ) -> Result<(), AllocError>
-    requires directory { IsTrue (is_number plan.old.geometry directory) }
+    requires number { IsTrue (is_number plan.old.geometry number) }
     requires block { IsTrue (is_data_address plan.old.geometry block) }
-    requires indirect { IsTrue (is_data_address plan.old.geometry parent.now.indirect) }
-    requires past { direct_positions ≤ blocks_of parent.now.size }
-    requires room { blocks_of parent.now.size < indirect_position }
-    ensures { OnOk result (GoesOn plan.old plan.new (linked directory parent.now (blocks_of parent.now.size) block (InTable pointers.now))) }
+    requires indirect { IsTrue (is_data_address plan.old.geometry owner.now.indirect) }
+    requires past { direct_positions ≤ position }
+    requires room { position < indirect_position }
+    ensures { OnOk result (GoesOn plan.old plan.new (linked number owner.now position block (InTable pointers.now))) }
 {
     let mut pointers = *pointers;
-    put_pointer(
-        &mut pointers,
-        parent.blocks() as usize - DIRECT_POINTERS,
-        block,
-    );
+    put_pointer(&mut pointers, position as usize - DIRECT_POINTERS, block);
     let bytes = Box::new(alloc, pointers)?;
-    let after = vec![in alloc; Cell::Block(block), Cell::Record(directory)]?;
-    plan.push(Change::SetBytes(parent.indirect, bytes), after)
+    let after = vec![in alloc; Cell::Block(block), Cell::Record(number)]?;
+    plan.push(Change::SetBytes(owner.indirect, bytes), after)
 }
 
-/// Adds the updates that mark a new indirect block of a directory, and put the pointer to a new block into it.
-fn point_first(
+/// Adds the updates that mark a new indirect block of an inode, and put the pointer to a new block into it.
+pub fn point_first(
     alloc: Global,
     plan: &mut Plan,
-    directory: u32,
-    parent: &Record,
+    number: u32,
+    owner: &Record,
     block: u32,
     table: u32,
 ) -> Result<(), AllocError>
-    requires directory { IsTrue (is_number plan.old.geometry directory) }
+    requires number { IsTrue (is_number plan.old.geometry number) }
     requires block { IsTrue (is_data_address plan.old.geometry block) }
     requires table { IsTrue (is_data_address plan.old.geometry table) }
-    ensures { OnOk result (GoesOn plan.old plan.new (linked directory parent.now (blocks_of parent.now.size) block (InNewTable table (with_pointer (replicate 1024 0) 0 block)))) }
+    ensures { OnOk result (GoesOn plan.old plan.new (linked number owner.now (blocks_of owner.now.size) block (InNewTable table (with_pointer (replicate 1024 0) 0 block)))) }
 {
     plan.push(Change::SetBlock(table, true), Vec::new(alloc))?;
     let mut pointers = [0; BLOCK_BYTES];
@@ -151,7 +149,7 @@ fn point_first(
     let after = vec![in alloc;
         Cell::BlockBit(table),
         Cell::Block(block),
-        Cell::Record(directory),
+        Cell::Record(number),
     ]?;
     plan.push(Change::SetBytes(table, bytes), after)
 }

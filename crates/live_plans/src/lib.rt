@@ -15,5 +15,6 @@ mod tests;
 
 pub use entering::{NewEntry, enter};
 pub use entries::{add_blocks, bytes_of, entry, put_slot};
+pub use growing::{fill, point_at, point_first};
 pub use locating::{Found, locate};
 pub use plan::{Plan, Planned};

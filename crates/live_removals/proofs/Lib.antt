@@ -2,6 +2,7 @@ mod Clearing
 mod Given
 mod Leaving
 mod Naming
+mod OpenFiles
 mod Refusals
 mod Removals
 mod Showing

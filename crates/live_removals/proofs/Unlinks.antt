@@ -1,8 +1,8 @@
 -- The updates of an unlink carry it out.
-use Rattle.std.proofs.Common.{◌≡◌, ◌<◌, ◌≤◌, ◌-◌, ◌⊎◌, ℕ, Bool, true, false, List, ◌∷◌, [], None, Some, refl, sym, ap, ◌∙◌, subst, arith, IsFalse, IsTrue}
-use Rattle.model.specs.Layout.{Geometry}
+use Rattle.std.proofs.Common.{◌≡◌, ◌<◌, ◌≤◌, ◌-◌, ◌⊎◌, ℕ, Bool, true, false, List, ◌∷◌, [], length, Some, refl, sym, ap, ◌∙◌, subst, arith, IsFalse, IsTrue}
+use Rattle.model.specs.Layout.{Geometry, block_count}
 use Rattle.model.specs.Rules.{ObeysRules}
-use Rattle.model.specs.View.{Inode, View}
+use Rattle.model.specs.View.{Inode, View, free_inode}
 use Rattle.model.proofs.Finite.{entries_exist}
 use Rattle.ordering.specs.Cuts.{Block, Pending, users_view}
 use Rattle.machine.specs.Causes.{Accepts}
@@ -24,16 +24,16 @@ use Rattle.metadata.specs.Shown.{Shows}
 use Rattle.metadata.proofs.ShownLemmas.{shows_metadata}
 use Rattle.live_paths.specs.Shown.{IsShownBy}
 use Rattle.live_states.specs.Drafts.{Draft, over}
-use Rattle.live_states.specs.Holdings.{Has, Holdings, is_open_by}
+use Rattle.live_states.specs.Holdings.{Has, Holdings, going_on, held_by, is_open_by, with_held}
 use Rattle.live_states.specs.Planned.{IsOfVolume, IsPlannedWith, safe_after}
-use Rattle.live_states.proofs.Standing.{as_it_was, not_kept, same_open}
+use Rattle.live_states.proofs.Standing.{same_open}
 use Rattle.live_plans.specs.declared.locating.Found.{Found}
-use Rattle.live_removals.specs.Blocks.{claimed}
+use Rattle.live_removals.specs.Blocks.{freed, held_back}
 use Rattle.live_removals.specs.Entries.{IsFileAt}
 use Rattle.live_removals.specs.Links.{Goes, LosesLinks, Stays}
 use Rattle.live_removals.specs.Removed.{Leaves, Unlinked, Unnamed}
-use Rattle.live_removals.proofs.Given.{claimed_are_given_up, held_as_before}
-use Rattle.live_removals.proofs.Leaving.{MayGo, done_as, goes_closed, leaves_file, leaves_geometry, stays_linked, stays_open}
+use Rattle.live_removals.proofs.Given.{free_is_cut, freed_are_given_up, held_now}
+use Rattle.live_removals.proofs.Leaving.{done_as, goes_closed, leaves_file, leaves_geometry, stays_linked, stays_open}
 use Rattle.live_removals.proofs.Refusals.{file_accepted, unlink_refusal}
 use Rattle.live_removals.proofs.Volumes.{OnVolume, on_volume}
 
@@ -42,7 +42,7 @@ abbrev pub StaysOrGoes : Type 0
 StaysOrGoes = (geo : Geometry) (old : State) → ObeysRules geo old.view → (i d s block : ℕ) (name : List ℕ) → CanUnlink geo old.view i d s block name
     → StaysWith old i ((old.view.inode i).links - 1) ⊎ (((old.view.inode i).links ≡ 1) × IsFalse (is_open old i))
 
-module _ (decided : StaysOrGoes) (kept : Kept) (path : List ℕ) (found : Found) (disk : View) (q : List Pending) (old : State) (on : OnVolume kept path found disk q old) where
+module _ (decided : StaysOrGoes) (kept : Kept) (holdings : Holdings) (path : List ℕ) (found : Found) (disk : View) (q : List Pending) (old : State) (on : OnVolume kept path found disk q old) where
   abbrev view : View
   view = users_view disk q
 
@@ -53,55 +53,64 @@ module _ (decided : StaysOrGoes) (kept : Kept) (path : List ℕ) (found : Found)
       ∙ ap (λ b. unlinking found.number (view.inode found.number) b (view.bytes b) (slot_at kept.geometry view path) q) on.block
       ∙ ap (λ s. unlinking found.number (view.inode found.number) found.block (view.bytes found.block) s q) on.slot
 
-  going : unlink_plan_last kept.geometry view path (claimed kept.geometry view (number_at kept.geometry view path)) q
-      ≡ freeing found.number (claimed kept.geometry view found.number) (Block found.block ∷ []) (slot_written found.block (view.bytes found.block) found.slot no_entry [] ∷ q)
+  going : unlink_plan_last kept.geometry view path (freed kept.geometry view holdings (number_at kept.geometry view path) 0) q
+      ≡ freeing found.number (freed kept.geometry view holdings found.number 0) (Block found.block ∷ []) (slot_written found.block (view.bytes found.block) found.slot no_entry [] ∷ q)
   going =
-      ap (λ n. unlinking_last n (claimed kept.geometry view n) (entry_block kept.geometry view path) (view.bytes (entry_block kept.geometry view path)) (slot_at kept.geometry view path) q) on.number
-      ∙ ap (λ b. unlinking_last found.number (claimed kept.geometry view found.number) b (view.bytes b) (slot_at kept.geometry view path) q) on.block
-      ∙ ap (λ s. unlinking_last found.number (claimed kept.geometry view found.number) found.block (view.bytes found.block) s q) on.slot
+      ap (λ n. unlinking_last n (freed kept.geometry view holdings n 0) (entry_block kept.geometry view path) (view.bytes (entry_block kept.geometry view path)) (slot_at kept.geometry view path) q) on.number
+      ∙ ap (λ b. unlinking_last found.number (freed kept.geometry view holdings found.number 0) b (view.bytes b) (slot_at kept.geometry view path) q) on.block
+      ∙ ap (λ s. unlinking_last found.number (freed kept.geometry view holdings found.number 0) found.block (view.bytes found.block) s q) on.slot
 
-  module _ (safe : ℕ → Bool) (stands : Stands kept.geometry disk q old safe) (may : MayGo old found.number) (accepts : Accepts kept.geometry (now disk q old) (Unlink path)) (draft : Draft) (leaves : Leaves kept.geometry view found 1 [] draft) where
-    done_by : LosesLinks kept.geometry view found.number 1 found.block leaves.emptied draft
-        → IsDoneBy kept.geometry disk q old safe (Unlink path) Done draft.file (over q draft.updates) (now disk (over q draft.updates) old) (safe_but (number_at kept.geometry view path) safe)
-    done_by (Stays more goes) =
+  module _ (safe : ℕ → Bool) (stands : Stands kept.geometry disk q old safe) (has : Has holdings old) (wide : block_count kept.geometry ≤ length holdings.held) (closed : IsFalse (is_open old found.number))
+      (accepts : Accepts kept.geometry (now disk q old) (Unlink path)) (draft : Draft) (holds : List ℕ) (leaves : Leaves kept.geometry view holdings found 1 [] draft holds) where
+    abbrev Then : Type 0
+    Then = IsDoneBy kept.geometry disk q old safe (Unlink path) Done draft.file (over q draft.updates) (going_on old (with_held holdings holds) (users_view disk (over q draft.updates))) (safe_but (number_at kept.geometry view path) safe)
+
+    done_by : LosesLinks kept.geometry view holdings found.number 1 found.block leaves.emptied draft holds → Then
+    done_by (Stays more goes none) =
         let n = number_at kept.geometry view path in
-        done_as kept.geometry disk q old safe (Unlink path) n draft.file (unlink_plan kept.geometry view path q) (over q draft.updates) old.held (safe_but n safe) (safe_but n safe)
-        (on.number ∙ sym (leaves_file kept.geometry view found 1 [] draft leaves))
+        done_as kept.geometry disk q old safe (Unlink path) n draft.file (unlink_plan kept.geometry view path q) (over q draft.updates) old.opened old.held (safe_but n safe) (safe_but n safe) (with_held holdings holds)
+        (on.number ∙ sym (leaves_file kept.geometry view holdings found 1 [] draft holds leaves))
         (staying ∙ sym (goes.pending q ∙ ap (lowered found.number (view.inode found.number) 1 found.block) (leaves.empties.pending q)))
-        refl refl
+        has.opened (has.held ∙ ap (λ (bs : List ℕ). held_by (with_held holdings bs)) (sym none)) refl
         (UnlinksName path (stays_linked old n (view.inode n).links 1 (subst (λ m. 1 < (view.inode m).links) (sym on.number) more)))
-    done_by (Goes few goes) =
+    done_by (Goes few goes held) =
         let n = number_at kept.geometry view path in
         let st = now disk q old in
+        let st_has : Has holdings st = record { opened = has.opened; held = has.held; frozen = has.frozen } in
         let can = accepted_unlink kept.geometry st on.balance stands.geometry path accepts in
-        let last = goes_closed st n (view.inode n).links 1 (subst (λ m. (view.inode m).links ≤ 1) (sym on.number) few) (subst (λ m. IsFalse (is_open old m)) (sym on.number) may.closed)
+        let last = goes_closed st n (view.inode n).links 1 (subst (λ m. (view.inode m).links ≤ 1) (sym on.number) few) (subst (λ m. IsFalse (is_open old m)) (sym on.number) closed)
         (decided kept.geometry st on.balance.rules n (holder kept.geometry view path) (slot_at kept.geometry view path) (entry_block kept.geometry view path) (name_in path) can) in
-        done_as kept.geometry disk q old safe (Unlink path) n draft.file (unlink_plan_last kept.geometry view path (claimed kept.geometry view n) q) (over q draft.updates) _ (safe_but n safe) (safe_but n safe)
-        (on.number ∙ sym (leaves_file kept.geometry view found 1 [] draft leaves))
-        (going ∙ sym (goes.pending q ∙ ap (freeing found.number (claimed kept.geometry view found.number) (Block found.block ∷ [])) (leaves.empties.pending q)))
-        (held_as_before kept.geometry st n may.free) refl
-        (UnlinksFile path (claimed kept.geometry view n) last.0 (record { closed = last.1; given_up = claimed_are_given_up kept.geometry st n may.free }))
+        let cut = free_is_cut kept.geometry (view.inode n) in
+        done_as kept.geometry disk q old safe (Unlink path) n draft.file (unlink_plan_last kept.geometry view path (freed kept.geometry view holdings n 0) q) (over q draft.updates) old.opened _ (safe_but n safe) (safe_but n safe) (with_held holdings holds)
+        (on.number ∙ sym (leaves_file kept.geometry view holdings found 1 [] draft holds leaves))
+        (going ∙ sym (goes.pending q ∙ ap (freeing found.number (freed kept.geometry view holdings found.number 0) (Block found.block ∷ [])) (leaves.empties.pending q)))
+        has.opened
+        (held_now kept.geometry st holdings st_has n free_inode 0 cut on.balance.rules wide holdings refl
+        ∙ ap (λ (bs : List ℕ). held_by (with_held holdings bs)) (ap (λ m. held_back kept.geometry view holdings m 0) on.number ∙ sym held))
+        refl
+        (UnlinksFile path (freed kept.geometry view holdings n 0) last.0 (record { closed = last.1; given_up = freed_are_given_up kept.geometry st holdings st_has n free_inode 0 cut }))
 
-    pub unlink_done : IsDoneBy kept.geometry disk q old safe (Unlink path) Done draft.file (over q draft.updates) (now disk (over q draft.updates) old) (safe_after kept.geometry old.view (Unlink path) safe)
+    pub unlink_done : IsDoneBy kept.geometry disk q old safe (Unlink path) Done draft.file (over q draft.updates) (going_on old (with_held holdings holds) (users_view disk (over q draft.updates)))
+        (safe_after kept.geometry old.view (Unlink path) safe)
     unlink_done =
-        subst (λ v. IsDoneBy kept.geometry disk q old safe (Unlink path) Done draft.file (over q draft.updates) (now disk (over q draft.updates) old) (safe_but (number_at kept.geometry v path) safe)) stands.same
+        subst (λ v. IsDoneBy kept.geometry disk q old safe (Unlink path) Done draft.file (over q draft.updates) (going_on old (with_held holdings holds) (users_view disk (over q draft.updates))) (safe_but (number_at kept.geometry v path) safe)) stands.same
         (done_by leaves.loses)
 
 -- a file that is open loses its name
-module _ (decided : StaysOrGoes) (kept : Kept) (path : List ℕ) (found : Found) (disk : View) (q : List Pending) (old : State) (safe : ℕ → Bool) (stands : Stands kept.geometry disk q old safe)
+module _ (decided : StaysOrGoes) (kept : Kept) (holdings : Holdings) (path : List ℕ) (found : Found) (disk : View) (q : List Pending) (old : State) (safe : ℕ → Bool) (stands : Stands kept.geometry disk q old safe) (has : Has holdings old)
     (on : OnVolume kept path found disk q old) (open_now : IsTrue (is_open old found.number)) (draft : Draft) (unnamed : Unnamed kept.geometry (users_view disk q) found draft) where
-  pub unnamed_done : IsDoneBy kept.geometry disk q old safe (Unlink path) Done draft.file (over q draft.updates) (now disk (over q draft.updates) old) (safe_after kept.geometry old.view (Unlink path) safe)
+  pub unnamed_done : IsDoneBy kept.geometry disk q old safe (Unlink path) Done draft.file (over q draft.updates) (going_on old holdings (users_view disk (over q draft.updates))) (safe_after kept.geometry old.view (Unlink path) safe)
   unnamed_done =
       let view = users_view disk q in
       let n = number_at kept.geometry view path in
-      subst (λ v. IsDoneBy kept.geometry disk q old safe (Unlink path) Done draft.file (over q draft.updates) (now disk (over q draft.updates) old) (safe_but (number_at kept.geometry v path) safe)) stands.same
-      (done_as kept.geometry disk q old safe (Unlink path) n draft.file (unlink_plan kept.geometry view path q) (over q draft.updates) old.held (safe_but n safe) (safe_but n safe)
+      subst (λ v. IsDoneBy kept.geometry disk q old safe (Unlink path) Done draft.file (over q draft.updates) (going_on old holdings (users_view disk (over q draft.updates))) (safe_but (number_at kept.geometry v path) safe)) stands.same
+      (done_as kept.geometry disk q old safe (Unlink path) n draft.file (unlink_plan kept.geometry view path q) (over q draft.updates) old.opened old.held (safe_but n safe) (safe_but n safe) holdings
       (on.number ∙ sym (unnamed.lowers.file ∙ unnamed.empties.file))
-      (staying decided kept path found disk q old on ∙ sym (unnamed.lowers.pending q ∙ ap (lowered found.number (view.inode found.number) 1 found.block) (unnamed.empties.pending q)))
-      refl refl
+      (staying decided kept holdings path found disk q old on ∙ sym (unnamed.lowers.pending q ∙ ap (lowered found.number (view.inode found.number) 1 found.block) (unnamed.empties.pending q)))
+      has.opened has.held refl
       (UnlinksName path (stays_open old n ((view.inode n).links - 1) (subst (λ m. IsTrue (is_open old m)) (sym on.number) open_now))))
 
-module _ (kept : Kept) (holdings : Holdings) (none : holdings.snapshot ≡ None) (path : List ℕ) (ps : List (List ℕ)) (found : Found) (draft : Draft) (keeps : KeepsMetadata kept) (volume : IsOfVolume kept)
+module _ (kept : Kept) (holdings : Holdings) (path : List ℕ) (ps : List (List ℕ)) (found : Found) (draft : Draft) (keeps : KeepsMetadata kept) (volume : IsOfVolume kept)
     (is : parts_of path ≡ Some ps) (at : (view : View) → IsShownBy kept view → IsFileAt kept.geometry view ps found) where
   accepted : (old : State) → Shows kept old.view → Accepts kept.geometry old (Unlink path)
   accepted old shows = (unlink_refusal kept.geometry old path ps is ∙ file_accepted kept.geometry old.view ps found (at old.view (shows_metadata kept old.view keeps shows)), tt)
@@ -110,33 +119,26 @@ module _ (kept : Kept) (holdings : Holdings) (none : holdings.snapshot ≡ None)
   there : (disk : View) (q : List Pending) (old : State) (safe : ℕ → Bool) → Stands kept.geometry disk q old safe → Shows kept old.view → OnVolume kept path found disk q old
   there = on_volume kept path ps found keeps is (λ view shown. (at view shown).at)
 
-  -- what is open or held stays so
-  planned_so : draft.geometry ≡ kept.geometry
-      → ((disk : View) (q : List Pending) (old : State) (safe : ℕ → Bool) → Stands kept.geometry disk q old safe → Shows kept old.view → Has holdings old
-      → IsDoneBy kept.geometry disk q old safe (Unlink path) Done draft.file (over q draft.updates) (now disk (over q draft.updates) old) (safe_after kept.geometry old.view (Unlink path) safe))
-      → IsPlannedWith kept holdings [] (Unlink path) Done draft holdings
-  planned_so geometry done = record {
-    geometry = geometry;
+  pub unlink_planned : StaysOrGoes → block_count kept.geometry ≤ length holdings.held → is_open_by holdings found.number ≡ false → (holds : List ℕ) → ((view : View) → Shows kept view → Unlinked kept.geometry view holdings found draft holds)
+      → IsPlannedWith kept holdings [] (Unlink path) Done draft (with_held holdings holds)
+  unlink_planned decided wide closed holds unlinked = record {
+    geometry = leaves_geometry kept.geometry volume.old.view holdings found 1 [] draft holds (unlinked volume.old.view volume.shows);
     snapshot = refl;
     accepted = λ old shows has. accepted old shows;
     done = λ disk q old safe stands shows has sees.
-        subst (λ new. IsDoneBy kept.geometry disk q old safe (Unlink path) Done draft.file (over q draft.updates) new (safe_after kept.geometry old.view (Unlink path) safe))
-        (as_it_was old holdings (users_view disk (over q draft.updates)) has) (done disk q old safe stands shows has);
+        let on = there disk q old safe stands shows in
+        unlink_done decided kept holdings path found disk q old on safe stands has wide (same_open holdings old has found.number ∙ closed) (accepted (now disk q old) on.seen) draft holds (unlinked (users_view disk q) on.seen);
   }
 
-  pub unlink_planned : StaysOrGoes → is_open_by holdings found.number ≡ false → ((view : View) → Shows kept view → Unlinked kept.geometry view found draft) → IsPlannedWith kept holdings [] (Unlink path) Done draft holdings
-  unlink_planned decided closed unlinked =
-      planned_so (leaves_geometry kept.geometry volume.old.view found 1 [] draft (unlinked volume.old.view volume.shows)) (λ disk q old safe stands shows has.
-      let on = there disk q old safe stands shows in
-      unlink_done decided kept path found disk q old on safe stands
-      (record { closed = same_open holdings old has found.number ∙ closed; free = not_kept holdings old none has })
-      (accepted (now disk q old) on.seen) draft (unlinked (users_view disk q) on.seen))
-
   pub unnamed_planned : StaysOrGoes → is_open_by holdings found.number ≡ true → ((view : View) → Shows kept view → Unnamed kept.geometry view found draft) → IsPlannedWith kept holdings [] (Unlink path) Done draft holdings
-  unnamed_planned decided open_now unnamed =
-      planned_so (let u = unnamed volume.old.view volume.shows in u.lowers.geometry ∙ u.empties.geometry) (λ disk q old safe stands shows has.
-      let on = there disk q old safe stands shows in
-      unnamed_done decided kept path found disk q old safe stands on (same_open holdings old has found.number ∙ open_now) draft (unnamed (users_view disk q) on.seen))
+  unnamed_planned decided open_now unnamed = record {
+    geometry = let u = unnamed volume.old.view volume.shows in u.lowers.geometry ∙ u.empties.geometry;
+    snapshot = refl;
+    accepted = λ old shows has. accepted old shows;
+    done = λ disk q old safe stands shows has sees.
+        let on = there disk q old safe stands shows in
+        unnamed_done decided kept holdings path found disk q old safe stands has on (same_open holdings old has found.number ∙ open_now) draft (unnamed (users_view disk q) on.seen);
+  }
 
 -- the file has a link
 pub file_linked : (kept : Kept) (path : List ℕ) (ps : List (List ℕ)) (found : Found) → KeepsMetadata kept → IsOfVolume kept → parts_of path ≡ Some ps → ((view : View) → IsShownBy kept view → IsFileAt kept.geometry view ps found)

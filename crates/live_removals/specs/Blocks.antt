@@ -1,15 +1,43 @@
--- The blocks that an inode claims.
-use Rattle.std.specs.Prelude.{ℕ, ◌+◌, List, is_some}
+-- The blocks that an inode gives up where so many of its blocks are left.
+use Rattle.std.specs.Prelude.{ℕ, ◌+◌, Bool, not, ◌&&◌, List, [], ◌∷◌, is_some, nat_lt, if◌then◌else◌}
 use Rattle.findings.specs.Numbers.{found_below}
 use Rattle.model.specs.Layout.{Geometry}
 use Rattle.model.specs.View.{View}
-use Rattle.model.specs.Uses.{claim_at, indirect_position}
+use Rattle.model.specs.Uses.{claim_at, direct_positions, indirect_position}
 use Rattle.machine.specs.Cells.{block_of}
+use Rattle.live_states.specs.Holdings.{Holdings, is_kept_by}
 
--- at the positions below this one, in their order
-abbrev pub claimed_below : Geometry → View → ℕ → ℕ → List ℕ
-claimed_below geo view n end = found_below (λ k. is_some (claim_at geo view n k)) (block_of geo view n) end
+-- whether an inode with so many blocks left uses a position: one below them, or the indirect pointer where they are more than the direct ones
+abbrev pub stays : ℕ → ℕ → Bool
+stays left k = if nat_lt k indirect_position then nat_lt k left else nat_lt direct_positions left
 
--- at all positions, the indirect block's the last
-abbrev pub claimed : Geometry → View → ℕ → List ℕ
-claimed geo view n = claimed_below geo view n (indirect_position + 1)
+-- n claims a block of this kind at position k
+abbrev pub is_claimed_at : (ℕ → Bool) → Geometry → View → ℕ → ℕ → Bool
+is_claimed_at which geo view n k = is_some (claim_at geo view n k) && which (block_of geo view n k)
+
+-- and that block, if it does
+abbrev pub claimed_at : (ℕ → Bool) → Geometry → View → ℕ → ℕ → List ℕ
+claimed_at which geo view n k = if is_claimed_at which geo view n k then block_of geo view n k ∷ [] else []
+
+-- and does not stay there
+abbrev pub goes_at : (ℕ → Bool) → Geometry → View → ℕ → ℕ → ℕ → Bool
+goes_at which geo view n left k = is_some (claim_at geo view n k) && not (stays left k) && which (block_of geo view n k)
+
+-- the blocks of this kind that go at the positions below this one, in their order
+abbrev pub gone_below : (ℕ → Bool) → Geometry → View → ℕ → ℕ → ℕ → List ℕ
+gone_below which geo view n left end = found_below (goes_at which geo view n left) (block_of geo view n) end
+
+-- and at all positions, the indirect block the last
+abbrev pub gone : (ℕ → Bool) → Geometry → View → ℕ → ℕ → List ℕ
+gone which geo view n left = gone_below which geo view n left (indirect_position + 1)
+
+-- a block that the snapshot does not keep
+abbrev pub is_loose : Holdings → ℕ → Bool
+is_loose holdings a = not (is_kept_by holdings a)
+
+-- what is freed, and what the snapshot keeps, so that it is held
+abbrev pub freed : Geometry → View → Holdings → ℕ → ℕ → List ℕ
+freed geo view holdings n left = gone (is_loose holdings) geo view n left
+
+abbrev pub held_back : Geometry → View → Holdings → ℕ → ℕ → List ℕ
+held_back geo view holdings n left = gone (is_kept_by holdings) geo view n left

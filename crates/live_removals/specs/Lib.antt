@@ -2,3 +2,4 @@ pub mod Blocks
 pub mod Entries
 pub mod Links
 pub mod Removed
+pub mod Shortened

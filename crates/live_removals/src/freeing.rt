@@ -1,4 +1,4 @@
-ghost use Rattle.std.specs.Prelude.{◌≡◌, ◌∷◌, [], ◌<◌, ◌≤◌, IfOk, IsTrue, OnOk, map};
+ghost use Rattle.std.specs.Prelude.{◌≡◌, ◌∷◌, ◌++◌, ◌<◌, ◌≤◌, [], IfOk, IsTrue, OnOk, map};
 ghost use Rattle.std.specs.List.{All};
 ghost use Rattle.frozen.specs.Kept.{frozen_view};
 ghost use Rattle.metadata.specs.Shown.{Shows};
@@ -11,13 +11,15 @@ ghost use Rattle.plans_naming.specs.Unlink.{lowered};
 ghost use Rattle.updates.specs.Places.{IsCell};
 ghost use Rattle.updates.specs.Values.{cell};
 ghost use Rattle.live_states.specs.Drafts.{GoesOn};
-ghost use Rattle.live_removals.specs.Blocks.{claimed};
+ghost use Rattle.live_states.specs.Holdings.{is_kept_by};
+ghost use Rattle.live_removals.specs.Blocks.{claimed_at, freed, held_back, is_loose};
 ghost use Rattle.live_removals.specs.Links.{LosesLinks};
 ghost use Rattle.live_removals.specs.Entries.{IsEntry};
 
 use dirent::{SLOT_BYTES, SLOTS};
 use frozen::Frozen;
 use inode::{DIRECT_POINTERS, FREE, INDIRECT_POSITION, Record};
+use live_holdings::Holdings;
 use live_plans::{Found, Plan, bytes_of, put_slot};
 use metadata::Metadata;
 use std::alloc::{AllocError, Global};
@@ -51,25 +53,29 @@ pub(crate) fn empty(
 }
 
 /// Adds the updates by which a number loses this many links, after the last update of a block: where it has more, its
-/// record with so many less; else those that free it with its blocks.
+/// record with so many less; else those that free it with its blocks. Gives the blocks that are held then.
 pub(crate) fn lose_links(
     alloc: Global,
     metadata: &Metadata,
+    holdings: &Holdings,
     plan: &mut Plan,
     number: u32,
     fewer: u16,
     block: u32,
-) -> Result<(), AllocError>
+) -> Result<Vec<u32>, AllocError>
     requires geometry { plan.old.geometry ≡ metadata.now.geometry }
     requires number { IsTrue (is_number metadata.now.geometry number) }
     requires block { IsTrue (is_data_address metadata.now.geometry block) }
-    ensures { OnOk result ((view : View) → Shows metadata.now view → LosesLinks metadata.now.geometry view number fewer block plan.old plan.new) }
+    ensures { IfOk result (λ holds. (view : View) → Shows metadata.now view → LosesLinks metadata.now.geometry view holdings.now number fewer block plan.old plan.new holds.items) }
 {
     let record = metadata.frozen().record(number);
     if record.links > fewer {
-        lower(alloc, metadata, plan, number, fewer, block)
+        lower(alloc, metadata, plan, number, fewer, block)?;
+        Ok(Vec::new(alloc))
     } else {
-        free(alloc, metadata.frozen(), plan, number, block)
+        let mut after = Vec::new(alloc);
+        after.push(Cell::Block(block))?;
+        free(alloc, metadata.frozen(), holdings, plan, number, after)
     }
 }
 
@@ -95,22 +101,22 @@ pub(crate) fn lower(
     plan.push(Change::SetInode(number, record), after)
 }
 
-/// Adds the updates that free a number, after the last update of a block, and then its bit and all blocks that it
-/// claims.
-fn free(
+/// Adds the updates that free a number, after the last updates of these cells, and then its bit and all blocks that it
+/// claims. Gives those that the snapshot keeps: they are held.
+pub(crate) fn free(
     alloc: Global,
     frozen: &Frozen,
+    holdings: &Holdings,
     plan: &mut Plan,
     number: u32,
-    block: u32,
-) -> Result<(), AllocError>
+    after: Vec<Cell>,
+) -> Result<Vec<u32>, AllocError>
     requires geometry { plan.old.geometry ≡ frozen.now.geometry }
     requires number { IsTrue (is_number frozen.now.geometry number) }
-    requires block { IsTrue (is_data_address frozen.now.geometry block) }
-    ensures { OnOk result (GoesOn plan.old plan.new (freeing number (claimed frozen.now.geometry (frozen_view frozen.now) number) (BlockCell block ∷ []))) }
+    requires after { All (IsCell plan.old.geometry) (map cell after.items) }
+    ensures plan { OnOk result (GoesOn plan.old plan.new (freeing number (freed frozen.now.geometry (frozen_view frozen.now) holdings.now number 0) (map cell after.items))) }
+    ensures holds { IfOk result (λ holds. holds.items ≡ held_back frozen.now.geometry (frozen_view frozen.now) holdings.now number 0) }
 {
-    let mut after = Vec::new(alloc);
-    after.push(Cell::Block(block))?;
     let free = Record {
         mode: FREE,
         links: 0,
@@ -123,17 +129,63 @@ fn free(
         Change::SetNumber(number, false),
         after_record(alloc, number)?,
     )?;
-    clear(alloc, frozen, plan, number)
+    give_up(alloc, frozen, holdings, plan, number, 0)
 }
 
-/// Adds the updates that clear the bits of all blocks that a number claims, each after the last update of its record.
-fn clear(alloc: Global, frozen: &Frozen, plan: &mut Plan, number: u32) -> Result<(), AllocError>
+/// Adds the updates that clear the bits of the blocks that a number claims and no longer has where so many are left, each
+/// after the last update of its record. Gives those that the snapshot keeps: they are held, and their bits stay.
+pub(crate) fn give_up(
+    alloc: Global,
+    frozen: &Frozen,
+    holdings: &Holdings,
+    plan: &mut Plan,
+    number: u32,
+    left: u32,
+) -> Result<Vec<u32>, AllocError>
     requires geometry { plan.old.geometry ≡ frozen.now.geometry }
     requires number { IsTrue (is_number frozen.now.geometry number) }
-    ensures { OnOk result (GoesOn plan.old plan.new (cleared number (claimed frozen.now.geometry (frozen_view frozen.now) number))) }
+    ensures plan { OnOk result (GoesOn plan.old plan.new (cleared number (freed frozen.now.geometry (frozen_view frozen.now) holdings.now number left))) }
+    ensures holds { IfOk result (λ holds. holds.items ≡ held_back frozen.now.geometry (frozen_view frozen.now) holdings.now number left) }
 {
-    for position in 0..INDIRECT_POSITION + 1 {
-        if let Some(block) = frozen.claim_at(number, position) {
+    let mut holds = Vec::new(alloc);
+    let end = frozen.record(number).blocks().min(INDIRECT_POSITION);
+    for position in left..end {
+        give_up_at(alloc, frozen, holdings, plan, &mut holds, number, position)?;
+    }
+    if left <= DIRECT_POINTERS as u32 {
+        give_up_at(
+            alloc,
+            frozen,
+            holdings,
+            plan,
+            &mut holds,
+            number,
+            INDIRECT_POSITION,
+        )?;
+    }
+    Ok(holds)
+}
+
+/// Adds the update that clears the bit of the block that a number claims at a position, after the last update of its
+/// record; or adds the block to these, where the snapshot keeps it.
+fn give_up_at(
+    alloc: Global,
+    frozen: &Frozen,
+    holdings: &Holdings,
+    plan: &mut Plan,
+    holds: &mut Vec<u32>,
+    number: u32,
+    position: u32,
+) -> Result<(), AllocError>
+    requires geometry { plan.old.geometry ≡ frozen.now.geometry }
+    requires number { IsTrue (is_number frozen.now.geometry number) }
+    ensures plan { OnOk result (GoesOn plan.old plan.new (cleared number (claimed_at (is_loose holdings.now) frozen.now.geometry (frozen_view frozen.now) number position))) }
+    ensures holds { OnOk result (holds.new.items ≡ holds.old.items ++ claimed_at (is_kept_by holdings.now) frozen.now.geometry (frozen_view frozen.now) number position) }
+{
+    if let Some(block) = frozen.claim_at(number, position) {
+        if holdings.keeps(block) {
+            holds.push(block)?;
+        } else {
             plan.push(Change::SetBlock(block, false), after_record(alloc, number)?)?;
         }
     }

@@ -1,10 +1,13 @@
 use crate::removing::{directory_at, removed};
-use crate::unlinking::{file_at, unlinked};
+use crate::shortening::{let_go, shortened};
+use crate::unlinking::{file_at, unlinked, unnamed};
 use device::{Before, Device, MemDevice, format};
 use dirent::{SLOT_BYTES, SLOTS, replace};
 use frozen::load;
 use layout::{BLOCK_BYTES, Block, Geometry, Refusal};
+use live_holdings::Holdings;
 use live_paths::Path;
+use live_plans::Planned;
 use metadata::Metadata;
 use std::alloc::Global;
 use std::test::Fail;
@@ -14,8 +17,8 @@ use updates::{Cell, Change, Update};
 /// root, in block 4, names directory 3 "a", file 4 "f", file 5 "g", directory 6 "d" and directory 7 "e" in its slots from
 /// 2 on. Directory 3, in block 5, names file 4 "f" in slot 2. File 4 is empty. File 5 has 13 blocks, in blocks 6 to 17 and
 /// 19, and its indirect block is block 18. Directory 6, in block 20, and directory 7, in block 21, have their dots alone;
-/// directory 7 has a link too many.
-const CHANGES: [(u32, usize, u8); 74] = [
+/// directory 7 has a link too many. File 8 has no name, and 1,025 bytes in blocks 22 and 23.
+const CHANGES: [(u32, usize, u8); 79] = [
     (2, 256, 2),
     (2, 258, 5),
     (2, 261, 4),
@@ -50,6 +53,11 @@ const CHANGES: [(u32, usize, u8); 74] = [
     (2, 898, 3),
     (2, 901, 4),
     (2, 904, 21),
+    (3, 0, 1),
+    (3, 4, 1),
+    (3, 5, 4),
+    (3, 8, 22),
+    (3, 12, 23),
     (4, 128, 3),
     (4, 132, 1),
     (4, 136, 97),
@@ -95,8 +103,8 @@ const CHANGES: [(u32, usize, u8); 74] = [
 /// What an update does.
 #[derive(Clone, Copy, Debug, PartialEq, Eq)]
 enum Step {
-    /// A record gets this mode and so many links.
-    Record(u32, u16, u16),
+    /// A record gets this mode, so many links and this size.
+    Record(u32, u16, u16, u32),
     /// The bit of a number is cleared.
     Number(u32),
     /// The bit of a block is cleared.
@@ -134,11 +142,49 @@ fn set_byte(device: &mut MemDevice, address: u32, byte: usize, value: u8) -> Res
     Ok(())
 }
 
+/// Its updates, where no block is held for a snapshot.
+fn updates_of(planned: Planned) -> Result<Vec<Update>, Refusal> {
+    let Planned { plan, holds } = planned;
+    if !holds.is_empty() {
+        return Err(Refusal::Damaged);
+    }
+    Ok(plan.into_updates())
+}
+
+/// Nothing is open.
+fn nothing_open(alloc: Global, metadata: &Metadata) -> Result<Holdings, Refusal> {
+    Ok(Holdings::new(alloc, &metadata.frozen().geometry())?)
+}
+
+/// Opens one more handle on a number.
+fn open_on(holdings: &mut Holdings, number: u32) -> Result<u32, Refusal> {
+    match holdings.free_handle() {
+        Some(handle) => {
+            holdings.open(handle, number)?;
+            Ok(handle)
+        }
+        None => Err(Refusal::TooManyOpen),
+    }
+}
+
 /// The updates of an unlink, on whatever metadata.
 fn unlinking(alloc: Global, metadata: &Metadata, path: &[u8]) -> Result<Vec<Update>, Refusal> {
     let parsed = Path::parse(path)?;
     let found = file_at(metadata.frozen(), &parsed)?;
-    Ok(unlinked(alloc, metadata, &found)?.into_updates())
+    let holdings = nothing_open(alloc, metadata)?;
+    updates_of(unlinked(alloc, metadata, &holdings, &found)?)
+}
+
+/// The updates of an unlink of an open file, on metadata where the file has a link.
+fn unnaming(alloc: Global, metadata: &Metadata, path: &[u8]) -> Result<Vec<Update>, Refusal> {
+    let parsed = Path::parse(path)?;
+    let found = file_at(metadata.frozen(), &parsed)?;
+    if !metadata.frozen().is_sound_at(found.number)
+        || metadata.frozen().record(found.number).links == 0
+    {
+        return Err(Refusal::Damaged);
+    }
+    Ok(unnamed(alloc, metadata, &found)?.into_updates())
 }
 
 /// The updates of the removal of a directory, on metadata where the parent has a link.
@@ -148,7 +194,37 @@ fn removing(alloc: Global, metadata: &Metadata, path: &[u8]) -> Result<Vec<Updat
     if metadata.frozen().record(found.directory).links == 0 {
         return Err(Refusal::Damaged);
     }
-    Ok(removed(alloc, metadata, &found)?.into_updates())
+    let holdings = nothing_open(alloc, metadata)?;
+    updates_of(removed(alloc, metadata, &holdings, &found)?)
+}
+
+/// The updates of a close of a handle on a sound file.
+fn closing(
+    alloc: Global,
+    metadata: &Metadata,
+    holdings: &Holdings,
+    handle: u32,
+) -> Result<Vec<Update>, Refusal> {
+    match holdings.file_of(handle) {
+        Some(number) if metadata.frozen().is_sound_at(number) => {
+            updates_of(let_go(alloc, metadata, holdings, handle, number)?)
+        }
+        _ => Err(Refusal::BadHandle),
+    }
+}
+
+/// The updates by which a sound file gets a size.
+fn shortening(
+    alloc: Global,
+    metadata: &Metadata,
+    number: u32,
+    size: u32,
+) -> Result<Vec<Update>, Refusal> {
+    if !metadata.frozen().is_sound_at(number) {
+        return Err(Refusal::Damaged);
+    }
+    let holdings = nothing_open(alloc, metadata)?;
+    updates_of(shortened(alloc, metadata, &holdings, number, size)?)
 }
 
 /// The slot without which two blocks are the same, and which is empty in the second one.
@@ -166,7 +242,9 @@ fn emptied_slot(old: &Block, new: &Block) -> Option<usize> {
 /// What a change does.
 fn step_of(metadata: &Metadata, change: &Change) -> Step {
     match change {
-        Change::SetInode(number, record) => Step::Record(*number, record.mode, record.links),
+        Change::SetInode(number, record) => {
+            Step::Record(*number, record.mode, record.links, record.size)
+        }
         Change::SetNumber(number, false) => Step::Number(*number),
         Change::SetBlock(address, false) => Step::Bit(*address),
         Change::SetBytes(address, bytes) => match metadata.frozen().block(*address) {
@@ -208,7 +286,7 @@ fn a_file_loses_one_of_two_names(rt: HostRuntime) -> Result<(), Refusal> {
         done.as_slice(),
         &[
             (Step::Slot(5, 2), None),
-            (Step::Record(4, 1, 1), Some(Cell::Block(5)))
+            (Step::Record(4, 1, 1, 0), Some(Cell::Block(5)))
         ][..]
     );
     Ok(())
@@ -223,7 +301,7 @@ fn a_file_goes_with_its_last_name(rt: HostRuntime) -> Result<(), Refusal> {
     let record = Some(Cell::Record(5));
     let mut wanted = vec![in alloc;
         (Step::Slot(4, 4), None),
-        (Step::Record(5, 0, 0), Some(Cell::Block(4))),
+        (Step::Record(5, 0, 0, 0), Some(Cell::Block(4))),
         (Step::Number(5), record),
     ]?;
     for block in 6..18 {
@@ -232,6 +310,92 @@ fn a_file_goes_with_its_last_name(rt: HostRuntime) -> Result<(), Refusal> {
     wanted.push((Step::Bit(19), record))?;
     wanted.push((Step::Bit(18), record))?;
     assert_eq!(rt; done.as_slice(), wanted.as_slice());
+    Ok(())
+}
+
+#[test]
+fn an_open_file_stays_without_a_name(rt: HostRuntime) -> Result<(), Refusal> {
+    let alloc = rt.alloc();
+    let metadata = image(alloc)?;
+    let updates = unnaming(alloc, &metadata, b"/g")?;
+    let done = steps(alloc, &metadata, updates.as_slice(), 5)?;
+    assert_eq!(rt;
+        done.as_slice(),
+        &[
+            (Step::Slot(4, 4), None),
+            (Step::Record(5, 1, 0, 13_312), Some(Cell::Block(4)))
+        ][..]
+    );
+    Ok(())
+}
+
+#[test]
+fn a_file_without_a_name_goes_with_its_last_handle(rt: HostRuntime) -> Result<(), Refusal> {
+    let alloc = rt.alloc();
+    let metadata = image(alloc)?;
+    let mut holdings = nothing_open(alloc, &metadata)?;
+    let first = open_on(&mut holdings, 8)?;
+    let second = open_on(&mut holdings, 8)?;
+    let none = closing(alloc, &metadata, &holdings, first)?;
+    assert_eq!(rt; none.len(), 0);
+    holdings.close(Some(first));
+    let updates = closing(alloc, &metadata, &holdings, second)?;
+    let done = steps(alloc, &metadata, updates.as_slice(), 8)?;
+    let record = Some(Cell::Record(8));
+    assert_eq!(rt;
+        done.as_slice(),
+        &[
+            (Step::Record(8, 0, 0, 0), None),
+            (Step::Number(8), record),
+            (Step::Bit(22), record),
+            (Step::Bit(23), record)
+        ][..]
+    );
+    Ok(())
+}
+
+#[test]
+fn a_file_with_a_name_stays_without_a_handle(rt: HostRuntime) -> Result<(), Refusal> {
+    let alloc = rt.alloc();
+    let metadata = image(alloc)?;
+    let mut holdings = nothing_open(alloc, &metadata)?;
+    let handle = open_on(&mut holdings, 5)?;
+    let none = closing(alloc, &metadata, &holdings, handle)?;
+    assert_eq!(rt; none.len(), 0);
+    Ok(())
+}
+
+/// File 5 gets this size, and then the bits of these blocks are cleared.
+fn shortened_to(
+    alloc: Global,
+    size: u32,
+    blocks: &[u32],
+) -> Result<Vec<(Step, Option<Cell>)>, Refusal> {
+    let mut wanted = vec![in alloc; (Step::Record(5, 1, 1, size), None)]?;
+    for block in blocks {
+        wanted.push((Step::Bit(*block), Some(Cell::Record(5))))?;
+    }
+    Ok(wanted)
+}
+
+#[test]
+fn the_blocks_behind_a_size_go(rt: HostRuntime) -> Result<(), Refusal> {
+    let alloc = rt.alloc();
+    let metadata = image(alloc)?;
+    // All 13 blocks are left, the last one in part, and then 12, which need no indirect block, 2 and none.
+    let of_sizes: [(u32, &[u32]); 5] = [
+        (13_312, &[]),
+        (12_289, &[]),
+        (12_288, &[19, 18]),
+        (1_025, &[8, 9, 10, 11, 12, 13, 14, 15, 16, 17, 19, 18]),
+        (0, &[6, 7, 8, 9, 10, 11, 12, 13, 14, 15, 16, 17, 19, 18]),
+    ];
+    for (size, blocks) in of_sizes {
+        let updates = shortening(alloc, &metadata, 5, size)?;
+        let done = steps(alloc, &metadata, updates.as_slice(), 5)?;
+        let wanted = shortened_to(alloc, size, blocks)?;
+        assert_eq!(rt; done.as_slice(), wanted.as_slice());
+    }
     Ok(())
 }
 
@@ -245,10 +409,10 @@ fn a_directory_goes_with_its_block(rt: HostRuntime) -> Result<(), Refusal> {
         done.as_slice(),
         &[
             (Step::Slot(4, 5), Some(Cell::Block(20))),
-            (Step::Record(6, 0, 0), Some(Cell::Block(4))),
+            (Step::Record(6, 0, 0, 0), Some(Cell::Block(4))),
             (Step::Number(6), Some(Cell::Record(6))),
             (Step::Bit(20), Some(Cell::Record(6))),
-            (Step::Record(2, 2, 4), Some(Cell::Block(4)))
+            (Step::Record(2, 2, 4, 1024), Some(Cell::Block(4)))
         ][..]
     );
     Ok(())
@@ -264,8 +428,8 @@ fn a_directory_with_a_link_too_many_stays(rt: HostRuntime) -> Result<(), Refusal
         done.as_slice(),
         &[
             (Step::Slot(4, 6), Some(Cell::Block(21))),
-            (Step::Record(7, 2, 1), Some(Cell::Block(4))),
-            (Step::Record(2, 2, 4), Some(Cell::Block(4)))
+            (Step::Record(7, 2, 1, 1024), Some(Cell::Block(4))),
+            (Step::Record(2, 2, 4, 1024), Some(Cell::Block(4)))
         ][..]
     );
     Ok(())

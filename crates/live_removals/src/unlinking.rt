@@ -1,10 +1,13 @@
-ghost use Rattle.std.specs.Prelude.{◌≡◌, ◌≤◌, [], IfErr, IfOk, None, Some};
+ghost use Rattle.std.specs.Prelude.{◌≡◌, ◌<◌, ◌≤◌, [], IfErr, IfOk, Some, length};
+ghost use Rattle.std.specs.List.{All};
 ghost use Rattle.frozen.specs.Kept.{frozen_view};
 ghost use Rattle.machine.specs.Command.{Done, Unlink};
 ghost use Rattle.metadata.specs.Shown.{Shows};
+ghost use Rattle.model.specs.Layout.{block_count};
 ghost use Rattle.model.specs.View.{View};
 ghost use Rattle.live_paths.specs.Shown.{IsShownBy};
-ghost use Rattle.live_states.specs.Planned.{IsOfVolume, IsPlannedWith, IsRefused};
+ghost use Rattle.live_states.specs.Holdings.{with_held};
+ghost use Rattle.live_states.specs.Planned.{IsOfVolumeWith, IsPlannedWith, IsRefused};
 ghost use Rattle.live_removals.specs.Entries.{IsEntry, IsFileAt, file_refusal};
 ghost use Rattle.live_removals.specs.Removed.{Unlinked, Unnamed};
 
@@ -13,32 +16,34 @@ use frozen::Frozen;
 use layout::Refusal;
 use live_holdings::Holdings;
 use live_paths::Path;
-use live_plans::{Found, Plan, locate};
+use live_plans::{Found, Plan, Planned, locate};
 use metadata::Metadata;
 use plans_naming::accepted_unlinks;
 use std::alloc::{AllocError, Global};
 
-/// The plan by which the name of a file goes, and with its last one a file that is not open. Refused in this order with `BadName` where
-/// the bytes are no path, with `IsRoot` for `/`, with why the path leads nowhere, and with `IsDirectory` where it leads
-/// to a directory. At any time it may be refused with `NoMemory`.
+/// The plan by which the name of a file goes, and with its last one a file that is not open; of its blocks those are held
+/// that the snapshot keeps. Refused in this order with `BadName` where the bytes are no path, with `IsRoot` for `/`, with
+/// why the path leads nowhere, and with `IsDirectory` where it leads to a directory. At any time it may be refused with
+/// `NoMemory`.
 pub fn unlink(
     alloc: Global,
     metadata: &Metadata,
     holdings: &Holdings,
     path: &[u8],
-) -> Result<Plan, Refusal>
-    requires volume { IsOfVolume metadata.now }
-    requires snapshot { holdings.now.snapshot ≡ None }
-    ensures planned { IfOk result (λ plan. IsPlannedWith metadata.now holdings.now [] (Unlink path.now) Done plan holdings.now) }
+) -> Result<Planned, Refusal>
+    requires volume { IsOfVolumeWith metadata.now holdings.now }
+    requires wide { block_count metadata.now.geometry ≤ length holdings.now.held }
+    ensures planned { IfOk result (λ planned. IsPlannedWith metadata.now holdings.now [] (Unlink path.now) Done planned.plan (with_held holdings.now planned.holds.items)) }
+    ensures holds { IfOk result (λ planned. All (λ a. a < block_count metadata.now.geometry) planned.holds.items) }
     ensures refused { IfErr result (IsRefused metadata.now (Unlink path.now)) }
 {
     let parsed = Path::parse(path)?;
     let found = file_at(metadata.frozen(), &parsed)?;
     accepted_unlinks();
     if holdings.is_open(found.number) {
-        Ok(unnamed(alloc, metadata, &found)?)
+        Ok(unnamed(alloc, metadata, &found)?.without_holds(alloc))
     } else {
-        Ok(unlinked(alloc, metadata, &found)?)
+        Ok(unlinked(alloc, metadata, holdings, &found)?)
     }
 }
 
@@ -61,16 +66,25 @@ pub(crate) fn file_at(frozen: &Frozen, path: &Path) -> Result<Found, Refusal>
 pub(crate) fn unlinked(
     alloc: Global,
     metadata: &Metadata,
+    holdings: &Holdings,
     found: &Found,
-) -> Result<Plan, AllocError>
+) -> Result<Planned, AllocError>
     requires { IsEntry metadata.now.geometry (frozen_view metadata.now) found.now }
-    ensures { IfOk result (λ plan. (view : View) → Shows metadata.now view → Unlinked metadata.now.geometry view found.now plan) }
+    ensures { IfOk result (λ planned. (view : View) → Shows metadata.now view → Unlinked metadata.now.geometry view holdings.now found.now planned.plan planned.holds.items) }
 {
     let mut plan = Plan::new(alloc, metadata.frozen().geometry(), found.number);
     let after = Vec::new(alloc);
     empty(alloc, metadata, &mut plan, found, after)?;
-    lose_links(alloc, metadata, &mut plan, found.number, 1, found.block)?;
-    Ok(plan)
+    let holds = lose_links(
+        alloc,
+        metadata,
+        holdings,
+        &mut plan,
+        found.number,
+        1,
+        found.block,
+    )?;
+    Ok(Planned { plan, holds })
 }
 
 /// The updates by which an entry goes, and a link of the open file that it names, which stays.

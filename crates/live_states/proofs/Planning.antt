@@ -69,10 +69,10 @@ gives us a (p, c, bytes, e) = elim (change_of_added [] us p c) [
 
 -- ---- files that no stop loses
 
-abbrev nothing_safe : ℕ → Bool
+abbrev pub nothing_safe : ℕ → Bool
 nothing_safe f = false
 
-still_nothing : (geo : Geometry) (view : View) (command : Command) → safe_after geo view command nothing_safe ≡ nothing_safe
+pub still_nothing : (geo : Geometry) (view : View) (command : Command) → safe_after geo view command nothing_safe ≡ nothing_safe
 still_nothing geo view (Create p) = refl
 still_nothing geo view (Mkdir p) = refl
 still_nothing geo view (Link p r) = refl

@@ -71,11 +71,11 @@ left_alone kept command answer draft planned holdings = record {
 }
 
 -- nothing beside an image
-abbrev nothing_beside : Beside
+abbrev pub nothing_beside : Beside
 nothing_beside = record { frozen = None; plan = None }
 
 -- an idle volume is as it is mounted
-idle_mounted : (disk : View) (holdings : Holdings) → IsIdle holdings → mounted disk ≡ state_over disk [] holdings nothing_beside
+pub idle_mounted : (disk : View) (holdings : Holdings) → IsIdle holdings → mounted disk ≡ state_over disk [] holdings nothing_beside
 idle_mounted disk holdings idle =
     ap₂ (λ (o : ℕ → Option ℕ) (h : ℕ → Bool). record { view = disk; opened = o; held = h; frozen = None; plan = None })
     (fun_ext (λ h. ap (λ (l : List (Option ℕ)). slice_index_or l h None) (sym idle.opened))) (fun_ext (λ a. sym (idle.held a)))

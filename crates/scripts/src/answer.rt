@@ -23,6 +23,8 @@ pub enum Answer {
     Names(Vec<Named>),
     /// `ok number NUMBER KIND links LINKS size SIZE`
     Status(Status),
+    /// `ok HEX`: bytes, each in two digits, and of more than three equal ones in a row `(HEX*COUNT)`.
+    Bytes(Vec<u8>),
     /// `ok FINDING; FINDING`: each as its line in a report.
     Findings(Vec<Finding>),
     /// `refused` with the number of the cause and its name.
@@ -51,6 +53,7 @@ impl Answer {
             Answer::Least(None) => write!(text, "ok none"),
             Answer::Names(names) => write_names(text, names.as_slice()),
             Answer::Status(status) => write_status(text, status),
+            Answer::Bytes(bytes) => write_bytes(text, bytes.as_slice()),
             Answer::Findings(findings) => write_findings(text, findings.as_slice()),
             Answer::Refused(refusal) => write!(text, "refused {refusal}"),
             Answer::NoCommand => write!(text, "no command"),
@@ -96,6 +99,29 @@ fn write_status(text: &mut String, status: &Status) -> Result<(), AllocError> {
         "file"
     };
     write!(text, "ok number {number} {kind} links {links} size {size}")
+}
+
+/// Writes bytes.
+fn write_bytes(text: &mut String, bytes: &[u8]) -> Result<(), AllocError> {
+    write!(text, "ok ")?;
+    for run in bytes.chunk_by(|byte, next| *byte == *next) {
+        write_run(text, run)?;
+    }
+    Ok(())
+}
+
+/// Writes equal bytes.
+fn write_run(text: &mut String, run: &[u8]) -> Result<(), AllocError> {
+    let count = run.len();
+    match run {
+        [byte, _, _, _, ..] => write!(text, "({byte:02x}*{count})"),
+        _ => {
+            for byte in run {
+                write!(text, "{byte:02x}")?;
+            }
+            Ok(())
+        }
+    }
 }
 
 /// Writes what a check found.

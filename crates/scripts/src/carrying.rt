@@ -1,6 +1,6 @@
 //! Commands carried out on a mounted volume, whatever its device.
 ghost use Rattle.std.specs.Prelude.{◌≡◌, false, true, IfOk, MatchResult, Ok, Err, OnErr};
-ghost use Rattle.scripts.specs.Refusals.{is_refusal, writes};
+ghost use Rattle.scripts.specs.Refusals.{goes_to_the_device, is_refusal};
 
 use crate::answer::Answer;
 use crate::command::Command;
@@ -9,11 +9,14 @@ use layout::Refusal;
 use live::Live;
 use std::alloc::Global;
 
-/// Carries out a command. One that is refused changes nothing, unless it is `flush` or `sync`: their writes before a fault
-/// of the device stay.
+/// How many bytes `fill` gives to a write at most: one more than a write takes.
+const MOST_FILLED: u32 = 1025;
+
+/// Carries out a command. One that is refused changes nothing, unless it goes to the device: the writes of `flush` and
+/// `sync` before a fault stay, and a device need not be the same once it was read.
 pub fn carry_out<D: Device>(alloc: Global, live: &mut Live<D>, command: Command<'_>) -> Answer
-    ensures untouched { writes command.entry ≡ false → is_refusal result ≡ true → live.new ≡ live.old }
-    ensures device { writes command.entry ≡ false → live.new.device ≡ live.old.device }
+    ensures untouched { goes_to_the_device command.entry ≡ false → is_refusal result ≡ true → live.new ≡ live.old }
+    ensures device { goes_to_the_device command.entry ≡ false → live.new.device ≡ live.old.device }
 {
     match answer_of(alloc, live, command) {
         Ok(answer) => answer,
@@ -28,8 +31,8 @@ fn answer_of<D: Device>(
     command: Command<'_>,
 ) -> Result<Answer, Refusal>
     ensures answer { IfOk result (λ answer. is_refusal answer ≡ false) }
-    ensures untouched { OnErr result (writes command.entry ≡ false → live.new ≡ live.old) }
-    ensures device { writes command.entry ≡ false → live.new.device ≡ live.old.device }
+    ensures untouched { OnErr result (goes_to_the_device command.entry ≡ false → live.new ≡ live.old) }
+    ensures device { goes_to_the_device command.entry ≡ false → live.new.device ≡ live.old.device }
 {
     match command {
         Command::Create(path) => Ok(Answer::Number(live.create(alloc, path)?)),
@@ -38,6 +41,24 @@ fn answer_of<D: Device>(
         Command::Unlink(path) => done(live.unlink(alloc, path)),
         Command::Rmdir(path) => done(live.rmdir(alloc, path)),
         Command::Rename(path, other) => done(live.rename(alloc, path, other)),
+        Command::Open(path) => Ok(Answer::Number(live.open(path)?)),
+        Command::Close(handle) => done(live.close(alloc, handle)),
+        Command::Read { handle, index } => Ok(Answer::Bytes(live.read(alloc, handle, index)?)),
+        Command::Write {
+            handle,
+            index,
+            piece,
+        } => done(live.write(alloc, handle, index, piece)),
+        Command::Fill {
+            handle,
+            index,
+            count,
+            byte,
+        } => {
+            let piece = vec![in alloc; byte; count.min(MOST_FILLED) as usize]?;
+            done(live.write(alloc, handle, index, piece.as_slice()))
+        }
+        Command::Truncate { handle, size } => done(live.truncate(alloc, handle, size)),
         Command::Sync => done(live.sync()),
         Command::List(path) => Ok(Answer::Names(live.list(alloc, path)?)),
         Command::Stat(path) => Ok(Answer::Status(live.stat(path)?)),

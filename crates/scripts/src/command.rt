@@ -1,5 +1,5 @@
 //! The commands to a mounted volume, as they stand in a line.
-use crate::words::{first_word, is_one_word, number};
+use crate::words::{first_word, is_one_word, number, two_numbers};
 use std::str::from_utf8;
 
 /// A command to a mounted volume. A path has any bytes but blanks and line feeds, and need be none that the volume takes.
@@ -17,6 +17,33 @@ pub enum Command<'a> {
     Rmdir(&'a [u8]),
     /// `rename PATH PATH`: an entry gets another name.
     Rename(&'a [u8], &'a [u8]),
+    /// `open PATH`: a handle is opened on a file. Its answer is the handle.
+    Open(&'a [u8]),
+    /// `close HANDLE`: the handle is closed.
+    Close(u32),
+    /// `read HANDLE INDEX`: the bytes that the file has in its block of this index.
+    Read {
+        handle: u32,
+        index: u32,
+    },
+    /// `write HANDLE INDEX TEXT`: the block of this index begins with these bytes.
+    Write {
+        handle: u32,
+        index: u32,
+        piece: &'a [u8],
+    },
+    /// `fill HANDLE INDEX COUNT BYTE`: and so with so many bytes of this value, of which more than 1,025 are as many.
+    Fill {
+        handle: u32,
+        index: u32,
+        count: u32,
+        byte: u8,
+    },
+    /// `truncate HANDLE SIZE`: the file has this size, which is no larger.
+    Truncate {
+        handle: u32,
+        size: u32,
+    },
     /// `sync`: all that is pending goes to the device.
     Sync,
     /// `list PATH`: the names in a directory.
@@ -41,8 +68,8 @@ impl<'a> Command<'a> {
         };
         match first_word(words) {
             (word, None) => Command::of_a_word(name, word),
-            (path, Some(other)) if is_one_word(other) => Command::of_two_words(name, path, other),
-            _ => None,
+            (word, Some(other)) if is_one_word(other) => Command::of_two_words(name, word, other),
+            _ => Command::of_more_words(name, words),
         }
     }
 
@@ -65,16 +92,52 @@ impl<'a> Command<'a> {
             "rmdir" => Some(Command::Rmdir(word)),
             "list" => Some(Command::List(word)),
             "stat" => Some(Command::Stat(word)),
+            "open" => Some(Command::Open(word)),
+            "close" => Some(Command::Close(number(word)?)),
             "flush" => Some(Command::Flush(number(word)?)),
             _ => None,
         }
     }
 
-    /// The command of this name that has two paths, if there is one.
-    fn of_two_words(name: &str, path: &'a [u8], other: &'a [u8]) -> Option<Command<'a>> {
+    /// The command of this name that has two words, if there is one and these are words for it.
+    fn of_two_words(name: &str, word: &'a [u8], other: &'a [u8]) -> Option<Command<'a>> {
         match name {
-            "link" => Some(Command::Link(path, other)),
-            "rename" => Some(Command::Rename(path, other)),
+            "link" => Some(Command::Link(word, other)),
+            "rename" => Some(Command::Rename(word, other)),
+            "read" => Some(Command::Read {
+                handle: number(word)?,
+                index: number(other)?,
+            }),
+            "truncate" => Some(Command::Truncate {
+                handle: number(word)?,
+                size: number(other)?,
+            }),
+            _ => None,
+        }
+    }
+
+    /// The command of this name that has more words, if there is one and these are words for it.
+    fn of_more_words(name: &str, words: &'a [u8]) -> Option<Command<'a>> {
+        let (handle, words) = first_word(words);
+        let (index, words) = first_word(words?);
+        let handle = number(handle)?;
+        let index = number(index)?;
+        let words = words?;
+        match name {
+            "write" if is_one_word(words) => Some(Command::Write {
+                handle,
+                index,
+                piece: words,
+            }),
+            "fill" => {
+                let (count, byte) = two_numbers(words)?;
+                Some(Command::Fill {
+                    handle,
+                    index,
+                    count,
+                    byte: u8::try_from(byte).ok()?,
+                })
+            }
             _ => None,
         }
     }

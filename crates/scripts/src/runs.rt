@@ -3,6 +3,7 @@ use crate::answer::Answer;
 use crate::carrying::carry_out;
 use crate::command::Command;
 use crate::line::{is_skipped, parted};
+use crate::session::mount;
 use device::{Device, FileDevice};
 use layout::Refusal;
 use live::Live;
@@ -30,7 +31,7 @@ where
     R::File: FileExt,
 {
     let device: FileDevice<R::File, Brand> = FileDevice::open_to_write(rt, image)?;
-    let mut live = Live::mount(rt.alloc(), device)?;
+    let mut live = mount(rt.alloc(), device)?;
     let count = carry_out_all(rt.alloc(), &mut live, bytes);
     live.sync()?;
     Ok(count)

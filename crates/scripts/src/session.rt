@@ -170,10 +170,15 @@ fn put_byte<D: Device>(
 
 /// What a device holds, mounted on a device of its own that was never written.
 fn mounted(alloc: Global, device: &MemDevice) -> Volume {
-    match copy_of(alloc, device).and_then(|copy| Live::mount(alloc, copy)) {
+    match copy_of(alloc, device).and_then(|copy| mount(alloc, copy)) {
         Ok(live) => Volume::Mounted(live),
         Err(refusal) => Volume::Refused(refusal),
     }
+}
+
+/// Mounts the volume of a device, or tells why it cannot be.
+pub fn mount<D: Device + Drop>(alloc: Global, device: D) -> Result<Live<D>, Refusal> {
+    Live::mount(alloc, device).map_err(|refused| refused.cause)
 }
 
 /// A device that holds what this one holds, and was never written.

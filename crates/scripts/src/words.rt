@@ -19,9 +19,15 @@ pub fn number(word: &[u8]) -> Option<u32> {
     from_utf8(word).ok()?.parse::<u32>().ok()
 }
 
+/// The two numbers that a text is, with a blank between them.
+pub fn two_numbers(text: &[u8]) -> Option<(u32, u32)> {
+    let (first, second) = first_word(text);
+    Some((number(first)?, number(second?)?))
+}
+
 /// The three numbers that a text is, with a blank between them.
 pub fn three_numbers(text: &[u8]) -> Option<(u32, u32, u32)> {
     let (first, behind) = first_word(text);
-    let (second, third) = first_word(behind?);
-    Some((number(first)?, number(second)?, number(third?)?))
+    let (second, third) = two_numbers(behind?)?;
+    Some((number(first)?, second, third))
 }

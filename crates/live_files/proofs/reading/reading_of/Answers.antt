@@ -1,7 +1,9 @@
-use Rattle.std.proofs.Common.{◌≡◌, ◌<◌, ◌≤◌, ◌-◌, ◌*◌, min, IsTrue, sym, ap, ◌∙◌, subst, arith}
+use Rattle.std.proofs.Common.{◌≡◌, ◌<◌, ◌≤◌, ◌-◌, ◌*◌, None, Some, min, IsTrue, sym, ap, ◌∙◌, subst, arith}
+use Rattle.std.specs.Prelude.{ℕ}
 use Rattle.model.specs.Layout.{is_number}
 use Rattle.model.specs.Uses.{blocks_of, claim_at}
 use Rattle.frozen.specs.Kept.{Kept, frozen_view}
+use Rattle.live_holdings.specs.Handles.{handle_at}
 use Rattle.live_holdings.proofs.Opened.{opened_number}
 use Rattle.live_files.proofs.ReadLemmas.{claimed, of_data, reads, to_closed, to_end}
 use Rattle.live_files.proofs.reading.reading_of.Goals as goal

@@ -1,4 +1,4 @@
-use Rattle.std.proofs.Common.{Some, IsSome, sym, ap, ◌∙◌, subst}
+use Rattle.std.proofs.Common.{◌≡◌, Some, IsSome, sym, ap, ◌∙◌, subst}
 use Rattle.model.specs.Cells.{put_at}
 use Rattle.live_states.specs.Holdings.{Holdings, opened_by}
 use Rattle.live_holdings.proofs.Tables.{table_set, within_table}

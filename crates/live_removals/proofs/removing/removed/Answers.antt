@@ -31,7 +31,7 @@ pub lower-requires-clause-geometry : goal.lower-requires-clause-geometry
 lower-requires-clause-geometry c =
     let kept = c.args.metadata.now in
     let found = c.args.found.now in
-    loses_geometry kept.geometry (frozen_view kept) found.number 2 found.block c.empty.new.plan c.lose_links.new.plan (c.in_ok-lose_links.ensures (frozen_view kept) (shows_itself kept))
+    loses_geometry kept.geometry (frozen_view kept) c.args.holdings.now found.number 2 found.block c.empty.new.plan c.lose_links.new.plan c.in_ok-holds.holds.items (c.in_ok-holds.ensures (frozen_view kept) (shows_itself kept))
     ∙ (c.in_ok-empty.ensures (frozen_view kept) (shows_itself kept)).geometry ∙ ap (λ (d : Draft). d.geometry) c.new-plan.ensures ∙ c.geometry.ensures.geometry ∙ ap (λ (k : Kept). k.geometry) c.frozen-frozen.ensures.same
 
 pub returns : goal.returns
@@ -48,7 +48,7 @@ returns c = λ view shows.
       leaves = record {
         emptied = c.empty.new.plan;
         empties = subst (λ (e : Draft). GoesOn e c.empty.new.plan (λ q. slot_written found.block (view.bytes found.block) found.slot no_entry (map cell c.add_blocks.new.cells.items) ∷ q)) start (c.in_ok-empty.ensures view shows);
-        loses = c.in_ok-lose_links.ensures view shows;
+        loses = c.in_ok-holds.ensures view shows;
       };
       lowers = subst (λ (i : Inode). GoesOn c.lose_links.new.plan c.lower.new.plan (lowered d i 1 c.args.found.now.block)) (shows.inode d) c.in_ok-lower.ensures;
     }

@@ -9,9 +9,11 @@ use Rattle.live_paths.specs.Shown.{IsShownBy}
 use Rattle.live_plans.proofs.FoundLemmas.{self_shown}
 use Rattle.live_plans.specs.declared.locating.Found.{Found}
 use Rattle.live_removals.specs.Entries.{IsDirectoryAt, directory_refusal}
+use Rattle.live_removals.proofs.Leaving.{leaves_blocks}
 use Rattle.live_removals.proofs.Naming.{entry_kept}
 use Rattle.live_removals.proofs.Refusals.{rmdir_bad, rmdir_refusal}
 use Rattle.live_removals.proofs.Removals.{parent_linked, rmdir_planned}
+use Rattle.live_removals.proofs.Showing.{shows_itself}
 use Rattle.live_removals.proofs.removing.rmdir.Goals as goal
 
 found_there : (held kept : Kept) (ps : List (List ℕ)) (found : Found) → held ≡ kept → ((view : View) → IsShownBy held view → IsDirectoryAt held.geometry view ps found)
@@ -43,10 +45,17 @@ pub removed-requires-clause-parent : goal.removed-requires-clause-parent
 removed-requires-clause-parent c =
     let kept = c.args.metadata.now in
     let at = found_there c.frozen.result.now kept c.in_ok-parsed.parsed c.in_ok-found.found c.frozen.ensures.same c.in_ok-found.ensures.found in
-    parent_linked kept c.args.path.now c.in_ok-parsed.parsed c.in_ok-found.found c.frozen.ensures.metadata c.requires c.in_ok-parsed.ensures at
+    parent_linked kept c.args.path.now c.in_ok-parsed.parsed c.in_ok-found.found c.frozen.ensures.metadata c.requires.volume.volume c.in_ok-parsed.ensures at
 
 pub returns-clause-planned : goal.returns-clause-planned
 returns-clause-planned c =
     let kept = c.args.metadata.now in
     let at = found_there c.frozen.result.now kept c.in_ok-parsed.parsed c.in_ok-found.found c.frozen.ensures.same c.in_ok-found.ensures.found in
-    rmdir_planned kept c.args.path.now c.in_ok-parsed.parsed c.in_ok-found.found c.frozen.ensures.metadata c.requires c.in_ok-parsed.ensures at c.accepted_removals.ensures.decided c.in_ok-removed.field-0 c.in_ok-removed.ensures
+    rmdir_planned kept c.args.path.now c.in_ok-parsed.parsed c.in_ok-found.found c.frozen.ensures.metadata c.requires.volume.volume c.in_ok-parsed.ensures at c.accepted_removals.ensures.decided c.in_ok-removed.field-0.plan
+    c.args.holdings.now c.requires.wide c.in_ok-removed.field-0.holds.items c.in_ok-removed.ensures
+
+pub returns-clause-holds : goal.returns-clause-holds
+returns-clause-holds c =
+    let kept = c.args.metadata.now in
+    let r = c.in_ok-removed.ensures (frozen_view kept) (shows_itself kept) in
+    leaves_blocks kept.geometry (frozen_view kept) c.args.holdings.now c.in_ok-found.found 2 r.after r.left c.in_ok-removed.field-0.holds.items r.leaves

@@ -1,16 +1,22 @@
 -- What is lent is what is kept, and the law of unlinks does the rest.
-use Rattle.std.proofs.Common.{◌≡◌, ℕ, List, Some, inl, inr, sym, ap, ◌∙◌, subst}
+use Rattle.std.proofs.Common.{◌≡◌, ℕ, List, [], Some, inl, inr, sym, ap, ◌∙◌, subst}
 use Rattle.std.proofs.lemmas.Result.{err_from_is_err_and}
 use Rattle.layout.specs.declared.refusal.Refusal.{Refusal}
 use Rattle.model.specs.View.{View}
+use Rattle.machine.specs.Command.{Done, Unlink}
 use Rattle.frozen.specs.Kept.{Kept, frozen_view}
 use Rattle.metadata.proofs.ShownLemmas.{shows_metadata}
 use Rattle.live_paths.specs.Shown.{IsShownBy}
 use Rattle.live_plans.proofs.FoundLemmas.{self_shown}
 use Rattle.live_plans.specs.declared.locating.Found.{Found}
+use Rattle.live_states.specs.Drafts.{Draft}
+use Rattle.live_states.specs.Holdings.{with_held}
+use Rattle.live_states.specs.Planned.{IsPlannedWith}
 use Rattle.live_removals.specs.Entries.{IsFileAt, file_refusal}
+use Rattle.live_removals.proofs.Leaving.{leaves_blocks}
 use Rattle.live_removals.proofs.Naming.{entry_kept}
 use Rattle.live_removals.proofs.Refusals.{unlink_bad, unlink_refusal}
+use Rattle.live_removals.proofs.Showing.{shows_itself}
 use Rattle.live_removals.proofs.Unlinks.{file_linked, unlink_planned, unnamed_planned}
 use Rattle.live_removals.proofs.unlinking.unlink.Goals as goal
 
@@ -48,18 +54,26 @@ pub unnamed-requires-clause-linked : goal.unnamed-requires-clause-linked
 unnamed-requires-clause-linked c =
     let kept = c.args.metadata.now in
     let at = found_there c.frozen.result.now kept c.in_ok-parsed.parsed c.in_ok-found.found c.frozen.ensures.same c.in_ok-found.ensures.found in
-    file_linked kept c.args.path.now c.in_ok-parsed.parsed c.in_ok-found.found c.frozen.ensures.metadata c.requires.volume c.in_ok-parsed.ensures at
+    file_linked kept c.args.path.now c.in_ok-parsed.parsed c.in_ok-found.found c.frozen.ensures.metadata c.requires.volume.volume c.in_ok-parsed.ensures at
 
 pub returns-in_ok-unnamed-clause-planned : goal.returns-in_ok-unnamed-clause-planned
 returns-in_ok-unnamed-clause-planned c =
     let kept = c.args.metadata.now in
+    let holdings = c.args.holdings.now in
     let at = found_there c.frozen.result.now kept c.in_ok-parsed.parsed c.in_ok-found.found c.frozen.ensures.same c.in_ok-found.ensures.found in
-    unnamed_planned kept c.args.holdings.now c.requires.snapshot c.args.path.now c.in_ok-parsed.parsed c.in_ok-found.found c.in_ok-unnamed.field-0 c.frozen.ensures.metadata c.requires.volume c.in_ok-parsed.ensures at
-    c.accepted_unlinks.ensures.decided (sym c.is_open.ensures ∙ c.if-is_open.true) c.in_ok-unnamed.ensures
+    let planned = unnamed_planned kept holdings c.args.path.now c.in_ok-parsed.parsed c.in_ok-found.found c.in_ok-unnamed.field-0 c.frozen.ensures.metadata c.requires.volume.volume c.in_ok-parsed.ensures at
+    c.accepted_unlinks.ensures.decided (sym c.is_open.ensures ∙ c.if-is_open.true) c.in_ok-unnamed.ensures in
+    subst (λ (d : Draft). IsPlannedWith kept holdings [] (Unlink c.args.path.now) Done d (with_held holdings c.without_holds.result.holds.items)) (sym c.without_holds.ensures.plan)
+    (subst (λ (bs : List ℕ). IsPlannedWith kept holdings [] (Unlink c.args.path.now) Done c.in_ok-unnamed.field-0 (with_held holdings bs)) (sym c.without_holds.ensures.holds) planned)
 
 pub returns-in_ok-unlinked-clause-planned : goal.returns-in_ok-unlinked-clause-planned
 returns-in_ok-unlinked-clause-planned c =
     let kept = c.args.metadata.now in
     let at = found_there c.frozen.result.now kept c.in_ok-parsed.parsed c.in_ok-found.found c.frozen.ensures.same c.in_ok-found.ensures.found in
-    unlink_planned kept c.args.holdings.now c.requires.snapshot c.args.path.now c.in_ok-parsed.parsed c.in_ok-found.found c.in_ok-unlinked.field-0 c.frozen.ensures.metadata c.requires.volume c.in_ok-parsed.ensures at
-    c.accepted_unlinks.ensures.decided (sym c.is_open.ensures ∙ c.if-is_open.false) c.in_ok-unlinked.ensures
+    unlink_planned kept c.args.holdings.now c.args.path.now c.in_ok-parsed.parsed c.in_ok-found.found c.in_ok-unlinked.field-0.plan c.frozen.ensures.metadata c.requires.volume.volume c.in_ok-parsed.ensures at
+    c.accepted_unlinks.ensures.decided c.requires.wide (sym c.is_open.ensures ∙ c.if-is_open.false) c.in_ok-unlinked.field-0.holds.items c.in_ok-unlinked.ensures
+
+pub returns-in_ok-unlinked-clause-holds : goal.returns-in_ok-unlinked-clause-holds
+returns-in_ok-unlinked-clause-holds c =
+    let kept = c.args.metadata.now in
+    leaves_blocks kept.geometry (frozen_view kept) c.args.holdings.now c.in_ok-found.found 1 [] c.in_ok-unlinked.field-0.plan c.in_ok-unlinked.field-0.holds.items (c.in_ok-unlinked.ensures (frozen_view kept) (shows_itself kept))

@@ -25,5 +25,5 @@ returns c = λ view shows.
       emptied = c.empty.new.plan;
       empties = subst (λ (d : Draft). GoesOn d c.empty.new.plan (λ q. slot_written found.block (view.bytes found.block) found.slot no_entry [] ∷ q)) start
           (subst (λ (cs : List Cell). GoesOn c.new-plan.result c.empty.new.plan (λ q. slot_written found.block (view.bytes found.block) found.slot no_entry (map cell cs) ∷ q)) c.new-after.ensures.items (c.in_ok-empty.ensures view shows));
-      loses = c.in_ok-lose_links.ensures view shows;
+      loses = c.in_ok-holds.ensures view shows;
     }

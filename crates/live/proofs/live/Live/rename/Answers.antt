@@ -1,11 +1,16 @@
-use Rattle.std.proofs.Common.{[], sym, subst}
+use Rattle.std.proofs.Common.{[], None, sym, subst}
 use Rattle.std.proofs.lemmas.Result.{err_from_is_err_and}
+use Rattle.ordering.specs.Cuts.{users_view}
 use Rattle.machine.specs.Command.{Done, Rename}
 use Rattle.softdep.specs.Queued.{pending_of}
 use Rattle.live_states.specs.Planned.{IsPlannedWith, IsRefused}
-use Rattle.live_states.proofs.Standing.{left_alone, stands_so}
-use Rattle.live.specs.Alive.{Alive, MayRefuse}
+use Rattle.live_states.proofs.Standing.{stands_so}
+use Rattle.live.specs.Alive.{Alive, MayRefuse, disk_of}
+use Rattle.live_holdings.specs.Handles.{without}
+use Rattle.live_states.specs.Holdings.{with_held}
+use Rattle.live.proofs.Carrying.{alone, few_held}
 use Rattle.live.proofs.Commands.{refused}
+use Rattle.live.proofs.Quietly.{none_seen}
 use Rattle.live.proofs.live.Live.rename.Goals as goal
 
 pub rename-requires : goal.rename-requires
@@ -25,16 +30,21 @@ returns-in_err-plan-clause-cause g c =
     let p = err_from_is_err_and c.from_residual.result c.from_residual.ensures.1 in
     rw (p.1, p.2) (subst (λ (l : Alive _). IsRefused l.kept (Rename c.args.path.now c.args.other.now) c.in_err-plan.field-0.0) c.self.view_is c.in_err-plan.ensures.refused)
 
-pub carry_out-requires : goal.carry_out-requires
-carry_out-requires g c = (
+pub carry_out-requires-clause-planned : goal.carry_out-requires-clause-planned
+carry_out-requires-clause-planned g c = (
   Rename c.args.path.now c.args.other.now,
   Done,
-  subst (λ (l : Alive _). IsPlannedWith l.kept l.holdings [] (Rename c.args.path.now c.args.other.now) Done c.in_ok-plan.plan l.holdings) c.self.view_is
-      (left_alone c.self.inside.metadata (Rename c.args.path.now c.args.other.now) Done c.in_ok-plan.plan c.in_ok-plan.ensures.planned c.self.inside.holdings),
+  subst (λ (l : Alive _). IsPlannedWith l.kept l.holdings [] (Rename c.args.path.now c.args.other.now) Done c.without_holds.result.plan (with_held (without l.holdings None) c.without_holds.result.holds.items)) c.self.view_is
+      (alone c.self.inside.metadata c.self.inside.holdings (Rename c.args.path.now c.args.other.now) Done c.in_ok-plan.plan c.without_holds.result.plan c.without_holds.result.holds.items c.without_holds.ensures.plan c.without_holds.ensures.holds
+      (c.in_ok-plan.ensures.planned)),
 )
 
+pub carry_out-requires-clause-holds : goal.carry_out-requires-clause-holds
+carry_out-requires-clause-holds g c = few_held _ c.without_holds.result.holds.items c.without_holds.ensures.holds
+
 pub returns-clause-done : goal.returns-clause-done
-returns-clause-done g c =
-    c.in_ok-carry_out.ensures.done (Rename c.args.path.now c.args.other.now) Done
-    (subst (λ (l : Alive _). IsPlannedWith l.kept l.holdings [] (Rename c.args.path.now c.args.other.now) Done c.in_ok-plan.plan l.holdings) c.self.view_is
-    (left_alone c.self.inside.metadata (Rename c.args.path.now c.args.other.now) Done c.in_ok-plan.plan c.in_ok-plan.ensures.planned c.self.inside.holdings))
+returns-clause-done g c = λ h.
+    c.in_ok-carry_out.ensures.done [] (Rename c.args.path.now c.args.other.now) Done
+    (subst (λ (l : Alive _). IsPlannedWith l.kept l.holdings [] (Rename c.args.path.now c.args.other.now) Done c.without_holds.result.plan (with_held (without l.holdings None) c.without_holds.result.holds.items)) c.self.view_is
+    (alone c.self.inside.metadata c.self.inside.holdings (Rename c.args.path.now c.args.other.now) Done c.in_ok-plan.plan c.without_holds.result.plan c.without_holds.result.holds.items c.without_holds.ensures.plan c.without_holds.ensures.holds
+    (c.in_ok-plan.ensures.planned))) h (none_seen (users_view (disk_of (g.D.Device.image c.args.self.now.device) c.args.self.now) (pending_of c.args.self.now.queue)))

@@ -1,0 +1,42 @@
+-- A volume that is as it was, but for its device, which holds what it held.
+use Rattle.std.proofs.Common.{◌≡◌, List, ℕ, Result, Ok, Err, IfOk, sym, subst}
+use Rattle.ordering.specs.Cuts.{Pending, users_view}
+use Rattle.model.specs.Image.{image_view}
+use Rattle.model.specs.View.{View}
+use Rattle.machine.specs.Command.{Answer, Command}
+use Rattle.frozen.specs.Kept.{Kept}
+use Rattle.softdep.specs.Queued.{Queued, pending_of}
+use Rattle.live_states.specs.Holdings.{Beside, Holdings, IsImageOf}
+use Rattle.live_states.specs.Planned.{AreSeen, Seen}
+use Rattle.live.specs.Alive.{Alive, Answers, AnswersBeside, disk_of}
+
+pub if_ok : {T E : Type 0} (P Q : T → Type 0) → ((x : T) → P x → Q x) → (r : Result T E) → IfOk r P → IfOk r Q
+if_ok P Q f (Ok x) p = f x p
+if_ok P Q f (Err e) p = p
+
+module _ {D : Type 0} (image image' : List (List ℕ)) (old mid : Alive D) (same : image' ≡ image) (queue : mid.queue ≡ old.queue) (kept : mid.kept ≡ old.kept) (holdings : mid.holdings ≡ old.holdings) where
+  -- users see the same bytes
+  pub still_seen : (seen : List Seen) → AreSeen seen (users_view (disk_of image old) (pending_of old.queue)) → AreSeen seen (users_view (disk_of image' mid) (pending_of mid.queue))
+  still_seen seen are =
+      subst (λ i. AreSeen seen (users_view (image_view mid.kept.geometry i) (pending_of mid.queue))) (sym same)
+      (subst (λ (q : Queued). AreSeen seen (users_view (image_view mid.kept.geometry image) (pending_of q))) (sym queue)
+      (subst (λ (k : Kept). AreSeen seen (users_view (image_view k.geometry image) (pending_of old.queue))) (sym kept) are))
+
+  -- what is answered then is answered before
+  module _ (command : Command) (answer : Answer) (image'' : List (List ℕ)) (new : Alive D) (later : List View) (beside : Beside) where
+    abbrev IsAnswered : List (List ℕ) → Queued → Kept → Holdings → Type 0
+    IsAnswered i q k h = AnswersBeside beside i (record { device = old.device; queue = q; kept = k; holdings = h }) command answer image'' new later
+
+    over_device : AnswersBeside beside image' mid command answer image'' new later → IsAnswered image' mid.queue mid.kept mid.holdings
+    over_device a = record { geometry = a.geometry; snapshot = a.snapshot; step = a.step; serves = a.serves }
+
+    answered_beside : AnswersBeside beside image' mid command answer image'' new later → AnswersBeside beside image old command answer image'' new later
+    answered_beside a =
+        subst (λ i. IsAnswered i old.queue old.kept old.holdings) same
+        (subst (λ q. IsAnswered image' q old.kept old.holdings) queue
+        (subst (λ k. IsAnswered image' mid.queue k old.holdings) kept
+        (subst (λ h. IsAnswered image' mid.queue mid.kept h) holdings (over_device a))))
+
+  pub answered : (command : Command) (answer : Answer) (image'' : List (List ℕ)) (new : Alive D) (later : List View) → Answers image' mid command answer image'' new later → Answers image old command answer image'' new later
+  answered command answer image'' new later answers beside belongs =
+      answered_beside command answer image'' new later beside (answers beside (subst (λ (h : Holdings). IsImageOf h.snapshot beside.frozen) (sym holdings) belongs))

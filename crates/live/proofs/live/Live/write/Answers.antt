@@ -1,0 +1,83 @@
+use Rattle.std.proofs.Common.{◌≡◌, ◌<◌, All, [], None, inr, sym, ap, ◌∙◌, subst}
+use Rattle.std.proofs.lemmas.Result.{err_from_is_err_and}
+use Rattle.model.specs.Layout.{block_count}
+use Rattle.machine.specs.Command.{Done, Write}
+use Rattle.softdep.specs.Queued.{pending_of}
+use Rattle.live_holdings.specs.Handles.{without}
+use Rattle.live_states.specs.Holdings.{with_held}
+use Rattle.live_states.specs.Planned.{IsPlannedWith, IsRefusedWith}
+use Rattle.live_states.proofs.Standing.{stands_with}
+use Rattle.live_writes.specs.Aimed.{IsAimed, seen_before}
+use Rattle.live.specs.Alive.{Alive, MayRefuse}
+use Rattle.live.proofs.Between.{answered, still_seen}
+use Rattle.live.proofs.Commands.{refused_with}
+use Rattle.live.proofs.live.Live.write.Goals as goal
+
+pub aim-requires : goal.aim-requires
+aim-requires g c = record { volume = stands_with c.self.inside.metadata c.self.inside.holdings (pending_of c.self.inside.queue) c.self.invariant.alive.disk c.self.invariant.alive.some }
+
+pub returns-in_err-target-clause-refused : goal.returns-in_err-target-clause-refused
+returns-in_err-target-clause-refused g c =
+    let p = err_from_is_err_and c.from_residual.result c.from_residual.ensures.1 in
+    let device = c.self.inside.device in
+    rw (p.1, p.2)
+    (λ h. subst (λ (l : Alive _). MayRefuse (g.D.Device.image l.device) l (Write c.args.handle c.args.index c.args.piece.now) c.in_err-target.field-0.0) c.self.view_is
+    (refused_with device (g.D.Device.honest device) (g.D.Device.image device) c.self.inside.queue c.self.inside.metadata c.self.inside.holdings c.self.invariant (subst (λ (l : Alive _). g.D.Device.honest l.device) (sym c.self.view_is) h)
+    (Write c.args.handle c.args.index c.args.piece.now) c.in_err-target.field-0.0 (inr c.in_err-target.ensures.refused)))
+
+pub returns-in_err-target-clause-error : goal.returns-in_err-target-clause-error
+returns-in_err-target-clause-error g c =
+    let p = err_from_is_err_and c.from_residual.result c.from_residual.ensures.1 in
+    rw (p.1, p.2)
+    (inr (subst (λ (l : Alive _). IsRefusedWith l.kept l.holdings (Write c.args.handle c.args.index c.args.piece.now) c.in_err-target.field-0.0) c.self.view_is (inr c.in_err-target.ensures.refused)))
+
+pub write-requires-clause-volume : goal.write-requires-clause-volume
+write-requires-clause-volume g c = stands_with c.self-2.inside.metadata c.self-2.inside.holdings (pending_of c.self-2.inside.queue) c.self-2.invariant.alive.disk c.self-2.invariant.alive.some
+
+pub write-requires-clause-aimed : goal.write-requires-clause-aimed
+write-requires-clause-aimed g c =
+    let kept = ap (λ (l : Alive _). l.kept) c.self-2.view_is ∙ c.in_ok-before.ensures.untouched.1 ∙ sym (ap (λ (l : Alive _). l.kept) c.self.view_is) in
+    let holdings = ap (λ (l : Alive _). l.holdings) c.self-2.view_is ∙ c.in_ok-before.ensures.untouched.2 ∙ sym (ap (λ (l : Alive _). l.holdings) c.self.view_is) in (
+      c.args.handle,
+      c.args.index,
+      subst (λ k. IsAimed k c.self-2.inside.holdings c.args.handle c.args.index c.args.piece.now c.in_ok-target.target) (sym kept)
+          (subst (λ o. IsAimed c.self.inside.metadata o c.args.handle c.args.index c.args.piece.now c.in_ok-target.target) (sym holdings) c.in_ok-target.ensures.aimed),
+    )
+
+pub carry_out-requires-clause-planned : goal.carry_out-requires-clause-planned
+carry_out-requires-clause-planned g c =
+    let kept = ap (λ (l : Alive _). l.kept) c.self-2.view_is ∙ c.in_ok-before.ensures.untouched.1 ∙ sym (ap (λ (l : Alive _). l.kept) c.self.view_is) in
+    let holdings = ap (λ (l : Alive _). l.holdings) c.self-2.view_is ∙ c.in_ok-before.ensures.untouched.2 ∙ sym (ap (λ (l : Alive _). l.holdings) c.self.view_is) in
+    let aimed =
+    subst (λ k. IsAimed k c.self-2.inside.holdings c.args.handle c.args.index c.args.piece.now c.in_ok-target.target) (sym kept)
+    (subst (λ o. IsAimed c.self.inside.metadata o c.args.handle c.args.index c.args.piece.now c.in_ok-target.target) (sym holdings) c.in_ok-target.ensures.aimed) in
+    let anyhow = c.in_ok-planned.ensures.planned_anyhow c.args.handle c.args.index aimed in (
+      Write c.args.handle c.args.index anyhow.0,
+      Done,
+      subst (λ (l : Alive _). IsPlannedWith l.kept l.holdings [] (Write c.args.handle c.args.index anyhow.0) Done c.in_ok-planned.planned.plan (with_held (without l.holdings None) c.in_ok-planned.planned.holds.items)) c.self-2.view_is
+          anyhow.1,
+    )
+
+pub carry_out-requires-clause-holds : goal.carry_out-requires-clause-holds
+carry_out-requires-clause-holds g c = subst (λ (l : Alive _). All (λ a. a < block_count l.kept.geometry) c.in_ok-planned.planned.holds.items) c.self-2.view_is c.in_ok-planned.ensures.holds
+
+pub returns-clause-done : goal.returns-clause-done
+returns-clause-done g c = λ h.
+    let kept = ap (λ (l : Alive _). l.kept) c.self-2.view_is ∙ c.in_ok-before.ensures.untouched.1 ∙ sym (ap (λ (l : Alive _). l.kept) c.self.view_is) in
+    let holdings = ap (λ (l : Alive _). l.holdings) c.self-2.view_is ∙ c.in_ok-before.ensures.untouched.2 ∙ sym (ap (λ (l : Alive _). l.holdings) c.self.view_is) in
+    let aimed =
+    subst (λ k. IsAimed k c.self-2.inside.holdings c.args.handle c.args.index c.args.piece.now c.in_ok-target.target) (sym kept)
+    (subst (λ o. IsAimed c.self.inside.metadata o c.args.handle c.args.index c.args.piece.now c.in_ok-target.target) (sym holdings) c.in_ok-target.ensures.aimed) in
+    let command = Write c.args.handle c.args.index c.args.piece.now in
+    let seen = seen_before c.in_ok-target.target c.in_ok-before.before in
+    let old = c.args.self.now in
+    let mid = c.bytes_under.new.self in
+    let was = g.D.Device.image old.device in
+    let honest = subst (λ d. g.D.Device.honest d) c.in_ok-carry_out.ensures.device h in
+    let planned =
+    subst (λ (l : Alive _). IsPlannedWith l.kept l.holdings seen command Done c.in_ok-planned.planned.plan (with_held (without l.holdings None) c.in_ok-planned.planned.holds.items)) c.self-2.view_is
+    (c.in_ok-planned.ensures.planned c.args.handle c.args.index aimed) in
+    let same = c.in_ok-before.ensures.image in
+    let untouched = c.in_ok-before.ensures.untouched in
+    answered was (g.D.Device.image mid.device) old mid same untouched.0 untouched.1 untouched.2 command Done (g.D.Device.image c.carry_out.new.self.device) c.carry_out.new.self []
+    (c.in_ok-carry_out.ensures.done seen command Done planned honest (still_seen was (g.D.Device.image mid.device) old mid same untouched.0 untouched.1 untouched.2 seen (c.in_ok-before.ensures.seen honest)))

@@ -1,0 +1,133 @@
+ghost use Rattle.std.specs.Prelude.{◌≡◌, ◌⊎◌, [], IfErr, IfOk, IfSome, IsErrOf, IsOkUnless, IsTrue, OnErr, OnOk};
+ghost use Rattle.device.specs.Writes.{HasFailed};
+ghost use Rattle.layout.specs.declared.refusal.Refusal.TheVariants.{Device as DeviceRefusal};
+ghost use Rattle.machine.specs.Command.{Bytes, Close, Done, Number, Open, Read, Truncate, Write};
+ghost use Rattle.model.specs.Layout.{is_data_address};
+ghost use Rattle.ordering.specs.Cuts.{users_view};
+ghost use Rattle.softdep.specs.Queued.{pending_of};
+ghost use Rattle.live_states.specs.Planned.{AreSeen, IsRefusedWith};
+ghost use Rattle.live_writes.specs.Aimed.{seen_at, seen_before};
+ghost use Rattle.live.specs.Alive.{Answers, MayRefuse, disk_of};
+
+use crate::Live;
+use crate::bytes::{bytes_of, first_bytes};
+use device::Device;
+use layout::{BLOCK_BYTES, Block, Refusal};
+use live_files::{Reading, opening_of, reading_of};
+use live_writes::{Target, aim};
+use std::alloc::Global;
+
+impl<D: Device> Live<D> {
+    /// Opens a file, and gives the handle: the least one that is not open. Refused with `BadName` where this is no path,
+    /// with `NotFound` or `NotDirectory` where it leads nowhere, with `IsDirectory` where it leads to a directory, and
+    /// with `TooManyOpen` where 1,024 handles are open.
+    pub fn open(&mut self, path: &[u8]) -> Result<u32, Refusal>
+        ensures done { IfOk result (λ handle. D.honest self.old.device → Answers (D.image self.old.device) self.old (Open path.now) (Number handle) (D.image self.new.device) self.new []) }
+        ensures refused { IfErr result (λ r. D.honest self.old.device → MayRefuse (D.image self.old.device) self.old (Open path.now) r) }
+        ensures cause { IfErr result (IsRefusedWith self.old.kept self.old.holdings (Open path.now)) }
+        ensures untouched { OnErr result (self.new ≡ self.old) }
+        ensures device { self.new.device ≡ self.old.device }
+    {
+        let opening = opening_of(&self.metadata, &self.holdings, path)?;
+        self.holdings.open(opening.handle, opening.number)?;
+        Ok(opening.handle)
+    }
+
+    /// The bytes that an open file has in its block of this index, as users see them: those that were written last,
+    /// whether they are on the device or pending. Refused with `BadHandle` where the handle is not open, and with
+    /// `BadIndex` where the file ends before the block.
+    pub fn read(&mut self, alloc: Global, handle: u32, index: u32) -> Result<Vec<u8>, Refusal>
+        ensures done { IfOk result (λ bytes. D.honest self.new.device → Answers (D.image self.old.device) self.old (Read handle index) (Bytes bytes.items) (D.image self.new.device) self.new []) }
+        ensures refused { IfErr result (λ r. D.honest self.new.device → MayRefuse (D.image self.old.device) self.old (Read handle index) r) }
+        ensures error { IfErr result (λ r. (r ≡ DeviceRefusal) ⊎ IsRefusedWith self.old.kept self.old.holdings (Read handle index) r) }
+        ensures cause { IsErrOf result Refusal.Device → HasFailed (D.failures self.old.device) (D.failures self.new.device) }
+        ensures image { D.image self.new.device ≡ D.image self.old.device }
+        ensures held { D.held self.new.device ≡ D.held self.old.device }
+        ensures honest { D.honest self.new.device → D.honest self.old.device }
+        ensures untouched { (self.new.queue ≡ self.old.queue) × (self.new.kept ≡ self.old.kept) × (self.new.holdings ≡ self.old.holdings) }
+    {
+        let Reading { block, length } = reading_of(&self.metadata, &self.holdings, handle, index)?;
+        let bytes = bytes_of(&mut self.device, &self.queue, block)?;
+        Ok(first_bytes(alloc, &bytes, length)?)
+    }
+
+    /// Writes a piece of 1 to 1,024 bytes at the start of the block of this index of an open file: over the bytes there, or
+    /// as its next block. Refused with `BadHandle` where the handle is not open, with `BadPiece` where the piece is empty
+    /// or longer than a block, with `TooBig` where no file has such a block, with `BadIndex` where the file ends before
+    /// the block, and with `NoBlock` where it needs more blocks than are unmarked.
+    pub fn write(
+        &mut self,
+        alloc: Global,
+        handle: u32,
+        index: u32,
+        piece: &[u8],
+    ) -> Result<(), Refusal>
+        ensures done { OnOk result (D.honest self.new.device → Answers (D.image self.old.device) self.old (Write handle index piece.now) Done (D.image self.new.device) self.new []) }
+        ensures refused { IfErr result (λ r. D.honest self.new.device → MayRefuse (D.image self.old.device) self.old (Write handle index piece.now) r) }
+        ensures error { IfErr result (λ r. (r ≡ DeviceRefusal) ⊎ IsRefusedWith self.old.kept self.old.holdings (Write handle index piece.now) r) }
+        ensures cause { IsErrOf result Refusal.Device → HasFailed (D.failures self.old.device) (D.failures self.new.device) }
+        ensures image { D.image self.new.device ≡ D.image self.old.device }
+        ensures held { D.held self.new.device ≡ D.held self.old.device }
+        ensures honest { D.honest self.new.device → D.honest self.old.device }
+        ensures untouched { OnErr result ((self.new.queue ≡ self.old.queue) × (self.new.kept ≡ self.old.kept) × (self.new.holdings ≡ self.old.holdings)) }
+    {
+        let target = aim(&self.metadata, &self.holdings, handle, index, piece)?;
+        let before = self.bytes_under(&target)?;
+        let planned = live_writes::write(
+            alloc,
+            &self.metadata,
+            &self.holdings,
+            &target,
+            &before,
+            piece,
+        )?;
+        self.carry_out(alloc, planned, None)?;
+        Ok(())
+    }
+
+    /// The bytes that a piece is put over, as users see them; zeroes where there are none.
+    fn bytes_under(&mut self, target: &Target) -> Result<Block, Refusal>
+        requires { IfSome (seen_at target.now.place) (λ a. IsTrue (is_data_address self.old.kept.geometry a)) }
+        ensures seen { IfOk result (λ bytes. D.honest self.new.device
+            → AreSeen (seen_before target.now bytes) (users_view (disk_of (D.image self.old.device) self.old) (pending_of self.old.queue))) }
+        ensures image { D.image self.new.device ≡ D.image self.old.device }
+        ensures held { D.held self.new.device ≡ D.held self.old.device }
+        ensures honest { D.honest self.new.device → D.honest self.old.device }
+        ensures untouched { (self.new.queue ≡ self.old.queue) × (self.new.kept ≡ self.old.kept) × (self.new.holdings ≡ self.old.holdings) }
+        ensures error { IsOkUnless result Refusal.Device }
+        ensures cause { IsErrOf result Refusal.Device → HasFailed (D.failures self.old.device) (D.failures self.new.device) }
+    {
+        match target.seen() {
+            Some(block) => bytes_of(&mut self.device, &self.queue, block),
+            None => Ok([0; BLOCK_BYTES]),
+        }
+    }
+
+    /// Gives an open file a size that is no larger than its own; blocks behind it are free. Refused with `BadHandle` where
+    /// the handle is not open, and with `BadIndex` where the size is larger.
+    pub fn truncate(&mut self, alloc: Global, handle: u32, size: u32) -> Result<(), Refusal>
+        ensures done { OnOk result (D.honest self.old.device → Answers (D.image self.old.device) self.old (Truncate handle size) Done (D.image self.new.device) self.new []) }
+        ensures refused { IfErr result (λ r. D.honest self.old.device → MayRefuse (D.image self.old.device) self.old (Truncate handle size) r) }
+        ensures cause { IfErr result (IsRefusedWith self.old.kept self.old.holdings (Truncate handle size)) }
+        ensures untouched { OnErr result (self.new ≡ self.old) }
+        ensures device { self.new.device ≡ self.old.device }
+    {
+        let planned = live_removals::truncate(alloc, &self.metadata, &self.holdings, handle, size)?;
+        self.carry_out(alloc, planned, None)?;
+        Ok(())
+    }
+
+    /// Closes a handle; with its last one a file goes that has no names, and its blocks are free. Refused with `BadHandle`
+    /// where the handle is not open.
+    pub fn close(&mut self, alloc: Global, handle: u32) -> Result<(), Refusal>
+        ensures done { OnOk result (D.honest self.old.device → Answers (D.image self.old.device) self.old (Close handle) Done (D.image self.new.device) self.new []) }
+        ensures refused { IfErr result (λ r. D.honest self.old.device → MayRefuse (D.image self.old.device) self.old (Close handle) r) }
+        ensures cause { IfErr result (IsRefusedWith self.old.kept self.old.holdings (Close handle)) }
+        ensures untouched { OnErr result (self.new ≡ self.old) }
+        ensures device { self.new.device ≡ self.old.device }
+    {
+        let planned = live_removals::close(alloc, &self.metadata, &self.holdings, handle)?;
+        self.carry_out(alloc, planned, Some(handle))?;
+        Ok(())
+    }
+}

@@ -1,0 +1,41 @@
+//! What holds of a mounted volume over a whole run of calls: laws, without code.
+
+ghost use Rattle.std.specs.Prelude.{◌≡◌, ℕ, Bool, false, None, List, [], IsTrue};
+ghost use Rattle.model.specs.Image.{image_view};
+ghost use Rattle.model.specs.Reach.{IsReachable};
+ghost use Rattle.model.specs.View.{View};
+ghost use Rattle.machine.specs.Command.{Command, Reply};
+ghost use Rattle.queue_model.specs.Files.{Written};
+ghost use Rattle.courses.specs.Serves.{IsBeginning, IsSafeService, Service};
+ghost use Rattle.softdep.specs.Queued.{pending_of};
+ghost use Rattle.live_states.specs.Holdings.{Beside, IsIdle, IsImageOf};
+ghost use Rattle.live_states.specs.Volume.{state_over};
+ghost use Rattle.live.specs.Alive.{Alive, disk_of, state_of};
+ghost use Rattle.live.specs.Mounting.{IsMountable};
+ghost use Rattle.live.specs.Runs.{Lives};
+
+use device::Device;
+
+/// A volume that was just mounted is at a beginning, with any reachable files as those that no stop is to lose.
+pub fn mounted_volumes_begin<D: Device>()
+    ensures { (image : List (List ℕ)) (live : Alive D) → IsMountable live.kept.geometry image → pending_of live.queue ≡ [] → IsIdle live.holdings
+        → (safe : ℕ → Bool) → ((f : ℕ) → IsTrue (safe f) → IsReachable live.kept.geometry (disk_of image live) f × (((disk_of image live).inode f).mode ≡ 1))
+        → IsBeginning live.kept.geometry (disk_of image live) [] [] (disk_of image live) (pending_of live.queue) (state_of image live (record { frozen = None; plan = None })) safe }
+{}
+
+/// From a beginning on, what a volume goes through by its calls is a service, whatever files no stop is to lose. So its
+/// users see a run of the machine; each image that the device held is that of a closed cut of what was written, the cuts
+/// grow, each obeys the rules and holds in each block of a file what that very file wrote, or had at first; and a file
+/// that no stop was to lose, and of which no unlink took a name, is reachable in each.
+pub fn each_stop_of_a_run_is_safe<D: Device>()
+    ensures { (beside : Beside) (image0 : List (List ℕ)) (live0 : Alive D) → IsImageOf live0.holdings.snapshot beside.frozen
+        → (mount : View) (h : List Written) (cut : List Bool) (safe0 : ℕ → Bool)
+        → IsBeginning live0.kept.geometry mount h cut (disk_of image0 live0) (pending_of live0.queue) (state_of image0 live0 beside) (λ f. false)
+        → IsBeginning live0.kept.geometry mount h cut (disk_of image0 live0) (pending_of live0.queue) (state_of image0 live0 beside) safe0
+        → (image : List (List ℕ)) (live : Alive D) (commands : List Command) (replies : List Reply) (images : List View) → Lives beside image0 live0 image live commands replies images
+        → (safe : ℕ → Bool)
+        × Service live0.kept.geometry (disk_of image0 live0) (pending_of live0.queue) (state_of image0 live0 beside) safe0
+        (image_view live0.kept.geometry image) (pending_of live.queue) (state_over (image_view live0.kept.geometry image) (pending_of live.queue) live.holdings beside) safe commands replies images
+        × IsSafeService live0.kept.geometry mount h cut (disk_of image0 live0) (pending_of live0.queue) (state_of image0 live0 beside) safe0
+        (image_view live0.kept.geometry image) (pending_of live.queue) (state_over (image_view live0.kept.geometry image) (pending_of live.queue) live.holdings beside) safe commands replies images }
+{}

@@ -1,0 +1,6 @@
+mod Bytes
+mod Facts
+mod Planning
+mod Pointing
+mod Refusals
+mod Sights

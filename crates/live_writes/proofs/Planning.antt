@@ -1,0 +1,212 @@
+-- The updates of a write carry it out.
+use Rattle.std.proofs.Common.{◌≡◌, ◌<◌, ◌≤◌, ◌+◌, ◌*◌, ◌^◌, ◌||◌, ℕ, Bool, true, false, eqb, List, [], ◌∷◌, length, max, replicate, inl, inr, refl, sym, ap, ap₂, ◌∙◌, subst, arith, Option, Some, None, IsTrue, IsFalse, slice_index_or, slice_set, get_or-set_same, get_or-set_other, eq-eqb}
+use Rattle.std.specs.Prelude.{unwrap_or}
+use Rattle.std.proofs.lemmas.Bool.{cases_eq}
+use Rattle.std.proofs.lemmas.Bool.Decides.{nat_tests}
+use Rattle.std.proofs.lemmas.Nat.{mul-le}
+use mathlib.Core.Path.{fun_ext}
+use Rattle.model.specs.Layout.{Geometry, IsGeometry, block_count, is_data_address}
+use Rattle.model.specs.View.{Inode, View}
+use Rattle.model.specs.Uses.{IsClaim, blocks_of, claim_at, indirect_position}
+use Rattle.model.proofs.Addresses.{data_range}
+use Rattle.model.proofs.UseLemmas.{claim_parts}
+use Rattle.machine.specs.Causes.{file_of}
+use Rattle.machine.specs.Cells.{block_of, seen, with_pointer}
+use Rattle.machine.specs.Command.{Done, Write}
+use Rattle.machine.specs.Effects.{IsOverwritten, size_after}
+use Rattle.machine.specs.Room.{IsFreeBlock, unmarked_blocks}
+use Rattle.machine.specs.State.{State, is_kept}
+use Rattle.machine.specs.Whole.{HasWholeBlocks}
+use Rattle.machine.proofs.PointerTables.{pointer_here, pointer_whole}
+use Rattle.ordering.specs.Cuts.{Pending, users_view}
+use Rattle.plans_data.specs.Append.{appended}
+use Rattle.plans_data.specs.Carried.{Stands}
+use Rattle.plans_data.specs.Now.{becomes, now}
+use Rattle.plans_data.specs.Plans.{IsChoice, holder_in_use, holder_of}
+use Rattle.plans_data.specs.Write.{held_besides, relocated, written}
+use Rattle.courses.specs.Done.{IsDoneBy, WritesBehind, WritesElsewhere, WritesInPlace}
+use Rattle.frozen.specs.Kept.{Kept, KeepsMetadata, frozen_view}
+use Rattle.metadata.specs.Shown.{Shows}
+use Rattle.live_states.specs.Drafts.{Draft, GoesOn, over}
+use Rattle.live_states.specs.Holdings.{Has, Holdings, going_on, held_by, with_held}
+use Rattle.live_states.specs.Planned.{AreSeen, IsOfVolumeWith, IsPlannedWith, Seen}
+use Rattle.live_plans.proofs.GrowLemmas.{free_there, zeroes_whole}
+use Rattle.live_writes.specs.Aimed.{IsAimed, IsPlaced, IsTableFor, block_count_of, blocks_needed}
+use Rattle.live_writes.specs.Written.{grown_size, held_for, holder_at, updates_at, updates_by}
+use Rattle.live_writes.specs.declared.aiming.Place.{Place}
+use Rattle.live_writes.specs.declared.aiming.Place.TheVariants.{InPlace, Behind, Elsewhere}
+use Rattle.live_writes.specs.declared.aiming.Target.{Target}
+use Rattle.live_writes.proofs.Facts.{claim_there, has_indirect, open_there, same_kept}
+use Rattle.live_writes.proofs.Pointing.{appends, holder_behind, holder_first, holder_used}
+use Rattle.live_writes.proofs.Refusals.{good_if, write_accepted}
+
+-- the number of a data block has four bytes
+small : (geo : Geometry) → IsGeometry geo → (a : ℕ) → IsTrue (is_data_address geo a) → a < 2 ^ 32
+small geo ok a t =
+    let few : geo.groups * geo.blocks ≤ 64 * 4096 = mul-le geo.groups geo.blocks 64 4096 ok.few_groups ok.few_blocks in
+    omega (arith, (data_range geo ok a t).1, few)
+
+-- one more block is held
+one_more : (held : List Bool) (a : ℕ) → a < length held → (x : ℕ) → (slice_index_or held x false || eqb x a) ≡ slice_index_or (slice_set held a true) x false
+one_more held a low x = elim (cases_eq x a) [
+  | inl e ↦ ap (λ t. slice_index_or held x false || t) (eq-eqb x a e) ∙ or_true (slice_index_or held x false) ∙ sym (ap (λ y. slice_index_or (slice_set held a true) y false) e ∙ get_or-set_same held a true false low)
+  | inr d ↦
+      let other : eqb x a ≡ false = grind (arith, nat_tests, d) in
+      ap (λ t. slice_index_or held x false || t) other ∙ or_false (slice_index_or held x false) ∙ sym (get_or-set_other held a x true false d)
+]
+  where
+    or_true : (t : Bool) → (t || true) ≡ true
+    or_true true = refl
+    or_true false = refl
+
+    or_false : (t : Bool) → (t || false) ≡ t
+    or_false true = refl
+    or_false false = refl
+
+module _ (kept : Kept) (holdings : Holdings) (keeps : KeepsMetadata kept) (volume : IsOfVolumeWith kept holdings) (all : block_count kept.geometry ≤ length holdings.held)
+    (h k i : ℕ) (piece bytes : List ℕ) (opened : (old : State) → Has holdings old → file_of old h ≡ i) (claims : 12 < block_count_of kept i → IsClaim kept.geometry (frozen_view kept) i indirect_position ((frozen_view kept).inode i).indirect)
+    (room : k < indirect_position) (some : 1 ≤ length piece) where
+  module _ (disk : View) (q : List Pending) (old : State) (safe : ℕ → Bool) (stands : Stands kept.geometry disk q old safe) (shown : Shows kept old.view) (has : Has holdings old) where
+    abbrev view : View
+    view = users_view disk q
+
+    sees : Shows kept view
+    sees = subst (λ v. Shows kept v) (sym stands.same) shown
+
+    abbrev Does : ℕ → List Pending → State → Type 0
+    Does j p new = IsDoneBy kept.geometry disk q old safe (Write h k piece) Done j p new safe
+
+    at : file_of old h ≡ i
+    at = opened old has
+
+    abbrev size_then : ℕ → ℕ
+    size_then j = size_after view j k piece
+
+    -- the state then
+    state_then : (blocks : List ℕ) (held : ℕ → Bool) (p : List Pending) → held ≡ held_by (with_held holdings blocks) → becomes disk p held old ≡ going_on old (with_held holdings blocks) (users_view disk p)
+    state_then blocks held p e = ap₂ (λ (o : ℕ → Option ℕ) (l : ℕ → Bool). record old { view = users_view disk p; opened = o; held = l }) has.opened e
+
+    -- what is done so is done with other words for the same
+    finish : (blocks : List ℕ) (held : ℕ → Bool) (p r : List Pending) → r ≡ p → held ≡ held_by (with_held holdings blocks) → Does i p (becomes disk p held old) → Does i r (going_on old (with_held holdings blocks) (users_view disk r))
+    finish blocks held p r list e does =
+        subst (λ l. Does i l (going_on old (with_held holdings blocks) (users_view disk l))) (sym list) (subst (λ new. Does i p new) (state_then blocks held p e) does)
+
+    sized_so : grown_size kept i k piece ≡ size_then i
+    sized_so = ap (λ (n : Inode). max n.size (1024 * k + length piece)) (sees.inode i)
+
+    block_so : (a : ℕ) → claim_at kept.geometry (frozen_view kept) i k ≡ Some a → block_of kept.geometry view i k ≡ a
+    block_so a e = ap (λ o. unwrap_or o 0) (sym (claim_there kept view keeps sees i k) ∙ e)
+
+    inside_so : k < block_count_of kept i → k < blocks_of (view.inode i).size
+    inside_so inside = subst (λ (n : Inode). k < blocks_of n.size) (sees.inode i) inside
+
+    -- ---- in place
+    module _ (over_it : IsOverwritten piece (seen kept.geometry view i k) bytes) where
+      done_in_place : (a : ℕ) → IsPlaced kept holdings i k (InPlace a) → (r : List Pending) → r ≡ updates_by kept i k bytes (grown_size kept i k piece) (InPlace a) q
+          → Does i r (going_on old (with_held holdings []) (users_view disk r))
+      done_in_place a is r list =
+          let b = block_so a is.1 in
+          finish [] old.held (written i (view.inode i) (block_of kept.geometry view i k) bytes (size_then i) q) r
+          (list ∙ ap (λ (n : Inode). written i n a bytes (grown_size kept i k piece) q) (sees.inode i) ∙ ap₂ (λ x s. written i (view.inode i) x bytes s q) (sym b) sized_so) has.held
+          (subst (λ j. Does j (written j (view.inode j) (block_of kept.geometry view j k) bytes (size_then j) q) (becomes disk (written j (view.inode j) (block_of kept.geometry view j k) bytes (size_then j) q) old.held old)) at
+          (WritesInPlace h k piece bytes (subst (λ j. IsOverwritten piece (seen kept.geometry view j k) bytes) (sym at) over_it)
+          (subst (λ j. k < blocks_of (view.inode j).size) (sym at) (inside_so is.0))
+          (subst (λ j. IsFalse (is_kept old (block_of kept.geometry view j k))) (sym at) (ap (is_kept old) b ∙ same_kept holdings old has a ∙ is.2))))
+
+      -- ---- behind the last block
+      grows : k ≡ block_count_of kept i → (view.inode i).size < size_then i
+      grows next =
+          let here : k ≡ blocks_of (view.inode i).size = subst (λ (n : Inode). k ≡ blocks_of n.size) (sees.inode i) next in
+          let upper : 1024 * k + length piece ≤ size_then i = omega arith in
+          omega (arith, here, upper, some)
+
+      behind_with : (b x : ℕ) (table : List ℕ) → k ≡ block_count_of kept i → IsChoice kept.geometry view k b x table
+          → Does i (appended i (view.inode i) k b bytes (size_then i) (holder_of k (view.bytes (view.inode i).indirect) x table) q)
+          (becomes disk (appended i (view.inode i) k b bytes (size_then i) (holder_of k (view.bytes (view.inode i).indirect) x table) q) old.held old)
+      behind_with b x table next choice =
+          subst (λ j. Does j (appended j (view.inode j) k b bytes (size_then j) (holder_of k (view.bytes (view.inode j).indirect) x table) q)
+          (becomes disk (appended j (view.inode j) k b bytes (size_then j) (holder_of k (view.bytes (view.inode j).indirect) x table) q) old.held old)) at
+          (WritesBehind h k piece bytes b x table (subst (λ j. IsOverwritten piece (seen kept.geometry view j k) bytes) (sym at) over_it) choice
+          (subst (λ j. blocks_of (view.inode j).size ≤ k) (sym at) (subst (λ (n : Inode). blocks_of n.size ≤ k) (sees.inode i) (omega (arith, next)))))
+
+      -- the list by what users see
+      list_behind : (b x : ℕ) (t : List ℕ) (table : Option ℕ) → k ≡ block_count_of kept i → holder_at kept i k b table ≡ holder_of k (view.bytes (view.inode i).indirect) x t
+          → updates_by kept i k bytes (grown_size kept i k piece) (Behind b table) q ≡ appended i (view.inode i) k b bytes (size_then i) (holder_of k (view.bytes (view.inode i).indirect) x t) q
+      list_behind b x t table next e =
+          ap (λ (n : Inode). relocated i n k b bytes (grown_size kept i k piece) (holder_at kept i k b table) q) (sees.inode i)
+          ∙ ap₂ (λ s holder. relocated i (view.inode i) k b bytes s holder q) sized_so e
+          ∙ appends i (view.inode i) k b bytes (size_then i) (holder_of k (view.bytes (view.inode i).indirect) x t) q (grows next)
+
+      done_behind : (b : ℕ) (table : Option ℕ) → k ≡ block_count_of kept i → IsFreeBlock kept.geometry (frozen_view kept) b → IsTableFor kept.geometry (frozen_view kept) k b table
+          → (r : List Pending) → r ≡ updates_by kept i k bytes (grown_size kept i k piece) (Behind b table) q
+          → Does i r (going_on old (with_held holdings []) (users_view disk r))
+      done_behind b None next free apart r list =
+          finish [] old.held (appended i (view.inode i) k b bytes (size_then i) (holder_of k (view.bytes (view.inode i).indirect) 0 []) q) r
+          (list ∙ list_behind b 0 [] None next (holder_behind kept view keeps sees i k b apart (λ many. claims (omega (arith, many, next, apart))) 0 [])) has.held
+          (behind_with b 0 [] next (record { free = free_there kept view sees b free; other = λ e. absurd (apart e) }))
+      done_behind b (Some x) next free is r list =
+          let t = with_pointer (replicate 1024 0) 0 b in
+          let low = small kept.geometry stands.geometry b free.address in
+          finish [] old.held (appended i (view.inode i) k b bytes (size_then i) (holder_of k (view.bytes (view.inode i).indirect) x t) q) r
+          (list ∙ list_behind b x t (Some x) next (holder_first kept view keeps sees i k b is.0 x)) has.held
+          (behind_with b x t next (record {
+            free = free_there kept view sees b free;
+            other = λ e. record {
+              free = free_there kept view sees x is.1;
+              other = is.2;
+              whole = pointer_whole (replicate 1024 0) zeroes_whole 0 b (omega arith) low;
+              first = pointer_here (replicate 1024 0) zeroes_whole 0 b (omega arith) low;
+            };
+          }))
+
+      -- ---- elsewhere
+      held_then : (a : ℕ) → claim_at kept.geometry (frozen_view kept) i k ≡ Some a → held_besides kept.geometry (now disk q old) i k ≡ held_by (with_held holdings (a ∷ []))
+      held_then a e =
+          let low : a < length holdings.held = omega (arith, all, (data_range kept.geometry stands.geometry a (claim_parts kept.geometry (frozen_view kept) i k a e).1).1) in
+          fun_ext (λ x. ap₂ (λ (l : ℕ → Bool) y. l x || eqb x y) has.held (block_so a e) ∙ one_more holdings.held a low x)
+
+      done_elsewhere : (a b : ℕ) → IsPlaced kept holdings i k (Elsewhere a b) → (r : List Pending) → r ≡ updates_by kept i k bytes (grown_size kept i k piece) (Elsewhere a b) q
+          → Does i r (going_on old (with_held holdings (a ∷ [])) (users_view disk r))
+      done_elsewhere a b is r list =
+          let e = block_so a is.1 in
+          finish (a ∷ []) (held_besides kept.geometry (now disk q old) i k)
+          (relocated i (view.inode i) k b bytes (size_then i) (holder_in_use k (view.bytes (view.inode i).indirect)) q) r
+          (list ∙ ap (λ (n : Inode). relocated i n k b bytes (grown_size kept i k piece) (holder_at kept i k b None) q) (sees.inode i)
+          ∙ ap₂ (λ s holder. relocated i (view.inode i) k b bytes s holder q) sized_so (holder_used kept view keeps sees i k b (λ many. claims (omega (arith, many, is.0)))))
+          (held_then a is.1)
+          (subst (λ j. Does j (relocated j (view.inode j) k b bytes (size_then j) (holder_in_use k (view.bytes (view.inode j).indirect)) q)
+          (becomes disk (relocated j (view.inode j) k b bytes (size_then j) (holder_in_use k (view.bytes (view.inode j).indirect)) q) (held_besides kept.geometry (now disk q old) j k) old)) at
+          (WritesElsewhere h k piece bytes b (subst (λ j. IsOverwritten piece (seen kept.geometry view j k) bytes) (sym at) over_it) (free_there kept view sees b is.3)
+          (subst (λ j. k < blocks_of (view.inode j).size) (sym at) (inside_so is.0))
+          (subst (λ j. IsTrue (is_kept old (block_of kept.geometry view j k))) (sym at) (ap (is_kept old) e ∙ same_kept holdings old has a ∙ is.2))))
+
+      pub done_at : (place : Place) → IsPlaced kept holdings i k place → (r : List Pending) → r ≡ updates_by kept i k bytes (grown_size kept i k piece) place q
+          → Does i r (going_on old (with_held holdings (held_for place)) (users_view disk r))
+      done_at (InPlace a) is r list = done_in_place a is r list
+      done_at (Behind b table) is r list = done_behind b table is.0 is.1 is.2 r list
+      done_at (Elsewhere a b) is r list = done_elsewhere a b is r list
+
+-- the plan of a write where these bytes are the right ones whatever users see
+pub write_planned : (kept : Kept) (holdings : Holdings) → KeepsMetadata kept → IsOfVolumeWith kept holdings → block_count kept.geometry ≤ length holdings.held
+    → (h k : ℕ) (piece bytes : List ℕ) (target : Target) → IsAimed kept holdings h k piece target
+    → (draft : Draft) → GoesOn (record { geometry = kept.geometry; file = target.file; updates = [] }) draft (updates_at kept target bytes (grown_size kept target.file k piece))
+    → (blocks : List ℕ) → blocks ≡ held_for target.place
+    → (sight : List Seen) → ((view : View) → HasWholeBlocks kept.geometry view → Shows kept view → AreSeen sight view → IsOverwritten piece (seen kept.geometry view target.file k) bytes)
+    → IsPlannedWith kept holdings sight (Write h k piece) Done draft (with_held holdings blocks)
+write_planned kept holdings keeps volume all h k piece bytes target aimed draft goes blocks held sight overwrites =
+    let i = target.file in
+    let place = subst (λ j. IsPlaced kept holdings i j target.place) aimed.index aimed.fits.placed in
+    let room = subst (λ j. j < indirect_position) aimed.index aimed.fits.room in
+    let same_list = λ (q : List Pending). goes.pending q ∙ ap (λ j. updates_by kept i j bytes (grown_size kept i k piece) target.place q) aimed.index in
+    record {
+      geometry = goes.geometry;
+      snapshot = refl;
+      accepted = write_accepted kept holdings h k piece i aimed.opened (good_if piece aimed.some aimed.few) room aimed.near keeps (subst (λ j. blocks_needed kept holdings i j ≤ unmarked_blocks kept.geometry (frozen_view kept)) aimed.index aimed.enough);
+      done = λ disk q old safe stands shows has sees.
+          let view = users_view disk q in
+          let over_it = overwrites view (subst (λ v. HasWholeBlocks kept.geometry v) (sym stands.same) stands.balance.whole) (subst (λ v. Shows kept v) (sym stands.same) shows) (subst (λ v. AreSeen sight v) (sym stands.same) sees) in
+          subst (λ bs. IsDoneBy kept.geometry disk q old safe (Write h k piece) Done draft.file (over q draft.updates) (going_on old (with_held holdings bs) (users_view disk (over q draft.updates))) safe) (sym held)
+          (subst (λ f. IsDoneBy kept.geometry disk q old safe (Write h k piece) Done f (over q draft.updates) (going_on old (with_held holdings (held_for target.place)) (users_view disk (over q draft.updates))) safe) (sym goes.file)
+          (done_at kept holdings keeps volume all h k i piece bytes (λ s its. ap (λ o. unwrap_or o 0) (open_there holdings s its h ∙ aimed.opened)) (has_indirect kept volume.volume i aimed.fits.sound) room aimed.some
+          disk q old safe stands shows has over_it target.place place (over q draft.updates) (same_list q)));
+    }

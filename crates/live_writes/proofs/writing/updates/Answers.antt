@@ -1,0 +1,60 @@
+-- The block gets its bytes, and then the file the block.
+use Rattle.std.proofs.Common.{◌≡◌, [], map, sym, ap, ◌∙◌, subst, IsTrue}
+use Rattle.model.specs.Layout.{Geometry, is_data_address}
+use Rattle.model.proofs.ImageLemmas.{is_block}
+use Rattle.frozen.specs.Kept.{Kept, frozen_view}
+use Rattle.updates.specs.Values.{cell}
+use Rattle.live_states.specs.Drafts.{Draft, GoesOn}
+use Rattle.live_writes.specs.Aimed.{IsPlaced}
+use Rattle.live_writes.specs.Written.{updates_at}
+use Rattle.live_writes.specs.declared.aiming.Place.TheVariants.{InPlace}
+use Rattle.live_writes.proofs.Facts.{placed_seen}
+use Rattle.live_writes.proofs.Pointing.{all_one, goes_behind, goes_elsewhere, goes_in_place}
+use Rattle.live_writes.proofs.writing.updates.Goals.{in-InPlace+in_ok-replace-in-InPlace+in_ok-after-in-InPlace+in_ok-enlarge-in-InPlace, in-Behind+in_ok-fill-in-Behind+in_ok-repoint-in-Behind, in-Elsewhere+in_ok-fill-in-Elsewhere+in_ok-repoint-in-Elsewhere}
+use Rattle.live_writes.proofs.writing.updates.Goals as goal
+
+pub replace-requires : goal.replace-requires
+replace-requires c =
+    let kept = c.args.metadata.now in
+    let target = c.args.target.now in
+    let holdings = c.requires.fits.0 in
+    let a = c.in-InPlace.block in
+    let address = placed_seen kept holdings target.file target.index (InPlace a) (subst (IsPlaced kept holdings target.file target.index) c.in-InPlace.is (c.requires.fits.1).placed) in
+    subst (λ (g : Geometry). IsTrue (is_data_address g a)) (sym (ap (λ (d : Draft). d.geometry) c.new-plan.ensures ∙ c.geometry.ensures.geometry ∙ ap (λ (f : Kept). f.geometry) c.frozen.ensures.same)) address
+
+pub enlarge-requires-clause-after : goal.enlarge-requires-clause-after
+enlarge-requires-clause-after c =
+    let kept = c.args.metadata.now in
+    let target = c.args.target.now in
+    let holdings = c.requires.fits.0 in
+    let a = c.in-InPlace.block in
+    let address = placed_seen kept holdings target.file target.index (InPlace a) (subst (IsPlaced kept holdings target.file target.index) c.in-InPlace.is (c.requires.fits.1).placed) in
+    all_one c.replace.new.plan.geometry (map cell c.in_ok-after-in-InPlace.after.items) a (ap (map cell) c.in_ok-after-in-InPlace.ensures.items)
+    (subst (λ (g : Geometry). IsTrue (is_data_address g a))
+    (sym (c.in_ok-replace-in-InPlace.ensures.geometry ∙ ap (λ (d : Draft). d.geometry) c.new-plan.ensures ∙ c.geometry.ensures.geometry ∙ ap (λ (f : Kept). f.geometry) c.frozen.ensures.same)) address)
+
+pub returns-clause-whole : goal.returns-clause-whole
+returns-clause-whole c = is_block c.args.bytes.now c.told-bytes c.fits-bytes
+
+pub returns-clause-goes : goal.returns-clause-goes
+returns-clause-goes c =
+    let kept = c.args.metadata.now in
+    let target = c.args.target.now in
+    let bytes = c.args.bytes.now in
+    let size = c.args.size in
+    let start : Draft = record { geometry = kept.geometry; file = target.file; updates = [] } in
+    let begun : c.new-plan.result ≡ start = c.new-plan.ensures ∙ ap (λ (g : Geometry). record { geometry = g; file = target.file; updates = [] }) (c.geometry.ensures.geometry ∙ ap (λ (f : Kept). f.geometry) c.frozen.ensures.same) in
+    subst (λ (d : Draft). GoesOn d c.match-target.plan (updates_at kept target bytes size)) begun
+    (elim c.match-target.branch [
+      | in-InPlace+in_ok-replace-in-InPlace+in_ok-after-in-InPlace+in_ok-enlarge-in-InPlace w ↦
+          let same = w.record-owner.ensures ∙ ap (λ (f : Kept). (frozen_view f).inode target.file) w.frozen-in-InPlace.ensures.same in
+          subst (λ (d : Draft). GoesOn c.new-plan.result d (updates_at kept target bytes size)) (sym w.plan-is)
+          (goes_in_place kept target bytes size c.new-plan.result w.replace.new.plan w.enlarge.new.plan w.in-InPlace.block w.record-owner.result (map cell w.in_ok-after-in-InPlace.after.items) w.in-InPlace.is
+          same (ap (map cell) w.in_ok-after-in-InPlace.ensures.items) w.in_ok-replace-in-InPlace.ensures w.in_ok-enlarge-in-InPlace.ensures)
+      | in-Behind+in_ok-fill-in-Behind+in_ok-repoint-in-Behind w ↦
+          subst (λ (d : Draft). GoesOn c.new-plan.result d (updates_at kept target bytes size)) (sym w.plan-is)
+          (goes_behind kept target bytes size c.new-plan.result w.fill.new.plan w.repoint.new.plan w.in-Behind.block w.in-Behind.table w.in-Behind.is w.in_ok-fill-in-Behind.ensures w.in_ok-repoint-in-Behind.ensures)
+      | in-Elsewhere+in_ok-fill-in-Elsewhere+in_ok-repoint-in-Elsewhere w ↦
+          subst (λ (d : Draft). GoesOn c.new-plan.result d (updates_at kept target bytes size)) (sym w.plan-is)
+          (goes_elsewhere kept target bytes size c.new-plan.result w.fill-in-Elsewhere.new.plan w.repoint-in-Elsewhere.new.plan w.in-Elsewhere.old w.in-Elsewhere.block w.in-Elsewhere.is w.in_ok-fill-in-Elsewhere.ensures w.in_ok-repoint-in-Elsewhere.ensures)
+    ])

@@ -1,0 +1,51 @@
+-- The updates are those of the piece over what is seen, and of a longer piece over anything.
+use Rattle.std.proofs.Common.{◌≡◌, ◌<◌, ◌+◌, ◌*◌, [], length, refl, sym, ap, ◌∙◌, subst}
+use Rattle.std.specs.List.{All}
+use Rattle.model.specs.Layout.{block_count}
+use Rattle.model.specs.View.{Inode}
+use Rattle.frozen.specs.Kept.{Kept, frozen_view}
+use Rattle.live_states.specs.Drafts.{GoesOn}
+use Rattle.live_writes.specs.Written.{grown_size, updates_at}
+use Rattle.live_writes.proofs.Facts.{has_indirect}
+use Rattle.live_writes.proofs.Sights.{held_below, planned, planned_anyhow, size_from, size_stays}
+use Rattle.live_writes.proofs.writing.write.Goals.{then-end-size, else-end-size}
+use Rattle.live_writes.proofs.writing.write.Goals as goal
+
+pub returns-clause-planned : goal.returns-clause-planned
+returns-clause-planned c = λ h k aimed.
+    let kept = c.args.metadata.now in
+    let target = c.args.target.now in
+    let piece = c.args.piece.now in
+    let same = c.size.view_is ∙ c.record.ensures ∙ ap (λ (f : Kept). (frozen_view f).inode target.file) c.frozen.ensures.same in
+    let size : c.if-end-size.size ≡ grown_size kept target.file target.index piece = elim c.if-end-size.branch [
+      | then-end-size w ↦ w.size-is ∙ size_from kept target.file target.index piece c.size.inside.size (1024 * target.index + length piece) (ap (λ (n : Inode). n.size) same) refl w.if-end-size.true
+      | else-end-size w ↦ w.size-is ∙ size_stays kept target.file target.index piece c.size.inside.size (1024 * target.index + length piece) (ap (λ (n : Inode). n.size) same) refl w.if-end-size.false
+    ] in
+    planned kept c.args.holdings.now c.frozen.ensures.metadata c.requires.volume c.requires.wide h k piece c.overwritten-bytes.result target aimed c.in_ok-plan.plan
+    (subst (λ s. GoesOn (record { geometry = kept.geometry; file = target.file; updates = [] }) c.in_ok-plan.plan (updates_at kept target c.overwritten-bytes.result s)) (size ∙ ap (λ j. grown_size kept target.file j piece) aimed.index) c.in_ok-plan.ensures.goes)
+    c.in_ok-holds.holds.items c.in_ok-holds.ensures c.in_ok-plan.ensures.whole c.args.before.now c.overwritten-bytes.ensures
+
+pub returns-clause-planned_anyhow : goal.returns-clause-planned_anyhow
+returns-clause-planned_anyhow c = λ h k aimed.
+    let kept = c.args.metadata.now in
+    let target = c.args.target.now in
+    let piece = c.args.piece.now in
+    let same = c.size.view_is ∙ c.record.ensures ∙ ap (λ (f : Kept). (frozen_view f).inode target.file) c.frozen.ensures.same in
+    let size : c.if-end-size.size ≡ grown_size kept target.file target.index piece = elim c.if-end-size.branch [
+      | then-end-size w ↦ w.size-is ∙ size_from kept target.file target.index piece c.size.inside.size (1024 * target.index + length piece) (ap (λ (n : Inode). n.size) same) refl w.if-end-size.true
+      | else-end-size w ↦ w.size-is ∙ size_stays kept target.file target.index piece c.size.inside.size (1024 * target.index + length piece) (ap (λ (n : Inode). n.size) same) refl w.if-end-size.false
+    ] in
+    planned_anyhow kept c.args.holdings.now c.frozen.ensures.metadata c.requires.volume c.requires.wide h k piece c.overwritten-bytes.result target aimed c.in_ok-plan.plan
+    (subst (λ s. GoesOn (record { geometry = kept.geometry; file = target.file; updates = [] }) c.in_ok-plan.plan (updates_at kept target c.overwritten-bytes.result s)) (size ∙ ap (λ j. grown_size kept target.file j piece) aimed.index) c.in_ok-plan.ensures.goes)
+    c.in_ok-holds.holds.items c.in_ok-holds.ensures c.in_ok-plan.ensures.whole
+
+pub returns-clause-holds : goal.returns-clause-holds
+returns-clause-holds c =
+    let kept = c.args.metadata.now in
+    let target = c.args.target.now in
+    let aimed = c.requires.aimed.2 in
+    subst (λ bs. All (λ a. a < block_count kept.geometry) bs) (sym c.in_ok-holds.ensures) (held_below kept c.args.holdings.now c.requires.volume.volume target.file target.index target.place aimed.fits.placed)
+
+pub updates-requires-clause-pointers : goal.updates-requires-clause-pointers
+updates-requires-clause-pointers c =
+    has_indirect c.args.metadata.now c.requires.volume.volume c.args.target.now.file c.requires.aimed.2.fits.sound

@@ -1,0 +1,201 @@
+ghost use Rattle.std.specs.Prelude.{◌≡◌, ◌<◌, ◌≤◌, ◌∷◌, [], ℕ, IfOk, IsTrue, List, OnOk, length, map};
+ghost use Rattle.std.specs.List.{All};
+ghost use Rattle.frozen.specs.Kept.{frozen_view};
+ghost use Rattle.machine.specs.Command.{Done, Write};
+ghost use Rattle.model.specs.Cells.{SetBytes};
+ghost use Rattle.model.specs.Image.{IsBlock};
+ghost use Rattle.model.specs.Layout.{block_count, is_data_address, is_number};
+ghost use Rattle.model.specs.Uses.{IsClaim, indirect_position, is_sound_at};
+ghost use Rattle.plans_data.specs.Write.{enlarged};
+ghost use Rattle.updates.specs.Places.{IsCell};
+ghost use Rattle.updates.specs.Values.{cell};
+ghost use Rattle.live_plans.specs.Grown.{HasPointers};
+ghost use Rattle.live_states.specs.Drafts.{GoesOn};
+ghost use Rattle.live_states.specs.Holdings.{Holdings as Held, with_held};
+ghost use Rattle.live_states.specs.Planned.{IsOfVolumeWith, IsPlannedWith};
+ghost use Rattle.live_writes.specs.Aimed.{Fits, IsAimed, seen_before};
+ghost use Rattle.live_writes.specs.Written.{HasTable, bytes_after, held_for, holder_at, repointed, updates_at};
+
+use crate::{Place, Target};
+use inode::{DIRECT_POINTERS, Record};
+use layout::{BLOCK_BYTES, Block};
+use live_holdings::Holdings;
+use live_plans::{Plan, Planned, fill, point_at, point_first};
+use metadata::Metadata;
+use std::alloc::{AllocError, Global};
+use updates::{Cell, Change};
+
+/// The plan by which a piece is written where `aim` has settled, over these bytes of the block that is seen there. Behind
+/// the last block it is put over zeroes.
+///
+/// Whatever the bytes of the block were, the same plan is that of a piece, which reaches to the end of the block or of
+/// the file.
+pub fn write(
+    alloc: Global,
+    metadata: &Metadata,
+    holdings: &Holdings,
+    target: &Target,
+    before: &Block,
+    piece: &[u8],
+) -> Result<Planned, AllocError>
+    requires volume { IsOfVolumeWith metadata.now holdings.now }
+    requires aimed { (h : ℕ) × (k : ℕ) × IsAimed metadata.now holdings.now h k piece.now target.now }
+    requires wide { block_count metadata.now.geometry ≤ length holdings.now.held }
+    ensures planned { IfOk result (λ planned. (h k : ℕ) → IsAimed metadata.now holdings.now h k piece.now target.now
+        → IsPlannedWith metadata.now holdings.now (seen_before target.now before.now) (Write h k piece.now) Done planned.plan (with_held holdings.now planned.holds.items)) }
+    ensures planned_anyhow { IfOk result (λ planned. (h k : ℕ) → IsAimed metadata.now holdings.now h k piece.now target.now
+        → (other : List ℕ) × IsPlannedWith metadata.now holdings.now [] (Write h k other) Done planned.plan (with_held holdings.now planned.holds.items)) }
+    ensures holds { IfOk result (λ planned. All (λ a. a < block_count metadata.now.geometry) planned.holds.items) }
+{
+    let size = metadata.frozen().record(target.file).size;
+    let end = BLOCK_BYTES as u32 * target.index + piece.len() as u32;
+    let size = if end > size { end } else { size };
+    let bytes = overwritten(&target.place, before, piece);
+    let plan = updates(alloc, metadata, target, &bytes, size)?;
+    let holds = held_blocks(alloc, &target.place)?;
+    Ok(Planned { plan, holds })
+}
+
+/// The blocks that are held for the snapshot once a block is written there: the old one, where it is kept.
+pub(crate) fn held_blocks(alloc: Global, place: &Place) -> Result<Vec<u32>, AllocError>
+    ensures { IfOk result (λ blocks. blocks.items ≡ held_for place.now) }
+{
+    match place {
+        Place::Elsewhere { old, .. } => Ok(vec![in alloc; *old]?),
+        _ => Ok(Vec::new(alloc)),
+    }
+}
+
+/// The new bytes of the block: the piece, and behind it what was there, or zeroes in a block behind the last one.
+pub(crate) fn overwritten(place: &Place, before: &Block, piece: &[u8]) -> Block
+    requires { length piece.now ≤ 1024 }
+    ensures { result ≡ bytes_after place.now before.now piece.now }
+{
+    let mut bytes = match place {
+        Place::Behind { .. } => [0; BLOCK_BYTES],
+        _ => *before,
+    };
+    bytes[..piece.len()].copy_from_slice(piece);
+    bytes
+}
+
+/// The updates by which the block that is written gets its bytes, and the file this size.
+fn updates(
+    alloc: Global,
+    metadata: &Metadata,
+    target: &Target,
+    bytes: &Block,
+    size: u32,
+) -> Result<Plan, AllocError>
+    requires pointers { HasPointers metadata.now target.now.file }
+    requires fits { (holdings : Held) × Fits metadata.now holdings target.now }
+    ensures whole { IfOk result (λ plan. IsBlock bytes.now) }
+    ensures goes { IfOk result (λ plan. GoesOn (record { geometry = metadata.now.geometry; file = target.now.file; updates = [] }) plan (updates_at metadata.now target.now bytes.now size)) }
+{
+    let mut plan = Plan::new(alloc, metadata.frozen().geometry(), target.file);
+    match target.place {
+        Place::InPlace { block } => {
+            replace(alloc, &mut plan, block, bytes)?;
+            let owner = metadata.frozen().record(target.file);
+            let after = vec![in alloc; Cell::Block(block)]?;
+            enlarge(&mut plan, target.file, &owner, size, after)?;
+        }
+        Place::Behind { block, table } => {
+            fill(alloc, &mut plan, block, bytes)?;
+            repoint(alloc, metadata, &mut plan, target, block, table, size)?;
+        }
+        Place::Elsewhere { block, .. } => {
+            fill(alloc, &mut plan, block, bytes)?;
+            repoint(alloc, metadata, &mut plan, target, block, None, size)?;
+        }
+    }
+    Ok(plan)
+}
+
+/// Adds the update that gives a block these bytes.
+fn replace(alloc: Global, plan: &mut Plan, block: u32, bytes: &Block) -> Result<(), AllocError>
+    requires { IsTrue (is_data_address plan.old.geometry block) }
+    ensures { OnOk result (GoesOn plan.old plan.new (λ q. record { change = SetBytes block bytes.now; after = [] } ∷ q)) }
+{
+    let bytes = Box::new(alloc, *bytes)?;
+    plan.push(Change::SetBytes(block, bytes), Vec::new(alloc))
+}
+
+/// Adds the update that gives an inode with this record a larger size, after these cells, where it is larger.
+fn enlarge(
+    plan: &mut Plan,
+    number: u32,
+    owner: &Record,
+    size: u32,
+    after: Vec<Cell>,
+) -> Result<(), AllocError>
+    requires number { IsTrue (is_number plan.old.geometry number) }
+    requires after { All (IsCell plan.old.geometry) (map cell after.items) }
+    ensures { OnOk result (GoesOn plan.old plan.new (enlarged number owner.now size (map cell after.items))) }
+{
+    if size <= owner.size {
+        return Ok(());
+    }
+    let mut larger = *owner;
+    larger.size = size;
+    plan.push(Change::SetInode(number, larger), after)
+}
+
+/// Adds the updates by which a file points to a new block at the position that is written, and gets this size. The pointer
+/// goes into the record, into the indirect block, or into a new one.
+fn repoint(
+    alloc: Global,
+    metadata: &Metadata,
+    plan: &mut Plan,
+    target: &Target,
+    block: u32,
+    table: Option<u32>,
+    size: u32,
+) -> Result<(), AllocError>
+    requires geometry { plan.old.geometry ≡ metadata.now.geometry }
+    requires pointers { HasPointers metadata.now target.now.file }
+    requires sound { IsTrue (is_sound_at metadata.now.geometry (frozen_view metadata.now) target.now.file) }
+    requires room { target.now.index < indirect_position }
+    requires block { IsTrue (is_data_address metadata.now.geometry block) }
+    requires table { HasTable metadata.now target.now.file target.now.index table }
+    ensures { OnOk result (GoesOn plan.old plan.new (repointed target.now.file ((frozen_view metadata.now).inode target.now.file) target.now.index block size (holder_at metadata.now target.now.file target.now.index block table))) }
+{
+    let owner = metadata.frozen().record(target.file);
+    let mut changed = owner;
+    changed.size = size;
+    let position = target.index as usize;
+    if position < DIRECT_POINTERS {
+        changed.direct[position] = block;
+        let after = vec![in alloc; Cell::Block(block)]?;
+        return plan.push(Change::SetInode(target.file, changed), after);
+    }
+    if let Some(table) = table {
+        point_first(alloc, plan, target.file, &owner, block, table)?;
+        changed.indirect = table;
+        let after = vec![in alloc; Cell::Block(table), Cell::Block(block)]?;
+        return plan.push(Change::SetInode(target.file, changed), after);
+    }
+    let pointers = pointers_of(metadata, target.file, owner.indirect);
+    point_at(
+        alloc,
+        plan,
+        target.file,
+        &owner,
+        target.index,
+        block,
+        pointers,
+    )?;
+    let after = vec![in alloc; Cell::Block(owner.indirect), Cell::Block(block)]?;
+    enlarge(plan, target.file, &owner, size, after)
+}
+
+/// The bytes of the indirect block that an inode has.
+fn pointers_of(metadata: &Metadata, number: u32, block: u32) -> &Block
+    requires { IsClaim metadata.now.geometry (frozen_view metadata.now) number indirect_position block }
+    ensures { result.now ≡ (frozen_view metadata.now).bytes block }
+{
+    match metadata.frozen().block(block) {
+        Some(bytes) => bytes,
+        None => unreachable!(),
+    }
+}
