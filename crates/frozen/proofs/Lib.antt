@@ -3,3 +3,4 @@ pub mod FrozenLemmas
 pub mod ClaimLemmas
 pub mod KeepingLemmas
 pub mod SlotLemmas
+pub mod CopyLemmas

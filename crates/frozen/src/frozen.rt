@@ -1,4 +1,4 @@
-ghost use Rattle.std.specs.Prelude.{◌≡◌, ℕ, ◌/◌, ◌<◌, IsTrue, map};
+ghost use Rattle.std.specs.Prelude.{◌≡◌, ℕ, ◌/◌, ◌<◌, IfOk, IsTrue, map};
 ghost use Rattle.std.specs.Option.{option_copied, option_map_or};
 ghost use Rattle.frozen.specs.Kept.{KeepsFrame, KeepsMetadata, frozen_view, kept_at, kept_bytes};
 ghost use Rattle.model.specs.Layout.{inode_count, group_block, inode_block, is_number};
@@ -11,6 +11,7 @@ ghost use Rattle.frozen.specs.Installed.{FitsIn, standing, with_blocks};
 use crate::Held;
 use inode::{INDIRECT_POSITION, Record};
 use layout::{Block, Geometry};
+use std::alloc::{AllocError, Global};
 use std::marker::Model;
 use std::sync::Arc;
 
@@ -45,6 +46,14 @@ impl Frozen {
         ensures { result ≡ held }
     {
         Frozen { held }
+    }
+
+    /// A copy, which shares the blocks. Takes memory for their table.
+    pub fn copy(&self, alloc: Global) -> Result<Frozen, AllocError>
+        ensures { IfOk result (λ copy. copy ≡ self.now) }
+    {
+        let held = self.held.copy(alloc)?;
+        Ok(Frozen { held })
     }
 
     /// Its geometry.

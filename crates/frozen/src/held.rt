@@ -1,4 +1,4 @@
-ghost use Rattle.std.specs.Prelude.{◌≡◌, ◌<◌, ◌*◌, IsTrue, Some, OnOk, OnErr, slice_set, map};
+ghost use Rattle.std.specs.Prelude.{◌≡◌, ◌<◌, ◌*◌, IfOk, IsTrue, Some, OnOk, OnErr, slice_set, map};
 ghost use Rattle.std.specs.Arc.{arc_value};
 ghost use Rattle.std.specs.Option.{option_copied};
 ghost use Rattle.frozen.specs.Kept.{KeepsFrame, frozen_view, kept_at, kept_bytes, is_frame};
@@ -45,6 +45,16 @@ impl Held {
         ensures { result ≡ record { geometry = geometry; blocks = shared_blocks blocks.items } }
     {
         Held { geometry, blocks }
+    }
+
+    /// A copy, which shares the blocks. Takes memory for their table.
+    pub(crate) fn copy(&self, alloc: Global) -> Result<Held, AllocError>
+        ensures { IfOk result (λ copy. copy ≡ self.now) }
+    {
+        Ok(Held {
+            geometry: self.geometry,
+            blocks: self.blocks.as_slice().to_vec(alloc)?,
+        })
     }
 
     /// Its geometry.

@@ -1,8 +1,9 @@
 -- A command that was planned is carried out.
-use Rattle.std.proofs.Common.{◌≡◌, ◌<◌, ◌≤◌, ℕ, All, Bool, false, List, [], ◌∷◌, length, map, Ok, Option, None, Some, arith, slice_index_or, refl, sym, ap, ◌∙◌, subst}
+use Rattle.std.proofs.Common.{◌≡◌, ◌<◌, ◌≤◌, ℕ, All, Bool, true, false, List, [], ◌∷◌, length, map, Ok, Option, None, Some, arith, slice_index_or, slice_set, length-set, refl, sym, ap, ◌∙◌, subst}
+use Rattle.std.specs.Option.{option_map}
 use Rattle.std.proofs.lemmas.List.Elements.{All-nil}
 use Rattle.model.specs.Image.{image_view}
-use Rattle.model.specs.Layout.{block_count}
+use Rattle.model.specs.Layout.{Geometry, block_count}
 use Rattle.model.specs.View.{View}
 use Rattle.ordering.specs.Cuts.{Pending, users_view}
 use Rattle.queue_model.specs.Files.{Written}
@@ -17,28 +18,31 @@ use Rattle.metadata.specs.Staged.{IsStaged, after, changes}
 use Rattle.metadata.proofs.Steps.{same_geometry}
 use Rattle.softdep.specs.Queued.{Queued, issued, pending_of}
 use Rattle.live_states.specs.Drafts.{Draft, over}
-use Rattle.live_states.specs.Holdings.{Holdings, with_held}
+use Rattle.live_states.specs.Holdings.{Holdings, Repairs, with_held}
 use Rattle.live_states.specs.Planned.{AreSeen, IsPlanned, IsPlannedWith, Seen, safe_after}
+use Rattle.live_states.specs.Snapshots.{AreRepairsOf}
 use Rattle.live_states.specs.Volume.{IsVolume, state_over}
 use Rattle.live_states.proofs.Planning.{keeps', serves, step, volume'}
 use Rattle.live_states.proofs.Standing.{left_alone}
-use Rattle.live_holdings.specs.Handles.{without}
 use Rattle.live_holdings.proofs.Tables.{holding_length}
 use Rattle.live.specs.Alive.{Answers, IsLive}
+use Rattle.live.specs.Ended.{ended}
+use Rattle.live.specs.declared.ending.Ending.{Ending}
+use Rattle.live.specs.declared.ending.Ending.TheVariants.{Handle, Nothing, Repair}
 use Rattle.live.proofs.Quietly.{none_seen}
 
 -- ---- what is held
 
 -- a plan with no handle that is closed and no block that is held
 pub none_held : (kept : Kept) (holdings : Holdings) (command : Command) (answer : Answer) (plan draft : Draft) (holds : List ℕ) → draft ≡ plan → holds ≡ []
-    → IsPlannedWith kept holdings [] command answer plan holdings → IsPlannedWith kept holdings [] command answer draft (with_held (without holdings None) holds)
+    → IsPlannedWith kept holdings [] command answer plan holdings → IsPlannedWith kept holdings [] command answer draft (with_held (ended holdings Nothing) holds)
 none_held kept holdings command answer plan draft holds same none planned =
-    subst (λ d. IsPlannedWith kept holdings [] command answer d (with_held (without holdings None) holds)) (sym same)
-    (subst (λ bs. IsPlannedWith kept holdings [] command answer plan (with_held (without holdings None) bs)) (sym none) planned)
+    subst (λ d. IsPlannedWith kept holdings [] command answer d (with_held (ended holdings Nothing) holds)) (sym same)
+    (subst (λ bs. IsPlannedWith kept holdings [] command answer plan (with_held (ended holdings Nothing) bs)) (sym none) planned)
 
 -- and one that leaves alone what is open and held
 pub alone : (kept : Kept) (holdings : Holdings) (command : Command) (answer : Answer) (plan draft : Draft) (holds : List ℕ) → draft ≡ plan → holds ≡ []
-    → IsPlanned kept command answer plan → IsPlannedWith kept holdings [] command answer draft (with_held (without holdings None) holds)
+    → IsPlanned kept command answer plan → IsPlannedWith kept holdings [] command answer draft (with_held (ended holdings Nothing) holds)
 alone kept holdings command answer plan draft holds same none planned =
     none_held kept holdings command answer plan draft holds same none (left_alone kept command answer plan planned holdings)
 
@@ -46,29 +50,37 @@ pub few_held : (n : ℕ) (holds : List ℕ) → holds ≡ [] → All (λ a. a < 
 few_held n holds none = subst (All (λ a. a < n)) (sym none) (All-nil (λ a. a < n))
 
 -- as many blocks can be held
-pub still_marks : (holdings : Holdings) (handle : Option ℕ) → length (without holdings handle).held ≡ length holdings.held
-still_marks holdings None = refl
-still_marks holdings (Some h) = refl
+pub still_marks : (holdings : Holdings) (ending : Ending) → length (ended holdings ending).held ≡ length holdings.held
+still_marks holdings Nothing = refl
+still_marks holdings (Handle h) = refl
+still_marks holdings (Repair k) = refl
 
-pub left_marks : (holdings : Holdings) (handle : Option ℕ) (holds : List ℕ) → length (with_held (without holdings handle) holds).held ≡ length holdings.held
-left_marks holdings handle holds = holding_length holds (without holdings handle).held ∙ still_marks holdings handle
+pub left_marks : (holdings : Holdings) (ending : Ending) (holds : List ℕ) → length (with_held (ended holdings ending) holds).held ≡ length holdings.held
+left_marks holdings ending holds = holding_length holds (ended holdings ending).held ∙ still_marks holdings ending
+
+-- and the same repairs are installed, of which one may be done
+one_more_done : (geo : Geometry) (repairs : Option Repairs) (k : ℕ) → AreRepairsOf geo repairs → AreRepairsOf geo (option_map (λ (r : Repairs). record r { done = slice_set r.done k true }) repairs)
+one_more_done geo None k are = are
+one_more_done geo (Some repairs) k (all, long) = (all, length-set repairs.done k true ∙ long)
+
+pub still_repairs : (geo : Geometry) (holdings : Holdings) (ending : Ending) (holds : List ℕ) → AreRepairsOf geo holdings.repairs → AreRepairsOf geo (with_held (ended holdings ending) holds).repairs
+still_repairs geo holdings Nothing holds are = are
+still_repairs geo holdings (Handle h) holds are = are
+still_repairs geo holdings (Repair k) holds are = one_more_done geo holdings.repairs k are
 
 pub held_within : (n m : ℕ) (holds : List ℕ) → n ≤ m → All (λ a. a < n) holds → All (λ a. a < m) holds
 held_within n m holds few all = λ k d low. let here : slice_index_or holds k d < n = all k d low in omega (arith, here, few)
 
 -- ---- what is pending
 
-issued_geometry : (queue : Queued) (ws : List Written) → (issued queue ws).geometry ≡ queue.geometry
+pub issued_geometry : (queue : Queued) (ws : List Written) → (issued queue ws).geometry ≡ queue.geometry
 issued_geometry queue [] = refl
 issued_geometry queue (w ∷ ws) = issued_geometry (record queue { written = w ∷ queue.written; cut = false ∷ queue.cut }) ws
 
 module _ (honest : Type 0) (image : List (List ℕ)) (queue : Queued) (kept : Kept) (holdings : Holdings) (live : IsLive honest image queue kept holdings)
-    (draft : Draft) (holdings' : Holdings) (updates : List Update) (same : updates ≡ draft.updates) (staged : Staged) (is_staged : IsStaged kept (changes updates) staged) where
+    (draft : Draft) (holdings' : Holdings) (staged : Staged) (is : IsStaged kept (changes draft.updates) staged) where
   abbrev kept' : Kept
   kept' = after kept staged
-
-  is : IsStaged kept (changes draft.updates) staged
-  is = subst (λ us. IsStaged kept (changes us) staged) same is_staged
 
   geometry' : kept'.geometry ≡ kept.geometry
   geometry' = same_geometry kept staged.blocks.items
@@ -79,10 +91,10 @@ module _ (honest : Type 0) (image : List (List ℕ)) (queue : Queued) (kept : Ke
     pub keeps_after : KeepsMetadata kept'
     keeps_after = keeps' kept holdings (pending_of queue) live.alive.disk live.alive.some [] command answer draft holdings' planned (none_seen (users_view live.alive.disk (pending_of queue))) live.alive.keeps staged is
 
-    pub live_after : (queue' : Queued) → queue' ≡ issued queue (map written updates) → pending_of queue' ≡ over (pending_of queue) updates → length holdings'.held ≡ length holdings.held
-        → IsLive honest image queue' kept' holdings'
-    live_after queue' issues pending marks = record {
-      geometry = ap (λ (q : Queued). q.geometry) issues ∙ issued_geometry queue (map written updates) ∙ live.geometry ∙ sym geometry';
+    pub live_after : (queue' : Queued) → queue' ≡ issued queue (map written draft.updates) → pending_of queue' ≡ over (pending_of queue) draft.updates → length holdings'.held ≡ length holdings.held
+        → AreRepairsOf kept.geometry holdings'.repairs → IsLive honest image queue' kept' holdings'
+    live_after queue' issues pending marks repairs = record {
+      geometry = ap (λ (q : Queued). q.geometry) issues ∙ issued_geometry queue (map written draft.updates) ∙ live.geometry ∙ sym geometry';
       alive = record {
         count = live.alive.count ∙ ap block_count (sym geometry');
         keeps = keeps_after;
@@ -91,23 +103,24 @@ module _ (honest : Type 0) (image : List (List ℕ)) (queue : Queued) (kept : Ke
         true = λ h. subst (λ geo. IsVolume kept' holdings' (pending_of queue') (image_view geo image)) (sym geometry') (goes_on (image_view kept.geometry image) (live.alive.true h));
       };
       marks = subst (λ n. n ≤ length holdings'.held) (ap block_count (sym geometry')) (subst (λ n. block_count kept.geometry ≤ n) (sym marks) live.marks);
+      repairs = subst (λ geo. AreRepairsOf geo holdings'.repairs) (sym geometry') repairs;
     }
       where
         goes_on : (disk : View) → IsVolume kept holdings (pending_of queue) disk → IsVolume kept' holdings' (pending_of queue') disk
         goes_on disk volume =
-            subst (λ q. IsVolume kept' holdings' q disk) (sym (pending ∙ ap (over (pending_of queue)) same))
+            subst (λ q. IsVolume kept' holdings' q disk) (sym pending)
             (volume' kept holdings (pending_of queue) disk volume [] command answer draft holdings' planned (none_seen (users_view disk (pending_of queue))) live.alive.keeps staged is)
 
   -- ---- the answer
 
   module _ (seen : List Seen) (command : Command) (answer : Answer) (planned : IsPlannedWith kept holdings seen command answer draft holdings')
-      (queue' : Queued) (pending : pending_of queue' ≡ over (pending_of queue) updates) where
+      (queue' : Queued) (pending : pending_of queue' ≡ over (pending_of queue) draft.updates) where
     abbrev disk : View
     disk = image_view kept.geometry image
 
     -- what is said of the device and of what is pending then
     said : (P : View → List Pending → Type 0) → P disk (over (pending_of queue) draft.updates) → P (image_view kept'.geometry image) (pending_of queue')
-    said P p = subst (λ geo. P (image_view geo image) (pending_of queue')) (sym geometry') (subst (P disk) (sym (pending ∙ ap (over (pending_of queue)) same)) p)
+    said P p = subst (λ geo. P (image_view geo image) (pending_of queue')) (sym geometry') (subst (P disk) (sym pending) p)
 
     pub answers : {D : Type 0} (device : D) → honest → AreSeen seen (users_view disk (pending_of queue))
         → Answers image (record { device = device; queue = queue; kept = kept; holdings = holdings }) command answer image (record { device = device; queue = queue'; kept = kept'; holdings = holdings' }) []

@@ -24,7 +24,7 @@ use Rattle.courses.specs.Serves.{FlushesNone, FlushesSome, Serves, SyncsAll, flu
 use Rattle.frozen.specs.Kept.{Kept}
 use Rattle.softdep.specs.Queued.{Queued, pending_of}
 use Rattle.softdep.specs.Syncing.{AreFlushes, images_of}
-use Rattle.live_states.specs.Holdings.{Beside, Holdings, held_by, opened_by}
+use Rattle.live_states.specs.Holdings.{Beside, Holdings, held_by, opened_by, plan_by}
 use Rattle.live_states.specs.Volume.{IsVolume, state_over}
 use Rattle.live_states.proofs.Standing.{put}
 use Rattle.live.specs.Alive.{Alive, Answers, IsLive}
@@ -63,6 +63,7 @@ live_after honest honest' image image' queue queue' kept holdings live same coun
     true = λ h. goes h (live.alive.true (back h));
   };
   marks = live.marks;
+  repairs = live.repairs;
 }
 
 pub still_live : (honest honest' : Type 0) (image image' : List (List ℕ)) (queue queue' : Queued) (kept : Kept) (holdings : Holdings) → IsLive honest image queue kept holdings → queue' ≡ queue → image' ≡ image → (honest' → honest) → IsLive honest' image' queue' kept holdings
@@ -77,6 +78,7 @@ still_live honest honest' image image' queue queue' kept holdings live same_queu
         true = λ h. live.alive.true (back h);
       };
       marks = live.marks;
+      repairs = live.repairs;
     }))
 
 -- a flush leaves as many blocks
@@ -105,7 +107,7 @@ module _ (kept : Kept) (holdings : Holdings) (disk : View) (q : List Pending) (a
     old = state_over disk q holdings beside
 
     abbrev as_seen : View → State
-    as_seen view = record { view = view; opened = opened_by holdings; held = held_by holdings; frozen = beside.frozen; plan = beside.plan }
+    as_seen view = record { view = view; opened = opened_by holdings; held = held_by holdings; frozen = beside.frozen; plan = plan_by holdings }
 
     same_state : state_over (seen disk q cut) (rest q cut) holdings beside ≡ old
     same_state = ap as_seen (users_flushed disk q cut closed)
@@ -230,7 +232,7 @@ module _ (image image' : List (List ℕ)) (held held' : List (List (List ℕ))) 
       old beside = state_over disk (pending_of queue) holdings beside
 
       as_seen : Beside → View → State
-      as_seen beside view = record { view = view; opened = opened_by holdings; held = held_by holdings; frozen = beside.frozen; plan = beside.plan }
+      as_seen beside view = record { view = view; opened = opened_by holdings; held = held_by holdings; frozen = beside.frozen; plan = plan_by holdings }
 
       state_none : (beside : Beside) → state_over disk' [] holdings beside ≡ old beside
       state_none beside = ap (as_seen beside) (subst (λ geo. image_view geo image' ≡ users_view (image_view geo image) (pending_of queue)) same view)

@@ -8,3 +8,4 @@ mod Mounting
 mod Quietly
 mod RunLemmas
 mod Views
+mod SnapshotLemmas

@@ -10,6 +10,7 @@ use Rattle.softdep.specs.Queued.{Queued, fresh_queue}
 use Rattle.live_states.specs.Holdings.{Holdings, IsIdle}
 use Rattle.live_states.proofs.Loading.{of_an_image}
 use Rattle.live_states.proofs.Standing.{loaded}
+use Rattle.live_states.specs.Snapshots.{AreRepairsOf}
 use Rattle.live.specs.Alive.{IsLive}
 use Rattle.live.specs.Mounting.{BreaksRule, IsMountable}
 
@@ -59,4 +60,5 @@ module _ (honest : Type 0) (image : List (List ℕ)) (kept : Kept) (of : honest 
             true = λ h. (loaded kept image holdings keeps (of h) obeys idle).1;
           };
           marks = marks;
+          repairs = subst (AreRepairsOf kept.geometry) (sym idle.repairs) tt;
         })

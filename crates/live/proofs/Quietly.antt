@@ -14,6 +14,7 @@ use Rattle.frozen.specs.Kept.{Kept}
 use Rattle.softdep.specs.Queued.{Queued, pending_of}
 use Rattle.live_states.specs.Holdings.{Holdings}
 use Rattle.live_states.specs.Planned.{AreSeen, IsQuietlyDone, Seen, safe_after}
+use Rattle.live_states.specs.Snapshots.{AreRepairsOf}
 use Rattle.live_states.specs.Volume.{state_over}
 use Rattle.live_states.proofs.Quiet.{quiet_serves, quiet_step, quiet_volume}
 use Rattle.live.specs.Alive.{Answers, IsLive}
@@ -27,8 +28,8 @@ one_seen view a bytes e = All-cons (λ (s : Seen). view.bytes s.address ≡ s.by
 module _ (honest : Type 0) (image : List (List ℕ)) (queue : Queued) (kept : Kept) (holdings : Holdings) (live : IsLive honest image queue kept holdings)
     (seen : List Seen) (command : Command) (answer : Answer) (holdings' : Holdings) (done : IsQuietlyDone kept holdings seen command answer holdings') where
   -- where it asks for no bytes, the volume is one with what is open then
-  pub quiet_live : seen ≡ [] → IsLive honest image queue kept holdings'
-  quiet_live none = record {
+  pub quiet_live : seen ≡ [] → AreRepairsOf kept.geometry holdings'.repairs → IsLive honest image queue kept holdings'
+  quiet_live none repairs = record {
     geometry = live.geometry;
     alive = record {
       count = live.alive.count;
@@ -38,6 +39,7 @@ module _ (honest : Type 0) (image : List (List ℕ)) (queue : Queued) (kept : Ke
       true = λ h. quiet_volume kept holdings (pending_of queue) (image_view kept.geometry image) (live.alive.true h) seen command answer holdings' done (sees (image_view kept.geometry image));
     };
     marks = subst (λ (held : List Bool). block_count kept.geometry ≤ length held) (sym done.held) live.marks;
+    repairs = repairs;
   }
     where
       sees : (disk : View) → AreSeen seen (users_view disk (pending_of queue))

@@ -131,7 +131,7 @@ module _ {D : Type 0} (beside : Beside) (image0 : List (List ℕ)) (live0 : Aliv
 
     same_users : (disk : View) (q : List Pending) (holdings : Holdings) (a : ℕ)
         → state_over (seen disk q (ready (home_of geo) a q)) (rest q (ready (home_of geo) a q)) holdings beside ≡ state_over disk q holdings beside
-    same_users disk q holdings a = ap (λ view. record { view = view; opened = (state_over disk q holdings beside).opened; held = (state_over disk q holdings beside).held; frozen = beside.frozen; plan = beside.plan })
+    same_users disk q holdings a = ap (λ view. record { view = view; opened = (state_over disk q holdings beside).opened; held = (state_over disk q holdings beside).held; frozen = beside.frozen; plan = (state_over disk q holdings beside).plan })
         (users_flushed disk q (ready (home_of geo) a q) (ready_closed (home_of geo) a q))
 
     flushed_all : (safe1 : ℕ → Bool) (safe : ℕ → Bool) (holdings : Holdings) (commands : List Command) (replies : List Reply) (blocks : List ℕ) (disk : View) (q : List Pending) (images : List View) (disk' : View) (q' : List Pending)

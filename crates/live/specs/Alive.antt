@@ -16,6 +16,7 @@ use Rattle.metadata.specs.Shown.{Shows}
 use Rattle.softdep.specs.Queued.{Queued, pending_of}
 use Rattle.live_states.specs.Holdings.{Beside, Holdings, IsImageOf}
 use Rattle.live_states.specs.Planned.{safe_after}
+use Rattle.live_states.specs.Snapshots.{AreRepairsOf}
 use Rattle.live_states.specs.Volume.{IsAlive, state_over}
 
 -- the device, the updates that were issued, the metadata in memory, and what is open and held
@@ -25,11 +26,12 @@ pub record Alive (D : Type 0) : Type 0 where
   pub kept : Kept
   pub holdings : Holdings
 
--- the device holds an image of the volume, and the metadata in memory is what users see over it where it is honest; each block can be held
+-- the device holds an image of the volume, and the metadata in memory is what users see over it where it is honest; each block can be held, and what is to be repaired is of the volume
 pub record IsLive (honest : Type 0) (image : List (List ℕ)) (queue : Queued) (kept : Kept) (holdings : Holdings) : Type 0 where
   pub geometry : queue.geometry ≡ kept.geometry
   pub alive : IsAlive honest image (pending_of queue) kept holdings
   pub marks : block_count kept.geometry ≤ length holdings.held
+  pub repairs : AreRepairsOf kept.geometry holdings.repairs
 
 -- what an image holds that the device of a volume has, and what its users see over it, whatever stands beside the volume
 abbrev pub disk_of : {D : Type 0} → List (List ℕ) → Alive D → View

@@ -1,4 +1,6 @@
 pub mod Alive
+pub mod Ended
 pub mod Held
+pub mod Issued
 pub mod Mounting
 pub mod Runs

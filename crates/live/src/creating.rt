@@ -4,6 +4,7 @@ ghost use Rattle.live_states.specs.Planned.{IsRefused};
 ghost use Rattle.live.specs.Alive.{Answers, MayRefuse};
 
 use crate::Live;
+use crate::ending::Ending;
 use device::Device;
 use layout::Refusal;
 use std::alloc::Global;
@@ -22,7 +23,7 @@ impl<D: Device> Live<D> {
     {
         let plan = live_creations::create(alloc, &self.metadata, path)?;
         let number = plan.file();
-        self.carry_out(alloc, plan.without_holds(alloc), None)?;
+        self.carry_out(alloc, plan.without_holds(alloc), Ending::Nothing)?;
         Ok(number)
     }
 
@@ -37,7 +38,7 @@ impl<D: Device> Live<D> {
     {
         let plan = live_creations::mkdir(alloc, &self.metadata, path)?;
         let number = plan.file();
-        self.carry_out(alloc, plan.without_holds(alloc), None)?;
+        self.carry_out(alloc, plan.without_holds(alloc), Ending::Nothing)?;
         Ok(number)
     }
 
@@ -53,7 +54,7 @@ impl<D: Device> Live<D> {
         ensures device { self.new.device ≡ self.old.device }
     {
         let plan = live_creations::link(alloc, &self.metadata, path, other)?;
-        self.carry_out(alloc, plan.without_holds(alloc), None)?;
+        self.carry_out(alloc, plan.without_holds(alloc), Ending::Nothing)?;
         Ok(())
     }
 }

@@ -11,6 +11,7 @@ ghost use Rattle.live.specs.Alive.{Answers, MayRefuse, disk_of};
 
 use crate::Live;
 use crate::bytes::{bytes_of, first_bytes};
+use crate::ending::Ending;
 use device::Device;
 use layout::{BLOCK_BYTES, Block, Refusal};
 use live_files::{Reading, opening_of, reading_of};
@@ -81,7 +82,7 @@ impl<D: Device> Live<D> {
             &before,
             piece,
         )?;
-        self.carry_out(alloc, planned, None)?;
+        self.carry_out(alloc, planned, Ending::Nothing)?;
         Ok(())
     }
 
@@ -113,7 +114,7 @@ impl<D: Device> Live<D> {
         ensures device { self.new.device ≡ self.old.device }
     {
         let planned = live_removals::truncate(alloc, &self.metadata, &self.holdings, handle, size)?;
-        self.carry_out(alloc, planned, None)?;
+        self.carry_out(alloc, planned, Ending::Nothing)?;
         Ok(())
     }
 
@@ -127,7 +128,7 @@ impl<D: Device> Live<D> {
         ensures device { self.new.device ≡ self.old.device }
     {
         let planned = live_removals::close(alloc, &self.metadata, &self.holdings, handle)?;
-        self.carry_out(alloc, planned, Some(handle))?;
+        self.carry_out(alloc, planned, Ending::Handle(handle))?;
         Ok(())
     }
 }

@@ -8,13 +8,16 @@
 
 mod bytes;
 mod creating;
+mod ending;
 mod flushing;
 mod handling;
 mod live;
 mod looking;
+mod mending;
 mod removing;
 mod renaming;
 mod runs;
+mod snapshots;
 
 pub use live::{Live, NotMounted};
 pub use looking::Status;

@@ -3,21 +3,26 @@ ghost use Rattle.std.specs.List.{All};
 ghost use Rattle.device.specs.Writes.{HasFailed};
 ghost use Rattle.layout.specs.declared.refusal.Refusal.TheVariants.{NoMemory};
 ghost use Rattle.ordering.specs.Cuts.{IsClosed, seen, users_view};
+ghost use Rattle.frozen.specs.Kept.{KeepsMetadata};
+ghost use Rattle.metadata.specs.declared.staged.Staged.{Staged};
+ghost use Rattle.metadata.specs.Staged.{IsStaged, after, changes};
 ghost use Rattle.model.specs.Layout.{block_count};
 ghost use Rattle.model.specs.Rules.{ObeysRules};
 ghost use Rattle.machine.specs.Command.{Answer, Command};
 ghost use Rattle.softdep.specs.Queued.{pending_of};
 ghost use Rattle.live_states.specs.Holdings.{IsIdle, with_held};
 ghost use Rattle.live_states.specs.Planned.{AreSeen, IsPlannedWith, Seen};
-ghost use Rattle.live_holdings.specs.Handles.{without};
 ghost use Rattle.live.specs.Alive.{Answers, IsLive, StandsSo, disk_of};
+ghost use Rattle.live.specs.Ended.{ended};
+ghost use Rattle.live.specs.Issued.{IsIssued};
 ghost use Rattle.live.specs.Mounting.{IsMountable, MountRefuses};
 
+use crate::ending::{Ending, end};
 use device::Device;
 use frozen::load;
 use layout::Refusal;
 use live_holdings::Holdings;
-use live_plans::Planned;
+use live_plans::{Plan, Planned};
 use metadata::Metadata;
 use rules::obeys;
 use softdep::Queue;
@@ -116,8 +121,8 @@ fn read_volume<D: Device>(alloc: Global, device: &mut D) -> Result<Volume, Refus
 }
 
 impl<D: Device> Live<D> {
-    /// The device. Where it was honest so far, the volume stands over it: what it holds obeys the rules, and so does whatever it may hold next: what
-    /// it holds with any closed part of what is pending.
+    /// The device. Where it was honest so far, the volume stands over it: what it holds obeys the rules, and so does
+    /// whatever it may hold next, with any closed part of what is pending.
     pub fn device(&self) -> &D
         ensures device { result.now ≡ self.now.device }
         ensures stands { D.honest self.now.device → StandsSo (D.image self.now.device) self.now }
@@ -129,31 +134,49 @@ impl<D: Device> Live<D> {
         &self.device
     }
 
-    /// Carries out a command by its plan, all of it or nothing; then this handle is closed, where there is one, and the
-    /// blocks of the plan are held. Of a plan that asks for bytes of blocks that are not kept in memory it has to be known
-    /// that it carries out some command whatever those bytes are.
+    /// Carries out a command by its plan, all of it or nothing; then what the command ends is ended, and the blocks of the
+    /// plan are held. Of a plan that asks for bytes of blocks that are not kept in memory it has to be known that it
+    /// carries out some command whatever those bytes are.
     pub(crate) fn carry_out(
         &mut self,
         alloc: Global,
         planned: Planned,
-        handle: Option<u32>,
+        ending: Ending,
     ) -> Result<(), Refusal>
-        requires planned { (command : Command) × (answer : Answer) × IsPlannedWith self.old.kept self.old.holdings [] command answer planned.plan (with_held (without self.old.holdings handle) planned.holds.items) }
+        requires planned { (command : Command) × (answer : Answer) × IsPlannedWith self.old.kept self.old.holdings [] command answer planned.plan (with_held (ended self.old.holdings ending) planned.holds.items) }
         requires holds { All (λ a. a < block_count self.old.kept.geometry) planned.holds.items }
         ensures done { OnOk result ((seen : List Seen) (command : Command) (answer : Answer)
-            → IsPlannedWith self.old.kept self.old.holdings seen command answer planned.plan (with_held (without self.old.holdings handle) planned.holds.items) → D.honest self.old.device
+            → IsPlannedWith self.old.kept self.old.holdings seen command answer planned.plan (with_held (ended self.old.holdings ending) planned.holds.items) → D.honest self.old.device
             → AreSeen seen (users_view (disk_of (D.image self.old.device) self.old) (pending_of self.old.queue)) → Answers (D.image self.old.device) self.old command answer (D.image self.new.device) self.new []) }
         ensures device { self.new.device ≡ self.old.device }
         ensures untouched { OnErr result (self.new ≡ self.old) }
         ensures error { IsOkUnless result Refusal.NoMemory }
     {
         let Planned { plan, holds } = planned;
-        let updates = plan.into_updates();
-        let staged = self.metadata.stage(alloc, updates.as_slice())?;
-        self.queue.issue(updates)?;
-        self.metadata.install(staged);
-        self.holdings.close(handle);
+        issue(alloc, &mut self.queue, &mut self.metadata, plan)?;
+        end(&mut self.holdings, ending);
         self.holdings.hold(holds.as_slice());
         Ok(())
     }
+}
+
+/// Issues the updates of a plan, all of them or none, and lets users see them.
+pub(crate) fn issue(
+    alloc: Global,
+    queue: &mut Queue,
+    metadata: &mut Metadata,
+    plan: Plan,
+) -> Result<(), Refusal>
+    requires geometry { queue.old.geometry ≡ metadata.old.geometry }
+    requires plan { plan.geometry ≡ metadata.old.geometry }
+    requires metadata { (staged : Staged) → IsStaged metadata.old (changes plan.updates) staged → KeepsMetadata (after metadata.old staged) }
+    ensures issued { OnOk result (IsIssued plan queue.old metadata.old queue.new metadata.new) }
+    ensures untouched { OnErr result ((queue.new ≡ queue.old) × (metadata.new ≡ metadata.old)) }
+    ensures error { IsOkUnless result Refusal.NoMemory }
+{
+    let updates = plan.into_updates();
+    let staged = metadata.stage(alloc, updates.as_slice())?;
+    queue.issue(updates)?;
+    metadata.install(staged);
+    Ok(())
 }

@@ -4,14 +4,15 @@ ghost use Rattle.live_states.specs.Planned.{IsRefused};
 ghost use Rattle.live.specs.Alive.{Answers, MayRefuse};
 
 use crate::Live;
+use crate::ending::Ending;
 use device::Device;
 use layout::Refusal;
 use std::alloc::Global;
 
 impl<D: Device> Live<D> {
-    /// Takes a name from a file; with its last one a file that is not open goes, and its blocks are free. Refused with `BadName` where this
-    /// is no path, with `IsRoot`, with `NotFound` or `NotDirectory` where it leads nowhere, and with `IsDirectory` where
-    /// it leads to a directory.
+    /// Takes a name from a file; with its last one a file that is not open goes, and its blocks are free. Refused with
+    /// `BadName` where this is no path, with `IsRoot`, with `NotFound` or `NotDirectory` where it leads nowhere, and with
+    /// `IsDirectory` where it leads to a directory.
     pub fn unlink(&mut self, alloc: Global, path: &[u8]) -> Result<(), Refusal>
         ensures done { OnOk result (D.honest self.old.device → Answers (D.image self.old.device) self.old (Unlink path.now) Done (D.image self.new.device) self.new []) }
         ensures refused { IfErr result (λ r. D.honest self.old.device → MayRefuse (D.image self.old.device) self.old (Unlink path.now) r) }
@@ -20,7 +21,7 @@ impl<D: Device> Live<D> {
         ensures device { self.new.device ≡ self.old.device }
     {
         let planned = live_removals::unlink(alloc, &self.metadata, &self.holdings, path)?;
-        self.carry_out(alloc, planned, None)?;
+        self.carry_out(alloc, planned, Ending::Nothing)?;
         Ok(())
     }
 
@@ -34,7 +35,7 @@ impl<D: Device> Live<D> {
         ensures device { self.new.device ≡ self.old.device }
     {
         let planned = live_removals::rmdir(alloc, &self.metadata, &self.holdings, path)?;
-        self.carry_out(alloc, planned, None)?;
+        self.carry_out(alloc, planned, Ending::Nothing)?;
         Ok(())
     }
 }

@@ -4,6 +4,7 @@ ghost use Rattle.live_states.specs.Planned.{IsRefused};
 ghost use Rattle.live.specs.Alive.{Answers, MayRefuse};
 
 use crate::Live;
+use crate::ending::Ending;
 use device::Device;
 use layout::Refusal;
 use std::alloc::Global;
@@ -22,7 +23,7 @@ impl<D: Device> Live<D> {
         ensures device { self.new.device ≡ self.old.device }
     {
         let plan = live_renames::rename(alloc, &self.metadata, path, other)?;
-        self.carry_out(alloc, plan.without_holds(alloc), None)?;
+        self.carry_out(alloc, plan.without_holds(alloc), Ending::Nothing)?;
         Ok(())
     }
 }

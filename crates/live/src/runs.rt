@@ -20,7 +20,7 @@ use device::Device;
 pub fn mounted_volumes_begin<D: Device>()
     ensures { (image : List (List ℕ)) (live : Alive D) → IsMountable live.kept.geometry image → pending_of live.queue ≡ [] → IsIdle live.holdings
         → (safe : ℕ → Bool) → ((f : ℕ) → IsTrue (safe f) → IsReachable live.kept.geometry (disk_of image live) f × (((disk_of image live).inode f).mode ≡ 1))
-        → IsBeginning live.kept.geometry (disk_of image live) [] [] (disk_of image live) (pending_of live.queue) (state_of image live (record { frozen = None; plan = None })) safe }
+        → IsBeginning live.kept.geometry (disk_of image live) [] [] (disk_of image live) (pending_of live.queue) (state_of image live (record { frozen = None })) safe }
 {}
 
 /// From a beginning on, what a volume goes through by its calls is a service, whatever files no stop is to lose. So its

@@ -1,7 +1,7 @@
 -- Why a path is not opened, and what opening it does.
 use Rattle.std.proofs.Common.{◌≡◌, ◌<◌, ℕ, Bool, ◌&&◌, not, true, false, List, [], ◌∷◌, Option, Some, None, Result, Ok, Err, IsTrue, IsFalse, IsSome, inl, refl, sym, ap, ap₂, ◌∙◌, subst, slice_index_or}
 use Rattle.std.specs.Prelude.{is_none, unwrap_or}
-use Rattle.std.specs.Option.{option_or}
+use Rattle.std.specs.Option.{option_map, option_or}
 use Rattle.std.specs.Result.{result_err, result_unwrap_or}
 use mathlib.Core.Path.{fun_ext}
 use Rattle.layout.specs.declared.refusal.Refusal.{Refusal}
@@ -15,13 +15,13 @@ use Rattle.machine.specs.Causes.{Accepts, causes, not_file, refusal_of}
 use Rattle.machine.specs.Command.{Number, Open}
 use Rattle.machine.specs.Effects.{Opens}
 use Rattle.machine.specs.Paths.{number_at, parts_of, target}
-use Rattle.machine.specs.State.{State, handle_count}
+use Rattle.machine.specs.State.{Plan, State, handle_count}
 use Rattle.machine.proofs.Decisions.{any_here, any_none}
 use Rattle.frozen.specs.Kept.{Kept, KeepsMetadata, frozen_view}
 use Rattle.metadata.specs.Shown.{Shows}
 use Rattle.metadata.proofs.ShownLemmas.{shows_metadata}
 use Rattle.live_paths.specs.Shown.{IsShownBy}
-use Rattle.live_states.specs.Holdings.{Has, Holdings, going_on, held_by, opened_by}
+use Rattle.live_states.specs.Holdings.{Has, Holdings, Repairs, going_on, held_by, opened_by, plan_by, plan_of}
 use Rattle.live_states.specs.Planned.{IsFirstCauseWith, IsQuietlyDone}
 use Rattle.live_holdings.specs.Handles.{IsFreeHandle, IsOpened, NoFreeHandle}
 
@@ -122,8 +122,9 @@ module _ (frozen kept : Kept) (same : frozen ≡ kept) (keeps : KeepsMetadata ke
         effect = λ old shows has sees. record {
           handle = free.within;
           free = ap (λ (o : ℕ → Option ℕ). o h) has.opened ∙ free.free;
-          whole = ap₂ (λ (o : ℕ → Option ℕ) (d : ℕ → Bool). record old { opened = o; held = d })
+          whole = ap₂ (λ (o : ℕ → Option ℕ) (d : ℕ → Bool). record old { opened = o; held = d; plan = plan_by after })
               (opened.opened ∙ ap₂ (λ (o : ℕ → Option ℕ) n. put_at o h (Some n)) (sym has.opened) (sym (number_there kept.geometry old path parts is i (leads_there old shows))))
-              (fun_ext (λ a. ap (λ (l : List Bool). slice_index_or l a false) opened.held) ∙ sym has.held);
+              (fun_ext (λ a. ap (λ (l : List Bool). slice_index_or l a false) opened.held) ∙ sym has.held)
+              ∙ ap (λ (p : Option Plan). record old { opened = put_at old.opened h (Some (number_at kept.geometry old.view path)); held = old.held; plan = p }) (ap (λ (r : Option Repairs). option_map plan_of r) opened.repairs ∙ sym has.plan);
         };
       }

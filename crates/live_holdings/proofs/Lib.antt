@@ -1,2 +1,4 @@
 pub mod Opened
+pub mod Repairing
 pub mod Tables
+pub mod Walks

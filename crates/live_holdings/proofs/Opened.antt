@@ -1,5 +1,5 @@
 -- What handles are open on.
-use Rattle.std.proofs.Common.{◌≡◌, ◌<◌, ℕ, Bool, List, Option, Some, None, cond, ltb, IsTrue, IsFalse, length, inl, inr, sym, ap, ◌∙◌, subst, arith, length-set, get_or-set_same, get_or-set_other, slice_index_or, set as slice_set}
+use Rattle.std.proofs.Common.{◌≡◌, ℕ, List, Option, Some, None, cond, ltb, IsTrue, IsFalse, length, inl, inr, sym, ap, ◌∙◌, subst, arith, length-set, get_or-set_same, get_or-set_other, slice_index_or, set as slice_set}
 use Rattle.std.specs.Prelude.{unwrap_or, ◌&&◌}
 use Rattle.std.proofs.lemmas.Bool.{cases_eq, cases_lt}
 use Rattle.std.proofs.lemmas.List.{get_or_past}

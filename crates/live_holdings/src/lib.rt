@@ -1,17 +1,25 @@
-//! What a mounted volume has besides its image: the handles that are open, the blocks that are held for a snapshot, and
-//! the metadata that the snapshot keeps.
+//! What a mounted volume has besides its image: the handles that are open, the blocks that are held for a snapshot, the
+//! metadata that the snapshot keeps, and the repairs of a check that was installed.
 #![tactic(auto)]
 
-ghost use Rattle.std.specs.Prelude.{◌≡◌, ◌<◌, None, IfOk, IsTrue, MatchOption, OnErr, OnOk, length, slice_set};
+ghost use Rattle.std.specs.Prelude.{◌≡◌, ◌<◌, None, Some, IfErr, IfOk, IsTrue, MatchOption, OnErr, OnOk, false, is_some, length, replicate, slice_index_or, slice_set, true};
+ghost use Rattle.std.specs.Arc.{arc_value};
 ghost use Rattle.std.specs.List.{All};
-ghost use Rattle.model.specs.Layout.{block_count};
+ghost use Rattle.findings.specs.Numbers.{found_below};
+ghost use Rattle.model.specs.Layout.{Geometry as Numbers, block_count};
 ghost use Rattle.frozen.specs.Kept.{frozen_view};
-ghost use Rattle.live_states.specs.Holdings.{IsIdle, is_kept_by, is_open_by, with_held};
+ghost use Rattle.machine.specs.Causes.{refusal_of};
+ghost use Rattle.machine.specs.Command.{RepairAt};
+ghost use Rattle.machine.specs.State.{State};
+ghost use Rattle.live_states.specs.Holdings.{Has, IsIdle, is_kept_by, is_open_by, with_done, with_held};
+ghost use Rattle.live_states.specs.Snapshots.{IsToDo, held_blocks, installing, keeping, let_go as without_snapshot};
 ghost use Rattle.live_holdings.specs.Handles.{IsFreeHandle, IsOpened, NoFreeHandle, closed, handle_at, without};
+ghost use Rattle.live_holdings.specs.Left.{IsLeft, why_not_left};
 
 use cgmaps::{Map, bit_of};
+use findings::Repair;
 use frozen::Frozen;
-use layout::Geometry;
+use layout::{Geometry, Refusal};
 use marks::Marks;
 use std::alloc::{AllocError, Global};
 use std::marker::Model;
@@ -29,6 +37,26 @@ pub struct Holdings {
     held: Marks,
     /// The metadata of the snapshot, where one stands.
     snapshot: Option<Arc<Frozen>>,
+    /// The repairs of a check, where it was installed.
+    repairs: Option<Repairs>,
+}
+
+/// The repairs of a check, and whether each is done.
+#[derive(Drop)]
+struct Repairs {
+    list: Vec<Repair>,
+    done: Vec<bool>,
+}
+
+impl Model for Repairs {
+    ghost use Rattle.std.specs.Prelude.{◌≡◌, length};
+    ghost use Rattle.live_states.specs.Holdings.{Repairs as Listed};
+
+    ghost Value = { Listed };
+
+    ghost view = { λ repairs. record { list = repairs.list.items; done = repairs.done.items } };
+
+    ghost invariant = { λ repairs. length repairs.done.items ≡ length repairs.list.items };
 }
 
 impl Model for Holdings {
@@ -39,13 +67,13 @@ impl Model for Holdings {
 
     ghost Value = { Held };
 
-    ghost view = { λ holdings. record { opened = holdings.handles.items; held = holdings.held; snapshot = option_map arc_value holdings.snapshot } };
+    ghost view = { λ holdings. record { opened = holdings.handles.items; held = holdings.held; snapshot = option_map arc_value holdings.snapshot; repairs = holdings.repairs } };
 
     ghost invariant = { λ holdings. length holdings.handles.items ≤ 1024 };
 }
 
 impl Holdings {
-    /// Nothing is open or held, and no snapshot stands. Takes memory, an eighth of a byte for each address and little more.
+    /// Nothing is open, held or installed, and no snapshot stands. Takes memory, an eighth of a byte for each address and little more.
     pub fn new(alloc: Global, geometry: &Geometry) -> Result<Holdings, AllocError>
         ensures idle { IfOk result IsIdle }
         ensures blocks { IfOk result (λ holdings. length holdings.held ≡ block_count geometry.now) }
@@ -54,6 +82,7 @@ impl Holdings {
             handles: Vec::new(alloc),
             held: Marks::new(alloc, geometry.blocks())?,
             snapshot: None,
+            repairs: None,
         })
     }
 
@@ -146,6 +175,119 @@ impl Holdings {
         for block in blocks {
             self.held.mark(*block);
         }
+    }
+
+    /// The blocks that are held, the least first.
+    pub fn held_blocks(&self, alloc: Global) -> Result<Vec<u32>, AllocError>
+        ensures { IfOk result (λ blocks. blocks.items ≡ held_blocks self.now) }
+    {
+        marked(alloc, &self.held)
+    }
+
+    /// Whether a snapshot stands.
+    pub fn has_snapshot(&self) -> bool
+        ensures { result ≡ is_some self.now.snapshot }
+    {
+        self.snapshot.is_some()
+    }
+
+    /// Keeps the metadata of a snapshot. The repairs of an older check are dropped.
+    pub fn keep(&mut self, snapshot: Arc<Frozen>)
+        ensures { self.new ≡ keeping self.old (arc_value snapshot) }
+    {
+        self.snapshot = Some(snapshot);
+        self.repairs = None;
+    }
+
+    /// The snapshot ends, and nothing is held for it.
+    pub fn let_go(&mut self)
+        ensures { self.new ≡ without_snapshot self.old }
+    {
+        unmark_all(&mut self.held);
+        self.snapshot = None;
+    }
+
+    /// Installs the repairs of a check, none of them done.
+    pub fn install(&mut self, alloc: Global, repairs: Vec<Repair>) -> Result<(), AllocError>
+        ensures installed { OnOk result (self.new ≡ installing self.old repairs.items) }
+        ensures untouched { OnErr result (self.new ≡ self.old) }
+    {
+        let done = vec![in alloc; false; repairs.len()]?;
+        self.repairs = Some(Repairs {
+            list: repairs,
+            done,
+        });
+        Ok(())
+    }
+
+    /// The repair of this place, which is not done. Refused with `NoPlan` where no check is installed, with `BadIndex`
+    /// where it has no such repair, and with `AlreadyDone`.
+    pub fn to_do(&self, place: u32) -> Result<Repair, Refusal>
+        ensures repair { IfOk result (IsToDo self.now place) }
+        ensures refused { IfErr result (λ r. (geo : Numbers) (old : State) → Has self.now old → refusal_of geo old (RepairAt place) ≡ Some r) }
+    {
+        match &self.repairs {
+            Some(repairs) => repairs.left(place),
+            None => Err(Refusal::NoPlan),
+        }
+    }
+
+    /// Notes that the repair of this place is done, where there is one.
+    pub fn finish(&mut self, place: u32)
+        ensures { self.new ≡ with_done self.old place }
+    {
+        if let Some(repairs) = &mut self.repairs {
+            repairs.finish(place);
+        }
+    }
+}
+
+impl Repairs {
+    /// The repair of this place, which is not done. Refused with `BadIndex` where there is none, and with `AlreadyDone`.
+    fn left(&self, place: u32) -> Result<Repair, Refusal>
+        ensures repair { IfOk result (IsLeft self.now place) }
+        ensures refused { IfErr result (λ r. why_not_left self.now place ≡ Some r) }
+    {
+        match self.list.get(place as usize) {
+            Some(_) if self.done[place as usize] => Err(Refusal::AlreadyDone),
+            Some(repair) => Ok(*repair),
+            None => Err(Refusal::BadIndex),
+        }
+    }
+
+    /// Notes that the repair of this place is done, where there is one.
+    fn finish(&mut self, place: u32)
+        ensures { self.new ≡ record self.old { done = slice_set self.old.done place true } }
+    {
+        if let Some(done) = self.done.get_mut(place as usize) {
+            *done = true;
+        }
+    }
+}
+
+/// The marked numbers, the least first.
+fn marked(alloc: Global, marks: &Marks) -> Result<Vec<u32>, AllocError>
+    ensures { IfOk result (λ numbers. numbers.items ≡ found_below (λ n. slice_index_or marks.now n false) (λ n. n) (length marks.now)) }
+{
+    marks.count();
+    let mut numbers = Vec::new(alloc);
+    let mut from = 0;
+    while let Some(number) = marks.next(from) {
+        numbers.push(number)?;
+        from = number + 1;
+    }
+    Ok(numbers)
+}
+
+/// Takes all marks away.
+fn unmark_all(marks: &mut Marks)
+    ensures { marks.new ≡ replicate (length marks.old) false }
+{
+    marks.count();
+    let mut from = 0;
+    while let Some(number) = marks.next(from) {
+        marks.unmark(number);
+        from = number + 1;
     }
 }
 

@@ -7,11 +7,11 @@ use Rattle.model.specs.Layout.{Geometry, block_count}
 use Rattle.model.specs.View.{View}
 use Rattle.ordering.specs.Cuts.{Cell, Pending, users_view}
 use Rattle.machine.specs.Command.{Command, Done}
-use Rattle.machine.specs.State.{State, is_open}
+use Rattle.machine.specs.State.{Plan, State, is_open}
 use Rattle.plans_naming.specs.Unlink.{StaysWith}
 use Rattle.courses.specs.Done.{IsDoneBy}
 use Rattle.live_states.specs.Drafts.{Draft}
-use Rattle.live_states.specs.Holdings.{Holdings, going_on, held_by, is_kept_by, opened_by}
+use Rattle.live_states.specs.Holdings.{Holdings, going_on, held_by, is_kept_by, opened_by, plan_by}
 use Rattle.live_plans.specs.declared.locating.Found.{Found}
 use Rattle.live_removals.specs.Links.{Goes, LosesLinks, Stays}
 use Rattle.live_removals.specs.Removed.{Leaves}
@@ -60,18 +60,20 @@ module _ (geo : Geometry) (view : View) (holdings : Holdings) (found : Found) (f
   pub leaves_blocks : All (λ a. a < block_count geo) holds
   leaves_blocks = loses_blocks geo view holdings found.number fewer found.block leaves.emptied draft holds leaves.loses
 
--- the state then, with what is open and held then
-pub goes_on : (old : State) (holdings' : Holdings) (view : View) (opened : ℕ → Option ℕ) (held : ℕ → Bool) → opened ≡ opened_by holdings' → held ≡ held_by holdings'
+-- the state then, with what is open and held then, and the repairs that were installed
+pub goes_on : (old : State) (holdings' : Holdings) (view : View) (opened : ℕ → Option ℕ) (held : ℕ → Bool) → opened ≡ opened_by holdings' → held ≡ held_by holdings' → old.plan ≡ plan_by holdings'
     → record old { view = view; opened = opened; held = held } ≡ going_on old holdings' view
-goes_on old holdings' view opened held o h = ap₂ (λ (x : ℕ → Option ℕ) (y : ℕ → Bool). record old { view = view; opened = x; held = y }) o h
+goes_on old holdings' view opened held o h p =
+    ap₂ (λ (x : ℕ → Option ℕ) (y : ℕ → Bool). record old { view = view; opened = x; held = y }) o h
+    ∙ ap (λ (z : Option Plan). record old { view = view; opened = opened_by holdings'; held = held_by holdings'; plan = z }) p
 
 -- what is done so is done with other words for the same
 pub done_as : (geo : Geometry) (disk : View) (q : List Pending) (old : State) (safe : ℕ → Bool) (command : Command) (file file' : ℕ) (plan plan' : List Pending) (opened : ℕ → Option ℕ) (held : ℕ → Bool) (safe' safe'' : ℕ → Bool)
-    (holdings' : Holdings) → file ≡ file' → plan ≡ plan' → opened ≡ opened_by holdings' → held ≡ held_by holdings' → safe' ≡ safe''
+    (holdings' : Holdings) → file ≡ file' → plan ≡ plan' → opened ≡ opened_by holdings' → held ≡ held_by holdings' → old.plan ≡ plan_by holdings' → safe' ≡ safe''
     → IsDoneBy geo disk q old safe command Done file plan (record old { view = users_view disk plan; opened = opened; held = held }) safe'
     → IsDoneBy geo disk q old safe command Done file' plan' (going_on old holdings' (users_view disk plan')) safe''
-done_as geo disk q old safe command file file' plan plan' opened held safe' safe'' holdings' same_file same_plan same_opened same_held same_safe done =
+done_as geo disk q old safe command file file' plan plan' opened held safe' safe'' holdings' same_file same_plan same_opened same_held same_repairs same_safe done =
     subst (λ x. IsDoneBy geo disk q old safe command Done file' plan' (going_on old holdings' (users_view disk plan')) x) same_safe
     (subst (λ f. IsDoneBy geo disk q old safe command Done f plan' (going_on old holdings' (users_view disk plan')) safe') same_file
     (subst (λ p. IsDoneBy geo disk q old safe command Done file p (going_on old holdings' (users_view disk p)) safe') same_plan
-    (subst (λ new. IsDoneBy geo disk q old safe command Done file plan new safe') (goes_on old holdings' (users_view disk plan) opened held same_opened same_held) done)))
+    (subst (λ new. IsDoneBy geo disk q old safe command Done file plan new safe') (goes_on old holdings' (users_view disk plan) opened held same_opened same_held same_repairs) done)))

@@ -1,10 +1,10 @@
 mod Clearing
-mod Given
+pub mod Given
 mod Leaving
 mod Naming
 mod OpenFiles
 mod Refusals
 mod Removals
-mod Showing
+pub mod Showing
 mod Unlinks
 mod Volumes

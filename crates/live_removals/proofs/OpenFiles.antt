@@ -101,7 +101,7 @@ module _ (kept : Kept) (holdings : Holdings) (h n : ℕ) (at : handle_at holding
     st = now disk q old
 
     st_has : Has holdings st
-    st_has = record { opened = has.opened; held = has.held; frozen = has.frozen }
+    st_has = record { opened = has.opened; held = has.held; frozen = has.frozen; plan = has.plan }
 
     balance : Balance kept.geometry st
     balance = subst (λ v. Balance kept.geometry (record old { view = v })) (sym stands.same) stands.balance
@@ -138,6 +138,7 @@ module _ (kept : Kept) (holdings : Holdings) (h n : ℕ) (at : handle_at holding
         (ap closes same_file ∙ ap (λ t. cond t (freeing n (given_up_with kept.geometry st n free_inode) [] q) q) is ∙ plan)
         opened_then
         (ap (λ m. held_if (away m) kept.geometry st m) same_file ∙ ap (λ t. cond t (held_with kept.geometry st n free_inode) old.held) is ∙ held)
+        has.plan
         refl
         (ClosesHandle h)
 
@@ -187,6 +188,7 @@ module _ (kept : Kept) (holdings : Holdings) (h n : ℕ) (at : handle_at holding
           has.opened
           (ap (λ m. held_with kept.geometry st m (shorter m)) same_file ∙ held_now kept.geometry st holdings st_has n (shorter n) (blocks_of size) cut_so balance.rules wide holdings refl
           ∙ ap (λ (bs : List ℕ). held_by (with_held holdings bs)) (sym shortens.held))
+          has.plan
           refl
           (TruncatesFile h size)
 

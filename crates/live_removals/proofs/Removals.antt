@@ -96,13 +96,13 @@ module _ (decided : StaysOrGoes) (kept : Kept) (holdings : Holdings) (path : Lis
         let after = removed.after in
         done_as kept.geometry disk q old safe (Rmdir path) n draft.file (remove_plan kept.geometry view path after q) (over q draft.updates) old.opened old.held safe safe (with_held holdings holds) file
         (staying after ∙ sym (before _ (goes.pending q ∙ ap (lowered found.number (view.inode found.number) 2 found.block) (removed.leaves.empties.pending q))))
-        has.opened (has.held ∙ ap (λ (bs : List ℕ). held_by (with_held holdings bs)) (sym none)) refl
+        has.opened (has.held ∙ ap (λ (bs : List ℕ). held_by (with_held holdings bs)) (sym none)) has.plan refl
         (RemovesName path after own (stays_linked old n (view.inode n).links 2 (subst (λ m. 2 < (view.inode m).links) (sym on.number) more)))
     done_by (Goes few goes held) =
         let n = number_at kept.geometry view path in
         let after = removed.after in
         let st = now disk q old in
-        let st_has : Has holdings st = record { opened = has.opened; held = has.held; frozen = has.frozen } in
+        let st_has : Has holdings st = record { opened = has.opened; held = has.held; frozen = has.frozen; plan = has.plan } in
         let can = accepted_remove kept.geometry st on.balance stands.geometry path accepts after own in
         let last = goes_closed st n (view.inode n).links 2 (subst (λ m. (view.inode m).links ≤ 2) (sym on.number) few) (closed after own)
         (decided kept.geometry st on.balance.rules n (block_of kept.geometry view n 0) (holder kept.geometry view path) (slot_at kept.geometry view path) (entry_block kept.geometry view path) (name_in path) after can) in
@@ -112,6 +112,7 @@ module _ (decided : StaysOrGoes) (kept : Kept) (holdings : Holdings) (path : Lis
         has.opened
         (held_now kept.geometry st holdings st_has n free_inode 0 cut on.balance.rules wide holdings refl
         ∙ ap (λ (bs : List ℕ). held_by (with_held holdings bs)) (ap (λ m. held_back kept.geometry view holdings m 0) on.number ∙ sym held))
+        has.plan
         refl
         (RemovesDirectory path (freed kept.geometry view holdings n 0) after own last.0 (record { closed = last.1; given_up = freed_are_given_up kept.geometry st holdings st_has n free_inode 0 cut }))
 

@@ -71,12 +71,12 @@ module _ (decided : StaysOrGoes) (kept : Kept) (holdings : Holdings) (path : Lis
         done_as kept.geometry disk q old safe (Unlink path) n draft.file (unlink_plan kept.geometry view path q) (over q draft.updates) old.opened old.held (safe_but n safe) (safe_but n safe) (with_held holdings holds)
         (on.number ∙ sym (leaves_file kept.geometry view holdings found 1 [] draft holds leaves))
         (staying ∙ sym (goes.pending q ∙ ap (lowered found.number (view.inode found.number) 1 found.block) (leaves.empties.pending q)))
-        has.opened (has.held ∙ ap (λ (bs : List ℕ). held_by (with_held holdings bs)) (sym none)) refl
+        has.opened (has.held ∙ ap (λ (bs : List ℕ). held_by (with_held holdings bs)) (sym none)) has.plan refl
         (UnlinksName path (stays_linked old n (view.inode n).links 1 (subst (λ m. 1 < (view.inode m).links) (sym on.number) more)))
     done_by (Goes few goes held) =
         let n = number_at kept.geometry view path in
         let st = now disk q old in
-        let st_has : Has holdings st = record { opened = has.opened; held = has.held; frozen = has.frozen } in
+        let st_has : Has holdings st = record { opened = has.opened; held = has.held; frozen = has.frozen; plan = has.plan } in
         let can = accepted_unlink kept.geometry st on.balance stands.geometry path accepts in
         let last = goes_closed st n (view.inode n).links 1 (subst (λ m. (view.inode m).links ≤ 1) (sym on.number) few) (subst (λ m. IsFalse (is_open old m)) (sym on.number) closed)
         (decided kept.geometry st on.balance.rules n (holder kept.geometry view path) (slot_at kept.geometry view path) (entry_block kept.geometry view path) (name_in path) can) in
@@ -87,6 +87,7 @@ module _ (decided : StaysOrGoes) (kept : Kept) (holdings : Holdings) (path : Lis
         has.opened
         (held_now kept.geometry st holdings st_has n free_inode 0 cut on.balance.rules wide holdings refl
         ∙ ap (λ (bs : List ℕ). held_by (with_held holdings bs)) (ap (λ m. held_back kept.geometry view holdings m 0) on.number ∙ sym held))
+        has.plan
         refl
         (UnlinksFile path (freed kept.geometry view holdings n 0) last.0 (record { closed = last.1; given_up = freed_are_given_up kept.geometry st holdings st_has n free_inode 0 cut }))
 
@@ -107,7 +108,7 @@ module _ (decided : StaysOrGoes) (kept : Kept) (holdings : Holdings) (path : Lis
       (done_as kept.geometry disk q old safe (Unlink path) n draft.file (unlink_plan kept.geometry view path q) (over q draft.updates) old.opened old.held (safe_but n safe) (safe_but n safe) holdings
       (on.number ∙ sym (unnamed.lowers.file ∙ unnamed.empties.file))
       (staying decided kept holdings path found disk q old on ∙ sym (unnamed.lowers.pending q ∙ ap (lowered found.number (view.inode found.number) 1 found.block) (unnamed.empties.pending q)))
-      has.opened has.held refl
+      has.opened has.held has.plan refl
       (UnlinksName path (stays_open old n ((view.inode n).links - 1) (subst (λ m. IsTrue (is_open old m)) (sym on.number) open_now))))
 
 module _ (kept : Kept) (holdings : Holdings) (path : List ℕ) (ps : List (List ℕ)) (found : Found) (draft : Draft) (keeps : KeepsMetadata kept) (volume : IsOfVolume kept)

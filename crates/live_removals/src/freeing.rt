@@ -103,7 +103,7 @@ pub(crate) fn lower(
 
 /// Adds the updates that free a number, after the last updates of these cells, and then its bit and all blocks that it
 /// claims. Gives those that the snapshot keeps: they are held.
-pub(crate) fn free(
+pub fn free(
     alloc: Global,
     frozen: &Frozen,
     holdings: &Holdings,

@@ -21,6 +21,7 @@ mod shortening;
 mod tests;
 mod unlinking;
 
+pub use freeing::free;
 pub use removing::rmdir;
 pub use shortening::{close, truncate};
 pub use unlinking::unlink;

@@ -1,19 +1,8 @@
 -- The updates of a planned command lead from a volume to a volume.
-use Rattle.std.proofs.Common.{◌≡◌, ℕ, Bool, false, ◌&&◌, List, [], ◌∷◌, ◌++◌, map, unwrap_or, Ok, IsTrue, IsSome, ◌⊎◌, inl, inr, refl, sym, ap, ◌∙◌, subst}
-use Rattle.std.specs.List.{Contains}
-use Rattle.std.proofs.lemmas.Bool.{cond-true}
-use Rattle.model.specs.Layout.{Geometry, is_data_address, is_number}
-use Rattle.model.specs.View.{View, Inode}
-use Rattle.model.specs.Cells as model
-use Rattle.model.specs.Uses.{IsClaim, indirect_position, is_directory, is_sound, is_used}
-use Rattle.model.proofs.Same.{claim_there, directory_there, other_way, same_facts, same_use}
-use Rattle.model.proofs.UseLemmas.{use_parts, use_from}
+use Rattle.std.proofs.Common.{◌≡◌, ℕ, Bool, false, List, [], ◌∷◌, Ok, ◌⊎◌, refl, sym, subst}
+use Rattle.model.specs.Layout.{Geometry}
+use Rattle.model.specs.View.{View}
 use Rattle.ordering.specs.Cuts.{Pending, users_view}
-use Rattle.queue_model.specs.Files.{Written}
-use Rattle.queue_model.proofs.Lists.{contains_cases, contains_head, contains_none, contains_tail}
-use Rattle.updates.specs.declared.change.Update.{Update}
-use Rattle.updates.specs.Values.{change, written}
-use Rattle.softdep.specs.Queued.{added}
 use Rattle.machine.specs.Causes.{Accepts}
 use Rattle.machine.specs.Command.{Answer, Command, Create, Mkdir, Link, Unlink, Rmdir, Rename, Open, Close, Read, Write, Truncate, ListNames, Stat, Freeze, SnapRead, Release, Install, RepairAt, Flush, Sync}
 use Rattle.machine.specs.State.{State}
@@ -22,50 +11,17 @@ use Rattle.plans_data.specs.Carried.{Stands}
 use Rattle.courses.specs.Done.{IsDoneBy}
 use Rattle.courses.specs.Serves.{IsBeginning, IsSafeService, Serves, ByPlan, Starts, CarriesOut}
 use Rattle.courses.proofs.ServiceLemmas.{service_safe}
-use Rattle.frozen.specs.Kept.{Kept, KeepsIndirect, KeepsDirectory, KeepsMetadata, frozen_view, kept_at, kept_bytes}
-use Rattle.frozen.proofs.ClaimLemmas.{there}
+use Rattle.frozen.specs.Kept.{Kept, KeepsMetadata}
 use Rattle.metadata.specs.declared.staged.Staged.{Staged}
-use Rattle.metadata.specs.Shown.{Shows}
-use Rattle.metadata.specs.Staged.{IsStaged, after, changes, GivesBytes as Gives}
-use Rattle.metadata.proofs.ShownLemmas.{shows_metadata}
-use Rattle.metadata.proofs.Steps.{frame_with_all, same_geometry}
+use Rattle.metadata.specs.Staged.{IsStaged, after, changes}
 use Rattle.kept_claims.specs.Claims.{IsMetadataClaim, GivesBytes}
 use Rattle.kept_claims.proofs.Commands.{plans_give}
 use Rattle.live_states.specs.Drafts.{Draft, over}
 use Rattle.live_states.specs.Holdings.{Beside, Holdings, IsImageOf}
 use Rattle.live_states.specs.Planned.{AreSeen, IsPlannedWith, Seen, safe_after}
 use Rattle.live_states.specs.Volume.{IsVolume, state_over}
+use Rattle.live_states.proofs.Staging.{keeps' as keeps_staged, over_after, same, shows'}
 use Rattle.live_states.proofs.Standing.{has}
-
--- ---- lists of updates
-
-added_after : (p q : List Pending) (ws : List Written) → added (p ++ q) ws ≡ added p ws ++ q
-added_after p q [] = refl
-added_after p q (w ∷ ws) = added_after (w.update ∷ p) q ws
-
-over_after : (q : List Pending) (us : List Update) → over q us ≡ over [] us ++ q
-over_after q us = added_after [] q (map written us)
-
-users_over : (disk : View) (q : List Pending) (us : List Update) → users_view disk (over q us) ≡ model.updated_all (users_view disk q) (changes us)
-users_over disk q [] = refl
-users_over disk q (u ∷ us) = users_over disk ((written u).update ∷ q) us
-
--- what is added is what was there, or a change of one of the updates
-change_of_added : (acc : List Pending) (us : List Update) (p : Pending) → Contains (over acc us) p → Contains acc p ⊎ Contains (changes us) p.change
-change_of_added acc [] p c = inl c
-change_of_added acc (u ∷ us) p c = elim (change_of_added ((written u).update ∷ acc) us p c) [
-  | inr rest ↦ inr (contains_tail (change u.change) p.change (changes us) rest)
-  | inl now ↦ elim (contains_cases (written u).update p acc now) [
-    | inl e ↦ inr (subst (λ (x : Pending). Contains (changes (u ∷ us)) x.change) e (contains_head (change u.change) (changes us)))
-    | inr before ↦ inl before
-  ]
-]
-
-gives : (us : List Update) (a : ℕ) → GivesBytes (over [] us) a → Gives (changes us) a
-gives us a (p, c, bytes, e) = elim (change_of_added [] us p c) [
-  | inl none ↦ absurd (contains_none p none)
-  | inr is ↦ (bytes, subst (Contains (changes us)) e is)
-]
 
 -- ---- files that no stop loses
 
@@ -139,82 +95,24 @@ module _ (kept : Kept) (holdings : Holdings) (q : List Pending) (disk : View) (v
   begins = subst (IsBeginning geo volume.mount since.lived.h' since.lived.cut' disk q' (new volume.beside volume.frozen)) (still_nothing geo (users_view disk q) command)
       (record { stands = since.stands; moment = since.lived.moment })
 
+  -- what claims on metadata there are then
+  claimed_before : (i k a : ℕ) → IsMetadataClaim geo (users_view disk q') i k a → IsMetadataClaim geo (users_view disk q) i k a ⊎ GivesBytes (over [] draft.updates) a
+  claimed_before =
+      plans_give geo disk q (old volume.beside volume.frozen) nothing_safe volume.beginning.stands command answer draft.file q' (new volume.beside volume.frozen)
+      (safe_after geo (users_view disk q) command nothing_safe) (accepts volume.beside volume.frozen) (done volume.beside volume.frozen nothing_safe volume.beginning.stands) (over [] draft.updates) (over_after q draft.updates)
+
   module _ (keeps : KeepsMetadata kept) (staged : Staged) (is : IsStaged kept (changes draft.updates) staged) where
-    abbrev kept' : Kept
-    kept' = after kept staged
+    pub keeps' : KeepsMetadata (after kept staged)
+    keeps' = keeps_staged kept q disk draft.updates keeps volume.shows claimed_before staged is
 
-    abbrev users : View
-    users = users_view disk q
-
-    abbrev users' : View
-    users' = users_view disk q'
-
-    same : kept'.geometry ≡ geo
-    same = same_geometry kept staged.blocks.items
-
-    shows' : Shows kept' users'
-    shows' = subst (Shows kept') (sym (users_over disk q draft.updates)) (is.view users volume.shows)
-
-    -- a block that was metadata is kept
-    kept_before : (i k a : ℕ) → IsMetadataClaim geo users i k a → IsSome (kept_at kept.blocks a)
-    kept_before i k a (claim, kind) =
-        let facts = other_way (same_facts geo (frozen_view kept) users (shows_metadata kept users keeps volume.shows)) in
-        let there = claim_there geo users (frozen_view kept) facts i k a claim in
-        elim kind [
-          | inl e ↦ keeps.indirect_blocks i a (subst (λ j. IsClaim geo (frozen_view kept) i j a) e there)
-          | inr d ↦ keeps.directory_blocks i (directory_there geo users (frozen_view kept) facts i d) k a there
-        ]
-
-    kept_now : (i k a : ℕ) → IsMetadataClaim kept'.geometry users' i k a → IsSome (kept_at kept'.blocks a)
-    kept_now i k a claim =
-        elim (plans_give geo disk q (old volume.beside volume.frozen) nothing_safe volume.beginning.stands command answer draft.file q' (new volume.beside volume.frozen)
-        (safe_after geo users command nothing_safe) (accepts volume.beside volume.frozen) (done volume.beside volume.frozen nothing_safe volume.beginning.stands) (over [] draft.updates) (over_after q draft.updates) i k a (subst (λ g. IsMetadataClaim g users' i k a) same claim)) [
-          | inl before ↦ is.more a (inl (kept_before i k a before))
-          | inr given ↦ is.more a (inr (gives draft.updates a given))
-        ]
-
-    -- the pointer to an indirect block is the same to users
-    pointer_shown : (i a : ℕ) → IsClaim kept'.geometry (frozen_view kept') i indirect_position a → IsClaim kept'.geometry users' i indirect_position a
-    pointer_shown i a claim =
-        let u = use_parts kept'.geometry (frozen_view kept') i indirect_position a claim.0 in
-        let e : (frozen_view kept').inode i ≡ users'.inode i = shows'.inode i in (
-          use_from kept'.geometry users' i indirect_position a (record {
-            sound = subst (λ r. IsTrue (is_number kept'.geometry i && is_sound r)) e u.sound;
-            used = subst (λ r. IsTrue (is_used kept'.geometry r indirect_position)) e u.used;
-            value = sym (ap (λ (r : Inode). r.indirect) e) ∙ u.value;
-          }),
-          claim.1,
-        )
-
-    indirect' : KeepsIndirect kept'
-    indirect' i a claim = kept_now i indirect_position a (pointer_shown i a claim, inl refl)
-
-    indirect_bytes : (i a : ℕ) → IsClaim kept'.geometry (frozen_view kept') i indirect_position a → (frozen_view kept').bytes a ≡ users'.bytes a
-    indirect_bytes i a claim =
-        let at = there (kept_at kept'.blocks a) (indirect' i a claim) in
-        cond-true (is_data_address kept'.geometry a) (kept_bytes kept'.blocks a) [] claim.1 ∙ ap (λ o. unwrap_or o []) at.1 ∙ sym (shows'.bytes a at.0 claim.1 at.1)
-
-    directory' : (d : ℕ) → KeepsDirectory kept' d
-    directory' d t k a claim =
-        kept_now d k a (
-          (sym (same_use kept'.geometry (frozen_view kept') users' (λ i n. shows'.inode i) indirect_bytes d k) ∙ claim.0, claim.1),
-          inr (subst (λ r. IsTrue ((is_number kept'.geometry d && is_sound r) && is_directory r)) (shows'.inode d) t),
-        )
-
-    pub keeps' : KeepsMetadata kept'
-    keeps' = record {
-      frame = frame_with_all kept staged.blocks.items keeps.frame is.fits;
-      indirect_blocks = indirect';
-      directory_blocks = directory';
-    }
-
-    pub volume' : IsVolume kept' holdings' q' disk
+    pub volume' : IsVolume (after kept staged) holdings' q' disk
     volume' = record {
       beside = volume.beside;
       frozen = subst (λ s. IsImageOf s volume.beside.frozen) (sym planned.snapshot) volume.frozen;
       mount = volume.mount;
       history = since.lived.h';
       cut = since.lived.cut';
-      beginning = subst (λ g. IsBeginning g volume.mount since.lived.h' since.lived.cut' disk q' (new volume.beside volume.frozen) nothing_safe) (sym same) begins;
-      shows = shows';
+      beginning = subst (λ g. IsBeginning g volume.mount since.lived.h' since.lived.cut' disk q' (new volume.beside volume.frozen) nothing_safe)
+          (sym (same kept q disk draft.updates keeps volume.shows claimed_before staged is)) begins;
+      shows = shows' kept q disk draft.updates keeps volume.shows claimed_before staged is;
     }

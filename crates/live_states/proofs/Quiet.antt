@@ -1,5 +1,5 @@
 -- A command that leaves the image and what is held alone leads from a volume to a volume.
-use Rattle.std.proofs.Common.{◌≡◌, ℕ, Bool, true, false, List, [], ◌∷◌, Ok, IsTrue, refl, sym, ap, ◌∙◌, subst}
+use Rattle.std.proofs.Common.{◌≡◌, ℕ, Bool, true, false, List, [], ◌∷◌, Ok, IsTrue, refl, sym, subst}
 use Rattle.model.specs.Layout.{Geometry}
 use Rattle.model.specs.View.{View}
 use Rattle.ordering.specs.Cuts.{Pending, users_view}
@@ -7,7 +7,6 @@ use Rattle.machine.specs.Causes.{Accepts}
 use Rattle.machine.specs.Command.{Answer, Command, Create, Mkdir, Link, Unlink, Rmdir, Rename, Open, Close, Read, Write, Truncate, ListNames, Stat, Freeze, SnapRead, Release, Install, RepairAt, Flush, Sync}
 use Rattle.machine.specs.State.{State}
 use Rattle.machine.specs.Step.{Effect, Step}
-use Rattle.plans_data.specs.Carried.{Stands}
 use Rattle.courses.specs.Serves.{IsBeginning, IsSafeService, Quietly, Serves, Starts, CarriesOut, is_quiet}
 use Rattle.courses.proofs.ServiceLemmas.{service_safe}
 use Rattle.frozen.specs.Kept.{Kept}

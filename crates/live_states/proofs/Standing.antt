@@ -1,7 +1,7 @@
 -- A volume stands, and goes on standing where a closed part of what is pending is written.
-use Rattle.std.proofs.Common.{◌≡◌, ℕ, Bool, true, false, List, [], ◌∷◌, Option, Some, None, IsFalse, refl, sym, ap, ap₂, subst}
+use Rattle.std.proofs.Common.{◌≡◌, ℕ, Bool, true, false, List, [], ◌∷◌, Option, Some, None, IsFalse, refl, sym, ap, ap₂, ◌∙◌, subst}
 use Rattle.std.specs.Prelude.{slice_index_or}
-use Rattle.std.specs.Option.{option_map_or}
+use Rattle.std.specs.Option.{option_map, option_map_or}
 use mathlib.Core.Path.{fun_ext}
 use Rattle.model.specs.Image.{image_view}
 use Rattle.model.specs.Rules.{ObeysRules}
@@ -12,7 +12,7 @@ use Rattle.ordering.proofs.CutLemmas.{nothing, nothing_closed, nothing_seen}
 use Rattle.ordering.proofs.Flushes.{flush_agrees, users_flushed}
 use Rattle.ordering.specs.Ghosts.{at_rest}
 use Rattle.machine.specs.Command.{Answer, Command}
-use Rattle.machine.specs.State.{State, is_kept, is_open, mounted}
+use Rattle.machine.specs.State.{Plan, State, is_kept, is_open, mounted}
 use Rattle.machine.specs.Balance.{Balance}
 use Rattle.courses.specs.Done.{IsDoneBy}
 use Rattle.courses.specs.Life.{IsLived, Begins, Puts}
@@ -23,12 +23,12 @@ use Rattle.frozen.specs.Kept.{Kept, KeepsMetadata, IsKeptOf, frozen_view}
 use Rattle.metadata.specs.Shown.{Shows}
 use Rattle.metadata.proofs.ShownLemmas.{shows_image}
 use Rattle.live_states.specs.Drafts.{Draft, over}
-use Rattle.live_states.specs.Holdings.{Beside, Has, Holdings, IsIdle, IsImageOf, going_on, held_by, is_open_by, opened_by}
+use Rattle.live_states.specs.Holdings.{Beside, Has, Holdings, IsIdle, IsImageOf, Repairs, going_on, held_by, is_open_by, opened_by, plan_by, plan_of}
 use Rattle.live_states.specs.Planned.{IsOfVolume, IsOfVolumeWith, IsPlanned, IsPlannedWith, safe_after}
 use Rattle.live_states.specs.Volume.{IsVolume, state_over}
 
 pub has : (disk : View) (q : List Pending) (holdings : Holdings) (beside : Beside) → IsImageOf holdings.snapshot beside.frozen → Has holdings (state_over disk q holdings beside)
-has disk q holdings beside frozen = record { opened = refl; held = refl; frozen = frozen }
+has disk q holdings beside frozen = record { opened = refl; held = refl; frozen = frozen; plan = refl }
 
 pub stands_so : (kept : Kept) (holdings : Holdings) (q : List Pending) (disk : View) → IsVolume kept holdings q disk → IsOfVolume kept
 stands_so kept holdings q disk volume = record {
@@ -46,7 +46,9 @@ stands_with kept holdings q disk volume = record { volume = stands_so kept holdi
 
 -- what is open and held is as it was
 pub as_it_was : (old : State) (holdings : Holdings) (view : View) → Has holdings old → record old { view = view } ≡ going_on old holdings view
-as_it_was old holdings view has = ap₂ (λ (o : ℕ → Option ℕ) (h : ℕ → Bool). record old { view = view; opened = o; held = h }) has.opened has.held
+as_it_was old holdings view has =
+    ap₂ (λ (o : ℕ → Option ℕ) (h : ℕ → Bool). record old { view = view; opened = o; held = h }) has.opened has.held
+    ∙ ap (λ (p : Option Plan). record old { view = view; opened = opened_by holdings; held = held_by holdings; plan = p }) has.plan
 
 -- no block is kept where no snapshot stands
 pub not_kept : (holdings : Holdings) (old : State) → holdings.snapshot ≡ None → Has holdings old → (a : ℕ) → IsFalse (is_kept old a)
@@ -72,13 +74,14 @@ left_alone kept command answer draft planned holdings = record {
 
 -- nothing beside an image
 abbrev pub nothing_beside : Beside
-nothing_beside = record { frozen = None; plan = None }
+nothing_beside = record { frozen = None }
 
 -- an idle volume is as it is mounted
 pub idle_mounted : (disk : View) (holdings : Holdings) → IsIdle holdings → mounted disk ≡ state_over disk [] holdings nothing_beside
 idle_mounted disk holdings idle =
     ap₂ (λ (o : ℕ → Option ℕ) (h : ℕ → Bool). record { view = disk; opened = o; held = h; frozen = None; plan = None })
     (fun_ext (λ h. ap (λ (l : List (Option ℕ)). slice_index_or l h None) (sym idle.opened))) (fun_ext (λ a. sym (idle.held a)))
+    ∙ ap (λ (r : Option Repairs). record { view = disk; opened = opened_by holdings; held = held_by holdings; frozen = None; plan = option_map plan_of r }) (sym idle.repairs)
 
 pub loaded : (kept : Kept) (image : List (List ℕ)) (holdings : Holdings) → KeepsMetadata kept → IsKeptOf kept image → ObeysRules kept.geometry (frozen_view kept) → IsIdle holdings
     → ObeysRules kept.geometry (image_view kept.geometry image) × IsVolume kept holdings [] (image_view kept.geometry image)
@@ -117,7 +120,7 @@ module _ (kept : Kept) (holdings : Holdings) (q : List Pending) (disk : View) (v
     held = held_by holdings
 
     abbrev as_seen : View → State
-    as_seen view = record { view = view; opened = opened_by holdings; held = held_by holdings; frozen = volume.beside.frozen; plan = volume.beside.plan }
+    as_seen view = record { view = view; opened = opened_by holdings; held = held_by holdings; frozen = volume.beside.frozen; plan = plan_by holdings }
 
     lived : IsLived kept.geometry volume.mount volume.history volume.cut disk q held (λ f. false) (seen disk q cut) (rest q cut) held (λ f. false) (seen disk q cut ∷ []) (Puts cut Begins closed)
     lived = life_lived kept.geometry volume.mount volume.history volume.cut disk q held (λ f. false) begin.moment (seen disk q cut) (rest q cut) held (λ f. false) (seen disk q cut ∷ []) (Puts cut Begins closed)

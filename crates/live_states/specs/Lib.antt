@@ -1,4 +1,5 @@
 pub mod Drafts
 pub mod Holdings
 pub mod Planned
+pub mod Snapshots
 pub mod Volume

@@ -9,12 +9,12 @@ use Rattle.machine.specs.State.{State}
 use Rattle.courses.specs.Serves.{IsBeginning}
 use Rattle.frozen.specs.Kept.{Kept, KeepsMetadata}
 use Rattle.metadata.specs.Shown.{Shows}
-use Rattle.live_states.specs.Holdings.{Beside, Holdings, IsImageOf, held_by, opened_by}
+use Rattle.live_states.specs.Holdings.{Beside, Holdings, IsImageOf, held_by, opened_by, plan_by}
 
 -- the state of a volume, as its users see it over a device with these updates pending
 abbrev pub state_over : View → List Pending → Holdings → Beside → State
 state_over disk q holdings beside =
-    record { view = users_view disk q; opened = opened_by holdings; held = held_by holdings; frozen = beside.frozen; plan = beside.plan }
+    record { view = users_view disk q; opened = opened_by holdings; held = held_by holdings; frozen = beside.frozen; plan = plan_by holdings }
 
 -- Over this device, with these updates pending, stands a volume that was mounted once and obeyed the rules then; this is its metadata in memory, and this is what it has besides.
 pub record IsVolume (kept : Kept) (holdings : Holdings) (q : List Pending) (disk : View) : Type 0 where

@@ -3,22 +3,26 @@
 //! its users see.
 #![tactic(auto)]
 
-ghost use Rattle.std.specs.Prelude.{◌≡◌, ℕ, Bool, false, List, [], Ok, IsTrue, length};
+ghost use Rattle.std.specs.Prelude.{◌≡◌, ℕ, Bool, false, List, [], None, Ok, IsSome, IsTrue, length};
 ghost use Rattle.model.specs.Image.{IsImage, image_view};
 ghost use Rattle.model.specs.Layout.{block_count};
 ghost use Rattle.model.specs.Rules.{ObeysRules};
 ghost use Rattle.model.specs.View.{View};
 ghost use Rattle.ordering.specs.Cuts.{IsClosed, Pending, rest, seen, users_view};
-ghost use Rattle.machine.specs.Command.{Answer, Command};
+ghost use Rattle.machine.specs.Command.{Answer, Check, Command, Done, Install};
+ghost use Rattle.findings.specs.declared.repair.Repair.{Repair};
 ghost use Rattle.machine.specs.Step.{Step};
 ghost use Rattle.courses.specs.Serves.{Serves};
 ghost use Rattle.plans_data.specs.Carried.{Stands};
+ghost use Rattle.plans_data.specs.Release.{releasing};
+ghost use Rattle.updates.specs.declared.change.Update.{Update};
 ghost use Rattle.frozen.specs.Kept.{IsKeptOf, Kept, KeepsMetadata, frozen_view};
 ghost use Rattle.metadata.specs.declared.staged.Staged.{Staged};
 ghost use Rattle.metadata.specs.Staged.{IsStaged, after, changes};
 ghost use Rattle.live_states.specs.Drafts.{Draft, over};
 ghost use Rattle.live_states.specs.Holdings.{Beside, Holdings, IsIdle, IsImageOf};
 ghost use Rattle.live_states.specs.Planned.{AreSeen, IsOfVolume, IsOfVolumeWith, IsPlanned, IsPlannedWith, IsQuietlyDone, Seen, safe_after};
+ghost use Rattle.live_states.specs.Snapshots.{IsInstallable, IsSettled, held_blocks, installing, keeping, let_go};
 ghost use Rattle.live_states.specs.Volume.{IsVolume, state_over};
 
 /// The metadata of an image that obeys the rules is that of a volume over it, with nothing open, held or pending.
@@ -91,4 +95,24 @@ pub fn quiet_commands_are_steps()
         → Step kept.geometry (state_over disk q holdings beside) command (Ok answer) (state_over disk q holdings' beside)
         × ((safe : ℕ → Bool) → Serves kept.geometry disk q (state_over disk q holdings beside) safe command answer disk q (state_over disk q holdings' beside)
         (safe_after kept.geometry (users_view disk q) command safe) []) }
+{}
+
+/// A volume of which nothing is pending stays one where a snapshot of what a check is to see is kept.
+pub fn snapshots_keep_volumes()
+    ensures { (kept : Kept) (holdings : Holdings) (disk : View) → IsVolume kept holdings [] disk → holdings.snapshot ≡ None
+        → (snapshot : Kept) → IsSettled kept holdings snapshot → IsVolume kept (keeping holdings snapshot) [] disk }
+{}
+
+/// And where the snapshot ends: the bits of the blocks that were held for it are cleared.
+pub fn ends_of_snapshots_keep_volumes()
+    ensures { (kept : Kept) (holdings : Holdings) (disk : View) → KeepsMetadata kept → IsVolume kept holdings [] disk → IsSome holdings.snapshot
+        → (updates : List Update) → over [] updates ≡ releasing (held_blocks holdings) [] → (staged : Staged) → IsStaged kept (changes updates) staged
+        → IsVolume (after kept staged) (let_go holdings) (over [] updates) disk × KeepsMetadata (after kept staged) }
+{}
+
+/// A check of the snapshot that stands, with nothing in it but what repairs mend, is installed, which leaves the image and
+/// what is held alone.
+pub fn checks_are_installed_quietly()
+    ensures { (kept : Kept) (holdings : Holdings) (check : Check) (list : List Repair) → IsInstallable kept holdings check list
+        → IsQuietlyDone kept holdings [] (Install check) Done (installing holdings list) }
 {}

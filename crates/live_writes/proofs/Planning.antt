@@ -15,7 +15,7 @@ use Rattle.machine.specs.Cells.{block_of, seen, with_pointer}
 use Rattle.machine.specs.Command.{Done, Write}
 use Rattle.machine.specs.Effects.{IsOverwritten, size_after}
 use Rattle.machine.specs.Room.{IsFreeBlock, unmarked_blocks}
-use Rattle.machine.specs.State.{State, is_kept}
+use Rattle.machine.specs.State.{Plan, State, is_kept}
 use Rattle.machine.specs.Whole.{HasWholeBlocks}
 use Rattle.machine.proofs.PointerTables.{pointer_here, pointer_whole}
 use Rattle.ordering.specs.Cuts.{Pending, users_view}
@@ -28,7 +28,7 @@ use Rattle.courses.specs.Done.{IsDoneBy, WritesBehind, WritesElsewhere, WritesIn
 use Rattle.frozen.specs.Kept.{Kept, KeepsMetadata, frozen_view}
 use Rattle.metadata.specs.Shown.{Shows}
 use Rattle.live_states.specs.Drafts.{Draft, GoesOn, over}
-use Rattle.live_states.specs.Holdings.{Has, Holdings, going_on, held_by, with_held}
+use Rattle.live_states.specs.Holdings.{Has, Holdings, going_on, held_by, opened_by, with_held}
 use Rattle.live_states.specs.Planned.{AreSeen, IsOfVolumeWith, IsPlannedWith, Seen}
 use Rattle.live_plans.proofs.GrowLemmas.{free_there, zeroes_whole}
 use Rattle.live_writes.specs.Aimed.{IsAimed, IsPlaced, IsTableFor, block_count_of, blocks_needed}
@@ -84,7 +84,9 @@ module _ (kept : Kept) (holdings : Holdings) (keeps : KeepsMetadata kept) (volum
 
     -- the state then
     state_then : (blocks : List ℕ) (held : ℕ → Bool) (p : List Pending) → held ≡ held_by (with_held holdings blocks) → becomes disk p held old ≡ going_on old (with_held holdings blocks) (users_view disk p)
-    state_then blocks held p e = ap₂ (λ (o : ℕ → Option ℕ) (l : ℕ → Bool). record old { view = users_view disk p; opened = o; held = l }) has.opened e
+    state_then blocks held p e =
+        ap₂ (λ (o : ℕ → Option ℕ) (l : ℕ → Bool). record old { view = users_view disk p; opened = o; held = l }) has.opened e
+        ∙ ap (λ (r : Option Plan). record old { view = users_view disk p; opened = opened_by holdings; held = held_by (with_held holdings blocks); plan = r }) has.plan
 
     -- what is done so is done with other words for the same
     finish : (blocks : List ℕ) (held : ℕ → Bool) (p r : List Pending) → r ≡ p → held ≡ held_by (with_held holdings blocks) → Does i p (becomes disk p held old) → Does i r (going_on old (with_held holdings blocks) (users_view disk r))

@@ -104,6 +104,18 @@ impl Metadata {
         self.frozen.install(staged.blocks);
     }
 
+    /// A copy of its blocks with what was made ready, which is all metadata then too; what users see stays. Takes memory
+    /// for the table of blocks.
+    pub fn copy_with(&self, alloc: Global, staged: Staged) -> Result<Frozen, AllocError>
+        requires staged { (us : List Changed) × IsStaged self.now us staged }
+        requires metadata { KeepsMetadata (after self.now staged) }
+        ensures { IfOk result (λ copy. copy ≡ after self.now staged) }
+    {
+        let mut copy = self.frozen.copy(alloc)?;
+        copy.install(staged.blocks);
+        Ok(copy)
+    }
+
     /// Makes one more change ready.
     fn stage_one(
         &self,

@@ -10,7 +10,7 @@ mark-requires c =
     let blocks = c.args.blocks.now in
     let before = All-get_or (λ a. a < length c.args.self.now.held) blocks k 0 c.loop-block-test.true c.requires in
     subst (λ n. slice_index_or blocks k 0 < n)
-    (ap (λ (l : Holdings). length l.held) (sym c.self.view_is) ∙ sym (holding_length (take k blocks) c.self.inside.held) ∙ ap (λ (held : List Bool). length held) (sym c.loop-block.invariant.2)) before
+    (ap (λ (l : Holdings). length l.held) (sym c.self.view_is) ∙ sym (holding_length (take k blocks) c.self.inside.held) ∙ ap (λ (held : List Bool). length held) (sym c.loop-block.invariant.3)) before
 
 pub loop-block-preserved : goal.loop-block-preserved
 loop-block-preserved c =
@@ -18,5 +18,6 @@ loop-block-preserved c =
     let blocks = c.args.blocks.now in (
       c.loop-block.invariant.0,
       c.loop-block.invariant.1,
-      c.mark.ensures ∙ ap (λ (held : List Bool). slice_set held (slice_index_or blocks k 0) true) c.loop-block.invariant.2 ∙ sym (holding_next blocks k c.self.inside.held c.loop-block-test.true),
+      c.loop-block.invariant.2,
+      c.mark.ensures ∙ ap (λ (held : List Bool). slice_set held (slice_index_or blocks k 0) true) c.loop-block.invariant.3 ∙ sym (holding_next blocks k c.self.inside.held c.loop-block-test.true),
     )

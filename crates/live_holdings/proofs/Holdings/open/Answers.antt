@@ -1,4 +1,4 @@
-use Rattle.std.proofs.Common.{◌≡◌, Some, IsSome, sym, ap, ◌∙◌, subst}
+use Rattle.std.proofs.Common.{Some, IsSome, sym, ap, ◌∙◌, subst}
 use Rattle.model.specs.Cells.{put_at}
 use Rattle.live_states.specs.Holdings.{Holdings, opened_by}
 use Rattle.live_holdings.proofs.Tables.{table_set, within_table}
@@ -11,4 +11,5 @@ returns-else-handle-len-clause-opened c = record {
       ∙ ap (λ (l : Holdings). put_at (opened_by l) c.args.handle (Some c.args.number)) c.self.view_is;
   held = ap (λ (l : Holdings). l.held) c.self.view_is;
   snapshot = ap (λ (l : Holdings). l.snapshot) c.self.view_is;
+  repairs = ap (λ (l : Holdings). l.repairs) c.self.view_is;
 }

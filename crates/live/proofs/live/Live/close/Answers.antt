@@ -4,7 +4,8 @@ use Rattle.model.specs.Layout.{block_count}
 use Rattle.ordering.specs.Cuts.{users_view}
 use Rattle.machine.specs.Command.{Done, Close}
 use Rattle.softdep.specs.Queued.{pending_of}
-use Rattle.live_holdings.specs.Handles.{without}
+use Rattle.live.specs.declared.ending.Ending.TheVariants.{Handle}
+use Rattle.live.specs.Ended.{ended}
 use Rattle.live_states.specs.Holdings.{with_held}
 use Rattle.live_states.specs.Planned.{IsPlannedWith, IsRefusedWith}
 use Rattle.live_states.proofs.Standing.{stands_with}
@@ -34,7 +35,7 @@ pub carry_out-requires-clause-planned : goal.carry_out-requires-clause-planned
 carry_out-requires-clause-planned g c = (
   Close c.args.handle,
   Done,
-  subst (λ (l : Alive _). IsPlannedWith l.kept l.holdings [] (Close c.args.handle) Done c.in_ok-planned.planned.plan (with_held (without l.holdings (Some c.args.handle)) c.in_ok-planned.planned.holds.items)) c.self.view_is
+  subst (λ (l : Alive _). IsPlannedWith l.kept l.holdings [] (Close c.args.handle) Done c.in_ok-planned.planned.plan (with_held (ended l.holdings (Handle c.args.handle)) c.in_ok-planned.planned.holds.items)) c.self.view_is
       c.in_ok-planned.ensures.planned,
 )
 
@@ -44,5 +45,5 @@ carry_out-requires-clause-holds g c = subst (λ (l : Alive _). All (λ a. a < bl
 pub returns-clause-done : goal.returns-clause-done
 returns-clause-done g c = λ h.
     c.in_ok-carry_out.ensures.done [] (Close c.args.handle) Done
-    (subst (λ (l : Alive _). IsPlannedWith l.kept l.holdings [] (Close c.args.handle) Done c.in_ok-planned.planned.plan (with_held (without l.holdings (Some c.args.handle)) c.in_ok-planned.planned.holds.items)) c.self.view_is
+    (subst (λ (l : Alive _). IsPlannedWith l.kept l.holdings [] (Close c.args.handle) Done c.in_ok-planned.planned.plan (with_held (ended l.holdings (Handle c.args.handle)) c.in_ok-planned.planned.holds.items)) c.self.view_is
     c.in_ok-planned.ensures.planned) h (none_seen (users_view (disk_of (g.D.Device.image c.args.self.now.device) c.args.self.now) (pending_of c.args.self.now.queue)))

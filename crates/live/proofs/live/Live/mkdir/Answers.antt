@@ -6,7 +6,8 @@ use Rattle.softdep.specs.Queued.{pending_of}
 use Rattle.live_states.specs.Planned.{IsPlanned, IsPlannedWith, IsRefused}
 use Rattle.live_states.proofs.Standing.{stands_so}
 use Rattle.live.specs.Alive.{Alive, MayRefuse, disk_of}
-use Rattle.live_holdings.specs.Handles.{without}
+use Rattle.live.specs.declared.ending.Ending.TheVariants.{Nothing}
+use Rattle.live.specs.Ended.{ended}
 use Rattle.live_states.specs.Holdings.{with_held}
 use Rattle.live.proofs.Carrying.{alone, few_held}
 use Rattle.live.proofs.Commands.{refused}
@@ -34,7 +35,7 @@ pub carry_out-requires-clause-planned : goal.carry_out-requires-clause-planned
 carry_out-requires-clause-planned g c = (
   Mkdir c.args.path.now,
   Number c.file-number.result,
-  subst (λ (l : Alive _). IsPlannedWith l.kept l.holdings [] (Mkdir c.args.path.now) (Number c.file-number.result) c.without_holds.result.plan (with_held (without l.holdings None) c.without_holds.result.holds.items)) c.self.view_is
+  subst (λ (l : Alive _). IsPlannedWith l.kept l.holdings [] (Mkdir c.args.path.now) (Number c.file-number.result) c.without_holds.result.plan (with_held (ended l.holdings Nothing) c.without_holds.result.holds.items)) c.self.view_is
       (alone c.self.inside.metadata c.self.inside.holdings (Mkdir c.args.path.now) (Number c.file-number.result) c.in_ok-plan.plan c.without_holds.result.plan c.without_holds.result.holds.items c.without_holds.ensures.plan c.without_holds.ensures.holds
       (subst (λ n. IsPlanned c.self.inside.metadata (Mkdir c.args.path.now) (Number n) c.in_ok-plan.plan) (sym c.file-number.ensures) c.in_ok-plan.ensures.planned)),
 )
@@ -45,6 +46,6 @@ carry_out-requires-clause-holds g c = few_held _ c.without_holds.result.holds.it
 pub returns-clause-done : goal.returns-clause-done
 returns-clause-done g c = λ h.
     c.in_ok-carry_out.ensures.done [] (Mkdir c.args.path.now) (Number c.file-number.result)
-    (subst (λ (l : Alive _). IsPlannedWith l.kept l.holdings [] (Mkdir c.args.path.now) (Number c.file-number.result) c.without_holds.result.plan (with_held (without l.holdings None) c.without_holds.result.holds.items)) c.self.view_is
+    (subst (λ (l : Alive _). IsPlannedWith l.kept l.holdings [] (Mkdir c.args.path.now) (Number c.file-number.result) c.without_holds.result.plan (with_held (ended l.holdings Nothing) c.without_holds.result.holds.items)) c.self.view_is
     (alone c.self.inside.metadata c.self.inside.holdings (Mkdir c.args.path.now) (Number c.file-number.result) c.in_ok-plan.plan c.without_holds.result.plan c.without_holds.result.holds.items c.without_holds.ensures.plan c.without_holds.ensures.holds
     (subst (λ n. IsPlanned c.self.inside.metadata (Mkdir c.args.path.now) (Number n) c.in_ok-plan.plan) (sym c.file-number.ensures) c.in_ok-plan.ensures.planned))) h (none_seen (users_view (disk_of (g.D.Device.image c.args.self.now.device) c.args.self.now) (pending_of c.args.self.now.queue)))

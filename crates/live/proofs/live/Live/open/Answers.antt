@@ -5,6 +5,7 @@ use Rattle.ordering.specs.Cuts.{users_view}
 use Rattle.machine.specs.Command.{Number, Open}
 use Rattle.softdep.specs.Queued.{pending_of}
 use Rattle.live_states.specs.Planned.{IsRefusedWith}
+use Rattle.live_states.specs.Snapshots.{AreRepairsOf}
 use Rattle.live.specs.Alive.{Alive, Answers, MayRefuse}
 use Rattle.live.proofs.Commands.{refused_with}
 use Rattle.live.proofs.Quietly.{none_seen, quiet_answers, quiet_live}
@@ -30,6 +31,7 @@ invariant_of-self-2 g c =
     let handle = c.in_ok-opening.opening.handle in
     quiet_live (g.D.Device.honest device) (g.D.Device.image device) c.self.inside.queue c.self.inside.metadata c.self.inside.holdings c.self.invariant [] (Open c.args.path.now) (Number handle) c.open.new.self
     (c.in_ok-opening.ensures.opens c.open.new.self c.in_ok-open.ensures.opened) refl
+    (subst (AreRepairsOf c.self.inside.metadata.geometry) (sym c.in_ok-open.ensures.opened.repairs) c.self.invariant.repairs)
 
 pub returns-clause-done : goal.returns-clause-done
 returns-clause-done g c = λ h.

@@ -3,7 +3,8 @@ use Rattle.std.proofs.lemmas.Result.{err_from_is_err_and}
 use Rattle.model.specs.Layout.{block_count}
 use Rattle.machine.specs.Command.{Done, Write}
 use Rattle.softdep.specs.Queued.{pending_of}
-use Rattle.live_holdings.specs.Handles.{without}
+use Rattle.live.specs.declared.ending.Ending.TheVariants.{Nothing}
+use Rattle.live.specs.Ended.{ended}
 use Rattle.live_states.specs.Holdings.{with_held}
 use Rattle.live_states.specs.Planned.{IsPlannedWith, IsRefusedWith}
 use Rattle.live_states.proofs.Standing.{stands_with}
@@ -54,7 +55,7 @@ carry_out-requires-clause-planned g c =
     let anyhow = c.in_ok-planned.ensures.planned_anyhow c.args.handle c.args.index aimed in (
       Write c.args.handle c.args.index anyhow.0,
       Done,
-      subst (λ (l : Alive _). IsPlannedWith l.kept l.holdings [] (Write c.args.handle c.args.index anyhow.0) Done c.in_ok-planned.planned.plan (with_held (without l.holdings None) c.in_ok-planned.planned.holds.items)) c.self-2.view_is
+      subst (λ (l : Alive _). IsPlannedWith l.kept l.holdings [] (Write c.args.handle c.args.index anyhow.0) Done c.in_ok-planned.planned.plan (with_held (ended l.holdings Nothing) c.in_ok-planned.planned.holds.items)) c.self-2.view_is
           anyhow.1,
     )
 
@@ -75,7 +76,7 @@ returns-clause-done g c = λ h.
     let was = g.D.Device.image old.device in
     let honest = subst (λ d. g.D.Device.honest d) c.in_ok-carry_out.ensures.device h in
     let planned =
-    subst (λ (l : Alive _). IsPlannedWith l.kept l.holdings seen command Done c.in_ok-planned.planned.plan (with_held (without l.holdings None) c.in_ok-planned.planned.holds.items)) c.self-2.view_is
+    subst (λ (l : Alive _). IsPlannedWith l.kept l.holdings seen command Done c.in_ok-planned.planned.plan (with_held (ended l.holdings Nothing) c.in_ok-planned.planned.holds.items)) c.self-2.view_is
     (c.in_ok-planned.ensures.planned c.args.handle c.args.index aimed) in
     let same = c.in_ok-before.ensures.image in
     let untouched = c.in_ok-before.ensures.untouched in

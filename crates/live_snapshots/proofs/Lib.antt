@@ -1,0 +1,4 @@
+pub mod Freeing
+pub mod Finding
+pub mod Leaving
+pub mod Settling

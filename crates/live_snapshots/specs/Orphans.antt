@@ -1,0 +1,51 @@
+-- Open inodes without links, and updates that free inodes.
+use Rattle.std.specs.Prelude.{◌≡◌, ℕ, Bool, false, not, ◌&&◌, ◌||◌, ◌==◌, List, [], ◌∷◌, ◌++◌, if◌then◌else◌}
+use Rattle.std.specs.List.{All}
+use Rattle.std.specs.Option.{option_map_or}
+use Rattle.model.specs.Layout.{Geometry, inode_count}
+use Rattle.model.specs.View.{View, free_inode}
+use Rattle.model.specs.Cells.{Update, updated_all}
+use Rattle.model.specs.Uses.{claim_at, is_sound_at}
+use Rattle.machine.specs.Below.{any_below}
+use Rattle.machine.specs.Cells.{claims}
+use Rattle.machine.specs.Snapshot.{without}
+use Rattle.ordering.specs.Cuts.{cell_of}
+use Rattle.updates.specs.declared.change.Update as program
+use Rattle.updates.specs.Places.{IsCell, IsUpdate}
+use Rattle.frozen.specs.Kept.{Kept, frozen_view}
+use Rattle.metadata.specs.Shown.{Shows}
+use Rattle.metadata.specs.Staged.{changes}
+use Rattle.live_states.specs.Holdings.{Holdings, is_open_by}
+
+-- a sound inode without links that some handle is open on
+abbrev pub is_orphan_of : Kept → Holdings → ℕ → Bool
+is_orphan_of kept holdings i = is_sound_at kept.geometry (frozen_view kept) i && ((frozen_view kept).inode i).links == 0 && is_open_by holdings i
+
+-- some number below this one is such an inode's, and that inode claims block a
+abbrev pub is_of_orphan_below : Kept → Holdings → ℕ → ℕ → Bool
+is_of_orphan_below kept holdings n a = any_below n (λ i. is_orphan_of kept holdings i && claims kept.geometry (frozen_view kept) i a)
+
+-- Where the first one shows what users see, the second one shows it without these inodes.
+abbrev pub LacksOrphans : Kept → Holdings → Kept → Type 0
+LacksOrphans kept holdings left = (users : View) → Shows kept users → Shows left (without kept.geometry users (is_orphan_of kept holdings))
+
+-- inode n claims block a at some position below this one
+abbrev pub is_claimed_below : Geometry → View → ℕ → ℕ → ℕ → Bool
+is_claimed_below geo view n end a = any_below end (λ k. option_map_or (λ b. b == a) (claim_at geo view n k) false)
+
+-- There is one more update, which makes this change, after nothing.
+pub record Adds (change : Update) (old new : List program.Update) : Type 0 where
+  pub list : changes new ≡ changes old ++ change ∷ []
+  pub each : (geo : Geometry) → IsCell geo (cell_of change) → All (IsUpdate geo) old → All (IsUpdate geo) new
+
+-- These updates free these numbers, each with its record, and these blocks, and leave all else as it is.
+pub record Frees (geo : Geometry) (numbers blocks : ℕ → Bool) (us : List program.Update) : Type 0 where
+  pub cells : All (IsUpdate geo) us
+  pub inode : (view : View) (i : ℕ) → (updated_all view (changes us)).inode i ≡ (if numbers i then free_inode else view.inode i)
+  pub number_marked : (view : View) (i : ℕ) → (updated_all view (changes us)).number_marked i ≡ (view.number_marked i && not (numbers i))
+  pub block_marked : (view : View) (a : ℕ) → (updated_all view (changes us)).block_marked a ≡ (view.block_marked a && not (blocks a))
+  pub bytes : (view : View) → (updated_all view (changes us)).bytes ≡ view.bytes
+
+-- The new updates free what the old ones do, and these numbers and blocks too.
+abbrev pub FreesToo : Geometry → (ℕ → Bool) → (ℕ → Bool) → List program.Update → List program.Update → Type 0
+FreesToo geo numbers blocks old new = (ns bs : ℕ → Bool) → Frees geo ns bs old → Frees geo (λ i. ns i || numbers i) (λ a. bs a || blocks a) new

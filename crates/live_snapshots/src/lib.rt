@@ -1,0 +1,34 @@
+//! The image that a check is to see: that of users, without the open files that have no name any more. Such a file goes
+//! with its last handle, so that a check would find a leak where there is none.
+//!
+//! It is made from the metadata of the volume that is held in memory, and changes nothing. What it keeps it shares with the
+//! volume, but for the blocks that differ.
+#![tactic(auto)]
+
+ghost use Rattle.std.specs.Prelude.{◌≡◌, IfOk};
+ghost use Rattle.live_states.specs.Planned.{IsOfVolumeWith};
+ghost use Rattle.live_states.specs.Snapshots.{IsSettled};
+
+mod orphans;
+#[cfg(test)]
+mod tests;
+
+use crate::orphans::without_orphans;
+use frozen::Frozen;
+use live_holdings::Holdings;
+use metadata::Metadata;
+use std::alloc::{AllocError, Global};
+
+/// The metadata of the image that a check is to see: of the image of users, each open inode without links is freed, with
+/// its number and its blocks. The blocks of metadata that do not change are shared.
+pub fn settled(
+    alloc: Global,
+    metadata: &Metadata,
+    holdings: &Holdings,
+) -> Result<Frozen, AllocError>
+    requires volume { IsOfVolumeWith metadata.now holdings.now }
+    ensures settled { IfOk result (IsSettled metadata.now holdings.now) }
+    ensures geometry { IfOk result (λ snapshot. snapshot.geometry ≡ metadata.now.geometry) }
+{
+    without_orphans(alloc, metadata, holdings)
+}

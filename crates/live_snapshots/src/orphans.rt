@@ -1,0 +1,100 @@
+ghost use Rattle.std.specs.Prelude.{◌≡◌, ◌==◌, IfOk, IsTrue, OnOk};
+ghost use Rattle.frozen.specs.Kept.{frozen_view};
+ghost use Rattle.machine.specs.Cells.{claims};
+ghost use Rattle.model.specs.Layout.{inode_count, is_number};
+ghost use Rattle.model.specs.View.{free_inode};
+ghost use Rattle.updates.specs.Values.{change as change_of};
+ghost use Rattle.live_snapshots.specs.Orphans.{Adds, Frees, FreesToo, LacksOrphans, is_of_orphan_below, is_orphan_of};
+
+use frozen::Frozen;
+use inode::{DIRECT_POINTERS, FREE, INDIRECT_POSITION, Record};
+use live_holdings::Holdings;
+use metadata::Metadata;
+use std::alloc::{AllocError, Global};
+use updates::{Change, Update};
+
+/// The metadata without the open inodes that have no links: each is freed, with its number and its blocks. Takes memory
+/// for the table of blocks, and for each update that this needs.
+pub(crate) fn without_orphans(
+    alloc: Global,
+    metadata: &Metadata,
+    holdings: &Holdings,
+) -> Result<Frozen, AllocError>
+    ensures shows { IfOk result (LacksOrphans metadata.now holdings.now) }
+    ensures geometry { IfOk result (λ left. left.geometry ≡ metadata.now.geometry) }
+{
+    let updates = free_orphans(alloc, metadata.frozen(), holdings)?;
+    let staged = metadata.stage(alloc, updates.as_slice())?;
+    metadata.copy_with(alloc, staged)
+}
+
+/// The updates that free each open inode without links.
+fn free_orphans(
+    alloc: Global,
+    frozen: &Frozen,
+    holdings: &Holdings,
+) -> Result<Vec<Update>, AllocError>
+    ensures { IfOk result (λ updates. Frees frozen.now.geometry (is_orphan_of frozen.now holdings.now)
+        (is_of_orphan_below frozen.now holdings.now (inode_count frozen.now.geometry)) updates.items) }
+{
+    let mut updates = Vec::new(alloc);
+    for number in 0..frozen.geometry().inodes() {
+        if is_orphan(frozen, holdings, number) {
+            free(alloc, frozen, number, &mut updates)?;
+        }
+    }
+    Ok(updates)
+}
+
+/// Whether a number is that of an open inode without links.
+fn is_orphan(frozen: &Frozen, holdings: &Holdings, number: u32) -> bool
+    ensures orphan { result ≡ is_orphan_of frozen.now holdings.now number }
+{
+    frozen.is_sound_at(number) && frozen.record(number).links == 0 && holdings.is_open(number)
+}
+
+/// Adds the updates that free a number, with its record and all blocks that it claims.
+fn free(
+    alloc: Global,
+    frozen: &Frozen,
+    number: u32,
+    updates: &mut Vec<Update>,
+) -> Result<(), AllocError>
+    requires { IsTrue (is_number frozen.now.geometry number) }
+    ensures { OnOk result (FreesToo frozen.now.geometry (λ i. i == number) (claims frozen.now.geometry (frozen_view frozen.now) number) updates.old.items updates.new.items) }
+{
+    push(alloc, updates, Change::SetInode(number, free_record()))?;
+    push(alloc, updates, Change::SetNumber(number, false))?;
+    for position in 0..=INDIRECT_POSITION {
+        if let Some(block) = frozen.claim_at(number, position) {
+            push(alloc, updates, Change::SetBlock(block, false))?;
+        }
+    }
+    Ok(())
+}
+
+/// A record that is free.
+fn free_record() -> Record
+    ensures { result ≡ free_inode }
+{
+    Record {
+        mode: FREE,
+        links: 0,
+        size: 0,
+        direct: [0; DIRECT_POINTERS],
+        indirect: 0,
+    }
+}
+
+/// Adds the update that makes this change. The device is not to see it, so it comes after nothing.
+fn push(alloc: Global, updates: &mut Vec<Update>, change: Change) -> Result<(), AllocError>
+    ensures { OnOk result (Adds (change_of change) updates.old.items updates.new.items) }
+{
+    let update = Update {
+        change,
+        file: None,
+        after: Vec::new(alloc),
+    };
+    updates.push(update)?;
+    Ok(())
+}

@@ -1,0 +1,140 @@
+use crate::orphans::without_orphans;
+use device::{Before, Device, MemDevice, format};
+use frozen::{Frozen, load};
+use layout::{BLOCK_BYTES, Geometry, Refusal};
+use live_holdings::Holdings;
+use metadata::Metadata;
+use std::alloc::Global;
+
+/// A byte that differs from a fresh image of one group of 32 blocks and 16 inodes: the block, the byte, the value.
+type Changed = (u32, usize, u8);
+
+/// File 6 has a link, and 1,024 bytes in block 20. File 8 has no link, and 1,024 bytes in block 21.
+const FILES: [Changed; 7] = [
+    (2, 768, 1),
+    (2, 770, 1),
+    (2, 773, 4),
+    (2, 776, 20),
+    (3, 0, 1),
+    (3, 5, 4),
+    (3, 8, 21),
+];
+
+/// File 5 has no link, and 13 blocks in blocks 6 to 17 and 19. Its indirect block is block 18.
+const ORPHAN: [Changed; 16] = [
+    (2, 640, 1),
+    (2, 645, 52),
+    (2, 648, 6),
+    (2, 652, 7),
+    (2, 656, 8),
+    (2, 660, 9),
+    (2, 664, 10),
+    (2, 668, 11),
+    (2, 672, 12),
+    (2, 676, 13),
+    (2, 680, 14),
+    (2, 684, 15),
+    (2, 688, 16),
+    (2, 692, 17),
+    (2, 696, 18),
+    (18, 0, 19),
+];
+
+/// Numbers 2, 5, 6 and 8 are marked, and so are blocks 4 and 6 to 21.
+const MARKS: [Changed; 5] = [
+    (1, 32, 0b0110_0100),
+    (1, 33, 1),
+    (1, 160, 0b1111_1101),
+    (1, 161, 0b1111_1111),
+    (1, 162, 0b11),
+];
+
+/// Numbers 2, 6 and 8 are marked, and so are blocks 4, 20 and 21.
+const MARKS_LEFT: [Changed; 5] = [
+    (1, 32, 0b0100_0100),
+    (1, 33, 1),
+    (1, 160, 0b1),
+    (1, 161, 0),
+    (1, 162, 0b11),
+];
+
+/// The metadata of the image with these bytes.
+fn image(alloc: Global, changes: &[&[Changed]]) -> Result<Metadata, Refusal> {
+    let geometry = Geometry::new(1, 32, 16)?;
+    let bytes = vec![in alloc; 0u8; geometry.blocks() as usize * BLOCK_BYTES]?;
+    let mut device = MemDevice::from_bytes(alloc, bytes.as_slice())?;
+    if device.blocks() != geometry.blocks() {
+        return Err(Refusal::BadLength);
+    }
+    format(&mut device, &geometry, Before::Anything)?;
+    for some in changes {
+        for (address, byte, value) in *some {
+            set_byte(&mut device, *address, *byte, *value)?;
+        }
+    }
+    Ok(Metadata::new(alloc, load(alloc, &mut device)?)?)
+}
+
+/// Changes one byte of a block.
+fn set_byte(device: &mut MemDevice, address: u32, byte: usize, value: u8) -> Result<(), Refusal> {
+    if address >= device.blocks() || byte >= BLOCK_BYTES {
+        return Err(Refusal::BadIndex);
+    }
+    let mut block = [0; BLOCK_BYTES];
+    device.read(address, &mut block)?;
+    block[byte] = value;
+    device.write(address, &block)?;
+    Ok(())
+}
+
+/// Opens one more handle on a number.
+fn open_on(holdings: &mut Holdings, number: u32) -> Result<(), Refusal> {
+    match holdings.free_handle() {
+        Some(handle) => {
+            holdings.open(handle, number)?;
+            Ok(())
+        }
+        None => Err(Refusal::TooManyOpen),
+    }
+}
+
+/// The first block of the one that the other does not have.
+fn first_difference(one: &Frozen, other: &Frozen) -> Option<u32> {
+    for address in 0..one.geometry().blocks() {
+        if let Some(block) = one.block(address) {
+            match other.block(address) {
+                Some(same) if *same == *block => {}
+                _ => return Some(address),
+            }
+        }
+    }
+    None
+}
+
+#[test]
+fn an_open_file_without_links_goes(rt: HostRuntime) -> Result<(), Refusal> {
+    let alloc = rt.alloc();
+    let metadata = image(alloc, &[&FILES, &ORPHAN, &MARKS])?;
+    let wanted = image(alloc, &[&FILES, &MARKS_LEFT])?;
+    let mut holdings = Holdings::new(alloc, &metadata.frozen().geometry())?;
+    open_on(&mut holdings, 5)?;
+    open_on(&mut holdings, 6)?;
+    open_on(&mut holdings, 5)?;
+    let left = without_orphans(alloc, &metadata, &holdings)?;
+    assert_eq!(rt; first_difference(wanted.frozen(), &left), None);
+    assert_eq!(rt;
+        first_difference(wanted.frozen(), metadata.frozen()),
+        Some(1)
+    );
+    Ok(())
+}
+
+#[test]
+fn a_file_that_is_not_open_stays(rt: HostRuntime) -> Result<(), Refusal> {
+    let alloc = rt.alloc();
+    let metadata = image(alloc, &[&FILES, &ORPHAN, &MARKS])?;
+    let holdings = Holdings::new(alloc, &metadata.frozen().geometry())?;
+    let left = without_orphans(alloc, &metadata, &holdings)?;
+    assert_eq!(rt; first_difference(metadata.frozen(), &left), None);
+    Ok(())
+}
