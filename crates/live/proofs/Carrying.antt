@@ -25,7 +25,7 @@ use Rattle.live_states.specs.Volume.{IsVolume, state_over}
 use Rattle.live_states.proofs.Planning.{keeps', serves, step, volume'}
 use Rattle.live_states.proofs.Standing.{left_alone}
 use Rattle.live_holdings.proofs.Tables.{holding_length}
-use Rattle.live.specs.Alive.{Answers, IsLive}
+use Rattle.live.specs.Alive.{Answers, IsLive, IsSnapshotOf}
 use Rattle.live.specs.Ended.{ended}
 use Rattle.live.specs.declared.ending.Ending.{Ending}
 use Rattle.live.specs.declared.ending.Ending.TheVariants.{Handle, Nothing, Repair}
@@ -104,6 +104,7 @@ module _ (honest : Type 0) (image : List (List ℕ)) (queue : Queued) (kept : Ke
       };
       marks = subst (λ n. n ≤ length holdings'.held) (ap block_count (sym geometry')) (subst (λ n. block_count kept.geometry ≤ n) (sym marks) live.marks);
       repairs = subst (λ geo. AreRepairsOf geo holdings'.repairs) (sym geometry') repairs;
+      snapshot = subst (λ geo. IsSnapshotOf geo holdings'.snapshot) (sym geometry') (subst (IsSnapshotOf kept.geometry) (sym planned.snapshot) live.snapshot);
     }
       where
         goes_on : (disk : View) → IsVolume kept holdings (pending_of queue) disk → IsVolume kept' holdings' (pending_of queue') disk

@@ -64,6 +64,7 @@ live_after honest honest' image image' queue queue' kept holdings live same coun
   };
   marks = live.marks;
   repairs = live.repairs;
+  snapshot = live.snapshot;
 }
 
 pub still_live : (honest honest' : Type 0) (image image' : List (List ℕ)) (queue queue' : Queued) (kept : Kept) (holdings : Holdings) → IsLive honest image queue kept holdings → queue' ≡ queue → image' ≡ image → (honest' → honest) → IsLive honest' image' queue' kept holdings
@@ -79,6 +80,7 @@ still_live honest honest' image image' queue queue' kept holdings live same_queu
       };
       marks = live.marks;
       repairs = live.repairs;
+      snapshot = live.snapshot;
     }))
 
 -- a flush leaves as many blocks

@@ -11,7 +11,7 @@ use Rattle.live_states.specs.Holdings.{Holdings, IsIdle}
 use Rattle.live_states.proofs.Loading.{of_an_image}
 use Rattle.live_states.proofs.Standing.{loaded}
 use Rattle.live_states.specs.Snapshots.{AreRepairsOf}
-use Rattle.live.specs.Alive.{IsLive}
+use Rattle.live.specs.Alive.{IsLive, IsSnapshotOf}
 use Rattle.live.specs.Mounting.{BreaksRule, IsMountable}
 
 -- what is told by the least rule that is broken
@@ -61,4 +61,5 @@ module _ (honest : Type 0) (image : List (List ℕ)) (kept : Kept) (of : honest 
           };
           marks = marks;
           repairs = subst (AreRepairsOf kept.geometry) (sym idle.repairs) tt;
+          snapshot = subst (IsSnapshotOf kept.geometry) (sym idle.snapshot) tt;
         })

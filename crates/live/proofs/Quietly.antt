@@ -17,7 +17,7 @@ use Rattle.live_states.specs.Planned.{AreSeen, IsQuietlyDone, Seen, safe_after}
 use Rattle.live_states.specs.Snapshots.{AreRepairsOf}
 use Rattle.live_states.specs.Volume.{state_over}
 use Rattle.live_states.proofs.Quiet.{quiet_serves, quiet_step, quiet_volume}
-use Rattle.live.specs.Alive.{Answers, IsLive}
+use Rattle.live.specs.Alive.{Answers, IsLive, IsSnapshotOf}
 
 pub none_seen : (view : View) → AreSeen [] view
 none_seen view = All-nil (λ (s : Seen). view.bytes s.address ≡ s.bytes)
@@ -40,6 +40,7 @@ module _ (honest : Type 0) (image : List (List ℕ)) (queue : Queued) (kept : Ke
     };
     marks = subst (λ (held : List Bool). block_count kept.geometry ≤ length held) (sym done.held) live.marks;
     repairs = repairs;
+    snapshot = subst (IsSnapshotOf kept.geometry) (sym done.snapshot) live.snapshot;
   }
     where
       sees : (disk : View) → AreSeen seen (users_view disk (pending_of queue))

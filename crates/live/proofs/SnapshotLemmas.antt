@@ -59,7 +59,7 @@ module _ (kept : Kept) (holdings : Holdings) (q : List Pending) (disk : View) (v
 -- ---- it begins
 
 module _ (honest : Type 0) (image : List (List ℕ)) (queue : Queued) (kept : Kept) (holdings : Holdings) (live : IsLive honest image queue kept holdings) (none : pending_of queue ≡ []) where
-  module _ (unkept : holdings.snapshot ≡ None) (snapshot : Kept) (settles : IsSettled kept holdings snapshot) where
+  module _ (unkept : holdings.snapshot ≡ None) (snapshot : Kept) (settles : IsSettled kept holdings snapshot) (whole : (snapshot.geometry ≡ kept.geometry) × KeepsMetadata snapshot) where
     keeps_over : (disk : View) → IsVolume kept holdings (pending_of queue) disk → IsVolume kept (keeping holdings snapshot) (pending_of queue) disk
     keeps_over disk volume =
         subst (λ q. IsVolume kept (keeping holdings snapshot) q disk) (sym none)
@@ -77,6 +77,7 @@ module _ (honest : Type 0) (image : List (List ℕ)) (queue : Queued) (kept : Ke
       };
       marks = live.marks;
       repairs = tt;
+      snapshot = whole;
     }
 
   -- ---- it ends
@@ -111,6 +112,7 @@ module _ (honest : Type 0) (image : List (List ℕ)) (queue : Queued) (kept : Ke
         };
         marks = subst (λ n. n ≤ length (let_go holdings).held) (ap block_count (sym geometry')) (subst (λ n. block_count kept.geometry ≤ n) (sym (length-replicate {A = Bool} (length holdings.held) false)) live.marks);
         repairs = subst (λ geo. AreRepairsOf geo holdings.repairs) (sym geometry') live.repairs;
+        snapshot = tt;
       }
 
       -- users see what the machine has then

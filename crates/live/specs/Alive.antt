@@ -1,7 +1,7 @@
 -- The value of a mounted volume, what its users see, and how commands are answered.
-use Rattle.std.specs.Prelude.{◌≡◌, ◌≤◌, ℕ, Bool, false, List, length, Ok, Err}
+use Rattle.std.specs.Prelude.{◌≡◌, ◌≤◌, ℕ, Bool, false, List, Option, Some, None, length, Ok, Err}
 use Rattle.model.specs.Image.{image_view}
-use Rattle.model.specs.Layout.{block_count}
+use Rattle.model.specs.Layout.{Geometry, block_count}
 use Rattle.model.specs.View.{View}
 use Rattle.layout.specs.declared.refusal.Refusal.{Refusal}
 use Rattle.ordering.specs.Cuts.{users_view}
@@ -11,7 +11,7 @@ use Rattle.machine.specs.State.{State}
 use Rattle.machine.specs.Step.{Step}
 use Rattle.plans_data.specs.Carried.{Stands}
 use Rattle.courses.specs.Serves.{Serves}
-use Rattle.frozen.specs.Kept.{Kept}
+use Rattle.frozen.specs.Kept.{Kept, KeepsMetadata}
 use Rattle.metadata.specs.Shown.{Shows}
 use Rattle.softdep.specs.Queued.{Queued, pending_of}
 use Rattle.live_states.specs.Holdings.{Beside, Holdings, IsImageOf}
@@ -26,12 +26,18 @@ pub record Alive (D : Type 0) : Type 0 where
   pub kept : Kept
   pub holdings : Holdings
 
--- the device holds an image of the volume, and the metadata in memory is what users see over it where it is honest; each block can be held, and what is to be repaired is of the volume
+-- a snapshot that is kept is all metadata of an image of this geometry
+abbrev pub IsSnapshotOf : Geometry → Option Kept → Type 0
+IsSnapshotOf geo None = Unit {0}
+IsSnapshotOf geo (Some snapshot) = (snapshot.geometry ≡ geo) × KeepsMetadata snapshot
+
+-- the device holds an image of the volume, and the metadata in memory is what users see over it where it is honest; each block can be held, and what is to be repaired and the snapshot are of the volume
 pub record IsLive (honest : Type 0) (image : List (List ℕ)) (queue : Queued) (kept : Kept) (holdings : Holdings) : Type 0 where
   pub geometry : queue.geometry ≡ kept.geometry
   pub alive : IsAlive honest image (pending_of queue) kept holdings
   pub marks : block_count kept.geometry ≤ length holdings.held
   pub repairs : AreRepairsOf kept.geometry holdings.repairs
+  pub snapshot : IsSnapshotOf kept.geometry holdings.snapshot
 
 -- what an image holds that the device of a volume has, and what its users see over it, whatever stands beside the volume
 abbrev pub disk_of : {D : Type 0} → List (List ℕ) → Alive D → View

@@ -59,6 +59,7 @@ impl<D: Device> Live<D> {
         ensures done { OnOk result (D.honest self.new.device → (later : List View) × HeldMore self.old.kept.geometry (D.held self.old.device) (D.held self.new.device) later
             × Answers (D.image self.old.device) self.old Sync Done (D.image self.new.device) self.new later) }
         ensures refused { IfErr result (λ r. D.honest self.new.device → MayRefuse (D.image self.old.device) self.old Sync r) }
+        ensures pending { OnOk result (pending_of self.new.queue ≡ []) }
         ensures metadata { self.new.kept ≡ self.old.kept }
         ensures holdings { self.new.holdings ≡ self.old.holdings }
         // Refused or not, what the device held since is what flushes of the least ready block left.

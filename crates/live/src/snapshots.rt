@@ -1,22 +1,26 @@
-ghost use Rattle.std.specs.Prelude.{◌≡◌, ◌⊎◌, ◌≤◌, [], IfErr, IfOk, IsErrOf, IsOkUnless, IsSome, IsTrue, None, OnErr, OnOk, Some};
+ghost use Rattle.std.specs.Prelude.{◌≡◌, ◌⊎◌, ◌≤◌, [], IfErr, IfOk, IsErrOf, IsOkUnless, IsSome, IsTrue, None, OnErr, OnOk, Some, length};
 ghost use Rattle.std.specs.Arc.{arc_value};
 ghost use Rattle.std.specs.List.{All};
+ghost use Rattle.std.specs.Option.{option_copied, option_map};
 ghost use Rattle.device.specs.Writes.{HasFailed};
+ghost use Rattle.frozen.specs.Kept.{KeepsMetadata};
 ghost use Rattle.layout.specs.declared.refusal.Refusal.TheVariants.{BadIndex, Device as DeviceRefusal};
 ghost use Rattle.machine.specs.Command.{Check, Done, Install};
 ghost use Rattle.machine.specs.Snapshot.{frozen, released, settled};
 ghost use Rattle.metadata.specs.Shown.{Shows};
 ghost use Rattle.model.specs.Image.{block_at};
 ghost use Rattle.model.specs.Layout.{block_count, is_data_address};
+ghost use Rattle.ordering.specs.Cuts.{users_view};
 ghost use Rattle.plans_data.specs.Release.{releasing};
 ghost use Rattle.softdep.specs.Queued.{pending_of};
 ghost use Rattle.live_states.specs.Drafts.{over};
-ghost use Rattle.live_states.specs.Holdings.{Beside, IsImageOf};
+ghost use Rattle.live_states.specs.Holdings.{Beside, IsImageOf, Repairs};
 ghost use Rattle.live_states.specs.Planned.{IsQuietlyDone};
 ghost use Rattle.live_states.specs.Snapshots.{AreRepairsOf, IsSettled, held_blocks, installing, keeping, let_go};
-ghost use Rattle.live.specs.Alive.{Answers, state_of};
+ghost use Rattle.live.specs.Alive.{Answers, IsSnapshotOf, disk_of, state_of};
 
 use crate::Live;
+use crate::bytes::bytes_of;
 use crate::live::issue;
 use device::Device;
 use findings::Repair;
@@ -37,9 +41,39 @@ impl<D: Device> Live<D> {
         ensures settled { IfOk result (IsSettled self.now.kept self.now.holdings) }
         ensures shown { IfOk result (λ view. D.honest self.now.device → (beside : Beside) → IsImageOf self.now.holdings.snapshot beside.frozen
             → Shows view (settled self.now.kept.geometry (state_of (D.image self.now.device) self.now beside))) }
+        ensures metadata { IfOk result KeepsMetadata }
         ensures geometry { IfOk result (λ view. view.geometry ≡ self.now.kept.geometry) }
     {
         live_snapshots::settled(alloc, &self.metadata, &self.holdings)
+    }
+
+    /// The metadata of the snapshot that is kept, where one is.
+    pub fn snapshot(&self) -> Option<&Arc<Frozen>>
+        ensures snapshot { option_map arc_value (option_copied result) ≡ self.now.holdings.snapshot }
+        ensures whole { IsSnapshotOf self.now.kept.geometry self.now.holdings.snapshot }
+    {
+        self.holdings.snapshot()
+    }
+
+    /// How many repairs the check has that is installed; `None` where none is.
+    pub fn repair_count(&self) -> Option<usize>
+        ensures { result ≡ option_map (λ (repairs : Repairs). length repairs.list) self.now.holdings.repairs }
+    {
+        self.holdings.repair_count()
+    }
+
+    /// The bytes of a data block as users see them, whether they are on the device or pending.
+    pub fn data_block(&mut self, address: u32) -> Result<Block, Refusal>
+        requires { IsTrue (is_data_address self.old.kept.geometry address) }
+        ensures bytes { IfOk result (λ bytes. D.honest self.new.device → (users_view (disk_of (D.image self.old.device) self.old) (pending_of self.old.queue)).bytes address ≡ bytes) }
+        ensures error { IsOkUnless result Refusal.Device }
+        ensures cause { IsErrOf result Refusal.Device → HasFailed (D.failures self.old.device) (D.failures self.new.device) }
+        ensures image { D.image self.new.device ≡ D.image self.old.device }
+        ensures held { D.held self.new.device ≡ D.held self.old.device }
+        ensures honest { D.honest self.new.device → D.honest self.old.device }
+        ensures untouched { (self.new.queue ≡ self.old.queue) × (self.new.kept ≡ self.old.kept) × (self.new.holdings ≡ self.old.holdings) }
+    {
+        bytes_of(&mut self.device, &self.queue, address)
     }
 
     /// Keeps a snapshot of what a check is to see: from now on no block of it is changed or given out. Nothing may be
@@ -48,6 +82,7 @@ impl<D: Device> Live<D> {
         requires pending { pending_of self.old.queue ≡ [] }
         requires none { self.old.holdings.snapshot ≡ None }
         requires settled { IsSettled self.old.kept self.old.holdings (arc_value snapshot) }
+        requires whole { ((arc_value snapshot).geometry ≡ self.old.kept.geometry) × KeepsMetadata (arc_value snapshot) }
         ensures kept { self.new ≡ record self.old { holdings = keeping self.old.holdings (arc_value snapshot) } }
         ensures frozen { (beside : Beside) → let old = state_of (D.image self.old.device) self.old beside in
             state_of (D.image self.new.device) self.new (record { frozen = Some (settled self.old.kept.geometry old) }) ≡ frozen self.old.kept.geometry old }
@@ -77,6 +112,7 @@ impl<D: Device> Live<D> {
             → state_of (D.image self.new.device) self.new (record { frozen = None }) ≡ released (state_of (D.image self.old.device) self.old beside)) }
         ensures pending { OnOk result (pending_of self.new.queue ≡ releasing (held_blocks self.old.holdings) []) }
         ensures holdings { OnOk result (self.new.holdings ≡ let_go self.old.holdings) }
+        ensures geometry { OnOk result (self.new.kept.geometry ≡ self.old.kept.geometry) }
         ensures device { self.new.device ≡ self.old.device }
         ensures untouched { OnErr result (self.new ≡ self.old) }
         ensures error { IsOkUnless result Refusal.NoMemory }

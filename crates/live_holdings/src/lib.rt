@@ -5,13 +5,14 @@
 ghost use Rattle.std.specs.Prelude.{◌≡◌, ◌<◌, None, Some, IfErr, IfOk, IsTrue, MatchOption, OnErr, OnOk, false, is_some, length, replicate, slice_index_or, slice_set, true};
 ghost use Rattle.std.specs.Arc.{arc_value};
 ghost use Rattle.std.specs.List.{All};
+ghost use Rattle.std.specs.Option.{option_copied, option_map};
 ghost use Rattle.findings.specs.Numbers.{found_below};
 ghost use Rattle.model.specs.Layout.{Geometry as Numbers, block_count};
 ghost use Rattle.frozen.specs.Kept.{frozen_view};
 ghost use Rattle.machine.specs.Causes.{refusal_of};
 ghost use Rattle.machine.specs.Command.{RepairAt};
 ghost use Rattle.machine.specs.State.{State};
-ghost use Rattle.live_states.specs.Holdings.{Has, IsIdle, is_kept_by, is_open_by, with_done, with_held};
+ghost use Rattle.live_states.specs.Holdings.{Has, IsIdle, Repairs as Listed, is_kept_by, is_open_by, with_done, with_held};
 ghost use Rattle.live_states.specs.Snapshots.{IsToDo, held_blocks, installing, keeping, let_go as without_snapshot};
 ghost use Rattle.live_holdings.specs.Handles.{IsFreeHandle, IsOpened, NoFreeHandle, closed, handle_at, without};
 ghost use Rattle.live_holdings.specs.Left.{IsLeft, why_not_left};
@@ -189,6 +190,20 @@ impl Holdings {
         ensures { result ≡ is_some self.now.snapshot }
     {
         self.snapshot.is_some()
+    }
+
+    /// The metadata of the snapshot, where one stands.
+    pub fn snapshot(&self) -> Option<&Arc<Frozen>>
+        ensures { option_map arc_value (option_copied result) ≡ self.now.snapshot }
+    {
+        self.snapshot.as_ref()
+    }
+
+    /// How many repairs the check has that was installed; `None` where none was.
+    pub fn repair_count(&self) -> Option<usize>
+        ensures { result ≡ option_map (λ (repairs : Listed). length repairs.list) self.now.repairs }
+    {
+        self.repairs.as_ref().map(|repairs| repairs.list.len())
     }
 
     /// Keeps the metadata of a snapshot. The repairs of an older check are dropped.

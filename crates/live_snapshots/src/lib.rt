@@ -6,6 +6,7 @@
 #![tactic(auto)]
 
 ghost use Rattle.std.specs.Prelude.{◌≡◌, IfOk};
+ghost use Rattle.frozen.specs.Kept.{KeepsMetadata};
 ghost use Rattle.live_states.specs.Planned.{IsOfVolumeWith};
 ghost use Rattle.live_states.specs.Snapshots.{IsSettled};
 
@@ -28,6 +29,7 @@ pub fn settled(
 ) -> Result<Frozen, AllocError>
     requires volume { IsOfVolumeWith metadata.now holdings.now }
     ensures settled { IfOk result (IsSettled metadata.now holdings.now) }
+    ensures metadata { IfOk result KeepsMetadata }
     ensures geometry { IfOk result (λ snapshot. snapshot.geometry ≡ metadata.now.geometry) }
 {
     without_orphans(alloc, metadata, holdings)

@@ -1,5 +1,5 @@
 ghost use Rattle.std.specs.Prelude.{◌≡◌, ◌==◌, IfOk, IsTrue, OnOk};
-ghost use Rattle.frozen.specs.Kept.{frozen_view};
+ghost use Rattle.frozen.specs.Kept.{KeepsMetadata, frozen_view};
 ghost use Rattle.machine.specs.Cells.{claims};
 ghost use Rattle.model.specs.Layout.{inode_count, is_number};
 ghost use Rattle.model.specs.View.{free_inode};
@@ -21,6 +21,7 @@ pub(crate) fn without_orphans(
     holdings: &Holdings,
 ) -> Result<Frozen, AllocError>
     ensures shows { IfOk result (LacksOrphans metadata.now holdings.now) }
+    ensures metadata { IfOk result KeepsMetadata }
     ensures geometry { IfOk result (λ left. left.geometry ≡ metadata.now.geometry) }
 {
     let updates = free_orphans(alloc, metadata.frozen(), holdings)?;

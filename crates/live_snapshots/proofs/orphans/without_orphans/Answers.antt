@@ -46,3 +46,10 @@ returns-clause-geometry c =
     let kept = c.args.metadata.now in
     IfOk-weaker c.copy_with.result (λ (copy : Kept). copy ≡ after kept c.in_ok-staged.staged) (λ (copy : Kept). copy.geometry ≡ kept.geometry)
     (λ copy e. ap (λ (k : Kept). k.geometry) e ∙ same_after kept c.in_ok-staged.staged) c.copy_with.ensures
+
+pub returns-clause-metadata : goal.returns-clause-metadata
+returns-clause-metadata c =
+    let left = after c.args.metadata.now c.in_ok-staged.staged in
+    let keeps = left_is_metadata c.args.metadata.now c.frozen.result.now c.args.holdings.now c.in_ok-updates.updates.items c.as_slice.result.now c.in_ok-staged.staged
+    c.frozen.ensures.same c.as_slice.ensures.value c.frozen.ensures.metadata c.in_ok-updates.ensures c.in_ok-staged.ensures in
+    IfOk-weaker c.copy_with.result (λ (copy : Kept). copy ≡ left) KeepsMetadata (λ copy e. subst KeepsMetadata (sym e) keeps) c.copy_with.ensures

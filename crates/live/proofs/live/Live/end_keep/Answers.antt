@@ -3,6 +3,7 @@ use Rattle.model.specs.Image.{image_view}
 use Rattle.model.specs.Layout.{is_data_address}
 use Rattle.machine.specs.Snapshot.{released}
 use Rattle.frozen.specs.Kept.{Kept}
+use Rattle.metadata.proofs.Steps.{same_geometry}
 use Rattle.plans_data.specs.Release.{releasing}
 use Rattle.softdep.specs.Queued.{pending_of}
 use Rattle.live_states.specs.Drafts.{over}
@@ -71,3 +72,8 @@ returns-clause-pending g c =
 
 pub returns-clause-holdings : goal.returns-clause-holdings
 returns-clause-holdings g c = c.let_go.ensures ∙ ap (λ (l : Alive _). let_go l.holdings) c.self.view_is
+
+pub returns-clause-geometry : goal.returns-clause-geometry
+returns-clause-geometry g c =
+    let is = c.in_ok-issue.ensures.issued in
+    ap (λ (k : Kept). k.geometry) is.metadata ∙ same_geometry c.self.inside.metadata is.staged.blocks.items ∙ ap (λ (l : Alive _). l.kept.geometry) c.self.view_is

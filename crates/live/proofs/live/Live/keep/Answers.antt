@@ -1,5 +1,6 @@
 use Rattle.std.proofs.Common.{◌≡◌, [], None, sym, subst}
 use Rattle.std.specs.Arc.{arc_value}
+use Rattle.frozen.specs.Kept.{KeepsMetadata}
 use Rattle.softdep.specs.Queued.{pending_of}
 use Rattle.live_states.specs.Snapshots.{IsSettled}
 use Rattle.live.specs.Alive.{Alive, IsLive}
@@ -15,4 +16,5 @@ invariant_of-self g c =
     (subst (λ (l : Alive _). pending_of l.queue ≡ []) (sym c.self.view_is) c.requires.pending)
     (subst (λ (l : Alive _). l.holdings.snapshot ≡ None) (sym c.self.view_is) c.requires.none)
     (arc_value c.args.snapshot)
-    (subst (λ (l : Alive _). IsSettled l.kept l.holdings (arc_value c.args.snapshot)) (sym c.self.view_is) c.requires.settled))
+    (subst (λ (l : Alive _). IsSettled l.kept l.holdings (arc_value c.args.snapshot)) (sym c.self.view_is) c.requires.settled)
+    (subst (λ (l : Alive _). ((arc_value c.args.snapshot).geometry ≡ l.kept.geometry) × KeepsMetadata (arc_value c.args.snapshot)) (sym c.self.view_is) c.requires.whole))
