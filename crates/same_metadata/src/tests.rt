@@ -1,0 +1,130 @@
+use crate::have_same_metadata;
+use device::{Before, Device, MemDevice, format};
+use frozen::load;
+use layout::{BLOCK_BYTES, Geometry, Refusal};
+use std::alloc::Global;
+use std::test::Fail;
+
+/// Bytes of an image of one group of 16 blocks and 16 inodes: an address, a byte and its value. Inode 3 is a file of 13
+/// blocks, of which the first is block 6, with the indirect block 5. Inode 4 is a directory of 13 blocks, of which the
+/// first is block 7 and the last block 9, with the indirect block 8.
+const FILES: [(u32, usize, u8); 9] = [
+    (2, 384, 1),
+    (2, 389, 52),
+    (2, 392, 6),
+    (2, 440, 5),
+    (2, 512, 2),
+    (2, 517, 52),
+    (2, 520, 7),
+    (2, 568, 8),
+    (8, 0, 9),
+];
+
+/// Changes of one byte of that image: an address, a byte, its value, and whether a check looks at the same as before.
+const CHANGES: [(u32, usize, u8, bool); 23] = [
+    // The superblock and the block of maps hold more bytes than are looked at.
+    (0, 20, 1, true),
+    (1, 8, 1, true),
+    // The bits of numbers 0 and 1, of number 3, and past the last number.
+    (1, 32, 7, true),
+    (1, 32, 12, false),
+    (1, 33, 128, false),
+    (1, 34, 1, true),
+    // The bits of blocks 5 and 16, and past the last block.
+    (1, 160, 3, false),
+    (1, 161, 16, false),
+    (1, 161, 32, true),
+    // The records of inodes 0 and 1, those of inodes 2 and 15, and the bytes of a record behind its pointers.
+    (2, 2, 1, true),
+    (2, 130, 1, true),
+    (2, 258, 3, false),
+    (2, 315, 1, false),
+    (2, 316, 1, true),
+    (3, 898, 1, false),
+    // The blocks of directories, indirect blocks, a file's block, and a block that no inode claims.
+    (4, 1023, 1, false),
+    (5, 1023, 1, false),
+    (6, 0, 1, true),
+    (7, 1023, 1, false),
+    (8, 0, 10, false),
+    (8, 1023, 1, false),
+    (9, 0, 1, false),
+    (10, 0, 1, true),
+];
+
+/// Changes one byte of a block.
+fn set_byte(device: &mut MemDevice, address: u32, byte: usize, value: u8) -> Result<(), Refusal> {
+    if address >= device.blocks() || byte >= BLOCK_BYTES {
+        return Err(Refusal::BadIndex);
+    }
+    let mut block = [0; BLOCK_BYTES];
+    device.read(address, &mut block)?;
+    block[byte] = value;
+    device.write(address, &block)?;
+    Ok(())
+}
+
+/// A device in memory with a fresh image.
+fn fresh(alloc: Global, geometry: &Geometry) -> Result<MemDevice, Refusal> {
+    let bytes = vec![in alloc; 0u8; geometry.blocks() as usize * BLOCK_BYTES]?;
+    let mut device = MemDevice::from_bytes(alloc, bytes.as_slice())?;
+    if device.blocks() != geometry.blocks() {
+        return Err(Refusal::BadLength);
+    }
+    format(&mut device, geometry, Before::Anything)?;
+    Ok(device)
+}
+
+/// A device in memory with the image that has `FILES`.
+fn with_files(alloc: Global) -> Result<MemDevice, Refusal> {
+    let mut device = fresh(alloc, &Geometry::new(1, 16, 16)?)?;
+    for (address, byte, value) in FILES {
+        set_byte(&mut device, address, byte, value)?;
+    }
+    Ok(device)
+}
+
+#[test]
+fn an_image_that_is_loaded_twice_is_the_same(rt: HostRuntime) -> Result<(), Fail> {
+    let alloc = rt.alloc();
+    let mut device = with_files(alloc)?;
+    let once = load(alloc, &mut device)?;
+    let twice = load(alloc, &mut device)?;
+    assert!(rt; have_same_metadata(&once, &once));
+    assert!(rt; have_same_metadata(&once, &twice));
+    Ok(())
+}
+
+#[test]
+fn a_change_of_what_a_check_looks_at_is_told(rt: HostRuntime) -> Result<(), Fail> {
+    let alloc = rt.alloc();
+    let before = load(alloc, &mut with_files(alloc)?)?;
+    for (address, byte, value, is_same) in CHANGES {
+        let mut device = with_files(alloc)?;
+        set_byte(&mut device, address, byte, value)?;
+        let after = load(alloc, &mut device)?;
+        let told = [
+            have_same_metadata(&before, &after),
+            have_same_metadata(&after, &before),
+        ];
+        assert_eq!(rt; told, [is_same; 2], "byte {byte} of block {address}");
+    }
+    Ok(())
+}
+
+#[test]
+fn images_of_two_geometries_are_not_the_same(rt: HostRuntime) -> Result<(), Fail> {
+    let alloc = rt.alloc();
+    let one = load(alloc, &mut fresh(alloc, &Geometry::new(1, 16, 16)?)?)?;
+    for (groups, blocks, inodes, is_same) in [
+        (1, 16, 16, true),
+        (2, 16, 16, false),
+        (1, 17, 16, false),
+        (1, 16, 8, false),
+    ] {
+        let geometry = Geometry::new(groups, blocks, inodes)?;
+        let other = load(alloc, &mut fresh(alloc, &geometry)?)?;
+        assert_eq!(rt; have_same_metadata(&one, &other), is_same);
+    }
+    Ok(())
+}

@@ -1,0 +1,216 @@
+-- What a volume goes through by a call.
+use Rattle.std.proofs.Common.{◌≡◌, ℕ, Bool, true, false, List, [], ◌∷◌, ◌++◌, reverse, Ok, Err, IsTrue, refl, sym, ap, ◌∙◌, subst}
+use Rattle.std.proofs.lemmas.List.{append_assoc, append-nil, reverse-append}
+use Rattle.layout.specs.declared.refusal.Refusal.{Refusal}
+use Rattle.model.specs.Image.{image_view}
+use Rattle.model.specs.Layout.{Geometry}
+use Rattle.model.specs.View.{View}
+use Rattle.ordering.specs.Cuts.{Cell, Pending, rest, seen, users_view}
+use Rattle.ordering.proofs.Flushes.{users_flushed}
+use Rattle.queue_model.specs.Blocks.{home_of}
+use Rattle.queue_model.specs.Flush.{ready}
+use Rattle.queue_model.specs.Sync.{Flushes, Stops, Goes as GoesOn}
+use Rattle.queue_model.proofs.FlushLemmas.{ready_closed}
+use Rattle.machine.specs.Balance.{Balance}
+use Rattle.machine.specs.Command.{Answer, Command, Reply}
+use Rattle.machine.specs.State.{State}
+use Rattle.machine.specs.Step.{Step}
+use Rattle.machine.proofs.AllSteps.{step_keeps}
+use Rattle.plans_data.specs.Carried.{Stands}
+use Rattle.courses.specs.Serves.{Service, Starts, CarriesOut, Quietly, Refuses, Flushed, flush_images, is_quiet}
+use Rattle.frozen.specs.Kept.{Kept}
+use Rattle.frozen_files.specs.Standing.{KeepsFiles}
+use Rattle.frozen_files.proofs.Laws.{step_keeps_files}
+use Rattle.softdep.specs.Queued.{Queued, pending_of}
+use Rattle.softdep.specs.Syncing.{AreFlushes, images_of}
+use Rattle.live_states.specs.Holdings.{Beside, Holdings, IsImageOf}
+use Rattle.live_states.specs.Planned.{safe_after}
+use Rattle.live_states.specs.Volume.{state_over}
+use Rattle.live.specs.Alive.{Alive, Answers, MayRefuse, StandsSo, disk_of, state_of}
+use Rattle.live.specs.Held.{HeldMore}
+use Rattle.snapshot.specs.Goes.{Goes, IsBeside}
+
+-- ---- what stands beside a volume
+
+module _ {D : Type 0} (image' : List (List ℕ)) (new : Alive D) (so : StandsSo image' new) (beside' : Beside) where
+  stands_then : Balance new.kept.geometry (state_of image' new beside') → Stands new.kept.geometry (disk_of image' new) (pending_of new.queue) (state_of image' new beside') (λ f. false)
+  stands_then balance = record {
+    geometry = so.stands.geometry;
+    same = refl;
+    balance = balance;
+    agree = so.stands.agree;
+    files = λ f t. let bad : false ≡ true = t in cc;
+  }
+
+  -- after a step
+  pub beside_then : (image : List (List ℕ)) (old : Alive D) (beside : Beside) (command : Command) (reply : Reply) → new.kept.geometry ≡ old.kept.geometry → IsBeside image old beside → IsImageOf new.holdings.snapshot beside'.frozen
+      → Step old.kept.geometry (state_of image old beside) command reply (state_of image' new beside') → IsBeside image' new beside'
+  beside_then image old beside command reply geometry is belongs step =
+      let s = state_of image old beside in
+      let t = state_of image' new beside' in
+      record {
+        belongs = belongs;
+        stands = stands_then (subst (λ g. Balance g t) (sym geometry) (step_keeps old.kept.geometry is.stands.geometry s t command reply is.stands.balance step));
+        files = subst (λ g. KeepsFiles g t) (sym geometry) (step_keeps_files old.kept.geometry is.stands.geometry s t command reply is.stands.balance is.files step);
+      }
+
+  -- where users see what they saw
+  pub beside_still : (image : List (List ℕ)) (old : Alive D) → new.kept.geometry ≡ old.kept.geometry → IsBeside image old beside' → IsImageOf new.holdings.snapshot beside'.frozen
+      → state_of image' new beside' ≡ state_of image old beside' → IsBeside image' new beside'
+  beside_still image old geometry is belongs same = record {
+    belongs = belongs;
+    stands = stands_then (subst (λ g. Balance g (state_of image' new beside')) (sym geometry) (subst (Balance old.kept.geometry) (sym same) is.stands.balance));
+    files = subst (λ g. KeepsFiles g (state_of image' new beside')) (sym geometry) (subst (KeepsFiles old.kept.geometry) (sym same) is.files);
+  }
+
+-- the device held nothing else
+pub held_nothing : (geo : Geometry) (held held' : List (List (List ℕ))) → held' ≡ held → HeldMore geo held held' []
+held_nothing geo held held' e = record { more = []; held_now = e ∙ sym (append-nil held); views = refl }
+
+-- ---- a command that is carried out
+
+module _ {D : Type 0} (held held' : List (List (List ℕ))) (image image' : List (List ℕ)) (old new : Alive D) (beside : Beside) where
+  pub answered : (command : Command) (answer : Answer) (later : List View) → HeldMore old.kept.geometry held held' later → Answers image old command answer image' new later → StandsSo image' new → IsBeside image old beside
+      → Goes beside held image old (command ∷ []) (Ok answer ∷ []) beside held' image' new
+  answered command answer later since answers so is =
+      let a = answers beside is.belongs in
+      let step = a.step is.stands in
+      let geo = old.kept.geometry in
+      let disk = disk_of image old in
+      let q = pending_of old.queue in
+      let s = state_of image old beside in
+      let t = state_of image' new beside in
+      record {
+        geometry = a.geometry;
+        is = beside_then image' new so beside image old beside command (Ok answer) a.geometry is (subst (λ x. IsImageOf x beside.frozen) (sym a.snapshot) is.belongs) step;
+        run = (t, step, refl);
+        later = later;
+        since = since;
+        service = λ mount h cut safe begin.
+            let safe' = safe_after geo (users_view disk q) command safe in (
+              safe',
+              subst (λ images. Service geo disk q s safe (disk_of image' new) (pending_of new.queue) t safe' (command ∷ []) (Ok answer ∷ []) images) (append-nil later)
+                  (CarriesOut command answer (disk_of image' new) (pending_of new.queue) t safe' later Starts step.0 (a.serves safe begin.stands)),
+            );
+      }
+
+-- ---- a command that is refused
+
+module _ {D : Type 0} (held held' : List (List (List ℕ))) (image : List (List ℕ)) (old : Alive D) (beside : Beside) (is : IsBeside image old beside) (same_held : held' ≡ held) where
+  refused_here : (device : D) (command : Command) (r : Refusal) → Step old.kept.geometry (state_of image old beside) command (Err r) (state_of image old beside)
+      → Goes beside held image old (command ∷ []) (Err r ∷ []) beside held' image (record { device = device; queue = old.queue; kept = old.kept; holdings = old.holdings })
+  refused_here device command r step = record {
+    geometry = refl;
+    is = record { belongs = is.belongs; stands = is.stands; files = is.files };
+    run = (state_of image old beside, step, refl);
+    later = [];
+    since = held_nothing old.kept.geometry held held' same_held;
+    service = λ mount h cut safe begin. (safe, Refuses command r Starts step);
+  }
+
+  pub refused : (image' : List (List ℕ)) (new : Alive D) (command : Command) (r : Refusal) → image' ≡ image → new.queue ≡ old.queue → new.kept ≡ old.kept → new.holdings ≡ old.holdings
+      → Step old.kept.geometry (state_of image old beside) command (Err r) (state_of image old beside)
+      → Goes beside held image old (command ∷ []) (Err r ∷ []) beside held' image' new
+  refused image' new command r same_image queue kept holdings step =
+      subst (λ i. Goes beside held image old (command ∷ []) (Err r ∷ []) beside held' i new) (sym same_image)
+      (subst (λ (q : Queued). Goes beside held image old (command ∷ []) (Err r ∷ []) beside held' image (record { device = new.device; queue = q; kept = new.kept; holdings = new.holdings })) (sym queue)
+      (subst (λ (k : Kept). Goes beside held image old (command ∷ []) (Err r ∷ []) beside held' image (record { device = new.device; queue = old.queue; kept = k; holdings = new.holdings })) (sym kept)
+      (subst (λ (h : Holdings). Goes beside held image old (command ∷ []) (Err r ∷ []) beside held' image (record { device = new.device; queue = old.queue; kept = old.kept; holdings = h })) (sym holdings)
+      (refused_here new.device command r step))))
+
+  pub may_refuse : (image' : List (List ℕ)) (new : Alive D) (command : Command) (r : Refusal) → image' ≡ image → new.queue ≡ old.queue → new.kept ≡ old.kept → new.holdings ≡ old.holdings
+      → MayRefuse image old command r → Goes beside held image old (command ∷ []) (Err r ∷ []) beside held' image' new
+  may_refuse image' new command r same_image queue kept holdings refuses = refused image' new command r same_image queue kept holdings (refuses beside is.belongs)
+
+-- ---- a command that changes nothing
+
+module _ {D : Type 0} (held held' : List (List (List ℕ))) (image : List (List ℕ)) (old : Alive D) (beside : Beside) (is : IsBeside image old beside) (same_held : held' ≡ held) where
+  quiet_here : (device : D) (command : Command) (answer : Answer) → IsTrue (is_quiet command) → Step old.kept.geometry (state_of image old beside) command (Ok answer) (state_of image old beside)
+      → Goes beside held image old (command ∷ []) (Ok answer ∷ []) beside held' image (record { device = device; queue = old.queue; kept = old.kept; holdings = old.holdings })
+  quiet_here device command answer quiet step =
+      let geo = old.kept.geometry in
+      let disk = disk_of image old in
+      let q = pending_of old.queue in
+      let s = state_of image old beside in
+      record {
+        geometry = refl;
+        is = record { belongs = is.belongs; stands = is.stands; files = is.files };
+        run = (s, step, refl);
+        later = [];
+        since = held_nothing geo held held' same_held;
+        service = λ mount h cut safe begin. (safe, CarriesOut command answer disk q s safe [] Starts step.0 (Quietly command answer s quiet step.1));
+      }
+
+  pub quietly : (image' : List (List ℕ)) (new : Alive D) (command : Command) (answer : Answer) → image' ≡ image → new.queue ≡ old.queue → new.kept ≡ old.kept → new.holdings ≡ old.holdings
+      → IsTrue (is_quiet command) → Step old.kept.geometry (state_of image old beside) command (Ok answer) (state_of image old beside)
+      → Goes beside held image old (command ∷ []) (Ok answer ∷ []) beside held' image' new
+  quietly image' new command answer same_image queue kept holdings quiet step =
+      subst (λ i. Goes beside held image old (command ∷ []) (Ok answer ∷ []) beside held' i new) (sym same_image)
+      (subst (λ (q : Queued). Goes beside held image old (command ∷ []) (Ok answer ∷ []) beside held' image (record { device = new.device; queue = q; kept = new.kept; holdings = new.holdings })) (sym queue)
+      (subst (λ (k : Kept). Goes beside held image old (command ∷ []) (Ok answer ∷ []) beside held' image (record { device = new.device; queue = old.queue; kept = k; holdings = new.holdings })) (sym kept)
+      (subst (λ (h : Holdings). Goes beside held image old (command ∷ []) (Ok answer ∷ []) beside held' image (record { device = new.device; queue = old.queue; kept = old.kept; holdings = h })) (sym holdings)
+      (quiet_here new.device command answer quiet step))))
+
+-- ---- flushes
+
+flushed_users : (home : Cell → ℕ) (disk : View) (q : List Pending) (blocks : List ℕ) (disk' : View) (q' : List Pending) → Flushes home disk q blocks disk' q' → users_view disk' q' ≡ users_view disk q
+flushed_users home disk q blocks disk' q' Stops = refl
+flushed_users home disk q blocks disk' q' (GoesOn {blocks = more} a least goes) =
+    flushed_users home (seen disk q (ready home a q)) (rest q (ready home a q)) more disk' q' goes ∙ users_flushed disk q (ready home a q) (ready_closed home a q)
+
+-- newest first they are those of the flushes
+pub same_images : (home : Cell → ℕ) (disk : View) (q : List Pending) (blocks : List ℕ) (images : List View) → flush_images home disk q blocks images ≡ reverse (images_of home disk q blocks) ++ images
+same_images home disk q [] images = refl
+same_images home disk q (a ∷ blocks) images =
+    let image = seen disk q (ready home a q) in
+    let left = rest q (ready home a q) in
+    same_images home image left blocks (image ∷ images)
+    ∙ sym (append_assoc (reverse (images_of home image left blocks)) (image ∷ []) images)
+    ∙ ap (λ xs. xs ++ images) (sym (reverse-append (image ∷ []) (images_of home image left blocks)))
+
+module _ (geo : Geometry) (disk0 : View) (q0 : List Pending) (s : State) (safe : ℕ → Bool) where
+  flushed_service : (disk : View) (q : List Pending) (blocks : List ℕ) (images : List View) (disk' : View) (q' : List Pending) → Flushes (home_of geo) disk q blocks disk' q'
+      → Service geo disk0 q0 s safe disk q s safe [] [] images → Service geo disk0 q0 s safe disk' q' s safe [] [] (flush_images (home_of geo) disk q blocks images)
+  flushed_service disk q blocks images disk' q' Stops service = service
+  flushed_service disk q blocks images disk' q' (GoesOn {blocks = more} a least goes) service =
+      flushed_service (seen disk q (ready (home_of geo) a q)) (rest q (ready (home_of geo) a q)) more (seen disk q (ready (home_of geo) a q) ∷ images) disk' q' goes (Flushed a service)
+
+module _ {D : Type 0} (held held' : List (List (List ℕ))) (image image' : List (List ℕ)) (old : Alive D) (beside : Beside) (is : IsBeside image old beside) (queue : Queued)
+    (flushes : AreFlushes old.kept.geometry image held (pending_of old.queue) image' held' (pending_of queue)) where
+  abbrev geo : Geometry
+  geo = old.kept.geometry
+
+  abbrev disk : View
+  disk = disk_of image old
+
+  -- what the device held since, newest first
+  abbrev pub images : List View
+  images = reverse (images_of (home_of geo) disk (pending_of old.queue) flushes.blocks)
+
+  pub flushed_since : HeldMore geo held held' images
+  flushed_since = record { more = flushes.more; held_now = flushes.held_now; views = ap reverse flushes.images }
+
+  pub flushed_state : (holdings : Holdings) → state_over (image_view geo image') (pending_of queue) holdings beside ≡ state_over disk (pending_of old.queue) holdings beside
+  flushed_state holdings =
+      ap (λ (view : View). record (state_over disk (pending_of old.queue) holdings beside) { view = view }) (flushed_users (home_of geo) disk (pending_of old.queue) flushes.blocks (image_view geo image') (pending_of queue) flushes.flushes)
+
+  pub flushed : (device : D) → StandsSo image' (record { device = device; queue = queue; kept = old.kept; holdings = old.holdings })
+      → Goes beside held image old [] [] beside held' image' (record { device = device; queue = queue; kept = old.kept; holdings = old.holdings })
+  flushed device so =
+      let new : Alive D = record { device = device; queue = queue; kept = old.kept; holdings = old.holdings } in
+      let s = state_of image old beside in
+      let q = pending_of old.queue in
+      record {
+        geometry = refl;
+        is = beside_still image' new so beside image old refl is is.belongs (flushed_state old.holdings);
+        run = flushed_state old.holdings;
+        later = images;
+        since = flushed_since;
+        service = λ mount h cut safe begin. (
+          safe,
+          subst (λ t. Service geo disk q s safe (image_view geo image') (pending_of queue) t safe [] [] images) (sym (flushed_state old.holdings))
+              (subst (λ xs. Service geo disk q s safe (image_view geo image') (pending_of queue) s safe [] [] xs)
+              (same_images (home_of geo) disk q flushes.blocks [] ∙ append-nil images)
+              (flushed_service geo disk q s safe disk q flushes.blocks [] (image_view geo image') (pending_of queue) flushes.flushes Starts)),
+        );
+      }

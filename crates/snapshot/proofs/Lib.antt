@@ -1,0 +1,12 @@
+mod Alike
+mod AppliesLemmas
+mod CallLemmas
+mod Going
+mod Installs
+mod Joining
+mod PieceLemmas
+mod ReadLemmas
+mod Splitting
+mod Standing
+mod UserReplies
+mod Written

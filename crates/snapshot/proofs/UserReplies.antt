@@ -1,0 +1,171 @@
+-- A command of users is answered, or refused.
+use Rattle.std.proofs.Common.{◌≡◌, ℕ, Bool, List, [], Ok, Err, Result, IfErr, IfOk, IsTrue, MatchResult, OnErr, OnOk, refl, sym, ap, ◌∙◌, subst}
+use Rattle.std.proofs.lemmas.List.{append-nil}
+use Rattle.layout.specs.declared.refusal.Refusal.{Refusal}
+use Rattle.model.specs.View.{View}
+use Rattle.ordering.specs.Cuts.{users_view}
+use Rattle.machine.specs.Command.{Answer as Answered, Command as Request, Done as IsDone}
+use Rattle.machine.specs.Step.{Step}
+use Rattle.queue_model.specs.Sync.{Stops}
+use Rattle.courses.specs.Serves.{Quietly, Serves, is_quiet}
+use Rattle.softdep.specs.Queued.{Queued, pending_of}
+use Rattle.softdep.specs.Syncing.{AreFlushes}
+use Rattle.live_states.specs.Holdings.{Beside}
+use Rattle.live_states.specs.Planned.{safe_after}
+use Rattle.live.specs.Alive.{Alive, Answers, MayRefuse, disk_of, state_of}
+use Rattle.live.specs.Held.{HeldMore}
+use Rattle.snapshot.specs.declared.answer.Answer.{Answer}
+use Rattle.snapshot.specs.declared.answer.Answer.TheVariants.{Done}
+use Rattle.snapshot.specs.Asked.{StandsFor}
+use Rattle.snapshot.specs.Replied.{Replied}
+use Rattle.snapshot.proofs.Going.{held_nothing}
+
+-- nothing is flushed
+pub no_flushes : {D : Type 0} (held held' : List (List (List ℕ))) (image image' : List (List ℕ)) (old new : Alive D) → image' ≡ image → held' ≡ held → new.queue ≡ old.queue
+    → AreFlushes old.kept.geometry image held (pending_of old.queue) image' held' (pending_of new.queue)
+no_flushes held held' image image' old new same_image same_held queue =
+    subst (λ i. AreFlushes old.kept.geometry image held (pending_of old.queue) i held' (pending_of new.queue)) (sym same_image)
+    (subst (λ (q : Queued). AreFlushes old.kept.geometry image held (pending_of old.queue) image held' (pending_of q)) (sym queue)
+    (record { blocks = []; flushes = Stops; more = []; held_now = same_held ∙ sym (append-nil held); images = refl }))
+
+module _ {D : Type 0} (held held' : List (List (List ℕ))) (image image' : List (List ℕ)) (old new : Alive D) (command : Request) {T : Type 0} (as_given : T → Answer) (as_answer : T → Answered)
+    (stands_for : (t : T) → StandsFor (as_given t) (as_answer t)) where
+  -- by what the call of the volume promises
+  pub replied : (outcome : Result T Refusal) (reply : Result Answer Refusal) → MatchResult outcome (λ t. reply ≡ Ok (as_given t)) (λ r. reply ≡ Err r)
+      → IfOk outcome (λ t. (later : List View) × HeldMore old.kept.geometry held held' later × Answers image old command (as_answer t) image' new later)
+      → IfErr outcome (λ r. MayRefuse image old command r)
+      → OnErr outcome (AreFlushes old.kept.geometry image held (pending_of old.queue) image' held' (pending_of new.queue) × (new.kept ≡ old.kept) × (new.holdings ≡ old.holdings))
+      → Replied held image old command reply held' image' new
+  replied (Ok t) reply told done refused left =
+      subst (λ x. Replied held image old command x held' image' new) (sym told) (record { answer = as_answer t; stands_for = stands_for t; later = done.0; since = done.1; answers = done.2 })
+  replied (Err r) reply told done refused left =
+      subst (λ x. Replied held image old command x held' image' new) (sym told) (record { refuses = refused; flushes = left.0; kept = left.1; holdings = left.2 })
+
+-- ---- by each kind of call
+
+module _ {D : Type 0} (honest : D → Type 0) (held_of : D → List (List (List ℕ))) (image_of : D → List (List ℕ)) (old new : Alive D) (command request : Request) (asks : command ≡ request) where
+  abbrev Told : Result Answer Refusal → Type 0
+  Told reply = Replied (held_of old.device) (image_of old.device) old command reply (held_of new.device) (image_of new.device) new
+
+  abbrev Does : Answered → List View → Type 0
+  Does answer later = Answers (image_of old.device) old request answer (image_of new.device) new later
+
+  abbrev May : Refusal → Type 0
+  May r = MayRefuse (image_of old.device) old request r
+
+  abbrev Held : List View → Type 0
+  Held later = HeldMore old.kept.geometry (held_of old.device) (held_of new.device) later
+
+  abbrev Flushes : Type 0
+  Flushes = AreFlushes old.kept.geometry (image_of old.device) (held_of old.device) (pending_of old.queue) (image_of new.device) (held_of new.device) (pending_of new.queue)
+
+  module _ {T : Type 0} (as_given : T → Answer) (as_answer : T → Answered) (stands_for : (t : T) → StandsFor (as_given t) (as_answer t)) where
+    by_call : (outcome : Result T Refusal) (reply : Result Answer Refusal) → MatchResult outcome (λ t. reply ≡ Ok (as_given t)) (λ r. reply ≡ Err r)
+        → IfOk outcome (λ t. (later : List View) × Held later × Does (as_answer t) later) → IfErr outcome (λ r. May r) → OnErr outcome (Flushes × (new.kept ≡ old.kept) × (new.holdings ≡ old.holdings))
+        → Told reply
+    by_call outcome reply told done refused left =
+        subst (λ x. Replied (held_of old.device) (image_of old.device) old x reply (held_of new.device) (image_of new.device) new) (sym asks)
+        (replied (held_of old.device) (held_of new.device) (image_of old.device) (image_of new.device) old new request as_given as_answer stands_for outcome reply told done refused left)
+
+    -- the device holds what it held, and the call answers so
+    still : (outcome : Result T Refusal) (reply : Result Answer Refusal) → MatchResult outcome (λ t. reply ≡ Ok (as_given t)) (λ r. reply ≡ Err r)
+        → image_of new.device ≡ image_of old.device → held_of new.device ≡ held_of old.device
+        → IfOk outcome (λ t. Does (as_answer t) []) → IfErr outcome (λ r. May r) → OnErr outcome ((new.queue ≡ old.queue) × (new.kept ≡ old.kept) × (new.holdings ≡ old.holdings))
+        → Told reply
+    still (Ok t) reply told same_image same_held done refused left =
+        by_call (Ok t) reply told ([], held_nothing old.kept.geometry (held_of old.device) (held_of new.device) same_held, done) refused left
+    still (Err r) reply told same_image same_held done refused left =
+        by_call (Err r) reply told done refused
+        (no_flushes (held_of old.device) (held_of new.device) (image_of old.device) (image_of new.device) old new same_image same_held left.0, left.1, left.2)
+
+    -- a command that does not touch the device
+    pub plain : (outcome : Result T Refusal) (reply : Result Answer Refusal) → MatchResult outcome (λ t. reply ≡ Ok (as_given t)) (λ r. reply ≡ Err r)
+        → new.device ≡ old.device → IfOk outcome (λ t. honest old.device → Does (as_answer t) []) → IfErr outcome (λ r. honest old.device → May r) → OnErr outcome (new ≡ old)
+        → honest new.device → Told reply
+    plain (Ok t) reply told same done refused left h =
+        still (Ok t) reply told (ap image_of same) (ap held_of same) (done (subst honest same h)) refused left
+    plain (Err r) reply told same done refused left h =
+        still (Err r) reply told (ap image_of same) (ap held_of same) done (refused (subst honest same h))
+        (ap (λ (l : Alive D). l.queue) left, ap (λ (l : Alive D). l.kept) left, ap (λ (l : Alive D). l.holdings) left)
+
+    -- one that reads it
+    pub reading : (outcome : Result T Refusal) (reply : Result Answer Refusal) → MatchResult outcome (λ t. reply ≡ Ok (as_given t)) (λ r. reply ≡ Err r)
+        → image_of new.device ≡ image_of old.device → held_of new.device ≡ held_of old.device
+        → IfOk outcome (λ t. honest new.device → Does (as_answer t) []) → IfErr outcome (λ r. honest new.device → May r) → OnErr outcome ((new.queue ≡ old.queue) × (new.kept ≡ old.kept) × (new.holdings ≡ old.holdings))
+        → honest new.device → Told reply
+    reading (Ok t) reply told same_image same_held done refused left h = still (Ok t) reply told same_image same_held (done h) refused left
+    reading (Err r) reply told same_image same_held done refused left h = still (Err r) reply told same_image same_held done (refused h) left
+
+    -- one that writes to it
+    pub writing : (outcome : Result T Refusal) (reply : Result Answer Refusal) → MatchResult outcome (λ t. reply ≡ Ok (as_given t)) (λ r. reply ≡ Err r)
+        → IfOk outcome (λ t. honest new.device → (later : List View) × Held later × Does (as_answer t) later) → IfErr outcome (λ r. honest new.device → May r)
+        → OnErr outcome (honest new.device → Flushes) → new.kept ≡ old.kept → new.holdings ≡ old.holdings
+        → honest new.device → Told reply
+    writing (Ok t) reply told done refused flushes kept holdings h = by_call (Ok t) reply told (done h) refused flushes
+    writing (Err r) reply told done refused flushes kept holdings h = by_call (Err r) reply told done (refused h) (flushes h, kept, holdings)
+
+  -- ---- where there is nothing to tell
+
+  module _ {T : Type 0} where
+    abbrev Nothing : Result T Refusal → Result Answer Refusal → Type 0
+    Nothing outcome reply = MatchResult outcome (λ _. reply ≡ Ok Done) (λ r. reply ≡ Err r)
+
+    pub plainly_done : (outcome : Result T Refusal) (reply : Result Answer Refusal) → Nothing outcome reply
+        → new.device ≡ old.device → OnOk outcome (honest old.device → Does IsDone []) → IfErr outcome (λ r. honest old.device → May r) → OnErr outcome (new ≡ old)
+        → honest new.device → Told reply
+    plainly_done (Ok t) reply told same done refused left = plain (λ (t : T). Done) (λ (t : T). IsDone) (λ t. refl) (Ok t) reply told same done refused left
+    plainly_done (Err r) reply told same done refused left = plain (λ (t : T). Done) (λ (t : T). IsDone) (λ t. refl) (Err r) reply told same done refused left
+
+    pub reading_done : (outcome : Result T Refusal) (reply : Result Answer Refusal) → Nothing outcome reply
+        → image_of new.device ≡ image_of old.device → held_of new.device ≡ held_of old.device
+        → OnOk outcome (honest new.device → Does IsDone []) → IfErr outcome (λ r. honest new.device → May r) → OnErr outcome ((new.queue ≡ old.queue) × (new.kept ≡ old.kept) × (new.holdings ≡ old.holdings))
+        → honest new.device → Told reply
+    reading_done (Ok t) reply told same_image same_held done refused left = reading (λ (t : T). Done) (λ (t : T). IsDone) (λ t. refl) (Ok t) reply told same_image same_held done refused left
+    reading_done (Err r) reply told same_image same_held done refused left = reading (λ (t : T). Done) (λ (t : T). IsDone) (λ t. refl) (Err r) reply told same_image same_held done refused left
+
+    pub writing_done : (outcome : Result T Refusal) (reply : Result Answer Refusal) → Nothing outcome reply
+        → OnOk outcome (honest new.device → (later : List View) × Held later × Does IsDone later) → IfErr outcome (λ r. honest new.device → May r)
+        → OnErr outcome (honest new.device → Flushes) → new.kept ≡ old.kept → new.holdings ≡ old.holdings
+        → honest new.device → Told reply
+    writing_done (Ok t) reply told done refused flushes kept holdings = writing (λ (t : T). Done) (λ (t : T). IsDone) (λ t. refl) (Ok t) reply told done refused flushes kept holdings
+    writing_done (Err r) reply told done refused flushes kept holdings = writing (λ (t : T). Done) (λ (t : T). IsDone) (λ t. refl) (Err r) reply told done refused flushes kept holdings
+
+pub on_err_always : {T : Type 0} (P : Type 0) (r : Result T Refusal) → P → OnErr r P
+on_err_always P (Ok t) p = tt
+on_err_always P (Err e) p = p
+
+-- a flush that is refused wrote nothing
+pub unflushed : {D T : Type 0} (honest : D → Type 0) (held_of : D → List (List (List ℕ))) (image_of : D → List (List ℕ)) (old new : Alive D) (r : Result T Refusal)
+    → OnErr r ((new.queue ≡ old.queue) × (image_of new.device ≡ image_of old.device) × (held_of new.device ≡ held_of old.device))
+    → OnErr r (honest new.device → AreFlushes old.kept.geometry (image_of old.device) (held_of old.device) (pending_of old.queue) (image_of new.device) (held_of new.device) (pending_of new.queue))
+unflushed honest held_of image_of old new (Ok t) left = left
+unflushed honest held_of image_of old new (Err e) left = λ h. no_flushes (held_of old.device) (held_of new.device) (image_of old.device) (image_of new.device) old new left.1 left.2 left.0
+
+-- ---- a look at the volume
+
+module _ {D : Type 0} (honest : D → Type 0) (held_of : D → List (List (List ℕ))) (image_of : D → List (List ℕ)) (live : Alive D) (command request : Request) (asks : command ≡ request)
+    (quiet : IsTrue (is_quiet request)) (safely : (view : View) (safe : ℕ → Bool) → safe_after live.kept.geometry view request safe ≡ safe) where
+  abbrev Shown : Answered → Type 0
+  Shown answer = (beside : Beside) → Step live.kept.geometry (state_of (image_of live.device) live beside) request (Ok answer) (state_of (image_of live.device) live beside)
+
+  look_answers : (answer : Answered) → Shown answer → Answers (image_of live.device) live request answer (image_of live.device) live []
+  look_answers answer shown beside belongs =
+      let geo = live.kept.geometry in
+      let disk = disk_of (image_of live.device) live in
+      let q = pending_of live.queue in
+      let s = state_of (image_of live.device) live beside in
+      record {
+        geometry = refl;
+        snapshot = refl;
+        step = λ stands. shown beside;
+        serves = λ safe stands. subst (λ safe'. Serves geo disk q s safe request answer disk q s safe' []) (sym (safely (users_view disk q) safe)) (Quietly request answer s quiet (shown beside).1);
+      }
+
+  module _ {T : Type 0} (as_given : T → Answer) (as_answer : T → Answered) (stands_for : (t : T) → StandsFor (as_given t) (as_answer t)) where
+    pub looked : (outcome : Result T Refusal) (reply : Result Answer Refusal) → MatchResult outcome (λ t. reply ≡ Ok (as_given t)) (λ r. reply ≡ Err r)
+        → IfOk outcome (λ t. honest live.device → Shown (as_answer t)) → IfErr outcome (λ r. honest live.device → MayRefuse (image_of live.device) live request r)
+        → honest live.device → Replied (held_of live.device) (image_of live.device) live command reply (held_of live.device) (image_of live.device) live
+    looked (Ok t) reply told done refused =
+        plain honest held_of image_of live live command request asks as_given as_answer stands_for (Ok t) reply told refl (λ h. look_answers (as_answer t) (done h)) refused tt
+    looked (Err r) reply told done refused =
+        plain honest held_of image_of live live command request asks as_given as_answer stands_for (Err r) reply told refl done refused refl

@@ -1,0 +1,114 @@
+use Rattle.std.proofs.Common.{◌≡◌, true, false, Option, Some, is_some, sym, ap, ◌∙◌, subst}
+use Rattle.std.specs.Arc.{arc_value}
+use Rattle.std.specs.Option.{option_copied, option_map}
+use Rattle.findings.specs.declared.verdicts.Verdict.{Verdict}
+use Rattle.std.specs.List.{list_all}
+use Rattle.std.proofs.lemmas.Bool.{both_ways}
+use Rattle.findings.specs.Findings.{is_soft}
+use Rattle.findings.specs.declared.verdicts.Verdict.TheVariants.{Damaged}
+use Rattle.layout.specs.declared.refusal.Refusal.TheVariants.{ForeignPlan}
+use Rattle.model.specs.Layout.{IsGeometry}
+use Rattle.model.specs.Metadata.{SameMetadata}
+use Rattle.machine.specs.Causes.{FirstRefusal}
+use Rattle.machine.specs.Command.{Install}
+use Rattle.machine.specs.State.{State}
+use Rattle.frozen.specs.Kept.{Kept, KeepsMetadata, frozen_view}
+use Rattle.fsck.specs.Checked.{CheckedImage, IsChecked}
+use Rattle.live_states.specs.Holdings.{Has, Holdings}
+use Rattle.live_states.specs.Snapshots.{AreRepairsOf, IsInstallable, installing}
+use Rattle.live.specs.Alive.{IsSnapshotOf}
+use Rattle.snapshot.specs.Asked.{check_of}
+use Rattle.snapshot.proofs.Installs.{damaged_not_soft, foreign, installable, is_some_of, none_of, not_some_of, refused_damaged, refused_foreign, refused_none, refused_planned, repairs_named, soft_unless}
+use Rattle.snapshot.proofs.checking.may_install.Goals as goal
+
+pub returns-in_default-clause-refused : goal.returns-in_default-clause-refused
+returns-in_default-clause-refused g c =
+    let live = c.args.live.now in
+    refused_none live.kept live.holdings (check_of live.kept.geometry c.args.checked.now)
+    (ap is_some (sym c.snapshot.ensures.snapshot ∙ ap (λ o. option_map arc_value (option_copied o)) c.in_default.is))
+
+pub returns-then-is_some-clause-refused : goal.returns-then-is_some-clause-refused
+returns-then-is_some-clause-refused g c =
+    let live = c.args.live.now in
+    refused_planned live.kept live.holdings (check_of live.kept.geometry c.args.checked.now)
+    (ap is_some (sym c.snapshot.ensures.snapshot ∙ ap (λ o. option_map arc_value (option_copied o)) c.in-Some.is))
+    (is_some_of live.holdings.repairs c.repair_count.result c.repair_count.ensures (sym c.is_some.ensures ∙ c.if-is_some.true))
+
+pub returns-in-Damaged-clause-refused : goal.returns-in-Damaged-clause-refused
+returns-in-Damaged-clause-refused g c =
+    let live = c.args.live.now in
+    refused_damaged live.kept live.holdings (check_of live.kept.geometry c.args.checked.now)
+    (ap is_some (sym c.snapshot.ensures.snapshot ∙ ap (λ o. option_map arc_value (option_copied o)) c.in-Some.is))
+    (not_some_of live.holdings.repairs c.repair_count.result c.repair_count.ensures (sym c.is_some.ensures ∙ c.if-is_some.false))
+    (damaged_not_soft c.args.checked.now.findings (sym c.tells_its_image.ensures.verdict ∙ sym c.verdict.ensures.verdict ∙ c.in-Damaged.is))
+
+-- the snapshot that stands
+module _ (kept : Kept) (holdings : Holdings) (checked : CheckedImage) (snapshot : Option Kept) (s : Kept) (told : snapshot ≡ holdings.snapshot) (is : snapshot ≡ Some s) (whole : IsSnapshotOf kept.geometry holdings.snapshot)
+    (image : IsChecked checked.frozen.geometry (frozen_view checked.frozen) checked) where
+  stands : holdings.snapshot ≡ Some s
+  stands = sym told ∙ is
+
+  whole' : (s.geometry ≡ kept.geometry) × KeepsMetadata s
+  whole' = subst (IsSnapshotOf kept.geometry) stands whole
+
+  soft_too : (verdict : Verdict) → verdict ≡ checked.verdict → (verdict ≡ Damaged → ⊥) → list_all is_soft checked.findings ≡ true
+  soft_too verdict e calm = soft_unless checked.findings (λ d. calm (e ∙ image.verdict ∙ d))
+
+  module _ (unplanned : is_some holdings.repairs ≡ false) (soft : list_all is_soft checked.findings ≡ true) where
+    refuses_foreign : ((s.geometry ≡ checked.frozen.geometry) × SameMetadata s.geometry (frozen_view s) (frozen_view checked.frozen) → ⊥)
+        → (old : State) → Has holdings old → FirstRefusal kept.geometry old (Install (check_of kept.geometry checked)) ForeignPlan
+    refuses_foreign differ = refused_foreign kept holdings (check_of kept.geometry checked) (ap is_some stands) unplanned soft
+        (foreign kept holdings checked image s stands whole'.0 whole'.1 (subst IsGeometry whole'.0 whole'.1.frame.geometry) differ)
+
+    module _ (same : (s.geometry ≡ checked.frozen.geometry) × SameMetadata s.geometry (frozen_view s) (frozen_view checked.frozen)) where
+      may_be : IsInstallable kept holdings (check_of kept.geometry checked) checked.repairs
+      may_be = installable kept holdings checked image s stands whole'.0 whole'.1 same.0 same.1 (none_of holdings.repairs unplanned) soft
+
+      are_named : AreRepairsOf kept.geometry (installing holdings checked.repairs).repairs
+      are_named = repairs_named kept holdings checked image s stands whole'.0 whole'.1 same.0 same.1 soft
+
+-- the images that were compared
+abbrev AreAlike : Kept → Kept → Type 0
+AreAlike one other = (one.geometry ≡ other.geometry) × SameMetadata one.geometry (frozen_view one) (frozen_view other)
+
+pub returns-then-not-have_same_metadata-clause-refused : goal.returns-then-not-have_same_metadata-clause-refused
+returns-then-not-have_same_metadata-clause-refused g c =
+    let live = c.args.live.now in
+    let checked = c.args.checked.now in
+    let s = arc_value c.in-Some.snapshot.now in
+    let frozen = option_map arc_value (option_copied c.snapshot.result) in
+    let is : frozen ≡ Some s = ap (λ o. option_map arc_value (option_copied o)) c.in-Some.is in
+    let unplanned = not_some_of live.holdings.repairs c.repair_count.result c.repair_count.ensures (sym c.is_some.ensures ∙ c.if-is_some.false) in
+    let soft = soft_too live.kept live.holdings checked frozen s c.snapshot.ensures.snapshot is c.snapshot.ensures.whole c.tells_its_image.ensures c.verdict.result c.verdict.ensures.verdict c.in_default-verdict.not-Damaged in
+    let one : c.deref.result.now ≡ s = c.deref.ensures in
+    let other : c.deref-2.result.now ≡ checked.frozen = c.deref-2.ensures ∙ c.frozen.ensures in
+    refuses_foreign live.kept live.holdings checked frozen s c.snapshot.ensures.snapshot is c.snapshot.ensures.whole c.tells_its_image.ensures unplanned soft
+    (λ alike. both_ways c.have_same_metadata.result c.if-not-have_same_metadata.true (c.have_same_metadata.ensures.1 (subst (λ k. AreAlike k c.deref-2.result.now) (sym one) (subst (AreAlike s) (sym other) alike))))
+
+pub returns-clause-installable : goal.returns-clause-installable
+returns-clause-installable g c =
+    let live = c.args.live.now in
+    let checked = c.args.checked.now in
+    let s = arc_value c.in-Some.snapshot.now in
+    let frozen = option_map arc_value (option_copied c.snapshot.result) in
+    let is : frozen ≡ Some s = ap (λ o. option_map arc_value (option_copied o)) c.in-Some.is in
+    let unplanned = not_some_of live.holdings.repairs c.repair_count.result c.repair_count.ensures (sym c.is_some.ensures ∙ c.if-is_some.false) in
+    let soft = soft_too live.kept live.holdings checked frozen s c.snapshot.ensures.snapshot is c.snapshot.ensures.whole c.tells_its_image.ensures c.verdict.result c.verdict.ensures.verdict c.in_default-verdict.not-Damaged in
+    let one : c.deref.result.now ≡ s = c.deref.ensures in
+    let other : c.deref-2.result.now ≡ checked.frozen = c.deref-2.ensures ∙ c.frozen.ensures in
+    may_be live.kept live.holdings checked frozen s c.snapshot.ensures.snapshot is c.snapshot.ensures.whole c.tells_its_image.ensures unplanned soft
+    (subst (AreAlike s) other (subst (λ k. AreAlike k c.deref-2.result.now) one (c.have_same_metadata.ensures.0 c.if-not-have_same_metadata.false)))
+
+pub returns-clause-named : goal.returns-clause-named
+returns-clause-named g c =
+    let live = c.args.live.now in
+    let checked = c.args.checked.now in
+    let s = arc_value c.in-Some.snapshot.now in
+    let frozen = option_map arc_value (option_copied c.snapshot.result) in
+    let is : frozen ≡ Some s = ap (λ o. option_map arc_value (option_copied o)) c.in-Some.is in
+    let unplanned = not_some_of live.holdings.repairs c.repair_count.result c.repair_count.ensures (sym c.is_some.ensures ∙ c.if-is_some.false) in
+    let soft = soft_too live.kept live.holdings checked frozen s c.snapshot.ensures.snapshot is c.snapshot.ensures.whole c.tells_its_image.ensures c.verdict.result c.verdict.ensures.verdict c.in_default-verdict.not-Damaged in
+    let one : c.deref.result.now ≡ s = c.deref.ensures in
+    let other : c.deref-2.result.now ≡ checked.frozen = c.deref-2.ensures ∙ c.frozen.ensures in
+    are_named live.kept live.holdings checked frozen s c.snapshot.ensures.snapshot is c.snapshot.ensures.whole c.tells_its_image.ensures unplanned soft
+    (subst (AreAlike s) other (subst (λ k. AreAlike k c.deref-2.result.now) one (c.have_same_metadata.ensures.0 c.if-not-have_same_metadata.false)))

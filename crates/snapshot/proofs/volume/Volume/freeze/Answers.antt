@@ -1,0 +1,100 @@
+use Rattle.std.proofs.Common.{◌≡◌, ℕ, List, [], false, Err, Some, is_some, inl, inr, refl, sym, ap, ◌∙◌, subst}
+use Rattle.std.specs.Arc.{arc_value}
+use Rattle.std.proofs.lemmas.Result.{err_from_is_err_and}
+use Rattle.layout.specs.declared.refusal.Refusal.TheVariants.{NoMemory, SnapshotStands}
+use Rattle.machine.specs.Command.{Freeze}
+use Rattle.machine.specs.Snapshot.{frozen, settled}
+use Rattle.frozen.specs.Kept.{Kept}
+use Rattle.metadata.specs.Shown.{Shows}
+use Rattle.softdep.specs.Queued.{pending_of}
+use Rattle.softdep.specs.Syncing.{AreFlushes}
+use Rattle.live_states.specs.Holdings.{Beside, IsImageOf}
+use Rattle.live_states.specs.Snapshots.{keeping}
+use Rattle.live.specs.Alive.{Alive, StandsSo, state_of}
+use Rattle.snapshot.specs.Goes.{Freezes, HasBeside, Replies}
+use Rattle.snapshot.proofs.CallLemmas.{same_err}
+use Rattle.snapshot.proofs.Standing.{none_frozen, refuses_freeze}
+use Rattle.snapshot.proofs.Written.{begins, none_where, written_err, written_keeps}
+use Rattle.snapshot.proofs.volume.Volume.freeze.Goals as goal
+
+pub returns-then-has_snapshot-clause-refused : goal.returns-then-has_snapshot-clause-refused
+returns-then-has_snapshot-clause-refused g c = λ h.
+    let old = c.self.inside.live in
+    subst (λ (l : Alive _). Replies (g.D.Device.held l.device) (g.D.Device.image l.device) l Freeze (Err SnapshotStands) (g.D.Device.held l.device) (g.D.Device.image l.device) l) c.self.view_is
+    (same_err g.D.Device.honest g.D.Device.held g.D.Device.image old old Freeze SnapshotStands refl (λ beside is.
+    inr (inr (inl (refuses_freeze old.kept.geometry (state_of (g.D.Device.image old.device) old beside) (none_frozen old.holdings.snapshot beside.frozen is.belongs ∙ sym c.has_snapshot.ensures ∙ c.if-has_snapshot.true))))))
+
+pub invariant_of-self : goal.invariant_of-self
+invariant_of-self g c =
+    let e = c.write_all.ensures in
+    written_keeps g.D.Device.honest g.D.Device.held g.D.Device.image c.self.inside.live c.write_all.new.live e.metadata e.holdings e.flushes e.stands c.self.invariant e.honest
+
+pub returns-in_err-write_all-clause-refused : goal.returns-in_err-write_all-clause-refused
+returns-in_err-write_all-clause-refused g c =
+    let p = err_from_is_err_and c.from_residual.result c.from_residual.ensures.1 in
+    let e = c.in_err-write_all.ensures in
+    let r = c.in_err-write_all.field-0.0 in
+    let mid = c.write_all.new.live in
+    rw (p.1, p.2)
+    (λ h. subst (λ (l : Alive _). Replies (g.D.Device.held l.device) (g.D.Device.image l.device) l Freeze (Err r) (g.D.Device.held mid.device) (g.D.Device.image mid.device) mid) c.self.view_is
+    (written_err g.D.Device.honest g.D.Device.held g.D.Device.image c.self.inside.live mid e.metadata e.holdings e.flushes e.stands Freeze r (λ beside is. inr (inl e.error)) h))
+
+pub invariant_of-self-in_err-kept : goal.invariant_of-self-in_err-kept
+invariant_of-self-in_err-kept g c =
+    let e = c.in_ok-write_all.ensures in
+    written_keeps g.D.Device.honest g.D.Device.held g.D.Device.image c.self.inside.live c.write_all.new.live e.metadata e.holdings e.flushes e.stands c.self.invariant e.honest
+
+pub returns-in_err-kept-clause-refused : goal.returns-in_err-kept-clause-refused
+returns-in_err-kept-clause-refused g c =
+    let p = err_from_is_err_and c.from_residual-in_err-kept.result c.from_residual-in_err-kept.ensures.1 in
+    let e = c.in_ok-write_all.ensures in
+    let mid = c.write_all.new.live in
+    rw (p.1, p.2)
+    (λ h. subst (λ (l : Alive _). Replies (g.D.Device.held l.device) (g.D.Device.image l.device) l Freeze (Err NoMemory) (g.D.Device.held mid.device) (g.D.Device.image mid.device) mid) c.self.view_is
+    (written_err g.D.Device.honest g.D.Device.held g.D.Device.image c.self.inside.live mid e.metadata e.holdings e.flushes e.stands Freeze NoMemory (λ beside is. inl refl) h))
+
+pub keep-requires-clause-settled : goal.keep-requires-clause-settled
+keep-requires-clause-settled g c =
+    c.in_ok-kept.ensures.settled
+
+module _ {D : Type 0} (honest : D → Type 0) (held_of : D → List (List (List ℕ))) (image_of : D → List (List ℕ)) (old mid new : Alive D) (kept : mid.kept ≡ old.kept) (holdings : mid.holdings ≡ old.holdings)
+    (flushes : honest mid.device → AreFlushes old.kept.geometry (image_of old.device) (held_of old.device) (pending_of old.queue) (image_of mid.device) (held_of mid.device) (pending_of mid.queue))
+    (stands : honest mid.device → StandsSo (image_of mid.device) mid) (unkept : is_some old.holdings.snapshot ≡ false) (none : pending_of mid.queue ≡ [])
+    (snapshot : Kept) (is_kept : new ≡ record mid { holdings = keeping mid.holdings snapshot })
+    (shown : honest mid.device → (beside : Beside) → IsImageOf mid.holdings.snapshot beside.frozen → Shows snapshot (settled mid.kept.geometry (state_of (image_of mid.device) mid beside)))
+    (begun : (beside : Beside) → state_of (image_of new.device) new (record { frozen = Some (settled mid.kept.geometry (state_of (image_of mid.device) mid beside)) }) ≡ frozen mid.kept.geometry (state_of (image_of mid.device) mid beside))
+    (so : honest new.device → StandsSo (image_of new.device) new) where
+  is_frozen : honest new.device → Freezes (held_of old.device) (image_of old.device) old snapshot (held_of new.device) (image_of new.device) new
+  is_frozen h =
+      let there = subst honest (ap (λ (l : Alive D). l.device) is_kept) h in
+      begins honest held_of image_of old mid kept holdings flushes stands new snapshot (none_where old.holdings.snapshot unkept) none so there (is_kept, shown there, begun)
+
+  then_beside : (honest old.device → HasBeside (image_of old.device) old) → (honest mid.device → honest old.device) → honest new.device → HasBeside (image_of new.device) new
+  then_beside has back h =
+      let b = has (back (subst honest (ap (λ (l : Alive D). l.device) is_kept) h)) in
+      let f = is_frozen h b.beside b.is in
+      record { beside = record { frozen = Some (settled old.kept.geometry (state_of (image_of old.device) old b.beside)) }; is = f.1.is }
+
+pub invariant_of-self-2 : goal.invariant_of-self-2
+invariant_of-self-2 g c =
+    let e = c.in_ok-write_all.ensures in
+    let mid = c.write_all.new.live in
+    let snapshot = arc_value c.in_ok-kept.field-0.kept in
+    then_beside g.D.Device.honest g.D.Device.held g.D.Device.image c.self.inside.live mid c.keep.new.self e.metadata e.holdings e.flushes e.stands (sym c.has_snapshot.ensures ∙ c.if-has_snapshot.false) e.pending
+    snapshot c.keep.ensures.kept
+    c.in_ok-kept.ensures.shown
+    c.keep.ensures.frozen c.device.ensures.stands c.self.invariant e.honest
+
+pub returns-clause-frozen : goal.returns-clause-frozen
+returns-clause-frozen g c =
+    let e = c.in_ok-write_all.ensures in
+    let mid = c.write_all.new.live in
+    let new = c.keep.new.self in
+    let snapshot = arc_value c.in_ok-kept.field-0.kept in
+    let same : arc_value c.in_ok-kept.field-0.given ≡ snapshot = c.in_ok-kept.ensures.given in
+    λ h. subst (λ (l : Alive _). Freezes (g.D.Device.held l.device) (g.D.Device.image l.device) l (arc_value c.in_ok-kept.field-0.given) (g.D.Device.held new.device) (g.D.Device.image new.device) new) c.self.view_is
+    (subst (λ k. Freezes (g.D.Device.held c.self.inside.live.device) (g.D.Device.image c.self.inside.live.device) c.self.inside.live k (g.D.Device.held new.device) (g.D.Device.image new.device) new) (sym same)
+    (is_frozen g.D.Device.honest g.D.Device.held g.D.Device.image c.self.inside.live mid new e.metadata e.holdings e.flushes e.stands (sym c.has_snapshot.ensures ∙ c.if-has_snapshot.false) e.pending
+    snapshot c.keep.ensures.kept
+    c.in_ok-kept.ensures.shown
+    c.keep.ensures.frozen c.device.ensures.stands h))

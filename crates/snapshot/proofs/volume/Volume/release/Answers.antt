@@ -1,0 +1,64 @@
+use Rattle.std.proofs.Common.{Err, OnOk, IfErr, inl, inr, refl, sym, ◌∙◌, subst}
+use Rattle.std.proofs.lemmas.Result.{err_from_is_err_and}
+use Rattle.layout.specs.declared.refusal.Refusal.TheVariants.{NoSnapshot}
+use Rattle.machine.specs.Command.{Release}
+use Rattle.live.specs.Alive.{Alive, state_of}
+use Rattle.snapshot.specs.Goes.{Releases, Replies}
+use Rattle.snapshot.proofs.CallLemmas.{same_err}
+use Rattle.snapshot.proofs.Standing.{none_frozen, refuses_release}
+use Rattle.snapshot.proofs.Written.{ends_err, ends_keeps, ends_ok, written_err, written_keeps}
+use Rattle.snapshot.proofs.volume.Volume.release.Goals as goal
+
+pub returns-then-not-has_snapshot-clause-refused : goal.returns-then-not-has_snapshot-clause-refused
+returns-then-not-has_snapshot-clause-refused g c = λ h.
+    let old = c.self.inside.live in
+    subst (λ (l : Alive _). Replies (g.D.Device.held l.device) (g.D.Device.image l.device) l Release (Err NoSnapshot) (g.D.Device.held l.device) (g.D.Device.image l.device) l) c.self.view_is
+    (same_err g.D.Device.honest g.D.Device.held g.D.Device.image old old Release NoSnapshot refl (λ beside is.
+    inr (inr (inl (refuses_release old.kept.geometry (state_of (g.D.Device.image old.device) old beside) (none_frozen old.holdings.snapshot beside.frozen is.belongs ∙ sym c.has_snapshot.ensures ∙ c.if-not-has_snapshot.true))))))
+
+pub invariant_of-self : goal.invariant_of-self
+invariant_of-self g c =
+    let e = c.write_all.ensures in
+    written_keeps g.D.Device.honest g.D.Device.held g.D.Device.image c.self.inside.live c.write_all.new.live e.metadata e.holdings e.flushes e.stands c.self.invariant e.honest
+
+pub returns-in_err-write_all-clause-refused : goal.returns-in_err-write_all-clause-refused
+returns-in_err-write_all-clause-refused g c =
+    let p = err_from_is_err_and c.from_residual.result c.from_residual.ensures.1 in
+    let e = c.in_err-write_all.ensures in
+    let r = c.in_err-write_all.field-0.0 in
+    let mid = c.write_all.new.live in
+    rw (p.1, p.2)
+    (λ h. subst (λ (l : Alive _). Replies (g.D.Device.held l.device) (g.D.Device.image l.device) l Release (Err r) (g.D.Device.held mid.device) (g.D.Device.image mid.device) mid) c.self.view_is
+    (written_err g.D.Device.honest g.D.Device.held g.D.Device.image c.self.inside.live mid e.metadata e.holdings e.flushes e.stands Release r (λ beside is. inr (inl e.error)) h))
+
+pub invariant_of-self-2 : goal.invariant_of-self-2
+invariant_of-self-2 g c =
+    let e = c.in_ok-write_all.ensures in
+    let o = c.end_keep-outcome.ensures in
+    let old = c.self.inside.live in
+    let mid = c.write_all.new.live in
+    let new = c.end_keep-outcome.new.self in
+    let standing = sym c.has_snapshot.ensures ∙ c.if-not-has_snapshot.false in
+    ends_keeps g.D.Device.honest g.D.Device.held g.D.Device.image old mid e.metadata e.holdings e.flushes e.stands new standing e.pending o.device c.end_keep-outcome.result
+    (ends_ok g.D.Device.honest g.D.Device.held g.D.Device.image old mid e.metadata e.holdings e.flushes e.stands new standing e.pending o.device c.end_keep-outcome.result c.device.ensures.stands o.released o.pending o.holdings o.geometry)
+    o.untouched c.self.invariant e.honest
+
+pub returns-clause-released : goal.returns-clause-released
+returns-clause-released g c =
+    let e = c.in_ok-write_all.ensures in
+    let o = c.end_keep-outcome.ensures in
+    let mid = c.write_all.new.live in
+    let new = c.end_keep-outcome.new.self in
+    let standing = sym c.has_snapshot.ensures ∙ c.if-not-has_snapshot.false in
+    subst (λ (l : Alive _). OnOk c.end_keep-outcome.result (g.D.Device.honest new.device → Releases (g.D.Device.held l.device) (g.D.Device.image l.device) l (g.D.Device.held new.device) (g.D.Device.image new.device) new)) c.self.view_is
+    (ends_ok g.D.Device.honest g.D.Device.held g.D.Device.image c.self.inside.live mid e.metadata e.holdings e.flushes e.stands new standing e.pending o.device c.end_keep-outcome.result c.device.ensures.stands o.released o.pending o.holdings o.geometry)
+
+pub returns-clause-refused : goal.returns-clause-refused
+returns-clause-refused g c =
+    let e = c.in_ok-write_all.ensures in
+    let o = c.end_keep-outcome.ensures in
+    let mid = c.write_all.new.live in
+    let new = c.end_keep-outcome.new.self in
+    let standing = sym c.has_snapshot.ensures ∙ c.if-not-has_snapshot.false in
+    subst (λ (l : Alive _). IfErr c.end_keep-outcome.result (λ r. g.D.Device.honest new.device → Replies (g.D.Device.held l.device) (g.D.Device.image l.device) l Release (Err r) (g.D.Device.held new.device) (g.D.Device.image new.device) new)) c.self.view_is
+    (ends_err g.D.Device.honest g.D.Device.held g.D.Device.image c.self.inside.live mid e.metadata e.holdings e.flushes e.stands new standing e.pending o.device c.end_keep-outcome.result o.error o.untouched)

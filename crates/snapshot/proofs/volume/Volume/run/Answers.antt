@@ -1,0 +1,41 @@
+use Rattle.std.proofs.Common.{◌≡◌, ◌+◌, ◌<◌, ◌≤◌, ℕ, arith, length, ap, ◌∙◌}
+use Rattle.std.specs.Prelude.{vec_capacity, vec_len}
+use Rattle.snapshot.proofs.AppliesLemmas.{runs_next, runs_none}
+use Rattle.snapshot.proofs.volume.Volume.run.Goals as goal
+
+one_more : (n m i : ℕ) → n ≡ m + 1 → m ≡ i → n ≡ i + 1
+one_more n m i more is = more ∙ ap (λ k. k + 1) is
+
+pub loop-command-init : goal.loop-command-init
+loop-command-init g c =
+    let live = c.args.self.now in
+    let room : length c.args.commands.items ≤ vec_capacity c.in_ok-replies.replies = omega (arith, c.args.commands.ok.0, c.len.ensures, c.in_ok-replies.ensures.capacity) in
+    record {
+      items = c.deref-command-items.ensures.value;
+      room = room;
+      count = c.in_ok-replies.ensures.len;
+      honest = λ h. h;
+      ran = λ h. runs_none (g.D.Device.held live.device) (g.D.Device.image live.device) live c.args.commands.items c.in_ok-replies.replies.items c.in_ok-replies.ensures.items;
+    }
+
+pub loop-command-preserved : goal.loop-command-preserved
+loop-command-preserved g c =
+    let inv = c.loop-command.invariant in
+    let old = c.args.self.now in
+    let mid = c.loop-command.self in
+    let new = c.apply-reply.new.self in
+    let held = g.D.Device.held in
+    let image = g.D.Device.image in
+    let i = c.loop-command.command-index in
+    let shown = c.deref-command-items.result.now in
+    let within : i < length shown = omega arith in
+    let room : length c.args.commands.items ≤ vec_capacity c.push.new.self = omega (arith, inv.room, c.push.ensures.capacity) in
+    record {
+      items = c.deref-command-items.ensures.value;
+      room = room;
+      count = one_more (vec_len c.push.new.self) (vec_len c.loop-command.replies) i c.in_ok-push.ensures.len inv.count;
+      honest = λ h. inv.honest (c.apply-reply.ensures.honest h);
+      ran = λ h. runs_next (held old.device) (held mid.device) (held new.device) (image old.device) (image mid.device) (image new.device) old mid new c.args.commands.items shown c.deref-command-items.ensures.value
+          i c.command-item.result within c.command-item.is c.loop-command.replies.items c.push.new.self.items c.apply-reply.result c.in_ok-push.ensures.items
+          (inv.ran (c.apply-reply.ensures.honest h)) (c.apply-reply.ensures.applied h);
+    }

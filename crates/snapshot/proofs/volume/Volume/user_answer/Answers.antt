@@ -1,0 +1,28 @@
+use Rattle.std.proofs.Common.{subst}
+use Rattle.live.specs.Alive.{Alive}
+use Rattle.snapshot.specs.Asked.{asked}
+use Rattle.snapshot.specs.Goes.{Applies}
+use Rattle.snapshot.proofs.CallLemmas.{applies, beside_kept}
+use Rattle.snapshot.proofs.volume.Volume.user_answer.Goals as goal
+
+pub invariant_of-self : goal.invariant_of-self
+invariant_of-self g c = λ h.
+    let old = c.self.inside.live in
+    let new = c.user_reply-reply.new.live in
+    let held = g.D.Device.held in
+    let image = g.D.Device.image in
+    let command = asked old.kept.geometry c.args.command.now in
+    let reply = c.user_reply-reply.result in
+    beside_kept (held old.device) (held new.device) (image old.device) (image new.device) old new command reply (c.self.invariant (c.user_reply-reply.ensures.honest h))
+    (applies (held old.device) (held new.device) (image old.device) (image new.device) old new (c.device.ensures.stands h) command reply (c.user_reply-reply.ensures.replied h))
+
+pub returns-clause-applied : goal.returns-clause-applied
+returns-clause-applied g c =
+    let old = c.self.inside.live in
+    let new = c.user_reply-reply.new.live in
+    let honest = g.D.Device.honest in
+    let held = g.D.Device.held in
+    let image = g.D.Device.image in
+    let reply = c.user_reply-reply.result in
+    subst (λ (l : Alive _). honest new.device → Applies (held l.device) (image l.device) l (asked l.kept.geometry c.args.command.now) reply (held new.device) (image new.device) new) c.self.view_is
+    (λ h. applies (held old.device) (held new.device) (image old.device) (image new.device) old new (c.device.ensures.stands h) (asked old.kept.geometry c.args.command.now) reply (c.user_reply-reply.ensures.replied h))

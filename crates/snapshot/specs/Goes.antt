@@ -1,0 +1,67 @@
+-- What stands beside a volume, and what a volume goes through by its calls.
+use Rattle.std.specs.Prelude.{◌≡◌, ℕ, Bool, false, List, [], ◌∷◌, Some, None, Ok, Result}
+use Rattle.layout.specs.declared.refusal.Refusal.{Refusal}
+use Rattle.model.specs.View.{View}
+use Rattle.machine.specs.Command.{Command, Done, Freeze, Image, Release, Reply}
+use Rattle.machine.specs.Snapshot.{settled}
+use Rattle.machine.specs.Step.{Run}
+use Rattle.plans_data.specs.Carried.{Stands}
+use Rattle.queue_model.specs.Files.{Written}
+use Rattle.courses.specs.Serves.{IsBeginning, Service}
+use Rattle.frozen.specs.Kept.{Kept}
+use Rattle.frozen_files.specs.Standing.{KeepsFiles}
+use Rattle.metadata.specs.Shown.{Shows}
+use Rattle.softdep.specs.Queued.{pending_of}
+use Rattle.live_states.specs.Holdings.{Beside, IsImageOf}
+use Rattle.live.specs.Alive.{Alive, disk_of, state_of}
+use Rattle.live.specs.Held.{HeldMore}
+use Rattle.snapshot.specs.declared.answer.Answer.{Answer as Given}
+use Rattle.snapshot.specs.Asked.{AreReplies, IsReply}
+
+-- This is the whole image of a volume's snapshot, where one stands: with it the volume stands, in balance, and the blocks of the snapshot's files have their bytes still.
+pub record IsBeside {D : Type 0} (image : List (List ℕ)) (live : Alive D) (beside : Beside) : Type 0 where
+  pub belongs : IsImageOf live.holdings.snapshot beside.frozen
+  pub stands : Stands live.kept.geometry (disk_of image live) (pending_of live.queue) (state_of image live beside) (λ f. false)
+  pub files : KeepsFiles live.kept.geometry (state_of image live beside)
+
+-- there is one
+pub record HasBeside {D : Type 0} (image : List (List ℕ)) (live : Alive D) : Type 0 where
+  pub beside : Beside
+  pub is : IsBeside image live beside
+
+-- From a volume over an image of its device, with this beside it, these commands got these replies, one after another. It leads to a volume, with something beside it, over another image, and to what the device held since.
+-- Users see a run of the machine; and from wherever a volume may begin, whichever files no stop is to lose, what it goes through is a service of these commands.
+pub record Goes {D : Type 0} (beside : Beside) (held : List (List (List ℕ))) (image : List (List ℕ)) (old : Alive D) (commands : List Command) (replies : List Reply)
+    (beside' : Beside) (held' : List (List (List ℕ))) (image' : List (List ℕ)) (new : Alive D) : Type 0 where
+  pub geometry : new.kept.geometry ≡ old.kept.geometry
+  pub is : IsBeside image' new beside'
+  pub run : Run old.kept.geometry (state_of image old beside) commands replies (state_of image' new beside')
+  -- what the device held since, newest first
+  pub later : List View
+  pub since : HeldMore old.kept.geometry held held' later
+  pub service : (mount : View) (h : List Written) (cut : List Bool) (safe : ℕ → Bool) → IsBeginning old.kept.geometry mount h cut (disk_of image old) (pending_of old.queue) (state_of image old beside) safe
+      → (safe' : ℕ → Bool) × Service old.kept.geometry (disk_of image old) (pending_of old.queue) (state_of image old beside) safe (disk_of image' new) (pending_of new.queue) (state_of image' new beside') safe' commands replies later
+
+-- A command got this reply, and what stands beside the volume stays, whatever it is.
+abbrev pub Replies : {D : Type 0} → List (List (List ℕ)) → List (List ℕ) → Alive D → Command → Reply → List (List (List ℕ)) → List (List ℕ) → Alive D → Type 0
+Replies held image old command reply held' image' new = (beside : Beside) → IsBeside image old beside → Goes beside held image old (command ∷ []) (reply ∷ []) beside held' image' new
+
+-- A snapshot began, and this is the metadata of its image, which then stands beside the volume.
+abbrev pub Freezes : {D : Type 0} → List (List (List ℕ)) → List (List ℕ) → Alive D → Kept → List (List (List ℕ)) → List (List ℕ) → Alive D → Type 0
+Freezes held image old snapshot held' image' new = (beside : Beside) → IsBeside image old beside
+    → Shows snapshot (settled old.kept.geometry (state_of image old beside))
+    × Goes beside held image old (Freeze ∷ []) (Ok (Image (settled old.kept.geometry (state_of image old beside))) ∷ []) (record { frozen = Some (settled old.kept.geometry (state_of image old beside)) }) held' image' new
+
+-- The snapshot ended, and nothing stands beside the volume.
+abbrev pub Releases : {D : Type 0} → List (List (List ℕ)) → List (List ℕ) → Alive D → List (List (List ℕ)) → List (List ℕ) → Alive D → Type 0
+Releases held image old held' image' new = (beside : Beside) → IsBeside image old beside → Goes beside held image old (Release ∷ []) (Ok Done ∷ []) (record { frozen = None }) held' image' new
+
+-- A command got this reply, whatever stands beside the volume then.
+abbrev pub Applies : {D : Type 0} → List (List (List ℕ)) → List (List ℕ) → Alive D → Command → Result Given Refusal → List (List (List ℕ)) → List (List ℕ) → Alive D → Type 0
+Applies held image old command reply held' image' new = (beside : Beside) → IsBeside image old beside
+    → (beside' : Beside) × (response : Reply) × IsReply reply response × Goes beside held image old (command ∷ []) (response ∷ []) beside' held' image' new
+
+-- and so did commands, one after another
+abbrev pub Runs : {D : Type 0} → List (List (List ℕ)) → List (List ℕ) → Alive D → List Command → List (Result Given Refusal) → List (List (List ℕ)) → List (List ℕ) → Alive D → Type 0
+Runs held image old commands replies held' image' new = (beside : Beside) → IsBeside image old beside
+    → (beside' : Beside) × (responses : List Reply) × AreReplies replies responses × Goes beside held image old commands responses beside' held' image' new

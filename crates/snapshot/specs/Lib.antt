@@ -1,0 +1,4 @@
+pub mod Asked
+pub mod Goes
+pub mod Pieces
+pub mod Replied

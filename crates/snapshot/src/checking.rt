@@ -1,0 +1,90 @@
+ghost use Rattle.std.specs.Prelude.{◌≡◌, Err, IfErr, Ok, OnErr, OnOk};
+ghost use Rattle.machine.specs.Command.{Done, Install, RepairAt};
+ghost use Rattle.frozen.specs.Kept.{frozen_view};
+ghost use Rattle.fsck.specs.Checked.{IsChecked};
+ghost use Rattle.machine.specs.Causes.{FirstRefusal};
+ghost use Rattle.machine.specs.State.{State};
+ghost use Rattle.live_states.specs.Holdings.{Has};
+ghost use Rattle.live_states.specs.Planned.{IsRefusedWith};
+ghost use Rattle.live_states.specs.Snapshots.{AreRepairsOf, IsInstallable, installing};
+ghost use Rattle.snapshot.specs.Asked.{check_of};
+ghost use Rattle.snapshot.specs.Goes.{Replies};
+
+use crate::Volume;
+use device::Device;
+use findings::{Verdict, findings_are_unique};
+use fsck::Checked;
+use layout::Refusal;
+use live::Live;
+use same_metadata::have_same_metadata;
+use std::alloc::Global;
+
+impl<D: Device> Volume<D> {
+    /// Takes the repairs of a check of the snapshot that stands, none of them done. Refused with `NoSnapshot`, with
+    /// `PlanStands` where a check of the snapshot was installed before, with `PlanNotSoft` where the image that was checked
+    /// is damaged, with `ForeignPlan` where that image is another one than the snapshot's: its geometry, a record, a bit, or a byte of
+    /// an indirect block or a directory's block differs; and with `NoMemory`.
+    pub fn install(&mut self, alloc: Global, checked: &Checked) -> Result<(), Refusal>
+        ensures installed { OnOk result (D.honest self.new.device → Replies (D.held self.old.device) (D.image self.old.device) self.old (Install (check_of self.old.kept.geometry checked.now)) (Ok Done) (D.held self.new.device) (D.image self.new.device) self.new) }
+        ensures refused { IfErr result (λ r. D.honest self.new.device → Replies (D.held self.old.device) (D.image self.old.device) self.old (Install (check_of self.old.kept.geometry checked.now)) (Err r) (D.held self.new.device) (D.image self.new.device) self.new) }
+        ensures cause { IfErr result (IsRefusedWith self.old.kept self.old.holdings (Install (check_of self.old.kept.geometry checked.now))) }
+        ensures untouched { OnErr result (self.new ≡ self.old) }
+        ensures device { self.new.device ≡ self.old.device }
+    {
+        may_install(&self.live, checked)?;
+        let repairs = checked.repairs().to_vec(alloc)?;
+        let outcome = self.live.install(alloc, repairs);
+        self.live.device();
+        outcome
+    }
+
+    /// Carries out the repair of this place in the list of the check that is installed: an inode that nothing reaches loses
+    /// its links, one that counts too many loses those, and goes where none is left and no handle is open on it; a block or
+    /// a number that is in no use is unmarked. Refused with `NoPlan` where no check is installed, with `BadIndex` where it
+    /// has no such repair, with `AlreadyDone`, and with `NoMemory`.
+    pub fn repair(&mut self, alloc: Global, place: u32) -> Result<(), Refusal>
+        ensures repaired { OnOk result (D.honest self.new.device → Replies (D.held self.old.device) (D.image self.old.device) self.old (RepairAt place) (Ok Done) (D.held self.new.device) (D.image self.new.device) self.new) }
+        ensures refused { IfErr result (λ r. D.honest self.new.device → Replies (D.held self.old.device) (D.image self.old.device) self.old (RepairAt place) (Err r) (D.held self.new.device) (D.image self.new.device) self.new) }
+        ensures cause { IfErr result (IsRefusedWith self.old.kept self.old.holdings (RepairAt place)) }
+        ensures untouched { OnErr result (self.new ≡ self.old) }
+        ensures device { self.new.device ≡ self.old.device }
+    {
+        let outcome = self.live.repair(alloc, place);
+        self.live.device();
+        outcome
+    }
+}
+
+/// Whether the repairs of a check may be taken.
+fn may_install<D: Device>(live: &Live<D>, checked: &Checked) -> Result<(), Refusal>
+    ensures installable { OnOk result (IsInstallable live.now.kept live.now.holdings (check_of live.now.kept.geometry checked.now) checked.now.repairs) }
+    ensures named { OnOk result (AreRepairsOf live.now.kept.geometry (installing live.now.holdings checked.now.repairs).repairs) }
+    ensures refused { IfErr result (λ r. (old : State) → Has live.now.holdings old → FirstRefusal live.now.kept.geometry old (Install (check_of live.now.kept.geometry checked.now)) r) }
+{
+    let Some(snapshot) = live.snapshot() else {
+        return Err(Refusal::NoSnapshot);
+    };
+    if live.repair_count().is_some() {
+        return Err(Refusal::PlanStands);
+    }
+    tells_its_image(checked);
+    match checked.verdict() {
+        Verdict::Damaged => return Err(Refusal::PlanNotSoft),
+        _ => {}
+    }
+    if !have_same_metadata(snapshot, checked.frozen()) {
+        return Err(Refusal::ForeignPlan);
+    }
+    Ok(())
+}
+
+/// What a checked image says of itself is told by the findings of its image: a law, for a proof.
+fn tells_its_image(checked: &Checked)
+    ensures { IsChecked checked.now.frozen.geometry (frozen_view checked.now.frozen) checked.now }
+{
+    findings_are_unique();
+    checked.findings();
+    checked.report();
+    checked.verdict();
+    checked.repairs();
+}

@@ -1,0 +1,27 @@
+//! A mounted volume of which snapshots are taken: an image of it is frozen for a check while users go on, what the check
+//! finds is mended by repairs, and the marks and links of the volume are then exact.
+//!
+//! A snapshot is not kept over a stop: the blocks that were held for it are then marked and in no use, which the next
+//! check finds. Snapshots that a file system takes of itself for its check are after McKusick and Ganger (1999) and McKusick
+//! (2002).
+#![tactic(auto)]
+
+mod answer;
+mod applying;
+mod checking;
+mod command;
+mod laws;
+mod pieces;
+mod snapshots;
+#[cfg(test)]
+mod tests;
+mod users;
+mod volume;
+
+pub use answer::{Answer, Reply};
+pub use command::Command;
+pub use laws::{
+    calls_join, clean_volumes_stay_exact, each_stop_of_a_run_is_safe, no_call_makes_a_debt,
+    volumes_are_in_balance, whole_cycles_end_exact,
+};
+pub use volume::Volume;

@@ -1,0 +1,140 @@
+ghost use Rattle.std.specs.Prelude.{◌≡◌, ◌≤◌, [], Err, IfErr, IfOk, IsErrOf, IsOkUnless, Ok, IsTrue, OnErr, OnOk, is_some};
+ghost use Rattle.std.specs.Arc.{arc_value};
+ghost use Rattle.device.specs.Writes.{HasFailed};
+ghost use Rattle.frozen.specs.Kept.{KeepsMetadata};
+ghost use Rattle.machine.specs.Balance.{Balance};
+ghost use Rattle.machine.specs.Causes.{FirstRefusal};
+ghost use Rattle.machine.specs.State.{State};
+ghost use Rattle.model.specs.Layout.{is_data_address};
+ghost use Rattle.machine.specs.Command.{Bytes, Freeze, Release, SnapRead};
+ghost use Rattle.machine.specs.Snapshot.{settled};
+ghost use Rattle.metadata.specs.Shown.{Shows};
+ghost use Rattle.softdep.specs.Queued.{pending_of};
+ghost use Rattle.softdep.specs.Syncing.{AreFlushes};
+ghost use Rattle.live_states.specs.Holdings.{Beside, Has, IsImageOf};
+ghost use Rattle.live_states.specs.Snapshots.{IsSettled};
+ghost use Rattle.live.specs.Alive.{StandsSo, state_of};
+ghost use Rattle.snapshot.specs.Goes.{Freezes, Releases, Replies};
+ghost use Rattle.snapshot.specs.Pieces.{IsPieceOfSnapshot};
+
+use crate::Volume;
+use crate::pieces::{Piece, first_bytes, piece_of};
+use device::Device;
+use frozen::Frozen;
+use layout::Refusal;
+use live::Live;
+use std::alloc::{AllocError, Global};
+use std::sync::Arc;
+
+impl<D: Device> Volume<D> {
+    /// A snapshot begins: the image of users, without the open files that have no name, as it is once all that is pending
+    /// is written. From now on no block of a file in it is changed or given out, until it is released. The repairs of an
+    /// older check are dropped. Refused with `SnapshotStands`, with `NoMemory`, and with `Device`; what was written before
+    /// stays written.
+    pub fn freeze(&mut self, alloc: Global) -> Result<Arc<Frozen>, Refusal>
+        ensures frozen { IfOk result (λ snapshot. D.honest self.new.device → Freezes (D.held self.old.device) (D.image self.old.device) self.old (arc_value snapshot) (D.held self.new.device) (D.image self.new.device) self.new) }
+        ensures refused { IfErr result (λ r. D.honest self.new.device → Replies (D.held self.old.device) (D.image self.old.device) self.old Freeze (Err r) (D.held self.new.device) (D.image self.new.device) self.new) }
+        ensures untouched { OnErr result ((self.new.kept ≡ self.old.kept) × (self.new.holdings ≡ self.old.holdings)) }
+        ensures cause { IsErrOf result Refusal.Device → HasFailed (D.failures self.old.device) (D.failures self.new.device) }
+        ensures honest { D.honest self.new.device → D.honest self.old.device }
+    {
+        if has_snapshot(&self.live) {
+            return Err(Refusal::SnapshotStands);
+        }
+        write_all(&mut self.live)?;
+        let Shared { kept, given } = shared_view(alloc, &self.live)?;
+        self.live.keep(kept);
+        self.live.device();
+        Ok(given)
+    }
+
+    /// The bytes that a file had in its block of this index when the snapshot began. Refused with `NoSnapshot`, with
+    /// `NotFound` where the number was in no use, with `IsDirectory`, and with `BadIndex` where the file ended before the
+    /// block.
+    pub fn snap_read(&mut self, alloc: Global, inode: u32, index: u32) -> Result<Vec<u8>, Refusal>
+        ensures read { IfOk result (λ bytes. D.honest self.new.device → Replies (D.held self.old.device) (D.image self.old.device) self.old (SnapRead inode index) (Ok (Bytes bytes.items)) (D.held self.new.device) (D.image self.new.device) self.new) }
+        ensures refused { IfErr result (λ r. D.honest self.new.device → Replies (D.held self.old.device) (D.image self.old.device) self.old (SnapRead inode index) (Err r) (D.held self.new.device) (D.image self.new.device) self.new) }
+        ensures untouched { (self.new.queue ≡ self.old.queue) × (self.new.kept ≡ self.old.kept) × (self.new.holdings ≡ self.old.holdings) }
+        ensures cause { IsErrOf result Refusal.Device → HasFailed (D.failures self.old.device) (D.failures self.new.device) }
+        ensures honest { D.honest self.new.device → D.honest self.old.device }
+    {
+        let Piece { block, length } = piece_of_snapshot(&self.live, inode, index)?;
+        let bytes = self.live.data_block(block)?;
+        Ok(first_bytes(alloc, &bytes, length)?)
+    }
+
+    /// The snapshot ends once all that is pending is written; the blocks that were held for it are free. The repairs of its
+    /// check stay. Refused with `NoSnapshot`, with `NoMemory`, and with `Device`; what was written before stays written.
+    pub fn release(&mut self, alloc: Global) -> Result<(), Refusal>
+        ensures released { OnOk result (D.honest self.new.device → Releases (D.held self.old.device) (D.image self.old.device) self.old (D.held self.new.device) (D.image self.new.device) self.new) }
+        ensures refused { IfErr result (λ r. D.honest self.new.device → Replies (D.held self.old.device) (D.image self.old.device) self.old Release (Err r) (D.held self.new.device) (D.image self.new.device) self.new) }
+        ensures untouched { OnErr result ((self.new.kept ≡ self.old.kept) × (self.new.holdings ≡ self.old.holdings)) }
+        ensures cause { IsErrOf result Refusal.Device → HasFailed (D.failures self.old.device) (D.failures self.new.device) }
+        ensures honest { D.honest self.new.device → D.honest self.old.device }
+    {
+        if !has_snapshot(&self.live) {
+            return Err(Refusal::NoSnapshot);
+        }
+        write_all(&mut self.live)?;
+        let outcome = self.live.end_keep(alloc);
+        self.live.device();
+        outcome
+    }
+}
+
+/// Whether a snapshot stands.
+fn has_snapshot<D: Device>(live: &Live<D>) -> bool
+    ensures { result ≡ is_some live.now.holdings.snapshot }
+{
+    live.snapshot().is_some()
+}
+
+/// Writes all that is pending; the volume stands then as before.
+fn write_all<D: Device>(live: &mut Live<D>) -> Result<(), Refusal>
+    ensures pending { OnOk result (pending_of live.new.queue ≡ []) }
+    ensures metadata { live.new.kept ≡ live.old.kept }
+    ensures holdings { live.new.holdings ≡ live.old.holdings }
+    ensures flushes { D.honest live.new.device → AreFlushes live.old.kept.geometry (D.image live.old.device) (D.held live.old.device) (pending_of live.old.queue) (D.image live.new.device) (D.held live.new.device) (pending_of live.new.queue) }
+    ensures stands { D.honest live.new.device → StandsSo (D.image live.new.device) live.new }
+    ensures error { IsOkUnless result Refusal.Device }
+    ensures cause { IsErrOf result Refusal.Device → HasFailed (D.failures live.old.device) (D.failures live.new.device) }
+    ensures honest { D.honest live.new.device → D.honest live.old.device }
+{
+    let outcome = live.sync();
+    live.device();
+    outcome
+}
+
+/// Where the block of this index of a file of the snapshot stands. Refused with `NoSnapshot`, and then as `piece_of`.
+fn piece_of_snapshot<D: Device>(live: &Live<D>, inode: u32, index: u32) -> Result<Piece, Refusal>
+    ensures piece { IfOk result (IsPieceOfSnapshot live.now.kept.geometry live.now.holdings inode index) }
+    ensures address { IfOk result (λ piece. IsTrue (is_data_address live.now.kept.geometry piece.block)) }
+    ensures short { IfOk result (λ piece. piece.length ≤ 1024) }
+    ensures refused { IfErr result (λ r. (old : State) → Balance live.now.kept.geometry old → Has live.now.holdings old → FirstRefusal live.now.kept.geometry old (SnapRead inode index) r) }
+    ensures device { IsErrOf result Refusal.Device → ⊥ }
+{
+    match live.snapshot() {
+        Some(snapshot) => piece_of(snapshot, inode, index),
+        None => Err(Refusal::NoSnapshot),
+    }
+}
+
+/// What a check is to see, to keep and to hand out.
+#[derive(Drop)]
+struct Shared {
+    kept: Arc<Frozen>,
+    given: Arc<Frozen>,
+}
+
+/// What a check is to see of a volume.
+fn shared_view<D: Device>(alloc: Global, live: &Live<D>) -> Result<Shared, AllocError>
+    ensures settled { IfOk result (λ shared. IsSettled live.now.kept live.now.holdings (arc_value shared.kept)) }
+    ensures shown { IfOk result (λ shared. D.honest live.now.device → (beside : Beside) → IsImageOf live.now.holdings.snapshot beside.frozen
+        → Shows (arc_value shared.kept) (settled live.now.kept.geometry (state_of (D.image live.now.device) live.now beside))) }
+    ensures whole { IfOk result (λ shared. ((arc_value shared.kept).geometry ≡ live.now.kept.geometry) × KeepsMetadata (arc_value shared.kept)) }
+    ensures given { IfOk result (λ shared. arc_value shared.given ≡ arc_value shared.kept) }
+{
+    let kept = Arc::new(alloc, live.view(alloc)?)?;
+    let given = kept.clone()?;
+    Ok(Shared { kept, given })
+}

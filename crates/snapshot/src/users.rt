@@ -1,0 +1,45 @@
+//! The commands of users, carried out on the mounted volume.
+ghost use Rattle.std.specs.Prelude.{◌≡◌, true, OnErr};
+ghost use Rattle.snapshot.specs.Asked.{asked, is_users};
+ghost use Rattle.snapshot.specs.Replied.{Replied};
+
+use crate::answer::{bytes, count, done, names, number, status};
+use crate::{Command, Reply};
+use device::Device;
+use live::Live;
+use std::alloc::Global;
+
+/// Carries out a command of users, and answers it.
+pub(crate) fn user_reply<D: Device>(live: &mut Live<D>, alloc: Global, command: &Command) -> Reply
+    requires { is_users command.now ≡ true }
+    ensures replied { D.honest live.new.device → Replied (D.held live.old.device) (D.image live.old.device) live.old (asked live.old.kept.geometry command.now) result (D.held live.new.device) (D.image live.new.device) live.new }
+    ensures untouched { OnErr result ((live.new.kept ≡ live.old.kept) × (live.new.holdings ≡ live.old.holdings)) }
+    ensures honest { D.honest live.new.device → D.honest live.old.device }
+{
+    match command {
+        Command::Create(path) => number(live.create(alloc, path)),
+        Command::Mkdir(path) => number(live.mkdir(alloc, path)),
+        Command::Link(path, other) => done(live.link(alloc, path, other)),
+        Command::Unlink(path) => done(live.unlink(alloc, path)),
+        Command::Rmdir(path) => done(live.rmdir(alloc, path)),
+        Command::Rename(path, other) => done(live.rename(alloc, path, other)),
+        Command::Open(path) => number(live.open(path)),
+        Command::Close(handle) => done(live.close(alloc, *handle)),
+        Command::Read { handle, index } => bytes(live.read(alloc, *handle, *index)),
+        Command::Write {
+            handle,
+            index,
+            piece,
+        } => done(live.write(alloc, *handle, *index, piece)),
+        Command::Truncate { handle, size } => done(live.truncate(alloc, *handle, *size)),
+        Command::List(path) => names(live.list(alloc, path)),
+        Command::Stat(path) => status(live.stat(path)),
+        Command::Flush(address) => count(live.flush(*address)),
+        Command::Sync => done(live.sync()),
+        Command::Freeze
+        | Command::SnapRead { .. }
+        | Command::Release
+        | Command::Install(_)
+        | Command::Repair(_) => unreachable!(),
+    }
+}
