@@ -3,9 +3,10 @@ ghost use Rattle.std.specs.Prelude.{◌≡◌, ◌<◌, ◌≤◌, [], Err, IfOk
 ghost use Rattle.layout.specs.declared.refusal.Refusal.TheVariants.{BadWorkers};
 ghost use Rattle.workers.specs.Workers.{may_work};
 
-use crate::failure::{Failure, GAVE_OUT};
+use crate::failure::{Failure, GAVE_OUT, SOFT};
 use crate::jobs::{Answer, allow_workers, bits, check, check_numbers, check_sample, make, told};
 use crate::line::{Job, parse};
+use crate::repairs::repair;
 use device::{Before, FileDevice};
 use layout::Geometry;
 use std::convert::AsStr;
@@ -57,6 +58,7 @@ where
             inodes,
         } => make_file(rt, image, &Geometry::new(groups, blocks, inodes)?),
         Job::Check { image, workers } => check_file(rt, image, workers),
+        Job::Repair { image, workers } => repair_file(rt, image, workers),
         Job::Bits { image } => bits_of_file(rt, image),
         Job::Sample => {
             let findings = check_sample(rt.alloc())?;
@@ -99,6 +101,27 @@ where
     let mut device: FileDevice<R::File, Brand> = FileDevice::open(rt, image)?;
     let checked = check(rt, rt.alloc(), &mut device, workers)?;
     Ok(told(rt.alloc(), &checked)?)
+}
+
+/// Checks a file's image, and mends it where it is soft: only then is the file opened to be written. The number of workers
+/// is looked at before the file.
+fn repair_file<R: Files + AllocGlobal + Threads + Sync>(
+    rt: &R,
+    image: &str,
+    workers: u32,
+) -> Result<Answer, Failure>
+where
+    R::File: FileExt,
+    ensures status { IfOk result (λ answer. answer.status < 3) }
+    ensures workers { IsFalse (may_work workers) → result ≡ Err (Failure.Refused BadWorkers) }
+{
+    let answer = check_file(rt, image, workers)?;
+    if answer.status != SOFT {
+        return Ok(answer);
+    }
+    let device: FileDevice<R::File, Brand> = FileDevice::open_to_write(rt, image)?;
+    let repaired = repair(rt, rt.alloc(), device, workers)?;
+    Ok(repaired.answer)
 }
 
 /// Checks the number maps of a file's image.

@@ -11,6 +11,9 @@ use layout::Refusal;
 use std::alloc::{AllocError, Global};
 use std::io::Write;
 
+/// The image has what soft updates may leave.
+pub const SOFT: u8 = 1;
+
 /// The image is damaged.
 pub const DAMAGED: u8 = 2;
 

@@ -14,6 +14,7 @@ ghost use Rattle.fsvol.specs.Status.{status_of_verdict};
 ghost use Rattle.workers.specs.Workers.{may_work};
 ghost use Rattle.layout.specs.Fresh.{fresh_image};
 
+use crate::failure::{DAMAGED, SOFT};
 use device::{Before, Device, MemDevice, format};
 use findings::{Finding, Verdict, nothing_is_found_on_the_fresh_image, verdict};
 use frozen::load;
@@ -142,8 +143,8 @@ fn status_of_verdict(verdict: Verdict) -> u8
 {
     match verdict {
         Verdict::Clean => 0,
-        Verdict::Soft => 1,
-        Verdict::Damaged => 2,
+        Verdict::Soft => SOFT,
+        Verdict::Damaged => DAMAGED,
     }
 }
 

@@ -25,6 +25,11 @@ pub enum Job<'a> {
         image: &'a str,
         workers: u32,
     },
+    /// An image without what soft updates may leave, by this many workers.
+    Repair {
+        image: &'a str,
+        workers: u32,
+    },
     /// The findings of an image's number maps.
     Bits {
         image: &'a str,
@@ -87,6 +92,10 @@ fn job_of<'a>(matches: &ArgMatches<'a>) -> Option<Job<'a>>
             image: options.get_str("image")?,
             workers: options.get_one("workers")?,
         }),
+        ("repair", options) => Some(Job::Repair {
+            image: options.get_str("image")?,
+            workers: options.get_one("workers")?,
+        }),
         ("bits", options) => Some(Job::Bits {
             image: options.get_str("image")?,
         }),
@@ -102,6 +111,7 @@ fn program<'a>(alloc: Global) -> Result<Command<'a>, AllocError> {
         .subcommand_required(true)
         .subcommand(mkfs(alloc)?)?
         .subcommand(check(alloc)?)?
+        .subcommand(repair(alloc)?)?
         .subcommand(bits(alloc)?)
 }
 
@@ -118,7 +128,14 @@ fn check<'a>(alloc: Global) -> Result<Command<'a>, AllocError> {
     Command::new(alloc, "check")
         .about("Prints the report of an image")
         .arg(image(alloc))?
-        .arg(number(alloc, "workers").help("How many workers, 1 to 64"))
+        .arg(workers(alloc))
+}
+
+fn repair<'a>(alloc: Global) -> Result<Command<'a>, AllocError> {
+    Command::new(alloc, "repair")
+        .about("Prints the report of an image, and mends what soft updates may leave")
+        .arg(image(alloc))?
+        .arg(workers(alloc))
 }
 
 fn bits<'a>(alloc: Global) -> Result<Command<'a>, AllocError> {
@@ -133,6 +150,11 @@ fn image<'a>(alloc: Global) -> Arg<'a> {
         .value_name("IMAGE")
         .required(true)
         .help("The file of the image")
+}
+
+/// How many workers check the image.
+fn workers<'a>(alloc: Global) -> Arg<'a> {
+    number(alloc, "workers").help("How many workers, 1 to 64")
 }
 
 /// A required option with a number.

@@ -5,6 +5,7 @@ mod entry;
 mod failure;
 mod jobs;
 mod line;
+mod repairs;
 #[cfg(test)]
 mod rows;
 

@@ -380,8 +380,59 @@ fn check_prints_the_report_of_an_image(rt: HostRuntime) -> Result<(), Fail> {
     Ok(())
 }
 
+/// The report of an image with a lost directory, and behind it what was mended.
+const LOST_MENDED: &str = "drop inode 6\ndrop inode 7\nlower count 2 by 1\nrepaired 3\n";
+
+/// The same of one whose block 9 is marked.
+const SOFT_MENDED: &str = "free block 9\nrepaired 1\n";
+
 #[test]
-fn check_refuses_other_than_1_to_64_workers(rt: HostRuntime) -> Result<(), Fail> {
+fn repair_gives_a_lost_directory_back(rt: HostRuntime) -> Result<(), Fail> {
+    let image = "rows_repair.img";
+    let fresh = made_small(&rt, image)?;
+    let changes: &[(&[(usize, u8)], &str, &str)] = &[
+        (LOST_DIRECTORY, LOST_REPORT, LOST_MENDED),
+        (&[(1_184, 33)], SOFT_REPORT, SOFT_MENDED),
+    ];
+    for start in ["repair --workers 1", "repair --workers 4"] {
+        for &(values, report, mended) in changes {
+            let mut bytes = fresh.clone()?;
+            set_all(bytes.as_mut_slice(), values);
+            fs::write(&rt, image, bytes.as_slice())?;
+            let out = format!(in rt.alloc(); "{report}{mended}")?;
+            gives(&rt, start, image, printed(out.as_str(), 1))?;
+            gives(&rt, "check --workers 1", image, printed(CLEAN_REPORT, 0))?;
+            gives(&rt, start, image, printed(CLEAN_REPORT, 0))?;
+        }
+    }
+    fs::remove_file(&rt, image)?;
+    Ok(())
+}
+
+#[test]
+fn repair_writes_no_clean_or_damaged_image(rt: HostRuntime) -> Result<(), Fail> {
+    let image = "rows_repair_nothing.img";
+    let fresh = made_small(&rt, image)?;
+    let changes: &[(&[(usize, u8)], Wanted<'_>)] = &[
+        (&[], printed(CLEAN_REPORT, 0)),
+        (&[(1_056, 0)], printed(DAMAGED_REPORT, 2)),
+        (SHARED_BLOCK, printed(SHARED_REPORT, 2)),
+        (&[(0, 0)], refused("refused 4 BadSuper\n", 3)),
+        (&[(1_028, 1)], refused("refused 5 BadGroup 0\n", 3)),
+    ];
+    for &(values, wanted) in changes {
+        let mut bytes = fresh.clone()?;
+        set_all(bytes.as_mut_slice(), values);
+        gives_of_bytes(&rt, "repair --workers 2", image, bytes.as_slice(), wanted)?;
+    }
+    fs::remove_file(&rt, image)?;
+    let wanted = refused("refused 2 Device\n", 4);
+    gives(&rt, "repair --workers 2", image, wanted)?;
+    Ok(())
+}
+
+#[test]
+fn check_and_repair_refuse_other_than_1_to_64_workers(rt: HostRuntime) -> Result<(), Fail> {
     let image = "rows_workers.img";
     let fresh = made_small(&rt, image)?;
     let wanted = refused("refused 6 BadWorkers\n", 3);
@@ -389,6 +440,8 @@ fn check_refuses_other_than_1_to_64_workers(rt: HostRuntime) -> Result<(), Fail>
         "check --workers 0",
         "check --workers 65",
         "check --workers 4294967295",
+        "repair --workers 0",
+        "repair --workers 65",
     ] {
         gives_of_bytes(&rt, start, image, fresh.as_slice(), wanted)?;
         gives(&rt, start, "rows_no_such_file.img", wanted)?;

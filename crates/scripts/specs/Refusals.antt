@@ -1,9 +1,9 @@
--- Which answers refuse a line, and which commands go to the device, and so may change something where they are refused.
+-- Which answers refuse a line, and which requests leave the volume as it is.
 use Rattle.std.specs.Prelude.{Bool, true, false}
 use Rattle.scripts.specs.declared.answer.Answer.{Answer}
 use Rattle.scripts.specs.declared.answer.Answer.TheVariants.{NoCommand, Refused}
-use Rattle.scripts.specs.declared.command.Command.{Command}
-use Rattle.scripts.specs.declared.command.Command.TheVariants.{Fill, Flush, Read, Sync, Write}
+use Rattle.scripts.specs.declared.request.Request.{Request}
+use Rattle.scripts.specs.declared.request.Request.TheVariants.{Command, Install}
 
 -- the line was not carried out
 abbrev pub is_refusal : Answer → Bool
@@ -11,11 +11,8 @@ is_refusal (Refused _) = true
 is_refusal NoCommand = true
 is_refusal _ = false
 
--- it reads the device, or writes to it
-abbrev pub goes_to_the_device : Command → Bool
-goes_to_the_device (Read _ _) = true
-goes_to_the_device (Write _ _ _) = true
-goes_to_the_device (Fill _ _ _ _) = true
-goes_to_the_device (Flush _) = true
-goes_to_the_device Sync = true
-goes_to_the_device _ = false
+-- it only tells what the volume is, or checks what was frozen of it
+abbrev pub asks_only : Request → Bool
+asks_only (Command _) = false
+asks_only Install = false
+asks_only _ = true

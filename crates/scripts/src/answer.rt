@@ -1,35 +1,36 @@
 //! What a line is answered with, and how that is written.
 ghost use Rattle.std.specs.Prelude.{◌≡◌};
 
+use crate::stops::BadStop;
 use findings::Finding;
 use inode::DIRECTORY;
 use layout::Refusal;
 use live::Status;
 use live_paths::Named;
+use snapshot::Answer as VolumeAnswer;
 use std::alloc::AllocError;
 
 /// What a line is answered with.
 #[derive(Drop)]
 pub enum Answer {
-    /// `ok`
-    Done,
-    /// `ok NUMBER`: the number of an inode, or so many blocks.
-    Number(u32),
-    /// `ok COUNT`: so many updates or writes.
+    /// What the volume answers: `ok` alone where there is nothing to tell, and of an image; else
+    /// - `ok NUMBER`
+    /// - `ok HEX`: bytes, each in two digits, and of more than three equal ones in a row `(HEX*COUNT)`
+    /// - `ok NAME=NUMBER NAME=NUMBER`: the names in a directory, and the numbers that they stand for
+    /// - `ok number NUMBER KIND links LINKS size SIZE`
+    Given(VolumeAnswer),
+    /// `ok COUNT`: so many blocks, repairs, writes or stops.
     Count(usize),
+    /// `stop WRITES` and what is wrong with the stop after so many writes: `refused` and the cause, `damaged` and the
+    /// finding, or `other bytes inode INODE index INDEX`.
+    BadStop(BadStop),
     /// `ok ADDRESS`, or `ok none`
     Least(Option<u32>),
-    /// `ok NAME=NUMBER NAME=NUMBER`: the names in a directory, and the numbers that they stand for.
-    Names(Vec<Named>),
-    /// `ok number NUMBER KIND links LINKS size SIZE`
-    Status(Status),
-    /// `ok HEX`: bytes, each in two digits, and of more than three equal ones in a row `(HEX*COUNT)`.
-    Bytes(Vec<u8>),
     /// `ok FINDING; FINDING`: each as its line in a report.
     Findings(Vec<Finding>),
     /// `refused` with the number of the cause and its name.
     Refused(Refusal),
-    /// `no command`: the line has another form.
+    /// `no command`: the line has another form, or is out of place.
     NoCommand,
 }
 
@@ -46,18 +47,26 @@ impl Answer {
     /// Writes the answer behind a text.
     pub fn write_to(&self, text: &mut String) -> Result<(), AllocError> {
         match self {
-            Answer::Done => write!(text, "ok"),
-            Answer::Number(number) => write!(text, "ok {number}"),
+            Answer::Given(answer) => write_given(text, answer),
             Answer::Count(count) => write!(text, "ok {count}"),
+            Answer::BadStop(stop) => stop.write_to(text),
             Answer::Least(Some(address)) => write!(text, "ok {address}"),
             Answer::Least(None) => write!(text, "ok none"),
-            Answer::Names(names) => write_names(text, names.as_slice()),
-            Answer::Status(status) => write_status(text, status),
-            Answer::Bytes(bytes) => write_bytes(text, bytes.as_slice()),
             Answer::Findings(findings) => write_findings(text, findings.as_slice()),
             Answer::Refused(refusal) => write!(text, "refused {refusal}"),
             Answer::NoCommand => write!(text, "no command"),
         }
+    }
+}
+
+/// Writes what the volume answers.
+fn write_given(text: &mut String, answer: &VolumeAnswer) -> Result<(), AllocError> {
+    match answer {
+        VolumeAnswer::Done | VolumeAnswer::Image(_) => write!(text, "ok"),
+        VolumeAnswer::Number(number) => write!(text, "ok {number}"),
+        VolumeAnswer::Bytes(bytes) => write_bytes(text, bytes.as_slice()),
+        VolumeAnswer::Names(names) => write_names(text, names.as_slice()),
+        VolumeAnswer::Status(status) => write_status(text, status),
     }
 }
 

@@ -1,76 +1,141 @@
-//! Commands carried out on a mounted volume, whatever its device.
-ghost use Rattle.std.specs.Prelude.{◌≡◌, false, true, IfOk, MatchResult, Ok, Err, OnErr};
-ghost use Rattle.scripts.specs.Refusals.{goes_to_the_device, is_refusal};
+//! Requests carried out on a mounted volume, whatever its device.
+ghost use Rattle.std.specs.Prelude.{◌≡◌, true};
+ghost use Rattle.scripts.specs.Refusals.{asks_only, is_refusal};
 
 use crate::answer::Answer;
-use crate::command::Command;
+use crate::request::Request;
 use device::Device;
+use findings::Finding;
+use frozen::Frozen;
+use fsck::{Checked, check_one};
 use layout::Refusal;
 use live::Live;
+use snapshot::{Answer as VolumeAnswer, Command, Volume};
 use std::alloc::Global;
+use std::sync::Arc;
+use std::thread::Threads;
 
-/// How many bytes `fill` gives to a write at most: one more than a write takes.
-const MOST_FILLED: u32 = 1025;
+/// A mounted volume, and what was seen of it.
+#[derive(Drop)]
+pub struct Mounted<D: Device> {
+    volume: Volume<D>,
+    /// The image that was frozen last.
+    frozen: Option<Arc<Frozen>>,
+    /// The check that was inspected last.
+    checked: Option<Arc<Checked>>,
+}
 
-/// Carries out a command. One that is refused changes nothing, unless it goes to the device: the writes of `flush` and
-/// `sync` before a fault stay, and a device need not be the same once it was read.
-pub fn carry_out<D: Device>(alloc: Global, live: &mut Live<D>, command: Command<'_>) -> Answer
-    ensures untouched { goes_to_the_device command.entry ≡ false → is_refusal result ≡ true → live.new ≡ live.old }
-    ensures device { goes_to_the_device command.entry ≡ false → live.new.device ≡ live.old.device }
-{
-    match answer_of(alloc, live, command) {
-        Ok(answer) => answer,
-        Err(refusal) => Answer::Refused(refusal),
+/// Mounts the volume of a device, or tells why it cannot be.
+pub fn mount<D: Device + Drop>(alloc: Global, device: D) -> Result<Mounted<D>, Refusal> {
+    match Live::mount(alloc, device) {
+        Ok(live) => Ok(Mounted {
+            volume: Volume::new(live),
+            frozen: None,
+            checked: None,
+        }),
+        Err(refused) => Err(refused.cause),
     }
 }
 
-/// Carries out a command, and gives its answer unless it is refused.
-fn answer_of<D: Device>(
-    alloc: Global,
-    live: &mut Live<D>,
-    command: Command<'_>,
-) -> Result<Answer, Refusal>
-    ensures answer { IfOk result (λ answer. is_refusal answer ≡ false) }
-    ensures untouched { OnErr result (goes_to_the_device command.entry ≡ false → live.new ≡ live.old) }
-    ensures device { goes_to_the_device command.entry ≡ false → live.new.device ≡ live.old.device }
-{
-    match command {
-        Command::Create(path) => Ok(Answer::Number(live.create(alloc, path)?)),
-        Command::Mkdir(path) => Ok(Answer::Number(live.mkdir(alloc, path)?)),
-        Command::Link(path, other) => done(live.link(alloc, path, other)),
-        Command::Unlink(path) => done(live.unlink(alloc, path)),
-        Command::Rmdir(path) => done(live.rmdir(alloc, path)),
-        Command::Rename(path, other) => done(live.rename(alloc, path, other)),
-        Command::Open(path) => Ok(Answer::Number(live.open(path)?)),
-        Command::Close(handle) => done(live.close(alloc, handle)),
-        Command::Read { handle, index } => Ok(Answer::Bytes(live.read(alloc, handle, index)?)),
-        Command::Write {
-            handle,
-            index,
-            piece,
-        } => done(live.write(alloc, handle, index, piece)),
-        Command::Fill {
-            handle,
-            index,
-            count,
-            byte,
-        } => {
-            let piece = vec![in alloc; byte; count.min(MOST_FILLED) as usize]?;
-            done(live.write(alloc, handle, index, piece.as_slice()))
+impl<D: Device> Mounted<D> {
+    /// The device.
+    pub fn device(&self) -> &D {
+        self.volume.live().device()
+    }
+
+    /// The number that a path leads to.
+    pub fn number_of(&self, path: &[u8]) -> Option<u32> {
+        let status = self.volume.live().stat(path).ok()?;
+        Some(status.number)
+    }
+
+    /// Whether the file of a handle has a block of this index.
+    pub fn has_block(&mut self, alloc: Global, handle: u32, index: u32) -> bool {
+        self.volume
+            .apply(alloc, &Command::Read { handle, index })
+            .is_ok()
+    }
+
+    /// Carries out a request. One that is refused leaves what users see, what is open and held, the repairs, and what was
+    /// frozen and inspected last, as they were: the writes of `flush`, `sync`, `freeze` and `release` before a fault stay,
+    /// and a device need not be the same once it was read.
+    pub fn carry_out(
+        &mut self,
+        rt: &(impl Threads + Sync),
+        alloc: Global,
+        request: Request,
+    ) -> Answer
+        ensures untouched { is_refusal result ≡ true → (self.new.volume.kept ≡ self.old.volume.kept) × (self.new.volume.holdings ≡ self.old.volume.holdings) }
+        ensures remembered { is_refusal result ≡ true → (self.new.frozen ≡ self.old.frozen) × (self.new.checked ≡ self.old.checked) }
+        ensures asked { asks_only request ≡ true → self.new.volume ≡ self.old.volume }
+    {
+        match request {
+            Request::Command(command) => self.apply(alloc, &command),
+            Request::Inspect => self.inspect(rt, alloc),
+            Request::Install => self.install(alloc),
+            Request::Plan => Answer::Count(self.volume.plan_len()),
+            Request::Unmarked => Answer::Count(self.volume.live().unmarked_blocks() as usize),
+            Request::Ready => Answer::Least(self.volume.live().least_ready()),
         }
-        Command::Truncate { handle, size } => done(live.truncate(alloc, handle, size)),
-        Command::Sync => done(live.sync()),
-        Command::List(path) => Ok(Answer::Names(live.list(alloc, path)?)),
-        Command::Stat(path) => Ok(Answer::Status(live.stat(path)?)),
-        Command::Flush(address) => Ok(Answer::Count(live.flush(address)?)),
-        Command::Unmarked => Ok(Answer::Number(live.unmarked_blocks())),
-        Command::Ready => Ok(Answer::Least(live.least_ready())),
+    }
+
+    /// Carries out a command, and keeps an image that it froze.
+    fn apply(&mut self, alloc: Global, command: &Command) -> Answer
+        ensures untouched { is_refusal result ≡ true → (self.new.volume.kept ≡ self.old.volume.kept) × (self.new.volume.holdings ≡ self.old.volume.holdings) }
+        ensures frozen { is_refusal result ≡ true → self.new.frozen ≡ self.old.frozen }
+        ensures checked { self.new.checked ≡ self.old.checked }
+    {
+        match self.volume.apply(alloc, command) {
+            Ok(VolumeAnswer::Image(frozen)) => {
+                self.frozen = Some(frozen);
+                Answer::Given(VolumeAnswer::Done)
+            }
+            Ok(answer) => Answer::Given(answer),
+            Err(refusal) => Answer::Refused(refusal),
+        }
+    }
+
+    /// Checks the image that was frozen last, and keeps the check; tells what it found.
+    fn inspect(&mut self, rt: &(impl Threads + Sync), alloc: Global) -> Answer
+        ensures volume { self.new.volume ≡ self.old.volume }
+        ensures frozen { self.new.frozen ≡ self.old.frozen }
+        ensures checked { is_refusal result ≡ true → self.new.checked ≡ self.old.checked }
+    {
+        let Some(frozen) = &self.frozen else {
+            return Answer::NoCommand;
+        };
+        match inspection(rt, alloc, frozen) {
+            Ok((checked, findings)) => {
+                self.checked = Some(checked);
+                Answer::Findings(findings)
+            }
+            Err(refusal) => Answer::Refused(refusal),
+        }
+    }
+
+    /// Installs the check that was inspected last.
+    fn install(&mut self, alloc: Global) -> Answer
+        ensures untouched { is_refusal result ≡ true → (self.new.volume.kept ≡ self.old.volume.kept) × (self.new.volume.holdings ≡ self.old.volume.holdings) }
+        ensures frozen { is_refusal result ≡ true → self.new.frozen ≡ self.old.frozen }
+        ensures checked { self.new.checked ≡ self.old.checked }
+    {
+        let Some(checked) = &self.checked else {
+            return Answer::NoCommand;
+        };
+        match checked.clone() {
+            Ok(checked) => self.apply(alloc, &Command::Install(checked)),
+            Err(_) => Answer::Refused(Refusal::NoMemory),
+        }
     }
 }
 
-/// The answer of a command that has no other than that it was carried out.
-fn done(outcome: Result<(), Refusal>) -> Result<Answer, Refusal>
-    ensures { MatchResult outcome (λ _. result ≡ Ok Answer.Done) (λ refusal. result ≡ Err refusal) }
-{
-    outcome.map(|()| Answer::Done)
+/// The check of an image, and what it found.
+fn inspection(
+    rt: &(impl Threads + Sync),
+    alloc: Global,
+    frozen: &Arc<Frozen>,
+) -> Result<(Arc<Checked>, Vec<Finding>), Refusal> {
+    let checked = check_one(rt, alloc, frozen)?;
+    let findings = checked.findings().to_vec(alloc)?;
+    Ok((Arc::new(alloc, checked)?, findings))
 }

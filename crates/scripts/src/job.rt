@@ -81,7 +81,7 @@ fn lists<R: Files + AllocGlobal + Threads + Sync>(
 }
 
 /// Carries out the commands of a file on an image.
-fn run<R: Files + AllocGlobal>(rt: &R, image: &str, file: &str) -> Result<Output>
+fn run<R: Files + AllocGlobal + Threads + Sync>(rt: &R, image: &str, file: &str) -> Result<Output>
 where
     R::File: FileExt,
 {

@@ -1,13 +1,14 @@
 //! The lines of a file.
-use crate::command::Command;
+use crate::request::Request;
 use crate::words::{first_word, three_numbers};
+use std::alloc::{AllocError, Global};
 
 /// What stands between a command and its answer.
 const ARROW: &[u8] = b" -> ";
 
 /// What a line of a list asks for.
-#[derive(Clone, Copy)]
-pub enum Line<'a> {
+#[derive(Drop)]
+pub enum Line {
     /// `volume GROUPS BLOCKS INODES`: a list begins, on a fresh volume of so many groups, and blocks and inodes in each.
     Volume {
         groups: u32,
@@ -24,38 +25,42 @@ pub enum Line<'a> {
     Check,
     /// `stop`: what is pending is lost, and what the device holds is mounted.
     Stop,
+    /// `stops`: what a stop would have left after each write since the volume was mounted is mounted, checked, and the
+    /// bytes of its files are compared with what they had. It counts these stops, or tells the first that is not safe.
+    Stops,
     /// `writes`: how many writes the device got since the volume was made.
     Writes,
-    /// A command to the mounted volume.
-    Command(Command<'a>),
+    /// A request to the mounted volume.
+    Request(Request),
     /// A line of another form.
     Other,
 }
 
-impl<'a> Line<'a> {
+impl Line {
     /// What a line without its answer asks for.
-    pub fn parse(line: &'a [u8]) -> Line<'a> {
-        match Line::of_the_list(line) {
-            Some(line) => line,
-            None => match Command::parse(line) {
-                Some(command) => Line::Command(command),
-                None => Line::Other,
-            },
+    pub fn parse(alloc: Global, line: &[u8]) -> Result<Line, AllocError> {
+        if let Some(line) = Line::of_the_list(line) {
+            return Ok(line);
         }
+        Ok(match Request::parse(alloc, line)? {
+            Some(request) => Line::Request(request),
+            None => Line::Other,
+        })
     }
 
     /// What a line asks for of the list, if it does.
-    fn of_the_list(line: &'a [u8]) -> Option<Line<'a>> {
+    fn of_the_list(line: &[u8]) -> Option<Line> {
         match line {
             b"check" => Some(Line::Check),
             b"stop" => Some(Line::Stop),
+            b"stops" => Some(Line::Stops),
             b"writes" => Some(Line::Writes),
             _ => Line::of_numbers(line),
         }
     }
 
     /// What a line of a name and three numbers asks for.
-    fn of_numbers(line: &'a [u8]) -> Option<Line<'a>> {
+    fn of_numbers(line: &[u8]) -> Option<Line> {
         let (name, words) = first_word(line);
         let (first, second, third) = three_numbers(words?)?;
         match name {

@@ -93,11 +93,11 @@ fn carry_out_line(
         return Ok(());
     }
     let (asked, wanted) = parted(line);
-    let asked = Line::parse(asked);
+    let asked = Line::parse(alloc, asked)?;
     if matches!(asked, Line::Volume { .. }) {
         outcome.lists = outcome.lists.saturating_add(1);
     }
-    match session.carry_out(rt, alloc, asked) {
+    match session.carry_out(rt, alloc, asked)? {
         Some(answer) => outcome.add(alloc, number, &answer, wanted),
         None => Ok(()),
     }

@@ -7,18 +7,21 @@
 //!   lines there were and how many of them were refused.
 //!
 //! Lines end by a line feed. An empty line, and one that begins with `#`, is skipped. A line is a command, or a command,
-//! ` -> ` and its answer; a blank parts its words. What the commands are stands at `command::Command`, what else a list has
-//! at `line::Line`, and what the answers are at `answer::Answer`.
+//! ` -> ` and its answer; a blank parts its words. What the commands are stands in `request`, what else a list has at
+//! `line::Line`, and what the answers are at `answer::Answer`.
 #![tactic(auto)]
 
 mod answer;
 mod carrying;
-mod command;
+mod history;
 mod job;
 mod line;
 mod lists;
+mod recorded;
+mod request;
 mod runs;
 mod session;
+mod stops;
 mod words;
 
 use anyhow::Result;

@@ -1,16 +1,16 @@
 //! Commands carried out on the volume of an image in a file.
 use crate::answer::Answer;
-use crate::carrying::carry_out;
-use crate::command::Command;
+use crate::carrying::{Mounted, mount};
 use crate::line::{is_skipped, parted};
-use crate::session::mount;
+use crate::request::Request;
 use device::{Device, FileDevice};
 use layout::Refusal;
-use live::Live;
-use std::alloc::Global;
+use snapshot::Command;
+use std::alloc::{AllocError, Global};
 use std::marker::Brand;
 use std::os::unix::fs::FileExt;
 use std::rt::Files;
+use std::thread::Threads;
 
 /// How many lines there were.
 #[derive(Clone, Copy)]
@@ -22,7 +22,7 @@ pub struct Count {
 }
 
 /// Carries out the commands of a file with these bytes on the volume of an image, and syncs it.
-pub fn carry_out_on<R: Files + AllocGlobal>(
+pub fn carry_out_on<R: Files + AllocGlobal + Threads + Sync>(
     rt: &R,
     image: &str,
     bytes: &[u8],
@@ -31,14 +31,21 @@ where
     R::File: FileExt,
 {
     let device: FileDevice<R::File, Brand> = FileDevice::open_to_write(rt, image)?;
-    let mut live = mount(rt.alloc(), device)?;
-    let count = carry_out_all(rt.alloc(), &mut live, bytes);
-    live.sync()?;
-    Ok(count)
+    let mut mounted = mount(rt.alloc(), device)?;
+    let count = carry_out_all(rt, rt.alloc(), &mut mounted, bytes)?;
+    match mounted.carry_out(rt, rt.alloc(), Request::Command(Command::Sync)) {
+        Answer::Refused(refusal) => Err(refusal),
+        _ => Ok(count),
+    }
 }
 
 /// Carries out the commands on a mounted volume.
-fn carry_out_all<D: Device>(alloc: Global, live: &mut Live<D>, bytes: &[u8]) -> Count {
+fn carry_out_all<D: Device>(
+    rt: &(impl Threads + Sync),
+    alloc: Global,
+    mounted: &mut Mounted<D>,
+    bytes: &[u8],
+) -> Result<Count, AllocError> {
     let mut count = Count {
         lines: 0,
         refused: 0,
@@ -48,18 +55,23 @@ fn carry_out_all<D: Device>(alloc: Global, live: &mut Live<D>, bytes: &[u8]) -> 
             continue;
         }
         count.lines = count.lines.saturating_add(1);
-        if carry_out_line(alloc, live, line).is_refusal() {
+        if carry_out_line(rt, alloc, mounted, line)?.is_refusal() {
             count.refused = count.refused.saturating_add(1);
         }
     }
-    count
+    Ok(count)
 }
 
 /// Carries out a line.
-fn carry_out_line<D: Device>(alloc: Global, live: &mut Live<D>, line: &[u8]) -> Answer {
+fn carry_out_line<D: Device>(
+    rt: &(impl Threads + Sync),
+    alloc: Global,
+    mounted: &mut Mounted<D>,
+    line: &[u8],
+) -> Result<Answer, AllocError> {
     let (asked, _wanted) = parted(line);
-    match Command::parse(asked) {
-        Some(command) => carry_out(alloc, live, command),
+    Ok(match Request::parse(alloc, asked)? {
+        Some(request) => mounted.carry_out(rt, alloc, request),
         None => Answer::NoCommand,
-    }
+    })
 }

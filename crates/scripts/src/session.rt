@@ -1,26 +1,26 @@
 //! A volume in memory, and what the lines of a list do to it.
 use crate::answer::Answer;
-use crate::carrying::carry_out;
 use crate::line::Line;
+use crate::recorded::{Recorded, copy_of};
 use device::{Before, Device, MemDevice, format};
 use findings::Finding;
 use frozen::load;
 use fsck::check_one;
 use layout::{BLOCK_BYTES, Geometry, Refusal};
-use live::Live;
-use std::alloc::Global;
+use snapshot::Answer as VolumeAnswer;
+use std::alloc::{AllocError, Global};
 use std::sync::Arc;
 use std::thread::Threads;
 
 /// A volume in memory.
 #[derive(Drop)]
-enum Volume {
+enum Stage {
     /// There is none yet.
     Absent,
     /// It was made, and is not mounted yet.
     Made(MemDevice),
     /// It is mounted.
-    Mounted(Live<MemDevice>),
+    Mounted(Recorded),
     /// It could not be made or mounted.
     Refused(Refusal),
 }
@@ -28,7 +28,7 @@ enum Volume {
 /// The volume of a list.
 #[derive(Drop)]
 pub struct Session {
-    volume: Volume,
+    volume: Stage,
     /// How many writes were made before the volume was mounted for the last time.
     earlier_writes: usize,
 }
@@ -37,7 +37,7 @@ impl Session {
     /// Before the first list.
     pub fn new() -> Session {
         Session {
-            volume: Volume::Absent,
+            volume: Stage::Absent,
             earlier_writes: 0,
         }
     }
@@ -47,9 +47,9 @@ impl Session {
         &mut self,
         rt: &(impl Threads + Sync),
         alloc: Global,
-        line: Line<'_>,
-    ) -> Option<Answer> {
-        match line {
+        line: Line,
+    ) -> Result<Option<Answer>, AllocError> {
+        Ok(match line {
             Line::Volume {
                 groups,
                 blocks,
@@ -64,11 +64,11 @@ impl Session {
                 value,
             } => self.set_byte(address, place, value),
             Line::Other => Some(Answer::NoCommand),
-            Line::Check | Line::Stop | Line::Writes | Line::Command(_) => {
+            Line::Check | Line::Stop | Line::Stops | Line::Writes | Line::Request(_) => {
                 self.mount(alloc);
-                Some(self.answer(rt, alloc, line))
+                Some(self.answer(rt, alloc, line)?)
             }
-        }
+        })
     }
 
     /// Makes a fresh volume of these numbers, in place of the one that was there.
@@ -77,60 +77,67 @@ impl Session {
         self.volume = match Geometry::new(groups, blocks, inodes).and_then(|geometry| fresh_device(
             alloc, &geometry,
         )) {
-            Ok(device) => Volume::Made(device),
-            Err(refusal) => Volume::Refused(refusal),
+            Ok(device) => Stage::Made(device),
+            Err(refusal) => Stage::Refused(refusal),
         };
     }
 
     /// Sets a byte of a block before the volume is mounted; it cannot be mounted where it has no such byte.
     fn set_byte(&mut self, address: u32, place: u32, value: u8) -> Option<Answer> {
         match &mut self.volume {
-            Volume::Made(device) => {
+            Stage::Made(device) => {
                 if let Err(refusal) = put_byte(device, address, place as usize, value) {
-                    self.volume = Volume::Refused(refusal);
+                    self.volume = Stage::Refused(refusal);
                 }
                 None
             }
-            Volume::Refused(_) => None,
-            Volume::Absent | Volume::Mounted(_) => Some(Answer::NoCommand),
+            Stage::Refused(_) => None,
+            Stage::Absent | Stage::Mounted(_) => Some(Answer::NoCommand),
         }
     }
 
     /// Mounts a volume that was made.
     fn mount(&mut self, alloc: Global) {
-        if let Volume::Made(device) = &self.volume {
-            self.volume = mounted(alloc, device);
+        if let Stage::Made(device) = &self.volume {
+            self.volume = mounted_copy(alloc, device);
         }
     }
 
     /// The answer of a line that is a command.
-    fn answer(&mut self, rt: &(impl Threads + Sync), alloc: Global, line: Line<'_>) -> Answer {
-        match &mut self.volume {
-            Volume::Absent | Volume::Made(_) => Answer::NoCommand,
-            Volume::Refused(refusal) => Answer::Refused(*refusal),
-            Volume::Mounted(live) => match line {
-                Line::Command(command) => carry_out(alloc, live, command),
-                Line::Check => found(rt, alloc, live.device()),
+    fn answer(
+        &mut self,
+        rt: &(impl Threads + Sync),
+        alloc: Global,
+        line: Line,
+    ) -> Result<Answer, AllocError> {
+        Ok(match &mut self.volume {
+            Stage::Absent | Stage::Made(_) => Answer::NoCommand,
+            Stage::Refused(refusal) => Answer::Refused(*refusal),
+            Stage::Mounted(recorded) => match line {
+                Line::Request(request) => recorded.carry_out(rt, alloc, request)?,
+                Line::Check => found(rt, alloc, recorded.device()),
                 Line::Writes => Answer::Count(
-                    self.earlier_writes.saturating_add(live.device().writes()),
+                    self.earlier_writes
+                        .saturating_add(recorded.device().writes()),
                 ),
                 Line::Stop => self.stop(alloc),
+                Line::Stops => recorded.stops(rt, alloc),
                 Line::Volume { .. } | Line::Byte { .. } | Line::Other => Answer::NoCommand,
             },
-        }
+        })
     }
 
     /// Mounts what the device of a mounted volume holds.
     fn stop(&mut self, alloc: Global) -> Answer {
-        let Volume::Mounted(live) = &self.volume else {
+        let Stage::Mounted(recorded) = &self.volume else {
             return Answer::NoCommand;
         };
-        let device = live.device();
+        let device = recorded.device();
         self.earlier_writes = self.earlier_writes.saturating_add(device.writes());
-        self.volume = mounted(alloc, device);
+        self.volume = mounted_copy(alloc, device);
         match &self.volume {
-            Volume::Refused(refusal) => Answer::Refused(*refusal),
-            Volume::Absent | Volume::Made(_) | Volume::Mounted(_) => Answer::Done,
+            Stage::Refused(refusal) => Answer::Refused(*refusal),
+            Stage::Absent | Stage::Made(_) | Stage::Mounted(_) => Answer::Given(VolumeAnswer::Done),
         }
     }
 }
@@ -169,21 +176,11 @@ fn put_byte<D: Device>(
 }
 
 /// What a device holds, mounted on a device of its own that was never written.
-fn mounted(alloc: Global, device: &MemDevice) -> Volume {
-    match copy_of(alloc, device).and_then(|copy| mount(alloc, copy)) {
-        Ok(live) => Volume::Mounted(live),
-        Err(refusal) => Volume::Refused(refusal),
+fn mounted_copy(alloc: Global, device: &MemDevice) -> Stage {
+    match Recorded::mount(alloc, device) {
+        Ok(recorded) => Stage::Mounted(recorded),
+        Err(refusal) => Stage::Refused(refusal),
     }
-}
-
-/// Mounts the volume of a device, or tells why it cannot be.
-pub fn mount<D: Device + Drop>(alloc: Global, device: D) -> Result<Live<D>, Refusal> {
-    Live::mount(alloc, device).map_err(|refused| refused.cause)
-}
-
-/// A device that holds what this one holds, and was never written.
-fn copy_of(alloc: Global, device: &MemDevice) -> Result<MemDevice, Refusal> {
-    device.image_after(alloc, device.writes())
 }
 
 /// The answer of a check of what a device holds.

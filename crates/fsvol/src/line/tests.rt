@@ -91,6 +91,20 @@ fn reads_check(rt: HostRuntime) -> Result<(), Fail> {
 }
 
 #[test]
+fn reads_repair(rt: HostRuntime) -> Result<(), Fail> {
+    for (line, workers) in [
+        ("repair --workers 1 a.img", 1),
+        ("repair a.img --workers=65", 65),
+    ] {
+        let words = words_of(rt.alloc(), line)?;
+        let job = parse(rt.alloc(), words.as_slice()).ok().ok_or(line)?;
+        let image = "a.img";
+        assert!(rt; job == Job::Repair { image, workers }, "{line}");
+    }
+    Ok(())
+}
+
+#[test]
 fn reads_no_words(rt: HostRuntime) -> Result<(), Fail> {
     let words: Vec<String> = Vec::new(rt.alloc());
     let job = parse(rt.alloc(), words.as_slice()).ok().ok_or("a job")?;

@@ -1,0 +1,6 @@
+mod Upkeep
+mod Syncing
+mod Cycle
+mod Joining
+mod Seen
+mod Ended

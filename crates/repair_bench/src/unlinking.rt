@@ -1,0 +1,39 @@
+//! Files are unlinked, while a snapshot stands or not.
+use crate::job::mounted;
+use anyhow::Result;
+use device::MemDevice;
+use layout::Refusal;
+use snapshot::{Command, Volume};
+use std::alloc::Global;
+use std::fs;
+use std::rt::Files;
+
+/// Unlinks the files of these paths, which a file lists, and counts them. Nothing is written to the device.
+pub fn unlink_all(
+    rt: &(impl Files + AllocGlobal),
+    image: &str,
+    paths: &str,
+    snapshot: bool,
+) -> Result<usize> {
+    let alloc = rt.alloc();
+    let listed = fs::read(rt, paths)?;
+    let mut volume = mounted(rt, image)?;
+    if snapshot {
+        volume.freeze(alloc)?;
+    }
+    let mut count = 0usize;
+    for path in listed.as_slice().split(|byte| *byte == b'\n') {
+        if !path.is_empty() {
+            unlink(alloc, &mut volume, path)?;
+            count = count.saturating_add(1);
+        }
+    }
+    Ok(count)
+}
+
+/// Unlinks a file.
+fn unlink(alloc: Global, volume: &mut Volume<MemDevice>, path: &[u8]) -> Result<(), Refusal> {
+    let path = path.to_vec(alloc)?;
+    volume.apply(alloc, &Command::Unlink(path))?;
+    Ok(())
+}
