@@ -2,22 +2,17 @@
 ghost use Rattle.std.specs.Prelude.{◌≡◌};
 
 use crate::stops::BadStop;
+use command_text::write_answer;
 use findings::Finding;
-use inode::DIRECTORY;
 use layout::Refusal;
-use live::Status;
-use live_paths::Named;
 use snapshot::Answer as VolumeAnswer;
 use std::alloc::AllocError;
 
 /// What a line is answered with.
 #[derive(Drop)]
 pub enum Answer {
-    /// What the volume answers: `ok` alone where there is nothing to tell, and of an image; else
-    /// - `ok NUMBER`
-    /// - `ok HEX`: bytes, each in two digits, and of more than three equal ones in a row `(HEX*COUNT)`
-    /// - `ok NAME=NUMBER NAME=NUMBER`: the names in a directory, and the numbers that they stand for
-    /// - `ok number NUMBER KIND links LINKS size SIZE`
+    /// What the volume answers, as `command_text` writes it, but for bytes: `ok HEX` has two digits for each, and of more
+    /// than three equal ones in a row `(HEX*COUNT)`.
     Given(VolumeAnswer),
     /// `ok COUNT`: so many blocks, repairs, writes or stops.
     Count(usize),
@@ -62,52 +57,9 @@ impl Answer {
 /// Writes what the volume answers.
 fn write_given(text: &mut String, answer: &VolumeAnswer) -> Result<(), AllocError> {
     match answer {
-        VolumeAnswer::Done | VolumeAnswer::Image(_) => write!(text, "ok"),
-        VolumeAnswer::Number(number) => write!(text, "ok {number}"),
         VolumeAnswer::Bytes(bytes) => write_bytes(text, bytes.as_slice()),
-        VolumeAnswer::Names(names) => write_names(text, names.as_slice()),
-        VolumeAnswer::Status(status) => write_status(text, status),
+        _ => write_answer(text, answer),
     }
-}
-
-/// Writes the names in a directory.
-fn write_names(text: &mut String, names: &[Named]) -> Result<(), AllocError> {
-    write!(text, "ok")?;
-    for named in names {
-        let number = named.number;
-        write!(text, " ")?;
-        write_name(text, named.name.as_slice())?;
-        write!(text, "={number}")?;
-    }
-    Ok(())
-}
-
-/// Writes a name. Its bytes from 33 to 126 are written as they are, but for `%`; each other one as `%` and two digits.
-fn write_name(text: &mut String, name: &[u8]) -> Result<(), AllocError> {
-    for byte in name {
-        match *byte {
-            b'%' => write!(text, "%25")?,
-            33..=126 => text.push(char::from(*byte))?,
-            _ => write!(text, "%{byte:02x}")?,
-        }
-    }
-    Ok(())
-}
-
-/// Writes what an inode is.
-fn write_status(text: &mut String, status: &Status) -> Result<(), AllocError> {
-    let Status {
-        number,
-        mode,
-        links,
-        size,
-    } = *status;
-    let kind = if mode == DIRECTORY {
-        "directory"
-    } else {
-        "file"
-    };
-    write!(text, "ok number {number} {kind} links {links} size {size}")
 }
 
 /// Writes bytes.

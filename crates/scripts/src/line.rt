@@ -1,6 +1,6 @@
 //! The lines of a file.
 use crate::request::Request;
-use crate::words::{first_word, three_numbers};
+use command_text::{first_word, three_numbers};
 use std::alloc::{AllocError, Global};
 
 /// What stands between a command and its answer.

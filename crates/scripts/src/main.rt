@@ -22,7 +22,6 @@ mod request;
 mod runs;
 mod session;
 mod stops;
-mod words;
 
 use anyhow::Result;
 use job::{Output, parse, perform};

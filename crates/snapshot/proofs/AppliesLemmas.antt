@@ -77,7 +77,7 @@ releasing honest held_of image_of old new command asks (Err r) reply told done r
 
 -- ---- one after another
 
-zip_push : {A B : Type 0} (R : A → B → Type 0) (xs : List A) (ys : List B) (x : A) (y : B) → AllZip R xs ys → R x y → AllZip R (xs ++ x ∷ []) (ys ++ y ∷ [])
+pub zip_push : {A B : Type 0} (R : A → B → Type 0) (xs : List A) (ys : List B) (x : A) (y : B) → AllZip R xs ys → R x y → AllZip R (xs ++ x ∷ []) (ys ++ y ∷ [])
 zip_push R [] [] x y all here = (here, tt)
 zip_push R (a ∷ xs) (b ∷ ys) x y all here = (all.0, zip_push R xs ys x y all.1 here)
 zip_push R [] (b ∷ ys) x y all here = absurd all
@@ -116,7 +116,7 @@ module _ {D : Type 0} (held held' held'' : List (List (List ℕ))) (image image'
 
 -- and before the first one
 module _ {D : Type 0} (held : List (List (List ℕ))) (image : List (List ℕ)) (live : Alive D) where
-  goes_nowhere : (beside : Beside) → IsBeside image live beside → Goes beside held image live [] [] beside held image live
+  pub goes_nowhere : (beside : Beside) → IsBeside image live beside → Goes beside held image live [] [] beside held image live
   goes_nowhere beside is = record {
     geometry = refl;
     is = is;

@@ -1,9 +1,11 @@
 mod Alike
-mod AppliesLemmas
+mod AnswerLemmas
+pub mod AppliesLemmas
+mod Blaming
 mod CallLemmas
 mod Going
 mod Installs
-mod Joining
+pub mod Joining
 mod PieceLemmas
 mod ReadLemmas
 mod Splitting

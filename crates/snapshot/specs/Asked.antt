@@ -78,3 +78,9 @@ IsReply _ _ = ⊥
 -- and so do replies, one by one
 abbrev pub AreReplies : List (Result Answer Refusal) → List Response → Type 0
 AreReplies replies responses = AllZip IsReply replies responses
+
+-- an answer of bytes, or of names
+abbrev pub HasBytesOrNames : Result Answer Refusal → Type 0
+HasBytesOrNames (Ok (Bytes bytes)) = Unit {0}
+HasBytesOrNames (Ok (Names names)) = Unit {0}
+HasBytesOrNames _ = ⊥

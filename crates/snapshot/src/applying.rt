@@ -1,10 +1,15 @@
-ghost use Rattle.std.specs.Prelude.{◌≡◌, true, IfOk, IsOkUnless, OnErr, map};
-ghost use Rattle.snapshot.specs.Asked.{asked, is_users};
+ghost use Rattle.std.specs.Prelude.{◌≡◌, ℕ, true, IfOk, IsErrOf, IsOkUnless, OnErr, map};
+ghost use Rattle.std.specs.List.{All};
+ghost use Rattle.device.specs.Writes.{HasFailed};
+ghost use Rattle.queue_model.specs.Blocks.{home_of};
+ghost use Rattle.queue_model.specs.Flush.{ready, taken};
+ghost use Rattle.softdep.specs.Queued.{pending_of};
+ghost use Rattle.snapshot.specs.Asked.{HasBytesOrNames, asked, is_users};
 ghost use Rattle.snapshot.specs.Goes.{Applies, Runs};
 
 use crate::answer::{bytes, done, image};
 use crate::users::user_reply;
-use crate::{Command, Reply, Volume};
+use crate::{Answer, Command, Reply, Volume};
 use device::Device;
 use layout::Refusal;
 use std::alloc::Global;
@@ -15,6 +20,12 @@ impl<D: Device> Volume<D> {
     pub fn apply(&mut self, alloc: Global, command: &Command) -> Reply
         ensures applied { D.honest self.new.device → Applies (D.held self.old.device) (D.image self.old.device) self.old (asked self.old.kept.geometry command.now) result (D.held self.new.device) (D.image self.new.device) self.new }
         ensures untouched { OnErr result ((self.new.kept ≡ self.old.kept) × (self.new.holdings ≡ self.old.holdings)) }
+        // An answer of bytes or names leaves all of that too.
+        ensures reading { HasBytesOrNames result → (self.new.kept ≡ self.old.kept) × (self.new.holdings ≡ self.old.holdings) }
+        // A flush counts the updates of its block that could go.
+        ensures flushed { (a : ℕ) → command.now ≡ Command.Flush a → D.honest self.new.device → IfOk result (λ answer. answer ≡ Answer.Number (taken (ready (home_of self.old.kept.geometry) a (pending_of self.old.queue)))) }
+        ensures cause { IsErrOf result Refusal.Device → HasFailed (D.failures self.old.device) (D.failures self.new.device) }
+        ensures no_trace { IsErrOf result Refusal.TraceFull → ⊥ }
         ensures honest { D.honest self.new.device → D.honest self.old.device }
     {
         match command {
@@ -32,6 +43,12 @@ impl<D: Device> Volume<D> {
         requires { is_users command.now ≡ true }
         ensures applied { D.honest self.new.device → Applies (D.held self.old.device) (D.image self.old.device) self.old (asked self.old.kept.geometry command.now) result (D.held self.new.device) (D.image self.new.device) self.new }
         ensures untouched { OnErr result ((self.new.kept ≡ self.old.kept) × (self.new.holdings ≡ self.old.holdings)) }
+        // An answer of bytes or names leaves all of that too.
+        ensures reading { HasBytesOrNames result → (self.new.kept ≡ self.old.kept) × (self.new.holdings ≡ self.old.holdings) }
+        // A flush counts the updates of its block that could go.
+        ensures flushed { (a : ℕ) → command.now ≡ Command.Flush a → D.honest self.new.device → IfOk result (λ answer. answer ≡ Answer.Number (taken (ready (home_of self.old.kept.geometry) a (pending_of self.old.queue)))) }
+        ensures cause { IsErrOf result Refusal.Device → HasFailed (D.failures self.old.device) (D.failures self.new.device) }
+        ensures no_trace { IsErrOf result Refusal.TraceFull → ⊥ }
         ensures honest { D.honest self.new.device → D.honest self.old.device }
     {
         let reply = user_reply(&mut self.live, alloc, command);
@@ -45,6 +62,7 @@ impl<D: Device> Volume<D> {
         ensures ran { IfOk result (λ replies. D.honest self.new.device → Runs (D.held self.old.device) (D.image self.old.device) self.old (map (asked self.old.kept.geometry) commands.items) replies.items (D.held self.new.device) (D.image self.new.device) self.new) }
         ensures untouched { OnErr result (self.new ≡ self.old) }
         ensures error { IsOkUnless result Refusal.NoMemory }
+        ensures no_trace { IfOk result (λ replies. All (λ reply. IsErrOf reply Refusal.TraceFull → ⊥) replies.items) }
         ensures honest { D.honest self.new.device → D.honest self.old.device }
     {
         let mut replies = Vec::with_capacity(alloc, commands.len())?;

@@ -1,4 +1,6 @@
 ghost use Rattle.std.specs.Prelude.{◌≡◌, Err, IfErr, Ok, OnErr, OnOk};
+ghost use Rattle.std.specs.List.{list_all};
+ghost use Rattle.findings.specs.Findings.{is_soft};
 ghost use Rattle.machine.specs.Command.{Done, Install, RepairAt};
 ghost use Rattle.frozen.specs.Kept.{frozen_view};
 ghost use Rattle.fsck.specs.Checked.{IsChecked};
@@ -67,15 +69,25 @@ fn may_install<D: Device>(live: &Live<D>, checked: &Checked) -> Result<(), Refus
     if live.repair_count().is_some() {
         return Err(Refusal::PlanStands);
     }
-    tells_its_image(checked);
-    match checked.verdict() {
-        Verdict::Damaged => return Err(Refusal::PlanNotSoft),
-        _ => {}
+    if !is_mendable(checked) {
+        return Err(Refusal::PlanNotSoft);
     }
+    tells_its_image(checked);
     if !have_same_metadata(snapshot, checked.frozen()) {
         return Err(Refusal::ForeignPlan);
     }
     Ok(())
+}
+
+/// Whether repairs mend all that a check found.
+fn is_mendable(checked: &Checked) -> bool
+    ensures { result ≡ list_all is_soft checked.now.findings }
+{
+    tells_its_image(checked);
+    match checked.verdict() {
+        Verdict::Damaged => false,
+        _ => true,
+    }
 }
 
 /// What a checked image says of itself is told by the findings of its image: a law, for a proof.

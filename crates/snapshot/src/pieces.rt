@@ -24,6 +24,7 @@ pub(crate) fn piece_of(frozen: &Frozen, inode: u32, index: u32) -> Result<Piece,
     ensures piece { IfOk result (IsPieceOf frozen.now inode index) }
     ensures refused { IfErr result (λ r. ObeysRules frozen.now.geometry (frozen_view frozen.now) → why_no_piece frozen.now.geometry (frozen_view frozen.now) inode index ≡ Some r) }
     ensures device { IsErrOf result Refusal.Device → ⊥ }
+    ensures no_trace { IsErrOf result Refusal.TraceFull → ⊥ }
 {
     let Some(record) = record_of(frozen, inode) else {
         return Err(Refusal::NotFound);

@@ -36,6 +36,7 @@ impl<D: Device> Volume<D> {
         ensures refused { IfErr result (λ r. D.honest self.new.device → Replies (D.held self.old.device) (D.image self.old.device) self.old Freeze (Err r) (D.held self.new.device) (D.image self.new.device) self.new) }
         ensures untouched { OnErr result ((self.new.kept ≡ self.old.kept) × (self.new.holdings ≡ self.old.holdings)) }
         ensures cause { IsErrOf result Refusal.Device → HasFailed (D.failures self.old.device) (D.failures self.new.device) }
+        ensures no_trace { IsErrOf result Refusal.TraceFull → ⊥ }
         ensures honest { D.honest self.new.device → D.honest self.old.device }
     {
         if has_snapshot(&self.live) {
@@ -56,6 +57,7 @@ impl<D: Device> Volume<D> {
         ensures refused { IfErr result (λ r. D.honest self.new.device → Replies (D.held self.old.device) (D.image self.old.device) self.old (SnapRead inode index) (Err r) (D.held self.new.device) (D.image self.new.device) self.new) }
         ensures untouched { (self.new.queue ≡ self.old.queue) × (self.new.kept ≡ self.old.kept) × (self.new.holdings ≡ self.old.holdings) }
         ensures cause { IsErrOf result Refusal.Device → HasFailed (D.failures self.old.device) (D.failures self.new.device) }
+        ensures no_trace { IsErrOf result Refusal.TraceFull → ⊥ }
         ensures honest { D.honest self.new.device → D.honest self.old.device }
     {
         let Piece { block, length } = piece_of_snapshot(&self.live, inode, index)?;
@@ -70,6 +72,7 @@ impl<D: Device> Volume<D> {
         ensures refused { IfErr result (λ r. D.honest self.new.device → Replies (D.held self.old.device) (D.image self.old.device) self.old Release (Err r) (D.held self.new.device) (D.image self.new.device) self.new) }
         ensures untouched { OnErr result ((self.new.kept ≡ self.old.kept) × (self.new.holdings ≡ self.old.holdings)) }
         ensures cause { IsErrOf result Refusal.Device → HasFailed (D.failures self.old.device) (D.failures self.new.device) }
+        ensures no_trace { IsErrOf result Refusal.TraceFull → ⊥ }
         ensures honest { D.honest self.new.device → D.honest self.old.device }
     {
         if !has_snapshot(&self.live) {
@@ -112,6 +115,7 @@ fn piece_of_snapshot<D: Device>(live: &Live<D>, inode: u32, index: u32) -> Resul
     ensures short { IfOk result (λ piece. piece.length ≤ 1024) }
     ensures refused { IfErr result (λ r. (old : State) → Balance live.now.kept.geometry old → Has live.now.holdings old → FirstRefusal live.now.kept.geometry old (SnapRead inode index) r) }
     ensures device { IsErrOf result Refusal.Device → ⊥ }
+    ensures no_trace { IsErrOf result Refusal.TraceFull → ⊥ }
 {
     match live.snapshot() {
         Some(snapshot) => piece_of(snapshot, inode, index),

@@ -1,11 +1,13 @@
 //! The commands of users, carried out on the mounted volume.
-ghost use Rattle.std.specs.Prelude.{◌≡◌, true, OnErr};
-ghost use Rattle.snapshot.specs.Asked.{asked, is_users};
+ghost use Rattle.std.specs.Prelude.{◌≡◌, true, IsErrOf, OnErr};
+ghost use Rattle.device.specs.Writes.{HasFailed};
+ghost use Rattle.snapshot.specs.Asked.{HasBytesOrNames, asked, is_users};
 ghost use Rattle.snapshot.specs.Replied.{Replied};
 
 use crate::answer::{bytes, count, done, names, number, status};
 use crate::{Command, Reply};
 use device::Device;
+use layout::Refusal;
 use live::Live;
 use std::alloc::Global;
 
@@ -14,6 +16,10 @@ pub(crate) fn user_reply<D: Device>(live: &mut Live<D>, alloc: Global, command: 
     requires { is_users command.now ≡ true }
     ensures replied { D.honest live.new.device → Replied (D.held live.old.device) (D.image live.old.device) live.old (asked live.old.kept.geometry command.now) result (D.held live.new.device) (D.image live.new.device) live.new }
     ensures untouched { OnErr result ((live.new.kept ≡ live.old.kept) × (live.new.holdings ≡ live.old.holdings)) }
+    // An answer of bytes or names leaves all of that too.
+    ensures reading { HasBytesOrNames result → (live.new.kept ≡ live.old.kept) × (live.new.holdings ≡ live.old.holdings) }
+    ensures cause { IsErrOf result Refusal.Device → HasFailed (D.failures live.old.device) (D.failures live.new.device) }
+    ensures no_trace { IsErrOf result Refusal.TraceFull → ⊥ }
     ensures honest { D.honest live.new.device → D.honest live.old.device }
 {
     match command {

@@ -1,3 +1,4 @@
 mod Issued
 mod Flushed
 mod Synced
+mod GivenBytes

@@ -37,8 +37,12 @@ impl Queue {
             self.events = self.events.and(&self.none, &Some(address));
             return Ok(0);
         }
+        self.geometry.blocks();
         let mut block = [0; BLOCK_BYTES];
-        device.read(address, &mut block)?;
+        // An update of a data block gives all of its bytes, so what stands there is not read.
+        if self.geometry.place_of(address).is_none() {
+            device.read(address, &mut block)?;
+        }
         let count = self.table.take(&self.geometry, address, &mut block);
         match device.write(address, &block) {
             Ok(()) => {

@@ -445,15 +445,27 @@ fn stays_refused<R: AllocGlobal + Abort>(rt: &R, bed: &mut Bed, at: Moment) -> R
     Ok(())
 }
 
-/// How many calls of the device a case makes: two for each flush that takes updates and for each write of the sync, and
+/// How many calls of the device a write makes: its own, and a read before it, but for a data block.
+fn calls_of_write(write: &Written) -> u64 {
+    let (_, _, puts) = *write;
+    match puts.first() {
+        Some(Put::Bytes(_, _)) => 1,
+        _ => 2,
+    }
+}
+
+/// How many calls of the device a case makes: those of each flush that takes updates and of each write of the sync, and
 /// one for the medium.
 fn calls_of(case: &Case) -> u64 {
-    let mut calls = case.synced.len() as u64 * 2 + 1;
+    let mut calls: u64 = 1;
+    for write in case.synced {
+        calls = calls.saturating_add(calls_of_write(write));
+    }
     for step in case.steps {
-        if let Step::Flush((_, count, _), _) = step
-            && *count > 0
+        if let Step::Flush(write, _) = step
+            && write.1 > 0
         {
-            calls = calls.saturating_add(2);
+            calls = calls.saturating_add(calls_of_write(write));
         }
     }
     calls

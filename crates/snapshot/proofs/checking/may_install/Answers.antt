@@ -1,11 +1,9 @@
 use Rattle.std.proofs.Common.{◌≡◌, true, false, Option, Some, is_some, sym, ap, ◌∙◌, subst}
 use Rattle.std.specs.Arc.{arc_value}
 use Rattle.std.specs.Option.{option_copied, option_map}
-use Rattle.findings.specs.declared.verdicts.Verdict.{Verdict}
 use Rattle.std.specs.List.{list_all}
 use Rattle.std.proofs.lemmas.Bool.{both_ways}
 use Rattle.findings.specs.Findings.{is_soft}
-use Rattle.findings.specs.declared.verdicts.Verdict.TheVariants.{Damaged}
 use Rattle.layout.specs.declared.refusal.Refusal.TheVariants.{ForeignPlan}
 use Rattle.model.specs.Layout.{IsGeometry}
 use Rattle.model.specs.Metadata.{SameMetadata}
@@ -18,7 +16,7 @@ use Rattle.live_states.specs.Holdings.{Has, Holdings}
 use Rattle.live_states.specs.Snapshots.{AreRepairsOf, IsInstallable, installing}
 use Rattle.live.specs.Alive.{IsSnapshotOf}
 use Rattle.snapshot.specs.Asked.{check_of}
-use Rattle.snapshot.proofs.Installs.{damaged_not_soft, foreign, installable, is_some_of, none_of, not_some_of, refused_damaged, refused_foreign, refused_none, refused_planned, repairs_named, soft_unless}
+use Rattle.snapshot.proofs.Installs.{foreign, installable, is_some_of, none_of, not_some_of, refused_damaged, refused_foreign, refused_none, refused_planned, repairs_named}
 use Rattle.snapshot.proofs.checking.may_install.Goals as goal
 
 pub returns-in_default-clause-refused : goal.returns-in_default-clause-refused
@@ -34,13 +32,13 @@ returns-then-is_some-clause-refused g c =
     (ap is_some (sym c.snapshot.ensures.snapshot ∙ ap (λ o. option_map arc_value (option_copied o)) c.in-Some.is))
     (is_some_of live.holdings.repairs c.repair_count.result c.repair_count.ensures (sym c.is_some.ensures ∙ c.if-is_some.true))
 
-pub returns-in-Damaged-clause-refused : goal.returns-in-Damaged-clause-refused
-returns-in-Damaged-clause-refused g c =
+pub returns-then-not-is_mendable-clause-refused : goal.returns-then-not-is_mendable-clause-refused
+returns-then-not-is_mendable-clause-refused g c =
     let live = c.args.live.now in
     refused_damaged live.kept live.holdings (check_of live.kept.geometry c.args.checked.now)
     (ap is_some (sym c.snapshot.ensures.snapshot ∙ ap (λ o. option_map arc_value (option_copied o)) c.in-Some.is))
     (not_some_of live.holdings.repairs c.repair_count.result c.repair_count.ensures (sym c.is_some.ensures ∙ c.if-is_some.false))
-    (damaged_not_soft c.args.checked.now.findings (sym c.tells_its_image.ensures.verdict ∙ sym c.verdict.ensures.verdict ∙ c.in-Damaged.is))
+    (sym c.is_mendable.ensures ∙ c.if-not-is_mendable.true)
 
 -- the snapshot that stands
 module _ (kept : Kept) (holdings : Holdings) (checked : CheckedImage) (snapshot : Option Kept) (s : Kept) (told : snapshot ≡ holdings.snapshot) (is : snapshot ≡ Some s) (whole : IsSnapshotOf kept.geometry holdings.snapshot)
@@ -50,9 +48,6 @@ module _ (kept : Kept) (holdings : Holdings) (checked : CheckedImage) (snapshot 
 
   whole' : (s.geometry ≡ kept.geometry) × KeepsMetadata s
   whole' = subst (IsSnapshotOf kept.geometry) stands whole
-
-  soft_too : (verdict : Verdict) → verdict ≡ checked.verdict → (verdict ≡ Damaged → ⊥) → list_all is_soft checked.findings ≡ true
-  soft_too verdict e calm = soft_unless checked.findings (λ d. calm (e ∙ image.verdict ∙ d))
 
   module _ (unplanned : is_some holdings.repairs ≡ false) (soft : list_all is_soft checked.findings ≡ true) where
     refuses_foreign : ((s.geometry ≡ checked.frozen.geometry) × SameMetadata s.geometry (frozen_view s) (frozen_view checked.frozen) → ⊥)
@@ -79,7 +74,7 @@ returns-then-not-have_same_metadata-clause-refused g c =
     let frozen = option_map arc_value (option_copied c.snapshot.result) in
     let is : frozen ≡ Some s = ap (λ o. option_map arc_value (option_copied o)) c.in-Some.is in
     let unplanned = not_some_of live.holdings.repairs c.repair_count.result c.repair_count.ensures (sym c.is_some.ensures ∙ c.if-is_some.false) in
-    let soft = soft_too live.kept live.holdings checked frozen s c.snapshot.ensures.snapshot is c.snapshot.ensures.whole c.tells_its_image.ensures c.verdict.result c.verdict.ensures.verdict c.in_default-verdict.not-Damaged in
+    let soft = sym c.is_mendable.ensures ∙ c.if-not-is_mendable.false in
     let one : c.deref.result.now ≡ s = c.deref.ensures in
     let other : c.deref-2.result.now ≡ checked.frozen = c.deref-2.ensures ∙ c.frozen.ensures in
     refuses_foreign live.kept live.holdings checked frozen s c.snapshot.ensures.snapshot is c.snapshot.ensures.whole c.tells_its_image.ensures unplanned soft
@@ -93,7 +88,7 @@ returns-clause-installable g c =
     let frozen = option_map arc_value (option_copied c.snapshot.result) in
     let is : frozen ≡ Some s = ap (λ o. option_map arc_value (option_copied o)) c.in-Some.is in
     let unplanned = not_some_of live.holdings.repairs c.repair_count.result c.repair_count.ensures (sym c.is_some.ensures ∙ c.if-is_some.false) in
-    let soft = soft_too live.kept live.holdings checked frozen s c.snapshot.ensures.snapshot is c.snapshot.ensures.whole c.tells_its_image.ensures c.verdict.result c.verdict.ensures.verdict c.in_default-verdict.not-Damaged in
+    let soft = sym c.is_mendable.ensures ∙ c.if-not-is_mendable.false in
     let one : c.deref.result.now ≡ s = c.deref.ensures in
     let other : c.deref-2.result.now ≡ checked.frozen = c.deref-2.ensures ∙ c.frozen.ensures in
     may_be live.kept live.holdings checked frozen s c.snapshot.ensures.snapshot is c.snapshot.ensures.whole c.tells_its_image.ensures unplanned soft
@@ -107,7 +102,7 @@ returns-clause-named g c =
     let frozen = option_map arc_value (option_copied c.snapshot.result) in
     let is : frozen ≡ Some s = ap (λ o. option_map arc_value (option_copied o)) c.in-Some.is in
     let unplanned = not_some_of live.holdings.repairs c.repair_count.result c.repair_count.ensures (sym c.is_some.ensures ∙ c.if-is_some.false) in
-    let soft = soft_too live.kept live.holdings checked frozen s c.snapshot.ensures.snapshot is c.snapshot.ensures.whole c.tells_its_image.ensures c.verdict.result c.verdict.ensures.verdict c.in_default-verdict.not-Damaged in
+    let soft = sym c.is_mendable.ensures ∙ c.if-not-is_mendable.false in
     let one : c.deref.result.now ≡ s = c.deref.ensures in
     let other : c.deref-2.result.now ≡ checked.frozen = c.deref-2.ensures ∙ c.frozen.ensures in
     are_named live.kept live.holdings checked frozen s c.snapshot.ensures.snapshot is c.snapshot.ensures.whole c.tells_its_image.ensures unplanned soft

@@ -2,8 +2,10 @@ use Rattle.std.proofs.Common.{ℕ, map, refl, sym, ap, ap₂, ◌∙◌}
 use Rattle.machine.specs.Command.{Create as AsksCreate, Mkdir as AsksMkdir, Link as AsksLink, Unlink as AsksUnlink, Rmdir as AsksRmdir, Rename as AsksRename, Open as AsksOpen, Close as AsksClose, Read as AsksRead, Write as AsksWrite, Truncate as AsksTruncate, ListNames, Stat as AsksStat, Flush as AsksFlush, Sync as AsksSync}
 use Rattle.machine.specs.Command.{Number as IsNumber, Bytes as AreBytes, Listed, Status as IsStatus}
 use Rattle.live_paths.specs.Listed.{name_of}
-use Rattle.snapshot.specs.declared.answer.Answer.TheVariants.{Number, Bytes, Names, Status}
+use Rattle.snapshot.specs.declared.answer.Answer.TheVariants.{Done, Number, Bytes, Names, Status}
 use Rattle.snapshot.specs.Asked.{asked}
+use Rattle.snapshot.proofs.AnswerLemmas.{neither}
+use Rattle.snapshot.proofs.Blaming.{device_blamed, no_trace_blamed, of_caused, of_device, of_device_or_caused, of_device_or_index, of_first, of_refused, replied_so}
 use Rattle.snapshot.proofs.UserReplies.{looked, on_err_always, plain, plainly_done, reading, reading_done, unflushed, writing, writing_done}
 use Rattle.snapshot.proofs.users.user_reply.Goals as goal
 
@@ -99,3 +101,228 @@ returns-in-Sync-clause-replied g c =
     (ap (asked c.args.live.now.kept.geometry) c.in-Sync.is)
     c.sync.result c.done-in-Sync.result c.done-in-Sync.ensures c.sync.ensures.done c.sync.ensures.refused
     (on_err_always _ c.sync.result c.sync.ensures.flushes) c.sync.ensures.metadata c.sync.ensures.holdings
+
+-- ---- what a refusal may be
+
+pub returns-in-Create-clause-cause : goal.returns-in-Create-clause-cause
+returns-in-Create-clause-cause g c =
+    let live = c.args.live.now in
+    device_blamed _ c.number.result (replied_so _ (λ (n : ℕ). Number n) c.create.result c.number.result c.number.ensures
+    (of_refused _ live.kept live.holdings (AsksCreate c.deref.result.now) c.create.result c.create.ensures.cause))
+
+pub returns-in-Create-clause-no_trace : goal.returns-in-Create-clause-no_trace
+returns-in-Create-clause-no_trace g c =
+    let live = c.args.live.now in
+    no_trace_blamed ⊥ c.number.result (replied_so ⊥ (λ (n : ℕ). Number n) c.create.result c.number.result c.number.ensures
+    (of_refused ⊥ live.kept live.holdings (AsksCreate c.deref.result.now) c.create.result c.create.ensures.cause))
+
+pub returns-in-Mkdir-clause-cause : goal.returns-in-Mkdir-clause-cause
+returns-in-Mkdir-clause-cause g c =
+    let live = c.args.live.now in
+    device_blamed _ c.number-in-Mkdir.result (replied_so _ (λ (n : ℕ). Number n) c.mkdir.result c.number-in-Mkdir.result c.number-in-Mkdir.ensures
+    (of_refused _ live.kept live.holdings (AsksMkdir c.deref-in-Mkdir.result.now) c.mkdir.result c.mkdir.ensures.cause))
+
+pub returns-in-Mkdir-clause-no_trace : goal.returns-in-Mkdir-clause-no_trace
+returns-in-Mkdir-clause-no_trace g c =
+    let live = c.args.live.now in
+    no_trace_blamed ⊥ c.number-in-Mkdir.result (replied_so ⊥ (λ (n : ℕ). Number n) c.mkdir.result c.number-in-Mkdir.result c.number-in-Mkdir.ensures
+    (of_refused ⊥ live.kept live.holdings (AsksMkdir c.deref-in-Mkdir.result.now) c.mkdir.result c.mkdir.ensures.cause))
+
+pub returns-in-Link-clause-cause : goal.returns-in-Link-clause-cause
+returns-in-Link-clause-cause g c =
+    let live = c.args.live.now in
+    device_blamed _ c.done.result (replied_so _ (λ t. Done) c.link.result c.done.result c.done.ensures
+    (of_refused _ live.kept live.holdings (AsksLink c.deref-in-Link.result.now c.deref-in-Link-2.result.now) c.link.result c.link.ensures.cause))
+
+pub returns-in-Link-clause-no_trace : goal.returns-in-Link-clause-no_trace
+returns-in-Link-clause-no_trace g c =
+    let live = c.args.live.now in
+    no_trace_blamed ⊥ c.done.result (replied_so ⊥ (λ t. Done) c.link.result c.done.result c.done.ensures
+    (of_refused ⊥ live.kept live.holdings (AsksLink c.deref-in-Link.result.now c.deref-in-Link-2.result.now) c.link.result c.link.ensures.cause))
+
+pub returns-in-Unlink-clause-cause : goal.returns-in-Unlink-clause-cause
+returns-in-Unlink-clause-cause g c =
+    let live = c.args.live.now in
+    device_blamed _ c.done-in-Unlink.result (replied_so _ (λ t. Done) c.unlink.result c.done-in-Unlink.result c.done-in-Unlink.ensures
+    (of_refused _ live.kept live.holdings (AsksUnlink c.deref-in-Unlink.result.now) c.unlink.result c.unlink.ensures.cause))
+
+pub returns-in-Unlink-clause-no_trace : goal.returns-in-Unlink-clause-no_trace
+returns-in-Unlink-clause-no_trace g c =
+    let live = c.args.live.now in
+    no_trace_blamed ⊥ c.done-in-Unlink.result (replied_so ⊥ (λ t. Done) c.unlink.result c.done-in-Unlink.result c.done-in-Unlink.ensures
+    (of_refused ⊥ live.kept live.holdings (AsksUnlink c.deref-in-Unlink.result.now) c.unlink.result c.unlink.ensures.cause))
+
+pub returns-in-Rmdir-clause-cause : goal.returns-in-Rmdir-clause-cause
+returns-in-Rmdir-clause-cause g c =
+    let live = c.args.live.now in
+    device_blamed _ c.done-in-Rmdir.result (replied_so _ (λ t. Done) c.rmdir.result c.done-in-Rmdir.result c.done-in-Rmdir.ensures
+    (of_refused _ live.kept live.holdings (AsksRmdir c.deref-in-Rmdir.result.now) c.rmdir.result c.rmdir.ensures.cause))
+
+pub returns-in-Rmdir-clause-no_trace : goal.returns-in-Rmdir-clause-no_trace
+returns-in-Rmdir-clause-no_trace g c =
+    let live = c.args.live.now in
+    no_trace_blamed ⊥ c.done-in-Rmdir.result (replied_so ⊥ (λ t. Done) c.rmdir.result c.done-in-Rmdir.result c.done-in-Rmdir.ensures
+    (of_refused ⊥ live.kept live.holdings (AsksRmdir c.deref-in-Rmdir.result.now) c.rmdir.result c.rmdir.ensures.cause))
+
+pub returns-in-Rename-clause-cause : goal.returns-in-Rename-clause-cause
+returns-in-Rename-clause-cause g c =
+    let live = c.args.live.now in
+    device_blamed _ c.done-in-Rename.result (replied_so _ (λ t. Done) c.rename.result c.done-in-Rename.result c.done-in-Rename.ensures
+    (of_refused _ live.kept live.holdings (AsksRename c.deref-in-Rename.result.now c.deref-in-Rename-2.result.now) c.rename.result c.rename.ensures.cause))
+
+pub returns-in-Rename-clause-no_trace : goal.returns-in-Rename-clause-no_trace
+returns-in-Rename-clause-no_trace g c =
+    let live = c.args.live.now in
+    no_trace_blamed ⊥ c.done-in-Rename.result (replied_so ⊥ (λ t. Done) c.rename.result c.done-in-Rename.result c.done-in-Rename.ensures
+    (of_refused ⊥ live.kept live.holdings (AsksRename c.deref-in-Rename.result.now c.deref-in-Rename-2.result.now) c.rename.result c.rename.ensures.cause))
+
+pub returns-in-Open-clause-cause : goal.returns-in-Open-clause-cause
+returns-in-Open-clause-cause g c =
+    let live = c.args.live.now in
+    device_blamed _ c.number-in-Open.result (replied_so _ (λ (n : ℕ). Number n) c.open.result c.number-in-Open.result c.number-in-Open.ensures
+    (of_caused _ live.kept live.holdings (AsksOpen c.deref-in-Open.result.now) c.open.result c.open.ensures.cause))
+
+pub returns-in-Open-clause-no_trace : goal.returns-in-Open-clause-no_trace
+returns-in-Open-clause-no_trace g c =
+    let live = c.args.live.now in
+    no_trace_blamed ⊥ c.number-in-Open.result (replied_so ⊥ (λ (n : ℕ). Number n) c.open.result c.number-in-Open.result c.number-in-Open.ensures
+    (of_caused ⊥ live.kept live.holdings (AsksOpen c.deref-in-Open.result.now) c.open.result c.open.ensures.cause))
+
+pub returns-in-Close-clause-cause : goal.returns-in-Close-clause-cause
+returns-in-Close-clause-cause g c =
+    let live = c.args.live.now in
+    device_blamed _ c.done-in-Close.result (replied_so _ (λ t. Done) c.close.result c.done-in-Close.result c.done-in-Close.ensures
+    (of_caused _ live.kept live.holdings (AsksClose c.in-Close.handle) c.close.result c.close.ensures.cause))
+
+pub returns-in-Close-clause-no_trace : goal.returns-in-Close-clause-no_trace
+returns-in-Close-clause-no_trace g c =
+    let live = c.args.live.now in
+    no_trace_blamed ⊥ c.done-in-Close.result (replied_so ⊥ (λ t. Done) c.close.result c.done-in-Close.result c.done-in-Close.ensures
+    (of_caused ⊥ live.kept live.holdings (AsksClose c.in-Close.handle) c.close.result c.close.ensures.cause))
+
+pub returns-in-Read-clause-cause : goal.returns-in-Read-clause-cause
+returns-in-Read-clause-cause g c =
+    let live = c.args.live.now in
+    device_blamed _ c.bytes.result (replied_so _ Bytes c.read.result c.bytes.result c.bytes.ensures
+    (of_device_or_caused _ live.kept live.holdings (AsksRead c.in-Read.handle c.in-Read.index) c.read.result c.read.ensures.error c.read.ensures.cause))
+
+pub returns-in-Read-clause-no_trace : goal.returns-in-Read-clause-no_trace
+returns-in-Read-clause-no_trace g c =
+    let live = c.args.live.now in
+    no_trace_blamed _ c.bytes.result (replied_so _ Bytes c.read.result c.bytes.result c.bytes.ensures
+    (of_device_or_caused _ live.kept live.holdings (AsksRead c.in-Read.handle c.in-Read.index) c.read.result c.read.ensures.error c.read.ensures.cause))
+
+pub returns-in-Write-clause-cause : goal.returns-in-Write-clause-cause
+returns-in-Write-clause-cause g c =
+    let live = c.args.live.now in
+    device_blamed _ c.done-in-Write.result (replied_so _ (λ t. Done) c.write.result c.done-in-Write.result c.done-in-Write.ensures
+    (of_device_or_caused _ live.kept live.holdings (AsksWrite c.in-Write.handle c.in-Write.index c.deref-in-Write.result.now) c.write.result c.write.ensures.error c.write.ensures.cause))
+
+pub returns-in-Write-clause-no_trace : goal.returns-in-Write-clause-no_trace
+returns-in-Write-clause-no_trace g c =
+    let live = c.args.live.now in
+    no_trace_blamed _ c.done-in-Write.result (replied_so _ (λ t. Done) c.write.result c.done-in-Write.result c.done-in-Write.ensures
+    (of_device_or_caused _ live.kept live.holdings (AsksWrite c.in-Write.handle c.in-Write.index c.deref-in-Write.result.now) c.write.result c.write.ensures.error c.write.ensures.cause))
+
+pub returns-in-Truncate-clause-cause : goal.returns-in-Truncate-clause-cause
+returns-in-Truncate-clause-cause g c =
+    let live = c.args.live.now in
+    device_blamed _ c.done-in-Truncate.result (replied_so _ (λ t. Done) c.truncate.result c.done-in-Truncate.result c.done-in-Truncate.ensures
+    (of_caused _ live.kept live.holdings (AsksTruncate c.in-Truncate.handle c.in-Truncate.size) c.truncate.result c.truncate.ensures.cause))
+
+pub returns-in-Truncate-clause-no_trace : goal.returns-in-Truncate-clause-no_trace
+returns-in-Truncate-clause-no_trace g c =
+    let live = c.args.live.now in
+    no_trace_blamed ⊥ c.done-in-Truncate.result (replied_so ⊥ (λ t. Done) c.truncate.result c.done-in-Truncate.result c.done-in-Truncate.ensures
+    (of_caused ⊥ live.kept live.holdings (AsksTruncate c.in-Truncate.handle c.in-Truncate.size) c.truncate.result c.truncate.ensures.cause))
+
+pub returns-in-List-clause-cause : goal.returns-in-List-clause-cause
+returns-in-List-clause-cause g c =
+    let live = c.args.live.now in
+    device_blamed _ c.names.result (replied_so _ Names c.list.result c.names.result c.names.ensures
+    (of_refused _ live.kept live.holdings (ListNames c.deref-in-List.result.now) c.list.result c.list.ensures.cause))
+
+pub returns-in-List-clause-no_trace : goal.returns-in-List-clause-no_trace
+returns-in-List-clause-no_trace g c =
+    let live = c.args.live.now in
+    no_trace_blamed ⊥ c.names.result (replied_so ⊥ Names c.list.result c.names.result c.names.ensures
+    (of_refused ⊥ live.kept live.holdings (ListNames c.deref-in-List.result.now) c.list.result c.list.ensures.cause))
+
+pub returns-in-Stat-clause-cause : goal.returns-in-Stat-clause-cause
+returns-in-Stat-clause-cause g c =
+    let live = c.args.live.now in
+    device_blamed _ c.status.result (replied_so _ Status c.stat.result c.status.result c.status.ensures
+    (of_first _ live.kept live.holdings (AsksStat c.deref-in-Stat.result.now) c.stat.result c.stat.ensures.cause))
+
+pub returns-in-Stat-clause-no_trace : goal.returns-in-Stat-clause-no_trace
+returns-in-Stat-clause-no_trace g c =
+    let live = c.args.live.now in
+    no_trace_blamed ⊥ c.status.result (replied_so ⊥ Status c.stat.result c.status.result c.status.ensures
+    (of_first ⊥ live.kept live.holdings (AsksStat c.deref-in-Stat.result.now) c.stat.result c.stat.ensures.cause))
+
+pub returns-in-Flush-clause-cause : goal.returns-in-Flush-clause-cause
+returns-in-Flush-clause-cause g c =
+    device_blamed _ c.count.result (replied_so _ (λ (n : ℕ). Number n) c.flush.result c.count.result c.count.ensures
+    (of_device_or_index _ _ c.flush.result c.flush.ensures.error c.flush.ensures.cause))
+
+pub returns-in-Flush-clause-no_trace : goal.returns-in-Flush-clause-no_trace
+returns-in-Flush-clause-no_trace g c =
+    no_trace_blamed _ c.count.result (replied_so _ (λ (n : ℕ). Number n) c.flush.result c.count.result c.count.ensures
+    (of_device_or_index _ _ c.flush.result c.flush.ensures.error c.flush.ensures.cause))
+
+pub returns-in-Sync-clause-cause : goal.returns-in-Sync-clause-cause
+returns-in-Sync-clause-cause g c =
+    device_blamed _ c.done-in-Sync.result (replied_so _ (λ t. Done) c.sync.result c.done-in-Sync.result c.done-in-Sync.ensures
+    (of_device _ c.sync.result c.sync.ensures.error c.sync.ensures.cause))
+
+pub returns-in-Sync-clause-no_trace : goal.returns-in-Sync-clause-no_trace
+returns-in-Sync-clause-no_trace g c =
+    no_trace_blamed _ c.done-in-Sync.result (replied_so _ (λ t. Done) c.sync.result c.done-in-Sync.result c.done-in-Sync.ensures
+    (of_device _ c.sync.result c.sync.ensures.error c.sync.ensures.cause))
+
+-- ---- what an answer of bytes or names leaves
+
+pub returns-in-Create-clause-reading : goal.returns-in-Create-clause-reading
+returns-in-Create-clause-reading g c = neither (λ (n : ℕ). Number n) (λ n has. has) _ c.create.result c.number.result c.number.ensures
+
+pub returns-in-Mkdir-clause-reading : goal.returns-in-Mkdir-clause-reading
+returns-in-Mkdir-clause-reading g c = neither (λ (n : ℕ). Number n) (λ n has. has) _ c.mkdir.result c.number-in-Mkdir.result c.number-in-Mkdir.ensures
+
+pub returns-in-Link-clause-reading : goal.returns-in-Link-clause-reading
+returns-in-Link-clause-reading g c = neither (λ t. Done) (λ t has. has) _ c.link.result c.done.result c.done.ensures
+
+pub returns-in-Unlink-clause-reading : goal.returns-in-Unlink-clause-reading
+returns-in-Unlink-clause-reading g c = neither (λ t. Done) (λ t has. has) _ c.unlink.result c.done-in-Unlink.result c.done-in-Unlink.ensures
+
+pub returns-in-Rmdir-clause-reading : goal.returns-in-Rmdir-clause-reading
+returns-in-Rmdir-clause-reading g c = neither (λ t. Done) (λ t has. has) _ c.rmdir.result c.done-in-Rmdir.result c.done-in-Rmdir.ensures
+
+pub returns-in-Rename-clause-reading : goal.returns-in-Rename-clause-reading
+returns-in-Rename-clause-reading g c = neither (λ t. Done) (λ t has. has) _ c.rename.result c.done-in-Rename.result c.done-in-Rename.ensures
+
+pub returns-in-Open-clause-reading : goal.returns-in-Open-clause-reading
+returns-in-Open-clause-reading g c = neither (λ (n : ℕ). Number n) (λ n has. has) _ c.open.result c.number-in-Open.result c.number-in-Open.ensures
+
+pub returns-in-Close-clause-reading : goal.returns-in-Close-clause-reading
+returns-in-Close-clause-reading g c = neither (λ t. Done) (λ t has. has) _ c.close.result c.done-in-Close.result c.done-in-Close.ensures
+
+pub returns-in-Read-clause-reading : goal.returns-in-Read-clause-reading
+returns-in-Read-clause-reading g c = λ _. (c.read.ensures.untouched.1, c.read.ensures.untouched.2)
+
+pub returns-in-Write-clause-reading : goal.returns-in-Write-clause-reading
+returns-in-Write-clause-reading g c = neither (λ t. Done) (λ t has. has) _ c.write.result c.done-in-Write.result c.done-in-Write.ensures
+
+pub returns-in-Truncate-clause-reading : goal.returns-in-Truncate-clause-reading
+returns-in-Truncate-clause-reading g c = neither (λ t. Done) (λ t has. has) _ c.truncate.result c.done-in-Truncate.result c.done-in-Truncate.ensures
+
+pub returns-in-List-clause-reading : goal.returns-in-List-clause-reading
+returns-in-List-clause-reading g c = λ _. (refl, refl)
+
+pub returns-in-Stat-clause-reading : goal.returns-in-Stat-clause-reading
+returns-in-Stat-clause-reading g c = neither Status (λ status has. has) _ c.stat.result c.status.result c.status.ensures
+
+pub returns-in-Flush-clause-reading : goal.returns-in-Flush-clause-reading
+returns-in-Flush-clause-reading g c = neither (λ (n : ℕ). Number n) (λ n has. has) _ c.flush.result c.count.result c.count.ensures
+
+pub returns-in-Sync-clause-reading : goal.returns-in-Sync-clause-reading
+returns-in-Sync-clause-reading g c = neither (λ t. Done) (λ t has. has) _ c.sync.result c.done-in-Sync.result c.done-in-Sync.ensures

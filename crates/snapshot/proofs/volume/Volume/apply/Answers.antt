@@ -1,9 +1,11 @@
 use Rattle.std.proofs.Common.{refl, sym, ap, ◌∙◌}
 use Rattle.std.specs.Arc.{arc_value}
 use Rattle.machine.specs.Command.{Bytes as AreBytes, Install as AsksInstall, RepairAt, SnapRead as AsksSnapRead}
-use Rattle.snapshot.specs.declared.answer.Answer.TheVariants.{Bytes, Image}
+use Rattle.snapshot.specs.declared.answer.Answer.TheVariants.{Bytes, Done, Image}
 use Rattle.snapshot.specs.Asked.{asked, check_of}
+use Rattle.snapshot.proofs.AnswerLemmas.{neither}
 use Rattle.snapshot.proofs.AppliesLemmas.{freezing, releasing, stays, stays_done}
+use Rattle.snapshot.proofs.Blaming.{device_blamed, no_trace_blamed, of_caused, of_told, replied_so}
 use Rattle.snapshot.proofs.volume.Volume.apply.Goals as goal
 
 pub returns-in-Freeze-clause-applied : goal.returns-in-Freeze-clause-applied
@@ -38,3 +40,63 @@ returns-in-Repair-clause-applied g c =
     stays_done g.D.Device.honest g.D.Device.held g.D.Device.image c.args.self.now c.repair.new.self (asked c.args.self.now.kept.geometry c.args.command.now)
     (RepairAt c.in-Repair.place) (ap (asked c.args.self.now.kept.geometry) c.in-Repair.is)
     c.repair.result c.done-in-Repair.result c.done-in-Repair.ensures c.repair.ensures.repaired c.repair.ensures.refused
+
+-- ---- what a refusal may be
+
+pub returns-in-Freeze-clause-cause : goal.returns-in-Freeze-clause-cause
+returns-in-Freeze-clause-cause g c =
+    device_blamed _ c.image.result (replied_so _ Image c.freeze.result c.image.result c.image.ensures (of_told _ c.freeze.result c.freeze.ensures.cause c.freeze.ensures.no_trace))
+
+pub returns-in-Freeze-clause-no_trace : goal.returns-in-Freeze-clause-no_trace
+returns-in-Freeze-clause-no_trace g c =
+    no_trace_blamed _ c.image.result (replied_so _ Image c.freeze.result c.image.result c.image.ensures (of_told _ c.freeze.result c.freeze.ensures.cause c.freeze.ensures.no_trace))
+
+pub returns-in-SnapRead-clause-cause : goal.returns-in-SnapRead-clause-cause
+returns-in-SnapRead-clause-cause g c =
+    device_blamed _ c.bytes.result (replied_so _ Bytes c.snap_read.result c.bytes.result c.bytes.ensures (of_told _ c.snap_read.result c.snap_read.ensures.cause c.snap_read.ensures.no_trace))
+
+pub returns-in-SnapRead-clause-no_trace : goal.returns-in-SnapRead-clause-no_trace
+returns-in-SnapRead-clause-no_trace g c =
+    no_trace_blamed _ c.bytes.result (replied_so _ Bytes c.snap_read.result c.bytes.result c.bytes.ensures (of_told _ c.snap_read.result c.snap_read.ensures.cause c.snap_read.ensures.no_trace))
+
+pub returns-in-Release-clause-cause : goal.returns-in-Release-clause-cause
+returns-in-Release-clause-cause g c =
+    device_blamed _ c.done.result (replied_so _ (λ t. Done) c.release.result c.done.result c.done.ensures (of_told _ c.release.result c.release.ensures.cause c.release.ensures.no_trace))
+
+pub returns-in-Release-clause-no_trace : goal.returns-in-Release-clause-no_trace
+returns-in-Release-clause-no_trace g c =
+    no_trace_blamed _ c.done.result (replied_so _ (λ t. Done) c.release.result c.done.result c.done.ensures (of_told _ c.release.result c.release.ensures.cause c.release.ensures.no_trace))
+
+pub returns-in-Install-clause-cause : goal.returns-in-Install-clause-cause
+returns-in-Install-clause-cause g c =
+    let live = c.args.self.now in
+    device_blamed _ c.done-in-Install.result (replied_so _ (λ t. Done) c.install.result c.done-in-Install.result c.done-in-Install.ensures (of_caused _ live.kept live.holdings (AsksInstall (check_of live.kept.geometry c.deref.result.now)) c.install.result c.install.ensures.cause))
+
+pub returns-in-Install-clause-no_trace : goal.returns-in-Install-clause-no_trace
+returns-in-Install-clause-no_trace g c =
+    let live = c.args.self.now in
+    no_trace_blamed ⊥ c.done-in-Install.result (replied_so ⊥ (λ t. Done) c.install.result c.done-in-Install.result c.done-in-Install.ensures (of_caused ⊥ live.kept live.holdings (AsksInstall (check_of live.kept.geometry c.deref.result.now)) c.install.result c.install.ensures.cause))
+
+pub returns-in-Repair-clause-cause : goal.returns-in-Repair-clause-cause
+returns-in-Repair-clause-cause g c =
+    let live = c.args.self.now in
+    device_blamed _ c.done-in-Repair.result (replied_so _ (λ t. Done) c.repair.result c.done-in-Repair.result c.done-in-Repair.ensures (of_caused _ live.kept live.holdings (RepairAt c.in-Repair.place) c.repair.result c.repair.ensures.cause))
+
+pub returns-in-Repair-clause-no_trace : goal.returns-in-Repair-clause-no_trace
+returns-in-Repair-clause-no_trace g c =
+    let live = c.args.self.now in
+    no_trace_blamed ⊥ c.done-in-Repair.result (replied_so ⊥ (λ t. Done) c.repair.result c.done-in-Repair.result c.done-in-Repair.ensures (of_caused ⊥ live.kept live.holdings (RepairAt c.in-Repair.place) c.repair.result c.repair.ensures.cause))
+
+-- ---- what an answer of bytes or names leaves
+
+pub returns-in-Freeze-clause-reading : goal.returns-in-Freeze-clause-reading
+returns-in-Freeze-clause-reading g c = neither Image (λ frozen has. has) _ c.freeze.result c.image.result c.image.ensures
+
+pub returns-in-Release-clause-reading : goal.returns-in-Release-clause-reading
+returns-in-Release-clause-reading g c = neither (λ t. Done) (λ t has. has) _ c.release.result c.done.result c.done.ensures
+
+pub returns-in-Install-clause-reading : goal.returns-in-Install-clause-reading
+returns-in-Install-clause-reading g c = neither (λ t. Done) (λ t has. has) _ c.install.result c.done-in-Install.result c.done-in-Install.ensures
+
+pub returns-in-Repair-clause-reading : goal.returns-in-Repair-clause-reading
+returns-in-Repair-clause-reading g c = neither (λ t. Done) (λ t has. has) _ c.repair.result c.done-in-Repair.result c.done-in-Repair.ensures

@@ -1,7 +1,18 @@
-use Rattle.std.proofs.Common.{◌≡◌, ◌+◌, ◌<◌, ◌≤◌, ℕ, arith, length, ap, ◌∙◌}
+use Rattle.std.proofs.Common.{◌≡◌, ◌+◌, ◌<◌, ◌≤◌, ℕ, arith, List, [], ◌∷◌, ◌++◌, Err, Result, length, ap, sym, ◌∙◌, subst}
 use Rattle.std.specs.Prelude.{vec_capacity, vec_len}
+use Rattle.std.specs.List.{All}
+use Rattle.std.proofs.lemmas.List.Elements.{All-nil, All-push}
+use Rattle.layout.specs.declared.refusal.Refusal.{Refusal}
+use Rattle.layout.specs.declared.refusal.Refusal.TheVariants.{TraceFull}
+use Rattle.snapshot.specs.declared.answer.Answer.{Answer}
 use Rattle.snapshot.proofs.AppliesLemmas.{runs_next, runs_none}
 use Rattle.snapshot.proofs.volume.Volume.run.Goals as goal
+
+abbrev NotFull : Result Answer Refusal → Type 0
+NotFull reply = reply ≡ Err TraceFull → ⊥
+
+one_more_reply : (replies more : List (Result Answer Refusal)) (reply : Result Answer Refusal) → more ≡ replies ++ reply ∷ [] → All NotFull replies → NotFull reply → All NotFull more
+one_more_reply replies more reply same all one = subst (All NotFull) (sym same) (All-push NotFull replies reply all one)
 
 one_more : (n m i : ℕ) → n ≡ m + 1 → m ≡ i → n ≡ i + 1
 one_more n m i more is = more ∙ ap (λ k. k + 1) is
@@ -15,6 +26,7 @@ loop-command-init g c =
       room = room;
       count = c.in_ok-replies.ensures.len;
       honest = λ h. h;
+      no_trace = subst (All NotFull) (sym c.in_ok-replies.ensures.items) (All-nil NotFull);
       ran = λ h. runs_none (g.D.Device.held live.device) (g.D.Device.image live.device) live c.args.commands.items c.in_ok-replies.replies.items c.in_ok-replies.ensures.items;
     }
 
@@ -35,6 +47,7 @@ loop-command-preserved g c =
       room = room;
       count = one_more (vec_len c.push.new.self) (vec_len c.loop-command.replies) i c.in_ok-push.ensures.len inv.count;
       honest = λ h. inv.honest (c.apply-reply.ensures.honest h);
+      no_trace = one_more_reply c.loop-command.replies.items c.push.new.self.items c.apply-reply.result c.in_ok-push.ensures.items inv.no_trace c.apply-reply.ensures.no_trace;
       ran = λ h. runs_next (held old.device) (held mid.device) (held new.device) (image old.device) (image mid.device) (image new.device) old mid new c.args.commands.items shown c.deref-command-items.ensures.value
           i c.command-item.result within c.command-item.is c.loop-command.replies.items c.push.new.self.items c.apply-reply.result c.in_ok-push.ensures.items
           (inv.ran (c.apply-reply.ensures.honest h)) (c.apply-reply.ensures.applied h);

@@ -1,4 +1,5 @@
-use Rattle.std.proofs.Common.{◌≡◌, ◌<◌, ◌≤◌, [], Some, refl, sym, ap, ◌∙◌, subst, length, arith, slice_set, ◌++◌, ◌∷◌}
+use Rattle.std.proofs.Common.{◌≡◌, ◌<◌, ◌≤◌, false, not, IsTrue, [], Some, refl, sym, ap, ◌∙◌, subst, length, arith, slice_set, ◌++◌, ◌∷◌}
+use Rattle.model.specs.Layout.{is_data_address}
 use Rattle.model.specs.Image.{image_view}
 use Rattle.ordering.specs.Cuts.{IsClosed, seen}
 use Rattle.queue_model.specs.Files.{updates}
@@ -6,11 +7,14 @@ use Rattle.queue_model.specs.Blocks.{home_of}
 use Rattle.queue_model.specs.Flush.{ready, taken}
 use Rattle.queue_model.specs.Entries as entries
 use Rattle.queue_model.proofs.FlushLemmas.{ready_closed, none_taken}
+use Rattle.softdep_queue.specs.Taking.{TakesAll}
 use Rattle.softdep.specs.Queued.{Queued, IsQueue, after, fresh_queue, pending_of, flushed}
 use Rattle.softdep.proofs.Issued.{after_push}
 use Rattle.softdep.proofs.Flushed.{queue_flushed, queue_unflushed, flushed_view, flushed_count, pending_flushed}
 use Rattle.softdep.proofs.queue.Queue.flush.Given.{Over}
+use Rattle.softdep.proofs.GivenBytes.{given_view}
 use Rattle.softdep.proofs.queue.Queue.flush.Goals as goal
+use Rattle.softdep.proofs.queue.Queue.flush.Goals.{then-is_none+in_ok-read, else-is_none}
 
 -- ---- nothing is ready
 
@@ -70,7 +74,7 @@ module _ (g : Over) (c : goal.After-self-in-Ok-1 g) where
   some = c.if-not-has_ready.ensures.some c.self.inside.geometry c.self.invariant.entries (pending_of before) c.self.invariant.holds refl
 
   count : c.take-count.result ≡ taken (ready (home_of c.self.inside.geometry) c.args.address (pending_of (after (fresh_queue c.self.inside.geometry) c.self.inside.events.items)))
-  count = flushed_count c.self.inside.geometry c.self.invariant.entries (pending_of before) c.args.address c.self.inside.table c.take-count.new.self c.read.new.to c.take-count.new.block c.take-count.result c.self.invariant.holds
+  count = flushed_count c.self.inside.geometry c.self.invariant.entries (pending_of before) c.args.address c.self.inside.table c.take-count.new.self c.if-is_none.block c.take-count.new.block c.take-count.result c.self.invariant.holds
       (c.take-count.ensures.taken c.self.invariant.entries (pending_of before) c.self.invariant.holds)
 
 pub invariant_of-self-in-Ok : goal.invariant_of-self-in-Ok
@@ -104,24 +108,43 @@ returns-in-Ok-clause-count g c =
 pub returns-in-Ok-clause-untouched : goal.returns-in-Ok-clause-untouched
 returns-in-Ok-clause-untouched g c zero = let s = some g c in let n = count g c in absurd (omega (arith, s, n, zero))
 
+module _ (g : Over) (c : goal.After-self-in-Ok-1 g) where
+  same : (g.D.Device.image c.if-is_none.device ≡ g.D.Device.image c.args.device.now) × (g.D.Device.held c.if-is_none.device ≡ g.D.Device.held c.args.device.now)
+  same = elim c.if-is_none.branch [
+    | then-is_none+in_ok-read w ↦ (ap g.D.Device.image w.device-is ∙ w.in_ok-read.ensures.same, ap g.D.Device.held w.device-is ∙ w.in_ok-read.ensures.held)
+    | else-is_none w ↦ (ap g.D.Device.image w.device-is, ap g.D.Device.held w.device-is)
+  ]
+
+  now : g.D.Device.image c.write.new.self ≡ slice_set (g.D.Device.image c.args.device.now) c.args.address c.take-count.new.block
+  now = c.in-Ok.ensures.written ∙ ap (λ x. slice_set x c.args.address c.take-count.new.block) same.0
+
+  view : g.D.Device.honest c.write.new.self → image_view c.self.inside.geometry (g.D.Device.image c.write.new.self)
+      ≡ seen (image_view c.self.inside.geometry (g.D.Device.image c.args.device.now)) (pending_of (before g c)) (ready (home_of c.self.inside.geometry) c.args.address (pending_of (before g c)))
+  view honest = elim c.if-is_none.branch [
+    | then-is_none+in_ok-read w ↦ flushed_view c.self.inside.geometry c.self.invariant.entries (pending_of (before g c)) c.args.address c.self.inside.table c.take-count.new.self c.if-is_none.block c.take-count.new.block c.take-count.result
+        (g.D.Device.image c.args.device.now) (g.D.Device.image c.write.new.self) c.self.invariant.holds all
+        (w.block-is ∙ w.in_ok-read.ensures.block (subst g.D.Device.honest w.device-is (c.in-Ok.ensures.honest honest))) now low
+    | else-is_none w ↦ given_view c.self.inside.geometry c.blocks-2.ensures.geometry c.args.address (data_block w.if-is_none.false) c.if-is_none.block c.self.invariant.entries (pending_of (before g c)) c.self.inside.table c.take-count.new.self c.take-count.new.block c.take-count.result
+        (g.D.Device.image c.args.device.now) (g.D.Device.image c.write.new.self) c.self.invariant.holds all (some g c) now low
+  ]
+    where
+      data_block : c.is_none.result ≡ false → IsTrue (is_data_address c.self.inside.geometry c.args.address)
+      data_block present = sym c.place_of.ensures.exactly ∙ c.is_none.ensures ∙ ap not present
+
+      all : TakesAll c.self.inside.geometry c.self.invariant.entries (pending_of (before g c)) c.args.address c.take-count.new.self c.if-is_none.block c.take-count.new.block c.take-count.result
+      all = c.take-count.ensures.taken c.self.invariant.entries (pending_of (before g c)) c.self.invariant.holds
+
+      low : c.args.address < length (g.D.Device.image c.args.device.now)
+      low = let a = c.requires.address in let n = c.requires.count in omega (arith, a, n)
+
 pub returns-in-Ok-clause-written : goal.returns-in-Ok-clause-written
-returns-in-Ok-clause-written g c more = (
-  c.take-count.new.block,
-  c.in-Ok.ensures.written ∙ ap (λ image. slice_set image c.args.address c.take-count.new.block) c.in_ok-read.ensures.same,
-  c.in-Ok.ensures.held ∙ ap (λ held. held ++ g.D.Device.image c.write.new.self ∷ []) c.in_ok-read.ensures.held,
-)
+returns-in-Ok-clause-written g c more =
+    (c.take-count.new.block, now g c, c.in-Ok.ensures.held ∙ ap (λ held. held ++ g.D.Device.image c.write.new.self ∷ []) (same g c).1)
 
 pub returns-in-Ok-clause-view : goal.returns-in-Ok-clause-view
 returns-in-Ok-clause-view g c honest =
-    let geo = c.self.inside.geometry in
-    let all = c.take-count.ensures.taken c.self.invariant.entries (pending_of (before g c)) c.self.invariant.holds in
-    let low : c.args.address < length (g.D.Device.image c.args.device.now) = (let a = c.requires.address in let n = c.requires.count in omega (arith, a, n)) in
-    let view = flushed_view geo c.self.invariant.entries (pending_of (before g c)) c.args.address c.self.inside.table c.take-count.new.self c.read.new.to c.take-count.new.block c.take-count.result
-    (g.D.Device.image c.args.device.now) (g.D.Device.image c.write.new.self) c.self.invariant.holds all
-    (c.in_ok-read.ensures.block (c.in-Ok.ensures.honest honest))
-    (c.in-Ok.ensures.written ∙ ap (λ image. slice_set image c.args.address c.take-count.new.block) c.in_ok-read.ensures.same) low in
     subst (λ (w : Queued). image_view w.geometry (g.D.Device.image c.write.new.self) ≡ seen (image_view w.geometry (g.D.Device.image c.args.device.now)) (pending_of w) (ready (home_of w.geometry) c.args.address (pending_of w))) c.self.view_is
-    (subst (λ x. image_view x (g.D.Device.image c.write.new.self) ≡ seen (image_view x (g.D.Device.image c.args.device.now)) (pending_of (before g c)) (ready (home_of x) c.args.address (pending_of (before g c)))) (sym c.self.invariant.same) view)
+    (subst (λ x. image_view x (g.D.Device.image c.write.new.self) ≡ seen (image_view x (g.D.Device.image c.args.device.now)) (pending_of (before g c)) (ready (home_of x) c.args.address (pending_of (before g c)))) (sym c.self.invariant.same) (view g c honest))
 
 -- ---- what is pending then
 
