@@ -1,0 +1,7 @@
+use Rattle.shared.proofs.tests.may_share.Given as goal
+
+abbrev pub ghosts-may_share_on-L-Ledger : goal.ghosts-may_share_on-L-Ledger
+ghosts-may_share_on-L-Ledger a = record { name = a.repairs.name; parts = a.repairs.parts }
+
+abbrev pub ghosts-may_share_on-M-Ledger : goal.ghosts-may_share_on-M-Ledger
+ghosts-may_share_on-M-Ledger a = record { name = a.others.name; parts = a.others.parts }

@@ -1,0 +1,7 @@
+use Rattle.shared.proofs.tests.stage.carry_out.Given as goal
+
+abbrev pub ghosts-carry_out_on-L-Ledger : goal.ghosts-carry_out_on-L-Ledger
+ghosts-carry_out_on-L-Ledger g a = record { name = a.repairs.name; parts = a.repairs.parts }
+
+abbrev pub ghosts-carry_out_on-M-Ledger : goal.ghosts-carry_out_on-M-Ledger
+ghosts-carry_out_on-M-Ledger g a = record { name = a.others.name; parts = a.others.parts }

@@ -1,0 +1,6 @@
+pub mod Limits
+pub mod Next
+pub mod Noted
+pub mod Repairing
+pub mod Shown
+pub mod Traces
