@@ -7,27 +7,31 @@ use crate::failure::{Failure, GAVE_OUT, SOFT};
 use crate::jobs::{Answer, allow_workers, bits, check, check_numbers, check_sample, make, told};
 use crate::line::{Job, parse};
 use crate::repairs::repair;
+use crate::runs::run;
+use crate::stops::stops;
 use device::{Before, FileDevice};
-use layout::Geometry;
+use layout::{Geometry, Refusal};
 use std::convert::AsStr;
-use std::io;
 use std::io::Write;
 use std::marker::Brand;
 use std::os::unix::fs::FileExt;
 use std::rt::Files;
+use std::sync::Wait;
 use std::thread::Threads;
+use std::{fs, io};
+use user_scripts::{Commands, UserLine};
 
 /// Carries out the line of these words, which are those after the program's name. Its output is written to `out` once
 /// all else is done; a refusal is written to `err`, and then nothing to `out`. Gives the status that the program ends
 /// with.
-pub fn perform<R: Files + AllocGlobal + Threads + Sync, S: AsStr, W: Write, E: Write>(
+pub fn perform<R: Files + AllocGlobal + Threads + Wait + Sync, S: AsStr, W: Write, E: Write>(
     rt: &R,
     words: &[S],
     out: &mut W,
     err: &mut E,
 ) -> u8
 where
-    R::File: FileExt,
+    R::File: FileExt + Send,
     ensures few { result ≤ 4 }
     ensures refused { result ≡ 3 → out.new ≡ out.old }
     ensures done { result < 2 → err.new ≡ err.old }
@@ -42,12 +46,12 @@ where
 }
 
 /// Does what the words ask for.
-fn answer<R: Files + AllocGlobal + Threads + Sync, S: AsStr>(
+fn answer<R: Files + AllocGlobal + Threads + Wait + Sync, S: AsStr>(
     rt: &R,
     words: &[S],
 ) -> Result<Answer, Failure>
 where
-    R::File: FileExt,
+    R::File: FileExt + Send,
     ensures { IfOk result (λ answer. answer.status < 3) }
 {
     match parse(rt.alloc(), words)? {
@@ -59,6 +63,12 @@ where
         } => make_file(rt, image, &Geometry::new(groups, blocks, inodes)?),
         Job::Check { image, workers } => check_file(rt, image, workers),
         Job::Repair { image, workers } => repair_file(rt, image, workers),
+        Job::Run {
+            image,
+            script,
+            workers,
+        } => run_on_file(rt, image, script, workers),
+        Job::Stops { image, script } => stops_of_file(rt, image, script),
         Job::Bits { image } => bits_of_file(rt, image),
         Job::Sample => {
             let findings = check_sample(rt.alloc())?;
@@ -122,6 +132,59 @@ where
     let device: FileDevice<R::File, Brand> = FileDevice::open_to_write(rt, image)?;
     let repaired = repair(rt, rt.alloc(), device, workers)?;
     Ok(repaired.answer)
+}
+
+/// Carries out a script on the volume of a file's image. The number of workers is looked at before the script, and that before
+/// the image.
+fn run_on_file<R: Files + AllocGlobal + Threads + Wait + Sync>(
+    rt: &R,
+    image: &str,
+    script: &str,
+    workers: u32,
+) -> Result<Answer, Failure>
+where
+    R::File: FileExt + Send,
+    ensures status { IfOk result (λ answer. answer.status ≡ 0) }
+    ensures workers { IsFalse (may_work workers) → result ≡ Err (Failure.Refused BadWorkers) }
+{
+    allow_workers(workers)?;
+    let lines = lines_of_file(rt, script, Commands::OfUsers)?;
+    let device: FileDevice<R::File, Brand> = FileDevice::open_to_write(rt, image)?;
+    Ok(run(rt, rt.alloc(), device, lines, workers)?)
+}
+
+/// Tells the stops of a script on a file's image, which is read alone. The script is looked at before the image.
+fn stops_of_file<R: Files + AllocGlobal + Threads + Sync>(
+    rt: &R,
+    image: &str,
+    script: &str,
+) -> Result<Answer, Failure>
+    ensures { IfOk result (λ answer. answer.status < 3) }
+{
+    let lines = lines_of_file(rt, script, Commands::OfUsersAndFlushes)?;
+    let bytes = bytes_of_file(rt, image)?;
+    Ok(stops(rt, rt.alloc(), bytes.as_slice(), lines)?)
+}
+
+/// The lines of a file's script.
+fn lines_of_file<R: Files + AllocGlobal>(
+    rt: &R,
+    script: &str,
+    which: Commands,
+) -> Result<Vec<UserLine>, Failure> {
+    let bytes = bytes_of_file(rt, script)?;
+    user_scripts::parse(rt.alloc(), bytes.as_slice(), which).map_err(|refused| Failure::of_script(
+        rt.alloc(),
+        refused,
+    ))
+}
+
+/// The bytes of a file; refused with `NoMemory`, and with `Device` where it cannot be read.
+fn bytes_of_file<R: Files + AllocGlobal>(rt: &R, path: &str) -> Result<Vec<u8>, Refusal> {
+    fs::read(rt, path).map_err(|error| match error.kind() {
+        io::ErrorKind::OutOfMemory => Refusal::NoMemory,
+        _ => Refusal::Device,
+    })
 }
 
 /// Checks the number maps of a file's image.

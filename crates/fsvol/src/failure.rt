@@ -10,6 +10,7 @@ use clap::error::ErrorKind;
 use layout::Refusal;
 use std::alloc::{AllocError, Global};
 use std::io::Write;
+use user_scripts::BadScript;
 
 /// The image has what soft updates may leave.
 pub const SOFT: u8 = 1;
@@ -26,7 +27,8 @@ pub const GAVE_OUT: u8 = 4;
 /// Why a line was not carried out.
 #[derive(Debug, Drop)]
 pub enum Failure {
-    /// The words are no line of the program, or ask for its help. This is the text to print.
+    /// The words are no line of the program, or ask for its help, or a script has a line of another form. This is the text
+    /// to print.
     Line(String),
     /// What the line asks for was refused.
     Refused(Refusal),
@@ -57,6 +59,19 @@ impl Failure {
             return Failure::Refused(Refusal::NoMemory);
         }
         match error.to_string(alloc) {
+            Ok(text) => Failure::Line(text),
+            Err(AllocError) => Failure::Refused(Refusal::NoMemory),
+        }
+    }
+
+    /// What a script is refused for.
+    pub fn of_script(alloc: Global, refused: BadScript) -> Failure
+        ensures { refused ≡ BadScript.NoMemory → result ≡ Failure.Refused Refusal.NoMemory }
+    {
+        if refused == BadScript::NoMemory {
+            return Failure::Refused(Refusal::NoMemory);
+        }
+        match format!(in alloc; "{refused}\n") {
             Ok(text) => Failure::Line(text),
             Err(AllocError) => Failure::Refused(Refusal::NoMemory),
         }

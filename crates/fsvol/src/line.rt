@@ -30,6 +30,17 @@ pub enum Job<'a> {
         image: &'a str,
         workers: u32,
     },
+    /// What the users of a script are answered, while the image is checked by this many workers and mended.
+    Run {
+        image: &'a str,
+        script: &'a str,
+        workers: u32,
+    },
+    /// What a stop after each write of a script leaves of an image.
+    Stops {
+        image: &'a str,
+        script: &'a str,
+    },
     /// The findings of an image's number maps.
     Bits {
         image: &'a str,
@@ -96,6 +107,15 @@ fn job_of<'a>(matches: &ArgMatches<'a>) -> Option<Job<'a>>
             image: options.get_str("image")?,
             workers: options.get_one("workers")?,
         }),
+        ("run", options) => Some(Job::Run {
+            image: options.get_str("image")?,
+            script: options.get_str("script")?,
+            workers: options.get_one("workers")?,
+        }),
+        ("stops", options) => Some(Job::Stops {
+            image: options.get_str("image")?,
+            script: options.get_str("script")?,
+        }),
         ("bits", options) => Some(Job::Bits {
             image: options.get_str("image")?,
         }),
@@ -112,6 +132,8 @@ fn program<'a>(alloc: Global) -> Result<Command<'a>, AllocError> {
         .subcommand(mkfs(alloc)?)?
         .subcommand(check(alloc)?)?
         .subcommand(repair(alloc)?)?
+        .subcommand(run(alloc)?)?
+        .subcommand(stops(alloc)?)?
         .subcommand(bits(alloc)?)
 }
 
@@ -138,6 +160,25 @@ fn repair<'a>(alloc: Global) -> Result<Command<'a>, AllocError> {
         .arg(workers(alloc))
 }
 
+fn run<'a>(alloc: Global) -> Result<Command<'a>, AllocError> {
+    Command::new(alloc, "run")
+        .about(
+            "Carries out a script of users while an image is checked and mended, and prints their answers",
+        )
+        .arg(image(alloc))?
+        .arg(script(alloc))?
+        .arg(workers(alloc))
+}
+
+fn stops<'a>(alloc: Global) -> Result<Command<'a>, AllocError> {
+    Command::new(alloc, "stops")
+        .about(
+            "Prints what a check finds where a script stops after each of its writes; writes no file",
+        )
+        .arg(image(alloc))?
+        .arg(script(alloc))
+}
+
 fn bits<'a>(alloc: Global) -> Result<Command<'a>, AllocError> {
     Command::new(alloc, "bits")
         .about("Prints the findings of an image's number maps")
@@ -150,6 +191,14 @@ fn image<'a>(alloc: Global) -> Arg<'a> {
         .value_name("IMAGE")
         .required(true)
         .help("The file of the image")
+}
+
+/// The file of a script.
+fn script<'a>(alloc: Global) -> Arg<'a> {
+    Arg::new(alloc, "script")
+        .value_name("SCRIPT")
+        .required(true)
+        .help("The file of the script")
 }
 
 /// How many workers check the image.

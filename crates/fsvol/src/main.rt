@@ -8,6 +8,8 @@ mod line;
 mod repairs;
 #[cfg(test)]
 mod rows;
+mod runs;
+mod stops;
 
 use entry::perform;
 use line::words_given;

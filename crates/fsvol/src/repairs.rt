@@ -83,7 +83,7 @@ fn mend_device<D: Device + Drop>(
 }
 
 /// Mounts the volume of a device, which is let go where it cannot be mounted.
-fn mount<D: Device + Drop>(alloc: Global, device: D) -> Result<Live<D>, Refusal>
+pub fn mount<D: Device + Drop>(alloc: Global, device: D) -> Result<Live<D>, Refusal>
     ensures image { IfOk result (λ live. D.image live.device ≡ D.image device) }
     ensures pending { IfOk result (λ live. pending_of live.queue ≡ []) }
     ensures idle { IfOk result (λ live. IsIdle live.holdings) }
@@ -131,7 +131,7 @@ fn done_lines(alloc: Global, repairs: &[Repair]) -> Result<String, AllocError>
 }
 
 /// Writes a line for each repair.
-fn write_repairs(text: &mut String, repairs: &[Repair]) -> Result<(), AllocError>
+pub fn write_repairs(text: &mut String, repairs: &[Repair]) -> Result<(), AllocError>
     ensures { OnOk result (string_bytes text.new ≡ string_bytes text.old ++ repair_lines repairs.now) }
 {
     for repair in repairs {

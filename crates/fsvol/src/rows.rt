@@ -4,6 +4,7 @@ use std::io::Write;
 use std::os::unix::fs::FileExt;
 use std::process::Abort;
 use std::rt::Files;
+use std::sync::Wait;
 use std::test::Fail;
 use std::thread::Threads;
 use std::{fs, io};
@@ -121,14 +122,14 @@ fn printed(out: &str, status: u8) -> Wanted<'_> {
 }
 
 /// Carries out a line that starts with these words, and ends with the image's name.
-fn gives<R: Files + AllocGlobal + Threads + Sync + Abort>(
+fn gives<R: Files + AllocGlobal + Threads + Wait + Sync + Abort>(
     rt: &R,
     start: &str,
     image: &str,
     wanted: Wanted<'_>,
 ) -> Result<(), Fail>
 where
-    R::File: FileExt,
+    R::File: FileExt + Send,
 {
     let mut words: Vec<&str> = start.split(' ').collect(rt.alloc())?;
     words.push(image)?;
@@ -142,13 +143,13 @@ where
 }
 
 /// Makes a fresh image in this file, and gives its bytes.
-fn made<R: Files + AllocGlobal + Threads + Sync + Abort>(
+fn made<R: Files + AllocGlobal + Threads + Wait + Sync + Abort>(
     rt: &R,
     geometry: &str,
     image: &str,
 ) -> Result<Vec<u8>, Fail>
 where
-    R::File: FileExt,
+    R::File: FileExt + Send,
 {
     let start = format!(in rt.alloc(); "mkfs {geometry}")?;
     gives(rt, start.as_str(), image, NOTHING_PRINTED)?;
@@ -156,18 +157,18 @@ where
 }
 
 /// A fresh image of 1 group, 16 blocks and 16 inodes, in this file.
-fn made_small<R: Files + AllocGlobal + Threads + Sync + Abort>(
+fn made_small<R: Files + AllocGlobal + Threads + Wait + Sync + Abort>(
     rt: &R,
     image: &str,
 ) -> Result<Vec<u8>, Fail>
 where
-    R::File: FileExt,
+    R::File: FileExt + Send,
 {
     made(rt, "--groups 1 --blocks 16 --inodes 16", image)
 }
 
 /// Carries out a line of these words on an image of these bytes, which stand in this file, and then stand there still.
-fn gives_of_bytes<R: Files + AllocGlobal + Threads + Sync + Abort>(
+fn gives_of_bytes<R: Files + AllocGlobal + Threads + Wait + Sync + Abort>(
     rt: &R,
     start: &str,
     image: &str,
@@ -175,7 +176,7 @@ fn gives_of_bytes<R: Files + AllocGlobal + Threads + Sync + Abort>(
     wanted: Wanted<'_>,
 ) -> Result<(), Fail>
 where
-    R::File: FileExt,
+    R::File: FileExt + Send,
 {
     fs::write(rt, image, bytes)?;
     gives(rt, start, image, wanted)?;
@@ -184,14 +185,14 @@ where
 }
 
 /// Checks the number maps of an image of these bytes, which stand in this file.
-fn bits_gives<R: Files + AllocGlobal + Threads + Sync + Abort>(
+fn bits_gives<R: Files + AllocGlobal + Threads + Wait + Sync + Abort>(
     rt: &R,
     image: &str,
     bytes: &[u8],
     wanted: Wanted<'_>,
 ) -> Result<(), Fail>
 where
-    R::File: FileExt,
+    R::File: FileExt + Send,
 {
     gives_of_bytes(rt, "bits", image, bytes, wanted)
 }
@@ -602,4 +603,182 @@ fn a_refusal_keeps_its_status_where_it_cannot_be_printed(rt: HostRuntime) {
         assert_eq!(rt; given, status);
         assert!(rt; out.is_empty());
     }
+}
+
+/// How often a row with threads is carried out.
+const TIMES: u32 = 20;
+
+/// Carries out a line that starts with these words, and ends with the names of an image of these bytes, which are written to
+/// its file first, and of a file with this script.
+fn gives_of_script<R: Files + AllocGlobal + Threads + Wait + Sync + Abort>(
+    rt: &R,
+    start: &str,
+    (image, bytes): (&str, &[u8]),
+    script: &str,
+    wanted: Wanted<'_>,
+) -> Result<(), Fail>
+where
+    R::File: FileExt + Send,
+{
+    let file = format!(in rt.alloc(); "{image}.script")?;
+    fs::write(rt, image, bytes)?;
+    fs::write(rt, file.as_str(), script)?;
+    let start = format!(in rt.alloc(); "{start} {image}")?;
+    gives(rt, start.as_str(), file.as_str(), wanted)?;
+    fs::remove_file(rt, file.as_str())?;
+    Ok(())
+}
+
+/// The lines of one user, and behind them what is printed.
+const ONE_USER: &[&str; 2] = &[
+    "1 create /x\n1 open /x\n1 write 0 0 abc\n1 read 0 0\n1 stat /x\n",
+    "1 create /x -> ok 3\n1 open /x -> ok 0\n1 write 0 0 abc -> ok\n1 read 0 0 -> ok 616263\n1 stat /x -> ok number 3 file links 1 size 3\n",
+];
+
+/// Those of two users.
+const TWO_USERS: &[&str; 2] = &[
+    "1 mkdir /d\n2 stat /q\n",
+    "1 mkdir /d -> ok 3\n2 stat /q -> refused 7 NotFound\n",
+];
+
+#[test]
+fn run_tells_what_users_are_answered(rt: HostRuntime) -> Result<(), Fail> {
+    let image = "rows_run.img";
+    let fresh = made_small(&rt, image)?;
+    let mut leaked = fresh.clone()?;
+    set(leaked.as_mut_slice(), 1_184, 33);
+    let [one, one_told] = *ONE_USER;
+    let [two, two_told] = *TWO_USERS;
+    let one_told = format!(in rt.alloc(); "{one_told}{CLEAN_REPORT}repaired 0\n")?;
+    let two_told = format!(in rt.alloc(); "{two_told}{SOFT_REPORT}{SOFT_MENDED}")?;
+    let none_told = format!(in rt.alloc(); "{CLEAN_REPORT}repaired 0\n")?;
+    for _time in 0..TIMES {
+        for (bytes, script, told) in [
+            (&fresh, one, &one_told),
+            (&leaked, two, &two_told),
+            (&fresh, "", &none_told),
+        ] {
+            let wanted = printed(told.as_str(), 0);
+            let before = (image, bytes.as_slice());
+            gives_of_script(&rt, "run --workers 2", before, script, wanted)?;
+            gives(&rt, "check --workers 1", image, printed(CLEAN_REPORT, 0))?;
+        }
+    }
+    fs::remove_file(&rt, image)?;
+    Ok(())
+}
+
+#[test]
+fn run_writes_no_image_that_it_refuses(rt: HostRuntime) -> Result<(), Fail> {
+    let image = "rows_run_refused.img";
+    let fresh = made_small(&rt, image)?;
+    let mut unmarked = fresh.clone()?;
+    set(unmarked.as_mut_slice(), 1_056, 0);
+    let mut other = fresh.clone()?;
+    set(other.as_mut_slice(), 0, 0);
+    let workers = refused("refused 6 BadWorkers\n", 3);
+    let second = refused("script line 2\n", 3);
+    for (start, bytes, script, wanted) in [
+        (
+            "run --workers 2",
+            &fresh,
+            "1 create /x\n9 create /x\n",
+            second,
+        ),
+        (
+            "run --workers 2",
+            &other,
+            "1 create /x\n1 create /y",
+            second,
+        ),
+        (
+            "run --workers 2",
+            &fresh,
+            "1 sync\n",
+            refused("script line 1\n", 3),
+        ),
+        ("run --workers 0", &fresh, "1 sync\n", workers),
+        ("run --workers 65", &fresh, "1 sync\n", workers),
+        (
+            "run --workers 2",
+            &unmarked,
+            "1 create /x\n",
+            refused("refused 24 Damaged\n", 2),
+        ),
+        (
+            "run --workers 2",
+            &other,
+            "1 create /x\n",
+            refused("refused 4 BadSuper\n", 3),
+        ),
+    ] {
+        gives_of_script(&rt, start, (image, bytes.as_slice()), script, wanted)?;
+        assert!(rt; fs::read(&rt, image)? == *bytes, "{start} {script}");
+    }
+    fs::remove_file(&rt, image)?;
+    Ok(())
+}
+
+#[test]
+fn scripts_and_images_that_cannot_be_read_are_failed_devices(rt: HostRuntime) -> Result<(), Fail> {
+    let image = "rows_no_script.img";
+    let fresh = made_small(&rt, image)?;
+    let wanted = refused("refused 2 Device\n", 4);
+    for line in ["run --workers 1", "stops"] {
+        let start = format!(in rt.alloc(); "{line} {image}")?;
+        gives(&rt, start.as_str(), "rows_no_such_script", wanted)?;
+        let script = "rows_a_script";
+        fs::write(&rt, script, "1 create /x\n")?;
+        let start = format!(in rt.alloc(); "{line} rows_no_such_image.img")?;
+        gives(&rt, start.as_str(), script, wanted)?;
+        fs::remove_file(&rt, script)?;
+    }
+    assert!(rt; fs::read(&rt, image)? == fresh);
+    fs::remove_file(&rt, image)?;
+    Ok(())
+}
+
+/// Scripts, and what is told of their stops on a fresh image.
+const STOPS: &[[&str; 2]] = &[
+    [
+        "1 create /b\n1 sync\n1 create /a\n1 unlink /b\n1 flush 4\n1 flush 2\n1 flush 1\n1 flush 2\n1 flush 4\n1 flush 2\n1 flush 1\n",
+        "stop 0 verdict clean findings 0\nstop 1 verdict soft findings 1\nstop 2 verdict soft findings 1\nstop 3 verdict clean findings 0\nstop 4 verdict soft findings 1\nstop 5 verdict soft findings 1\nstop 6 verdict soft findings 1\nstop 7 verdict soft findings 1\nstop 8 verdict clean findings 0\n",
+    ],
+    ["", "stop 0 verdict clean findings 0\n"],
+    [
+        "2 create /a\n2 open /a\n2 write 0 0 abc\n1 read 0 0\n1 close 0\n2 read 0 0\n",
+        // Both bits, the record without bytes, the entry, the bytes, and the record with them.
+        "stop 0 verdict clean findings 0\nstop 1 verdict soft findings 2\nstop 2 verdict soft findings 2\nstop 3 verdict soft findings 1\nstop 4 verdict soft findings 1\nstop 5 verdict clean findings 0\n",
+    ],
+];
+
+#[test]
+fn stops_tells_what_each_write_leaves(rt: HostRuntime) -> Result<(), Fail> {
+    let image = "rows_stops.img";
+    let fresh = made_small(&rt, image)?;
+    for [script, told] in STOPS {
+        let before = (image, fresh.as_slice());
+        gives_of_script(&rt, "stops", before, script, printed(told, 0))?;
+        assert!(rt; fs::read(&rt, image)? == fresh, "{script}");
+    }
+    fs::remove_file(&rt, image)?;
+    Ok(())
+}
+
+#[test]
+fn stops_refuses_what_cannot_be_mounted(rt: HostRuntime) -> Result<(), Fail> {
+    let image = "rows_stops_refused.img";
+    let fresh = made_small(&rt, image)?;
+    let mut damaged = fresh.clone()?;
+    set(damaged.as_mut_slice(), 1_056, 0);
+    for (bytes, script, wanted) in [
+        (&fresh, "1 freeze\n", refused("script line 1\n", 3)),
+        (&damaged, "1 sync\n1  sync\n", refused("script line 2\n", 3)),
+        (&damaged, "1 sync\n", refused("refused 24 Damaged\n", 2)),
+    ] {
+        gives_of_script(&rt, "stops", (image, bytes.as_slice()), script, wanted)?;
+        assert!(rt; fs::read(&rt, image)? == *bytes, "{script}");
+    }
+    fs::remove_file(&rt, image)?;
+    Ok(())
 }

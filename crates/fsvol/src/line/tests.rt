@@ -105,6 +105,37 @@ fn reads_repair(rt: HostRuntime) -> Result<(), Fail> {
 }
 
 #[test]
+fn reads_run(rt: HostRuntime) -> Result<(), Fail> {
+    for (line, workers) in [
+        ("run --workers 1 a.img b.txt", 1),
+        ("run a.img --workers=65 b.txt", 65),
+        ("run a.img b.txt --workers 0", 0),
+    ] {
+        let words = words_of(rt.alloc(), line)?;
+        let job = parse(rt.alloc(), words.as_slice()).ok().ok_or(line)?;
+        let asked = Job::Run {
+            image: "a.img",
+            script: "b.txt",
+            workers,
+        };
+        assert!(rt; job == asked, "{line}");
+    }
+    Ok(())
+}
+
+#[test]
+fn reads_stops(rt: HostRuntime) -> Result<(), Fail> {
+    let words = words_of(rt.alloc(), "stops a.img b.txt")?;
+    let job = parse(rt.alloc(), words.as_slice()).ok().ok_or("a job")?;
+    let asked = Job::Stops {
+        image: "a.img",
+        script: "b.txt",
+    };
+    assert!(rt; job == asked);
+    Ok(())
+}
+
+#[test]
 fn reads_no_words(rt: HostRuntime) -> Result<(), Fail> {
     let words: Vec<String> = Vec::new(rt.alloc());
     let job = parse(rt.alloc(), words.as_slice()).ok().ok_or("a job")?;
@@ -133,6 +164,22 @@ fn refuses_a_wrong_line(rt: HostRuntime) -> Result<(), Fail> {
             "required arguments were not provided:\n  <IMAGE>",
         ),
         ("bits a.img b.img", "unexpected argument 'b.img' found"),
+        (
+            "run --workers 1 a.img",
+            "required arguments were not provided:\n  <SCRIPT>",
+        ),
+        (
+            "run a.img b.txt",
+            "required arguments were not provided:\n  --workers <NUMBER>",
+        ),
+        (
+            "stops",
+            "required arguments were not provided:\n  <IMAGE>\n  <SCRIPT>",
+        ),
+        (
+            "stops --workers 1 a.img b.txt",
+            "unexpected argument '--workers' found",
+        ),
         (
             "bits --groups 1 a.img",
             "unexpected argument '--groups' found",
@@ -225,6 +272,11 @@ fn refuses_a_line_that_asks_for_help(rt: HostRuntime) -> Result<(), Fail> {
             "check --help",
             "Usage: fsvol check --workers <NUMBER> <IMAGE>\n",
         ),
+        (
+            "run --help",
+            "Usage: fsvol run --workers <NUMBER> <IMAGE> <SCRIPT>\n",
+        ),
+        ("stops --help", "Usage: fsvol stops <IMAGE> <SCRIPT>\n"),
         ("bits --help", "Usage: fsvol bits <IMAGE>\n"),
         ("bits a.img -h", "Usage: fsvol bits <IMAGE>\n"),
     ] {

@@ -1,0 +1,69 @@
+//! The thread that mends what leaked.
+use crate::calling::call;
+use device::Device;
+use frozen::Frozen;
+use fsck::{Checked, check};
+use layout::Refusal;
+use shared::{Progress, Seat, Shared};
+use snapshot::{Answer, Command};
+use std::alloc::Global;
+use std::sync::ledger::Ledger;
+use std::sync::{Arc, Wait};
+use std::thread::Threads;
+use workers::OpenGate;
+
+/// The check of a snapshot, and how many of its repairs were carried out.
+#[derive(Drop)]
+pub struct Mended {
+    pub checked: Arc<Checked>,
+    pub repaired: u32,
+}
+
+/// Freezes the volume, checks the snapshot with so many workers, installs the check, carries out each of its repairs, and
+/// ends the snapshot.
+pub fn mend<D: Device + Drop, L: Ledger, M: Ledger, R: Threads + Wait + Sync>(
+    rt: &R,
+    alloc: Global,
+    shared: &Shared<D, L, M>,
+    seat: &mut Seat<L, M>,
+    workers: u32,
+) -> Result<Mended, Refusal> {
+    let frozen = freeze(rt, alloc, shared, seat)?;
+    let checked = Arc::new(alloc, check(rt, alloc, &frozen, workers, &OpenGate)?)?;
+    let install = Command::Install(Arc::try_clone(&checked)?);
+    call(rt, alloc, shared, seat, &install)?;
+    let repaired = repair_all(rt, alloc, shared, seat)?;
+    call(rt, alloc, shared, seat, &Command::Release)?;
+    Ok(Mended { checked, repaired })
+}
+
+/// Freezes the volume.
+fn freeze<D: Device + Drop, L: Ledger, M: Ledger, R: Wait>(
+    rt: &R,
+    alloc: Global,
+    shared: &Shared<D, L, M>,
+    seat: &mut Seat<L, M>,
+) -> Result<Arc<Frozen>, Refusal> {
+    match call(rt, alloc, shared, seat, &Command::Freeze)? {
+        Answer::Image(frozen) => Ok(frozen),
+        // No volume answers a freeze otherwise.
+        _ => Err(Refusal::NoSnapshot),
+    }
+}
+
+/// Carries out all repairs, and counts them. Where the trace is full it is emptied, and the repairs go on.
+fn repair_all<D: Device + Drop, L: Ledger, M: Ledger, R: Wait>(
+    rt: &R,
+    alloc: Global,
+    shared: &Shared<D, L, M>,
+    seat: &mut Seat<L, M>,
+) -> Result<u32, Refusal> {
+    let mut progress = Progress::new();
+    for _ in rt.forever() {
+        match shared.repair_all(rt, alloc, seat, &mut progress) {
+            Err(Refusal::TraceFull) => shared.rotate(rt, seat)?,
+            repaired => return repaired.map(|()| progress.done),
+        }
+    }
+    unreachable!()
+}

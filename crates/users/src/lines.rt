@@ -1,0 +1,56 @@
+//! The lines of one user.
+use crate::calling::call;
+use device::Device;
+use layout::Refusal;
+use shared::{Seat, Shared};
+use snapshot::{Command, Reply};
+use std::alloc::{AllocError, Global};
+use std::sync::Wait;
+use std::sync::ledger::Ledger;
+use user_scripts::{Handles, UserLine};
+
+/// A line of a user, and the reply to it.
+#[derive(Drop)]
+pub struct Answered {
+    /// The bytes of the line, without its line feed.
+    pub text: Vec<u8>,
+    pub reply: Reply,
+}
+
+/// Carries out the lines of a user in order, and gives them with their replies. Room for these is made first.
+pub(crate) fn carry_out<D: Device + Drop, L: Ledger, M: Ledger, R: Wait>(
+    rt: &R,
+    alloc: Global,
+    shared: &Shared<D, L, M>,
+    seat: &mut Seat<L, M>,
+    lines: Vec<UserLine>,
+) -> Result<Vec<Answered>, AllocError> {
+    let mut answered = Vec::with_capacity(alloc, lines.len())?;
+    let mut handles = Handles::new(alloc);
+    for line in lines {
+        let UserLine {
+            user: _,
+            text,
+            command,
+        } = line;
+        let reply = reply_to(rt, alloc, shared, seat, &mut handles, command);
+        answered.push(Answered { text, reply })?;
+    }
+    Ok(answered)
+}
+
+/// The reply to a command of a user, whose handles are the user's. One of a handle that the user has not open is refused
+/// without a call.
+fn reply_to<D: Device + Drop, L: Ledger, M: Ledger, R: Wait>(
+    rt: &R,
+    alloc: Global,
+    shared: &Shared<D, L, M>,
+    seat: &mut Seat<L, M>,
+    handles: &mut Handles,
+    command: Command,
+) -> Reply {
+    let command = handles.command_for(command).ok_or(Refusal::BadHandle)?;
+    let reply = call(rt, alloc, shared, seat, &command);
+    handles.note(&command, &reply)?;
+    reply
+}

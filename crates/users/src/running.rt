@@ -1,0 +1,279 @@
+//! All threads of a script.
+ghost use Rattle.std.specs.Prelude.{◌≡◌, ◌+◌, ◌<◌, ◌^◌, [], IfOk, vec_len};
+
+use crate::checking::{Mended, mend};
+use crate::flushing::flush_until;
+use crate::lines::{Answered, carry_out};
+use device::Device;
+use layout::Refusal;
+use shared::{Closed, Seat, Shared};
+use snapshot::{Command, Volume};
+use std::alloc::{AllocError, Global};
+use std::collections::BTreeMap;
+use std::marker::Brand;
+use std::sync::Wait;
+use std::sync::atomic::{AtomicU64, Ordering};
+use std::sync::ledger::{Blank, Ledger};
+use std::thread::{Threads, join, map_vec};
+use user_scripts::UserLine;
+
+/// How many calls the trace has room for before it is emptied.
+const TRACE_LIMIT: u32 = 100_000;
+
+/// What came of a script.
+#[derive(Drop)]
+pub struct Ran<D: Device> {
+    /// The lines of the first user in their order, then those of the next one, each with its reply.
+    pub answered: Vec<Answered>,
+    pub mended: Mended,
+    pub volume: Volume<D>,
+}
+
+/// A user's seat and lines.
+#[derive(Drop)]
+struct Post<L: Ledger, M: Ledger> {
+    seat: Seat<L, M>,
+    lines: Vec<UserLine>,
+}
+
+/// A user's seat, and what came of its lines.
+#[derive(Drop)]
+struct Left<L: Ledger, M: Ledger> {
+    seat: Seat<L, M>,
+    answered: Result<Vec<Answered>, AllocError>,
+}
+
+/// Carries out the lines of a script, those of each user in order by a thread of its own. Beside them one thread freezes the
+/// volume, checks the snapshot with so many workers, installs the check, carries out each of its repairs and ends the
+/// snapshot, once; and one flushes what may go to the device, until all others have ended. Then all is written. Where the
+/// thread that checks was refused, or else the one that flushes, that is the refusal; further refused with `NoMemory`, and
+/// with `Device` where not all could be written.
+pub fn run<D: Device + Drop + Send, R: Threads + Wait + Sync>(
+    rt: &R,
+    alloc: Global,
+    volume: Volume<D>,
+    script: Vec<UserLine>,
+    workers: u32,
+) -> Result<Ran<D>, Refusal> {
+    let users = by_user(alloc, script)?;
+    let Some(seats) = u32::try_from(users.len())
+        .ok()
+        .and_then(|users| users.checked_add(2))
+    else {
+        // No script has so many users.
+        return Err(Refusal::BadIndex);
+    };
+    let Outcome {
+        answered,
+        mended,
+        flushed,
+        closed,
+    } = run_on::<D, Brand, Brand, R>(
+        rt,
+        alloc,
+        volume,
+        users,
+        workers,
+        seats,
+        Blank::new(u64::from(seats)),
+        Blank::new(u64::from(seats)),
+    )?;
+    let mended = mended?;
+    flushed?;
+    let answered = answered?;
+    let mut volume = closed.volume;
+    volume.apply(alloc, &Command::Sync)?;
+    Ok(Ran {
+        answered,
+        mended,
+        volume,
+    })
+}
+
+/// What came of all threads, and what was left.
+#[derive(Drop)]
+struct Outcome<D: Device> {
+    answered: Result<Vec<Answered>, AllocError>,
+    mended: Result<Mended, Refusal>,
+    flushed: Result<(), Refusal>,
+    closed: Closed<D>,
+}
+
+/// The lines of each user that has some, in the order of the users.
+fn by_user(alloc: Global, script: Vec<UserLine>) -> Result<Vec<Vec<UserLine>>, AllocError> {
+    let mut users: BTreeMap<u8, Vec<UserLine>> = BTreeMap::new(alloc);
+    for line in script {
+        match users.get_mut(&line.user) {
+            Some(lines) => lines.push(line)?,
+            None => {
+                let user = line.user;
+                users.insert(user, vec![in alloc; line]?)?;
+            }
+        }
+    }
+    let mut lines_of_users = Vec::with_capacity(alloc, users.len())?;
+    for (_user, lines) in users {
+        lines_of_users.push(lines)?;
+    }
+    Ok(lines_of_users)
+}
+
+/// Runs all threads, with the ledgers of these blanks.
+fn run_on<
+    D: Device + Drop + Send,
+    L: Ledger + Send + Sync,
+    M: Ledger + Send + Sync,
+    R: Threads + Wait + Sync,
+>(
+    rt: &R,
+    alloc: Global,
+    volume: Volume<D>,
+    users: Vec<Vec<UserLine>>,
+    workers: u32,
+    seats: u32,
+    repairs: Blank,
+    others: Blank,
+) -> Result<Outcome<D>, Refusal>
+    requires name { (repairs.name ≡ L.name) × (others.name ≡ M.name) }
+    requires parts { (repairs.parts ≡ L.parts) × (others.parts ≡ M.parts) }
+    requires seats { (repairs.parts ≡ seats) × (others.parts ≡ seats) }
+    requires users { vec_len users + 2 ≡ seats }
+{
+    let (shared, mut seats) = Shared::<D, L, M>::new(
+        alloc,
+        volume,
+        TRACE_LIMIT,
+        seats,
+        repairs,
+        others,
+    )?;
+    let (checker, flusher) = (seats.pop().unwrap(), seats.pop().unwrap());
+    let posts = posted(alloc, seats, users)?;
+    let (left, (checker, mended), (flusher, flushed)) = work_all(
+        rt, alloc, &shared, posts, checker, flusher, workers,
+    );
+    let (mut seats, answered) = gathered(alloc, left?)?;
+    seats.push(checker)?;
+    seats.push(flusher)?;
+    Ok(Outcome {
+        answered,
+        mended,
+        flushed,
+        closed: shared.close(seats),
+    })
+}
+
+/// A post for each user.
+fn posted<L: Ledger, M: Ledger>(
+    alloc: Global,
+    mut seats: Vec<Seat<L, M>>,
+    users: Vec<Vec<UserLine>>,
+) -> Result<Vec<Post<L, M>>, AllocError>
+    requires { vec_len seats ≡ vec_len users }
+    ensures { IfOk result (λ posts. vec_len posts ≡ vec_len users) }
+{
+    let mut posts = Vec::with_capacity(alloc, users.len())?;
+    for lines in users {
+        let seat = seats.pop().unwrap();
+        posts.push(Post { seat, lines })?;
+    }
+    Ok(posts)
+}
+
+/// What came of the users' posts, of the thread that checks, and of the one that flushes.
+type AllWork<L, M> = (
+    Result<Vec<Left<L, M>>, AllocError>,
+    (Seat<L, M>, Result<Mended, Refusal>),
+    (Seat<L, M>, Result<(), Refusal>),
+);
+
+/// Runs the threads of the users, the one that checks and the one that flushes.
+fn work_all<
+    D: Device + Drop + Send,
+    L: Ledger + Send + Sync,
+    M: Ledger + Send + Sync,
+    R: Threads + Wait + Sync,
+>(
+    rt: &R,
+    alloc: Global,
+    shared: &Shared<D, L, M>,
+    posts: Vec<Post<L, M>>,
+    checker: Seat<L, M>,
+    flusher: Seat<L, M>,
+    workers: u32,
+) -> AllWork<L, M>
+    ensures { IfOk result.0 (λ left. vec_len left ≡ vec_len posts) }
+{
+    let ended = &AtomicU64::new(0);
+    let others = (posts.len() as u64).saturating_add(1);
+    let (left, (checked, flushed)) = join(
+        rt,
+        move || -> Result<Vec<Left<L, M>>, AllocError>
+            ensures { IfOk result (λ left. vec_len left ≡ vec_len posts) }
+        { carry_out_all(rt, alloc, shared, posts, ended) },
+        move || join(
+            rt,
+            move || {
+                let mut seat = checker;
+                let mended = mend(rt, alloc, shared, &mut seat, workers);
+                ended.fetch_add(1, Ordering::SeqCst);
+                (seat, mended)
+            },
+            move || {
+                let mut seat = flusher;
+                let flushed = flush_until(rt, alloc, shared, &mut seat, ended, others);
+                (seat, flushed)
+            },
+        ),
+    );
+    (left, checked, flushed)
+}
+
+/// Carries out the lines of each user in a thread of its own.
+fn carry_out_all<
+    D: Device + Drop + Send,
+    L: Ledger + Send + Sync,
+    M: Ledger + Send + Sync,
+    R: Threads + Wait + Sync,
+>(
+    rt: &R,
+    alloc: Global,
+    shared: &Shared<D, L, M>,
+    posts: Vec<Post<L, M>>,
+    ended: &AtomicU64,
+) -> Result<Vec<Left<L, M>>, AllocError>
+    ensures { IfOk result (λ left. vec_len left ≡ vec_len posts) }
+{
+    let take = |post: Post<L, M>| {
+        let Post { mut seat, lines } = post;
+        let answered = carry_out(rt, alloc, shared, &mut seat, lines);
+        ended.fetch_add(1, Ordering::SeqCst);
+        Left { seat, answered }
+    };
+    map_vec(rt, posts, &take)
+}
+
+/// The users' seats, and their lines with the replies, those of the first user first.
+fn gathered<L: Ledger, M: Ledger>(
+    alloc: Global,
+    left: Vec<Left<L, M>>,
+) -> Result<(Vec<Seat<L, M>>, Result<Vec<Answered>, AllocError>), AllocError>
+    ensures { IfOk result (λ gathered. vec_len gathered.0 ≡ vec_len left) }
+{
+    let mut seats = Vec::with_capacity(alloc, left.len())?;
+    let mut all = Ok(Vec::new(alloc));
+    for Left { seat, answered } in left {
+        seats.push(seat)?;
+        all = all.and_then(|all| appended(all, answered));
+    }
+    Ok((seats, all))
+}
+
+/// The lines of the users before, and those of one more.
+fn appended(
+    mut all: Vec<Answered>,
+    answered: Result<Vec<Answered>, AllocError>,
+) -> Result<Vec<Answered>, AllocError> {
+    all.append(&mut answered?)?;
+    Ok(all)
+}
