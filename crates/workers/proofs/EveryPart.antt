@@ -1,10 +1,9 @@
 -- What a caller knows of each part, from what the workers keep over their calls.
-use Rattle.std.proofs.Common.{◌≡◌, ℕ, zero, suc, ◌+◌, ◌%◌, ◌<◌, Bool, true, false, cond, List, [], ◌∷◌, length, Some, slice_get, refl, sym, ap, ◌∙◌, subst, arith, All}
-use Rattle.std.proofs.Math.Nat.{mod-lt}
+use Rattle.std.proofs.Common.{◌≡◌, ℕ, zero, suc, ◌+◌, ◌<◌, Bool, true, false, cond, eqb, List, [], ◌∷◌, length, Some, slice_get, refl, sym, ap, ◌∙◌, subst, arith, All}
 use Rattle.std.proofs.lemmas.Bool.{eq-eqb}
-use Rattle.std.proofs.lemmas.Option.{get_or_from_slice_get}
+use Rattle.std.proofs.lemmas.Option.{get_or_from_slice_get, slice_get_within}
 use Rattle.std.specs.List.{enumerate_from, filter}
-use Rattle.workers.specs.Turns.{AreDone, Runs, is_turn, calls_of}
+use Rattle.workers.specs.Turns.{AreDone, Runs, calls_of}
 use Rattle.workers.proofs.ListLemmas.{slice_get-is}
 
 -- an element that passes a test stands among those that do
@@ -33,12 +32,12 @@ in_enumerate {X} a (y ∷ xs) (suc i) x h =
     in_enumerate (a + 1) xs i x h ∙ ap (λ (m : ℕ). Some (m, x)) k
 
 -- a unit's part stands among the calls of the unit's worker
-in_calls : {P : Type 0} (n : ℕ) (parts : List P) (unit : ℕ) (part : P) → slice_get parts unit ≡ Some part
-    → (k : ℕ) × (slice_get (calls_of n (unit % n) parts) k ≡ Some (unit, part))
-in_calls {P} n parts unit part h =
+pub in_calls : {P : Type 0} (dealt : ℕ → ℕ) (parts : List P) (unit : ℕ) (part : P) → slice_get parts unit ≡ Some part
+    → (k : ℕ) × (slice_get (calls_of dealt (dealt unit) parts) k ≡ Some (unit, part))
+in_calls {P} dealt parts unit part h =
     let e : 0 + unit ≡ unit = omega arith in
-    in_filter (λ call. is_turn n (unit % n) call.0) (enumerate_from 0 parts) unit (unit, part)
-    (in_enumerate 0 parts unit part h ∙ ap (λ (m : ℕ). Some (m, part)) e) (eq-eqb (unit % n) (unit % n) refl)
+    in_filter (λ call. eqb (dealt call.0) (dealt unit)) (enumerate_from 0 parts) unit (unit, part)
+    (in_enumerate 0 parts unit part h ∙ ap (λ (m : ℕ). Some (m, part)) e) (eq-eqb (dealt unit) (dealt unit) refl)
 
 -- workers that keep a fact over their calls, each of which promises one of its unit's part
 module _ {W P : Type 0} {gives : W → ℕ → P → W → Type 0} (Kept : W → Type 0) (Promised : ℕ → P → Type 0)
@@ -57,13 +56,13 @@ module _ {W P : Type 0} {gives : W → ℕ → P → W → Type 0} (Kept : W →
   pub every_part : {units : ℕ} {befores : List W} {parts : List P} {afters : List W} → All Kept befores → AreDone gives units befores parts afters
       → (unit : ℕ) (part : P) → slice_get parts unit ≡ Some part → Promised unit part
   every_part {befores = befores} {parts = parts} {afters = afters} kept done unit part h =
-      let n = length befores in
-      let less : unit % length befores < length befores = mod-lt unit done.someone in
-      let before = slice_get-is befores (unit % n) less in
-      let after = slice_get-is afters (unit % n) (subst (λ (k : ℕ). unit % n < k) (sym done.workers) less) in
-      let call = in_calls n parts unit part h in
-      let begins = subst Kept (get_or_from_slice_get befores (unit % n) before.0 before.0 before.1) (kept (unit % n) before.0 less) in
-      runs_keep before.0 (calls_of n (unit % n) parts) after.0 begins (done.each (unit % n) before.0 after.0 before.1 after.1) call.0 unit part call.1
+      let w = done.dealt unit in
+      let less : done.dealt unit < length befores = done.to_one unit (subst (λ (k : ℕ). unit < k) done.count (slice_get_within parts unit part h)) in
+      let before = slice_get-is befores w less in
+      let after = slice_get-is afters w (subst (λ (k : ℕ). w < k) (sym done.workers) less) in
+      let call = in_calls done.dealt parts unit part h in
+      let begins = subst Kept (get_or_from_slice_get befores w before.0 before.0 before.1) (kept w before.0 less) in
+      runs_keep before.0 (calls_of done.dealt w parts) after.0 begins (done.each w before.0 after.0 before.1 after.1) call.0 unit part call.1
 
 -- Workers that stay as they are, and promise of each part a fact of what all of them see: it holds of each part.
 pub every_part_alike : {W P S : Type 0} (seen : W → S) (promised : S → ℕ → P → Type 0) (same : S) {units : ℕ} {befores : List W} {parts : List P} {afters : List W}

@@ -1,6 +1,8 @@
 -- Lists with one element more, read by place.
-use Rattle.std.proofs.Common.{◌≡◌, ℕ, zero, suc, ◌+◌, ◌<◌, List, [], ◌∷◌, ◌++◌, length, Some, slice_get, refl, sym, ap, ◌∙◌, subst, arith, ◌⊎◌, inl, inr, slice_set}
-use Rattle.std.specs.List.{enumerate_from, range_with_len, zip}
+use Rattle.std.proofs.Common.{◌≡◌, ℕ, zero, suc, ◌+◌, ◌<◌, List, [], ◌∷◌, ◌++◌, length, Some, slice_get, refl, sym, ap, ◌∙◌, subst, arith, ◌⊎◌, inl, inr, slice_set, ◌≤◌}
+use Rattle.std.proofs.lemmas.Bool.{cases_lt}
+use Rattle.std.proofs.lemmas.Option.{slice_get_within}
+use Rattle.std.specs.List.{enumerate_from}
 
 -- what stood there stands there
 pub slice_get-old : {X : Type 0} (xs ys : List X) (i : ℕ) (x : X) → slice_get xs i ≡ Some x → slice_get (xs ++ ys) i ≡ Some x
@@ -30,20 +32,6 @@ enumerate_from-push {X} a (y ∷ xs) x =
     let k : a + 1 + length xs ≡ a + suc (length xs) = omega arith in
     ap (λ es. (a, y) ∷ es) (enumerate_from-push (a + 1) xs x ∙ ap (λ (i : ℕ). enumerate_from (a + 1) xs ++ (i, x) ∷ []) k)
 
--- numbers from a on
-pub range_with_len-push : (a n : ℕ) → range_with_len a (suc n) ≡ range_with_len a n ++ (a + n) ∷ []
-range_with_len-push a zero = ap (λ (k : ℕ). k ∷ []) (omega arith)
-range_with_len-push a (suc n) =
-    let k : a + 1 + n ≡ a + suc n = omega arith in
-    ap (λ ns. a ∷ ns) (range_with_len-push (a + 1) n ∙ ap (λ (i : ℕ). range_with_len (a + 1) n ++ i ∷ []) k)
-
--- pairs
-pub zip-push : {A B : Type 0} (ks : List A) (vs : List B) (a : A) (b : B) → length ks ≡ length vs → zip (ks ++ a ∷ []) (vs ++ b ∷ []) ≡ zip ks vs ++ (a, b) ∷ []
-zip-push [] [] a b h = refl
-zip-push [] (y ∷ vs) a b h = absurd (omega arith)
-zip-push (x ∷ ks) [] a b h = absurd (omega arith)
-zip-push (x ∷ ks) (y ∷ vs) a b h = ap (λ es. (x, y) ∷ es) (zip-push ks vs a b (omega arith))
-
 -- Where each element of one list is made of that of another, and of its place, so it is with one more in each.
 pub places-push : {X Y : Type 0} (f : ℕ → X → Y) (xs : List X) (ys : List Y) (x : X) (y : Y) → length ys ≡ length xs → y ≡ f (length xs) x
     → ((i : ℕ) (w : X) → slice_get xs i ≡ Some w → slice_get ys i ≡ Some (f i w))
@@ -57,32 +45,11 @@ places-push f xs ys x y same made each i w h = elim (slice_get-push xs x i w h) 
       )
 ]
 
--- The same, for what is made of the elements of two lists.
-pub pairs-push : {X Y Z : Type 0} (f : X → Y → Z) (xs : List X) (ys : List Y) (zs : List Z) (x : X) (y : Y) (z : Z) → length xs ≡ length zs → length ys ≡ length zs → z ≡ f x y
-    → ((i : ℕ) (v : X) (w : Y) → slice_get xs i ≡ Some v → slice_get ys i ≡ Some w → slice_get zs i ≡ Some (f v w))
-    → (i : ℕ) (v : X) (w : Y) → slice_get (xs ++ x ∷ []) i ≡ Some v → slice_get (ys ++ y ∷ []) i ≡ Some w → slice_get (zs ++ z ∷ []) i ≡ Some (f v w)
-pairs-push f [] [] [] x y z e d made each zero v w h k = ap Some (made ∙ ap (λ a. f a y) (some-is h) ∙ ap (f v) (some-is k))
-  where
-    some-is : {A : Type 0} {a b : A} → Some a ≡ Some b → a ≡ b
-    some-is e = cc
-pairs-push f [] [] [] x y z e d made each (suc i) v w h k = cc
-pairs-push f (a ∷ xs) ys [] x y z e d made each i v w h k = absurd (omega arith)
-pairs-push f [] ys (c ∷ zs) x y z e d made each i v w h k = absurd (omega arith)
-pairs-push f xs (b ∷ ys) [] x y z e d made each i v w h k = absurd (omega arith)
-pairs-push f xs [] (c ∷ zs) x y z e d made each i v w h k = absurd (omega arith)
-pairs-push f (a ∷ xs) (b ∷ ys) (c ∷ zs) x y z e d made each zero v w h k = each zero v w h k
-pairs-push f (a ∷ xs) (b ∷ ys) (c ∷ zs) x y z e d made each (suc i) v w h k =
-    pairs-push f xs ys zs x y z (omega arith) (omega arith) made (λ j. each (suc j)) i v w h k
-
 -- a place below the end has an element
 pub slice_get-is : {X : Type 0} (xs : List X) (i : ℕ) → i < length xs → (x : X) × (slice_get xs i ≡ Some x)
 slice_get-is [] i below = absurd (omega arith)
 slice_get-is (x ∷ xs) zero below = (x, refl)
 slice_get-is (x ∷ xs) (suc i) below = slice_get-is xs i (omega arith)
-
--- what stands in a place is one element
-pub slice_get-one : {X : Type 0} (xs : List X) (i : ℕ) (x y : X) → slice_get xs i ≡ Some x → slice_get xs i ≡ Some y → x ≡ y
-slice_get-one xs i x y h k = let e = sym h ∙ k in cc
 
 -- a place that was written
 pub slice_get-set_same : {X : Type 0} (xs : List X) (i : ℕ) (x y : X) → i < length xs → slice_get (slice_set xs i x) i ≡ Some y → x ≡ y
@@ -97,3 +64,34 @@ slice_get-set_other (z ∷ xs) zero zero x other = absurd (other refl)
 slice_get-set_other (z ∷ xs) zero (suc j) x other = refl
 slice_get-set_other (z ∷ xs) (suc i) zero x other = refl
 slice_get-set_other (z ∷ xs) (suc i) (suc j) x other = slice_get-set_other xs i j x (λ e. other (ap suc e))
+
+-- one element more: what stands in an old place, and in the new one
+old_place : {X : Type 0} (xs : List X) (x a : X) (i : ℕ) → slice_get (xs ++ x ∷ []) i ≡ Some a → i < length xs → slice_get xs i ≡ Some a
+old_place xs x a i h below = elim (slice_get-push xs x i a h) [
+  | inl there ↦ there
+  | inr last ↦ absurd (let e = last.0 in omega arith)
+]
+
+new_place : {X : Type 0} (xs : List X) (x a : X) (i : ℕ) → slice_get (xs ++ x ∷ []) i ≡ Some a → length xs ≤ i → (i ≡ length xs) × (a ≡ x)
+new_place xs x a i h past = elim (slice_get-push xs x i a h) [
+  | inl there ↦ absurd (let e = slice_get_within xs i a there in omega arith)
+  | inr last ↦ last
+]
+
+-- Where each element of a list is made of those of three others, so it is with one more in each.
+pub triples-push : {A B C Z : Type 0} (f : A → B → C → Z) (xs : List A) (ys : List B) (ws : List C) (zs : List Z) (x : A) (y : B) (w : C) (z : Z)
+    → length xs ≡ length zs → length ys ≡ length zs → length ws ≡ length zs → z ≡ f x y w
+    → ((i : ℕ) (a : A) (b : B) (c : C) → slice_get xs i ≡ Some a → slice_get ys i ≡ Some b → slice_get ws i ≡ Some c → slice_get zs i ≡ Some (f a b c))
+    → (i : ℕ) (a : A) (b : B) (c : C) → slice_get (xs ++ x ∷ []) i ≡ Some a → slice_get (ys ++ y ∷ []) i ≡ Some b → slice_get (ws ++ w ∷ []) i ≡ Some c
+    → slice_get (zs ++ z ∷ []) i ≡ Some (f a b c)
+triples-push f xs ys ws zs x y w z m n o made each i a b c h k l = elim (cases_lt i (length zs)) [
+  | inl below ↦ slice_get-old zs (z ∷ []) i (f a b c) (each i a b c (old_place xs x a i h (omega arith)) (old_place ys y b i k (omega arith)) (old_place ws w c i l (omega arith)))
+  | inr past ↦ (
+      let p = new_place xs x a i h (omega arith) in
+      let q = new_place ys y b i k (omega arith) in
+      let r = new_place ws w c i l (omega arith) in
+      let e : length zs ≡ i = sym (p.0 ∙ m) in
+      subst (λ (j : ℕ). slice_get (zs ++ z ∷ []) j ≡ Some (f a b c)) e
+      (slice_get-new zs z ∙ ap Some (made ∙ ap (λ t. f t y w) (sym p.1) ∙ ap (λ t. f a t w) (sym q.1) ∙ ap (f a b) (sym r.1)))
+      )
+]

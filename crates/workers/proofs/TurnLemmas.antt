@@ -1,25 +1,54 @@
 -- What a worker has done when it has done one unit more.
-use Rattle.std.proofs.Common.{◌≡◌, ℕ, ◌+◌, ◌%◌, ◌<◌, ◌≤◌, List, [], ◌∷◌, ◌++◌, length, refl, sym, ap, ◌∙◌, subst, length-append}
-use Rattle.std.proofs.lemmas.Fn.{FoldsTo-push}
-use Rattle.std.specs.List.{zip}
-use Rattle.workers.specs.Turns.{IsDone, Runs, units_of}
-use Rattle.workers.proofs.ListLemmas.{zip-push}
-use Rattle.workers.proofs.UnitLemmas.{units_of-none, units_of-next}
+use Rattle.std.proofs.Common.{◌≡◌, ℕ, ◌+◌, ◌<◌, ◌≤◌, List, [], ◌∷◌, ◌++◌, length, refl, sym, ap, ◌∙◌, subst, arith, inl, inr, zero-le, zero, suc, eqb, slice_get, Some}
+use Rattle.std.proofs.lemmas.Bool.{cases_eq}
+use Rattle.std.proofs.lemmas.List.{map-append, length_push, length-map}
+use Rattle.claims.specs.Counting.{times}
+use Rattle.claims.proofs.CountLemmas.{one_where_not, times-push}
+use Rattle.workers.specs.Turns.{units_in, IsRising, Runs, AreDone, calls_of}
+use Rattle.std.specs.List.{enumerate_from, filter}
+use Rattle.workers.proofs.RisingLemmas.{rising-push, rising-length}
 
-module _ {W P : Type 0} (gives : W → ℕ → P → W → Type 0) (n w : ℕ) (before : W) where
-  -- nothing yet
-  pub nothing_done : (m : ℕ) → w < n → m ≤ w → IsDone gives n w m before [] before
-  nothing_done m less none =
-      let e = units_of-none n w m less none in
-      record { count = ap length (sym e); runs = subst (λ us. Runs gives before (zip us []) before) (sym e) refl }
+module _ {P : Type 0} (calls : List (ℕ × P)) (unit : ℕ) (part : P) (units : ℕ) (rising : IsRising (units_in calls)) (low : (u : ℕ) → 0 < times u (units_in calls) → u < units)
+    (below : unit < units) (above : (u : ℕ) → 0 < times u (units_in calls) → u < unit) where
+  pub units_push : units_in (calls ++ (unit, part) ∷ []) ≡ units_in calls ++ unit ∷ []
+  units_push = map-append (λ (call : ℕ × P). call.0) calls ((unit, part) ∷ [])
 
-  -- one more
-  pub one_more_done : (u m : ℕ) (parts : List P) (mid : W) (part : P) (after : W) → u % n ≡ w → u < m → m ≤ u + n
-      → IsDone gives n w u before parts mid → gives mid u part after → IsDone gives n w m before (parts ++ part ∷ []) after
-  one_more_done u m parts mid part after own past near done gave =
-      let e = units_of-next n w u m own past near in
-      let longer = FoldsTo-push (λ worker call next. gives worker call.0 call.1 next) before (zip (units_of n w u) parts) mid (u, part) after done.runs gave in
-      record {
-        count = length-append parts (part ∷ []) ∙ ap (λ k. k + 1) done.count ∙ sym (length-append (units_of n w u) (u ∷ [])) ∙ sym (ap length e);
-        runs = subst (λ calls. Runs gives before calls after) (sym (zip-push (units_of n w u) parts u part (sym done.count)) ∙ ap (λ us. zip us (parts ++ part ∷ [])) (sym e)) longer;
-      }
+  pub more_rising : IsRising (units_in (calls ++ (unit, part) ∷ []))
+  more_rising = subst IsRising (sym units_push) (rising-push (units_in calls) unit rising above)
+
+  pub more_low : (u : ℕ) → 0 < times u (units_in (calls ++ (unit, part) ∷ [])) → u < units
+  more_low u stands = elim (cases_eq unit u) [
+    | inl same ↦ subst (λ (k : ℕ). k < units) same below
+    | inr differs ↦ low u (let push = ap (times u) units_push ∙ times-push u (units_in calls) unit in let lacks = one_where_not unit u differs in omega arith)
+  ]
+
+  pub more_fit : length calls + 1 ≤ units
+  more_fit =
+      let fits = rising-length 0 units (units_in (calls ++ (unit, part) ∷ [])) more_rising (λ u stands. (zero-le, more_low u stands)) zero-le in
+      let long = length-map (calls ++ (unit, part) ∷ []) (λ (call : ℕ × P). call.0) in
+      let push = length_push calls (unit, part) in
+      omega arith
+
+-- one worker alone, to which every unit was dealt
+filter_all : {P : Type 0} (a : ℕ) (parts : List P) → filter (λ call. eqb 0 0) (enumerate_from a parts) ≡ enumerate_from a parts
+filter_all a [] = refl
+filter_all {P} a (part ∷ parts) = ap (λ (cs : List (ℕ × P)). (a, part) ∷ cs) (filter_all (a + 1) parts)
+
+pub alone_done : {W P : Type 0} (gives : W → ℕ → P → W → Type 0) (units : ℕ) (before after : W) (parts : List P) → length parts ≡ units → Runs gives before (enumerate_from 0 parts) after
+    → AreDone gives units (before ∷ []) parts (after ∷ [])
+alone_done {W} {P} gives units before after parts count runs = record {
+  count = count;
+  workers = refl;
+  someone = omega arith;
+  dealt = λ unit. 0;
+  to_one = λ unit below. omega arith;
+  each = alone;
+}
+  where
+    alone : (number : ℕ) (b a : W) → slice_get (before ∷ []) number ≡ Some b → slice_get (after ∷ []) number ≡ Some a → Runs gives b (calls_of (λ unit. 0) number parts) a
+    alone zero b a h k =
+        let p : before ≡ b = cc in
+        let q : after ≡ a = cc in
+        subst (λ (x : W). Runs gives x (calls_of (λ unit. 0) 0 parts) a) p (subst (λ (x : W). Runs gives before (calls_of (λ unit. 0) 0 parts) x) q
+        (subst (λ (cs : List (ℕ × P)). Runs gives before cs after) (sym (filter_all 0 parts)) runs))
+    alone (suc number) b a h k = cc

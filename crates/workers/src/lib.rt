@@ -1,5 +1,5 @@
-//! The work of a phase, split among workers: each makes the parts of its own units, all of them at once, and the parts
-//! of all units come back in order.
+//! The work of a phase, split among workers: each makes the parts of the units that it draws, all of them at once, and
+//! the parts of all units come back in order.
 #![tactic(auto)]
 
 ghost use Rattle.std.specs.Prelude.{◌≡◌, ◌↔◌, ◌<◌, ◌∷◌, [], IfOk, IsErrOf, IsFalse, IsOkUnless, IsTrue, vec_len};
@@ -12,21 +12,21 @@ mod merging;
 mod tests;
 mod turns;
 
+use claims::Claims;
 pub use interface::{Gate, OpenGate, Work};
 use layout::Refusal;
-use merging::{in_order, settled};
+use merging::{Apart, in_order, settled};
 use std::alloc::Global;
 use std::thread::Threads;
-use turns::{Round, Seat, Turns, run_all, seated, take_turns};
+use turns::{run_all, seated};
 
 /// The most workers that a phase may have.
 pub const MOST_WORKERS: usize = 64;
 
 /// The parts of the units 0 to `units - 1`, in this order, and the workers, in the order in which they came.
 ///
-/// Worker `w` of `n` does the units `w`, `w + n`, `w + 2n` and so on, in this order, in a thread of its own where one
-/// can be made, and else on one that others use too; a worker without a unit ends at once. It passes the gate before
-/// each of its units, with the phase's number.
+/// Each worker draws units, in a thread of its own where one can be made, until none is left. It passes the gate with
+/// the phase's number after it drew a unit. Which worker draws which unit is left open.
 ///
 /// `BadWorkers` is refused where there are not 1 to 64 workers, and `NoMemory` where memory ran out, also in a unit.
 /// The workers are lost then.
@@ -46,14 +46,16 @@ pub fn each_group<W: Work, G: Gate>(
     if workers == 0 || workers > MOST_WORKERS {
         return Err(Refusal::BadWorkers);
     }
-    let round = Round {
-        phase,
-        units,
-        workers: workers as u32,
-    };
-    let turns = run_all(rt, alloc, round, seated(alloc, works)?, gate)?;
-    let (lists, works) = settled(alloc, turns)?;
-    Ok((in_order(alloc, round, lists)?, works))
+    let (claims, seats) = Claims::of_units(alloc, units, workers as u32)?;
+    let hands = seated(alloc, &claims, seats, works)?;
+    let turns = run_all(rt, alloc, phase, &claims, hands, gate)?;
+    let Apart {
+        lists,
+        seats,
+        works,
+    } = settled(alloc, turns)?;
+    claims.gather(alloc, seats)?;
+    Ok((in_order(alloc, units, lists)?, works))
 }
 
 /// The parts of the units 0 to `units - 1`, in this order, and the worker, which makes them one after another on the
@@ -62,13 +64,10 @@ pub fn in_turn<W: Work>(alloc: Global, units: u32, work: W) -> Result<(Vec<W::Pa
     ensures done { IfOk result (λ done. AreDone W.gives units (work ∷ []) done.0.items (done.1 ∷ [])) }
     ensures error { IsOkUnless result Refusal.NoMemory }
 {
-    let round = Round {
-        phase: 0,
-        units,
-        workers: 1,
-    };
-    let Turns { work, parts } = take_turns(alloc, round, Seat { number: 0, work }, &OpenGate)?;
-    let mut lists = Vec::new(alloc);
-    lists.push(parts)?;
-    Ok((in_order(alloc, round, lists)?, work))
+    let mut work = work;
+    let mut parts = Vec::new(alloc);
+    for unit in 0..units {
+        parts.push(work.part(unit)?)?;
+    }
+    Ok((parts, work))
 }

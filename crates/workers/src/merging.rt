@@ -1,57 +1,94 @@
 //! The parts of all workers, put in order of their units.
 ghost use Rattle.std.specs.Prelude.{◌≡◌, ℕ, ◌<◌, All, IfOk, IsOkUnless, Some, Ok, length, slice_get, vec_len};
-ghost use Rattle.std.specs.List.{zip};
-ghost use Rattle.workers.specs.Turns.{calls_of, units_of};
+ghost use Rattle.std.specs.List.{position_or_len};
+ghost use Rattle.claims.specs.Counting.{times, total, once_below};
+ghost use Rattle.claims.specs.Seats.{all_drawn};
+ghost use Rattle.workers.specs.Turns.{units_in, IsRising, begins_with, AreDealt};
 
-use crate::turns::{Round, Turns};
+use crate::turns::Turns;
+use claims::Seat;
 use layout::Refusal;
 use std::alloc::{AllocError, Global};
 use std::collections::VecDeque;
 
-/// The parts and the workers of turns that were all done, apart, or a refusal of one that was not.
+/// Turns that were all done, taken apart.
+#[derive(Drop)]
+pub(crate) struct Apart<W, P> {
+    pub(crate) lists: Vec<VecDeque<(u32, P)>>,
+    pub(crate) seats: Vec<Seat>,
+    pub(crate) works: Vec<W>,
+}
+
+/// The calls, the seats and the workers of turns that were all done, apart, or a refusal of one that was not.
 pub(crate) fn settled<W: Drop, P: Drop>(
     alloc: Global,
     turns: Vec<Result<Turns<W, P>, Refusal>>,
-) -> Result<(Vec<VecDeque<P>>, Vec<W>), Refusal>
+) -> Result<Apart<W, P>, Refusal>
     requires { All (λ turn. IsOkUnless turn Refusal.NoMemory) turns.items }
-    ensures lists { IfOk result (λ apart. vec_len apart.0 ≡ vec_len turns) }
-    ensures works { IfOk result (λ apart. vec_len apart.1 ≡ vec_len turns) }
-    ensures each { IfOk result (λ apart. (i : ℕ) (work : W) (parts : _) → slice_get apart.1.items i ≡ Some work
-        → slice_get apart.0.items i ≡ Some parts
-        → slice_get turns.items i ≡ Some (Ok (record { work = work; parts = parts }))) }
+    ensures lists { IfOk result (λ apart. vec_len apart.lists ≡ vec_len turns) }
+    ensures seats { IfOk result (λ apart. vec_len apart.seats ≡ vec_len turns) }
+    ensures works { IfOk result (λ apart. vec_len apart.works ≡ vec_len turns) }
+    ensures each { IfOk result (λ apart. (i : ℕ) (list : _) (seat : _) (work : W) → slice_get apart.lists.items i ≡ Some list
+        → slice_get apart.seats.items i ≡ Some seat → slice_get apart.works.items i ≡ Some work
+        → slice_get turns.items i ≡ Some (Ok (record { seat = seat; work = work; calls = list }))) }
     ensures error { IsOkUnless result Refusal.NoMemory }
 {
     let mut lists = Vec::new(alloc);
+    let mut seats = Vec::new(alloc);
     let mut works = Vec::new(alloc);
     for turn in turns {
-        let Turns { work, parts } = turn?;
-        lists.push(parts)?;
+        let Turns { seat, work, calls } = turn?;
+        lists.push(calls)?;
+        seats.push(seat)?;
         works.push(work)?;
     }
-    Ok((lists, works))
+    Ok(Apart {
+        lists,
+        seats,
+        works,
+    })
 }
 
-/// The parts of all units, from one list for each worker.
+/// The parts of all units, from one list of calls for each worker, where each unit stands in one of them.
 pub(crate) fn in_order<P: Drop>(
     alloc: Global,
-    round: Round,
-    lists: Vec<VecDeque<P>>,
+    units: u32,
+    lists: Vec<VecDeque<(u32, P)>>,
 ) -> Result<Vec<P>, AllocError>
-    requires someone { 0 < vec_len lists }
-    requires workers { vec_len lists ≡ round.workers }
-    requires counts { (w : ℕ) (list : _) → slice_get lists.items w ≡ Some list
-        → length list.items ≡ length (units_of round.workers w round.units) }
-    ensures units { IfOk result (λ parts. vec_len parts ≡ round.units) }
-    ensures each { IfOk result (λ parts. (w : ℕ) (list : _) → slice_get lists.items w ≡ Some list
-        → calls_of round.workers w parts.items ≡ zip (units_of round.workers w round.units) list.items) }
+    requires once { (unit : ℕ) → total (λ list. times unit (units_in list.items)) lists.items ≡ once_below units unit }
+    requires rising { (w : ℕ) (list : _) → slice_get lists.items w ≡ Some list → IsRising (units_in list.items) }
+    ensures units { IfOk result (λ parts. vec_len parts ≡ units) }
+    ensures dealt { IfOk result (λ parts. AreDealt (λ list. list.items) lists.items parts.items) }
 {
     let mut lists = lists;
     let mut parts = Vec::new(alloc);
-    for unit in 0..round.units {
-        let Some(part) = lists[(unit % round.workers) as usize].pop_front() else {
+    for unit in 0..units {
+        let holder = holder_of(lists.as_slice(), unit);
+        let Some((_unit, part)) = lists[holder].pop_front() else {
             unreachable!()
         };
         parts.push(part)?;
     }
     Ok(parts)
+}
+
+/// The first list that begins with this unit, or their number.
+fn holder_of<P>(lists: &[VecDeque<(u32, P)>], unit: u32) -> usize
+    ensures { result ≡ position_or_len (λ list. begins_with unit list.items) lists.now }
+{
+    let mut holder = 0;
+    while holder < lists.len() && !is_first(&lists[holder], unit) {
+        holder += 1;
+    }
+    holder
+}
+
+/// Whether a list begins with this unit.
+fn is_first<P>(list: &VecDeque<(u32, P)>, unit: u32) -> bool
+    ensures { result ≡ begins_with unit list.now.items }
+{
+    match list.front() {
+        Some(call) => call.0 == unit,
+        None => false,
+    }
 }

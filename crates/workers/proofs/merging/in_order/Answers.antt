@@ -1,53 +1,86 @@
--- The next part is the first that is left of the list of the unit's worker.
-use Rattle.std.proofs.Common.{◌≡◌, ℕ, ◌+◌, ◌%◌, ◌<◌, ◌++◌, ◌∷◌, [], Some, length, slice_get, slice_set, sym, ap, ◌∙◌, subst, arith, inl, inr, refl, Global}
+-- The next part is the first call of the list that begins with its unit.
+use Rattle.std.proofs.Common.{◌≡◌, ℕ, ◌+◌, ◌<◌, ◌∷◌, [], Bool, true, List, Some, length, slice_get, slice_set, slice_index_or, sym, ap, ◌∙◌, subst, arith, refl, Global}
 use Rattle.std.specs.declared.collections.VecDeque.{VecDeque}
-use Rattle.std.proofs.Math.Nat.{mod-lt}
-use Rattle.std.proofs.lemmas.Bool.{cases_eq}
-use Rattle.std.proofs.lemmas.Option.{slice_get_read, slice_get_within}
-use Rattle.workers.proofs.ListLemmas.{slice_get-is, slice_get-set_same, slice_get-set_other}
-use Rattle.workers.proofs.MergeLemmas.{IsMerged, part_is_left, part_is_merged, others_stay, all_merged}
+use Rattle.std.specs.List.{position_or_len}
+use Rattle.std.proofs.lemmas.Bool.{false≢true, eqb-true}
+use Rattle.std.proofs.lemmas.List.{nil_from_length}
+use Rattle.std.proofs.lemmas.List.Sums.{passes_at_first}
+use Rattle.std.proofs.lemmas.Option.{slice_get_read}
+use Rattle.claims.specs.Counting.{times, total, once_below}
+use Rattle.workers.specs.Turns.{begins_with, units_in, IsRising}
+use Rattle.workers.proofs.MergeLemmas.{IsMerging, nothing_merged, someone_next, one_merged, all_merged, holder_within}
 use Rattle.workers.proofs.merging.in_order.Goals as goal
+
+pub loop-unit-init : goal.loop-unit-init
+loop-unit-init g c =
+    let calls_in : VecDeque (ℕ × g.row.P.Denot) Global → List (ℕ × g.row.P.Denot) = λ q. q.items in
+    record {
+      parts = c.new-parts.ensures.len;
+      merging = subst (IsMerging calls_in c.args.lists.items c.args.lists.items) (sym c.new-parts.ensures.items) (nothing_merged calls_in c.args.lists.items);
+    }
+
+abbrev List_of : {P : Type 0} → VecDeque (ℕ × P) Global → List (ℕ × P)
+List_of q = q.items
+
+-- the list that was found begins with the unit
+found : {P : Type 0} (lists rests : List (VecDeque (ℕ × P) Global)) (parts : List P) (merging : IsMerging List_of lists rests parts) (bound : ℕ)
+    → ((u : ℕ) → total (λ q. times u (units_in q.items)) lists ≡ once_below bound u) → ((w : ℕ) (list : VecDeque (ℕ × P) Global) → slice_get lists w ≡ Some list → IsRising (units_in list.items))
+    → length parts < bound → (unit holder : ℕ) → length parts ≡ unit → holder ≡ position_or_len (λ q. begins_with unit q.items) rests
+    → (holder < length rests) × ((q : VecDeque (ℕ × P) Global) → q ≡ slice_index_or rests holder q → begins_with unit q.items ≡ true)
+found {P} lists rests parts merging bound once rising below unit holder long is =
+    let next = someone_next List_of lists rests parts merging bound once rising below in
+    let p : VecDeque (ℕ × P) Global → Bool = λ q. begins_with unit q.items in
+    let begins : p next.1 ≡ true = subst (λ (k : ℕ). begins_with k next.1.items ≡ true) long next.3 in
+    let within = holder_within p rests next.0 next.1 next.2 begins in (
+      subst (λ (k : ℕ). k < length rests) (sym is) within,
+      λ q read. ap p (read ∙ ap (λ (k : ℕ). slice_index_or rests k q) is) ∙ passes_at_first p rests q within,
+    )
+
+pub index_mut-requires : goal.index_mut-requires
+index_mut-requires g c =
+    let long : length c.loop-unit.parts.items ≡ c.loop-unit.unit = sym c.loop-unit.parts.ok.0 ∙ c.loop-unit.invariant.parts in
+    let here = found c.args.lists.items c.loop-unit.lists.items c.loop-unit.parts.items c.loop-unit.invariant.merging c.args.units c.requires.once c.requires.rising
+    (subst (λ (k : ℕ). k < c.args.units) (sym long) c.loop-unit-test.true) c.loop-unit.unit c.holder_of-holder.result long
+    (c.holder_of-holder.ensures ∙ ap (position_or_len (λ q. begins_with c.loop-unit.unit q.items)) c.as_slice.ensures.value) in
+    subst (λ (k : ℕ). c.holder_of-holder.result < k) (sym c.loop-unit.lists.ok.0) here.0
 
 pub unreachable-requires : goal.unreachable-requires
 unreachable-requires g c =
-    let w = c.loop-unit.unit % c.args.round.workers in
-    let less : c.loop-unit.unit % c.args.round.workers < c.args.round.workers = mod-lt c.loop-unit.unit (omega arith) in
-    let here : length c.loop-unit.lists.items ≡ c.args.round.workers = sym c.loop-unit.lists.ok.0 ∙ c.loop-unit.invariant.lists ∙ c.requires.workers in
-    let there : length c.args.lists.items ≡ c.args.round.workers = sym c.args.lists.ok.0 ∙ c.requires.workers in
-    let rest = slice_get_read c.loop-unit.lists.items c.args.round.workers w c.index_mut.result.now (sym here) less c.index_mut.ensures.value in
-    let list = slice_get-is c.args.lists.items w (subst (λ (k : ℕ). w < k) (sym there) less) in
-    let some = part_is_left c.args.round.workers w c.args.round.units c.loop-unit.unit list.0.items c.loop-unit.parts.items c.index_mut.result.now.items
-    c.loop-unit-test.true refl (c.loop-unit.invariant.each w list.0 c.index_mut.result.now list.1 rest) in
-    omega (arith, c.index_mut.result.now.ok.0, c.in_default.ensures.cases.0)
+    let long : length c.loop-unit.parts.items ≡ c.loop-unit.unit = sym c.loop-unit.parts.ok.0 ∙ c.loop-unit.invariant.parts in
+    let here = found c.args.lists.items c.loop-unit.lists.items c.loop-unit.parts.items c.loop-unit.invariant.merging c.args.units c.requires.once c.requires.rising
+    (subst (λ (k : ℕ). k < c.args.units) (sym long) c.loop-unit-test.true) c.loop-unit.unit c.holder_of-holder.result long
+    (c.holder_of-holder.ensures ∙ ap (position_or_len (λ q. begins_with c.loop-unit.unit q.items)) c.as_slice.ensures.value) in
+    let begins = here.1 c.index_mut.result.now c.index_mut.ensures.value in
+    let empty : c.index_mut.result.now.items ≡ [] = nil_from_length c.index_mut.result.now.items (sym c.index_mut.result.now.ok.0 ∙ c.in_default.ensures.cases.0) in
+    false≢true (sym (ap (begins_with c.loop-unit.unit) empty) ∙ begins)
 
 pub loop-unit-preserved : goal.loop-unit-preserved
 loop-unit-preserved g c =
-    let w = c.loop-unit.unit % c.args.round.workers in
-    let less : c.loop-unit.unit % c.args.round.workers < c.args.round.workers = mod-lt c.loop-unit.unit (omega arith) in
-    let here : length c.loop-unit.lists.items ≡ c.args.round.workers = sym c.loop-unit.lists.ok.0 ∙ c.loop-unit.invariant.lists ∙ c.requires.workers in
-    let rest = slice_get_read c.loop-unit.lists.items c.args.round.workers w c.index_mut.result.now (sym here) less c.index_mut.ensures.value in
-    let parts : length c.loop-unit.parts.items ≡ c.loop-unit.unit = sym c.loop-unit.parts.ok.0 ∙ c.loop-unit.invariant.parts in
-    let n = c.args.round.workers in
-    let units = c.args.round.units in
-    let unit = c.loop-unit.unit in
+    let long : length c.loop-unit.parts.items ≡ c.loop-unit.unit = sym c.loop-unit.parts.ok.0 ∙ c.loop-unit.invariant.parts in
+    let below : length c.loop-unit.parts.items < c.args.units = subst (λ (k : ℕ). k < c.args.units) (sym long) c.loop-unit-test.true in
+    let here = found c.args.lists.items c.loop-unit.lists.items c.loop-unit.parts.items c.loop-unit.invariant.merging c.args.units c.requires.once c.requires.rising
+    below c.loop-unit.unit c.holder_of-holder.result long
+    (c.holder_of-holder.ensures ∙ ap (position_or_len (λ q. begins_with c.loop-unit.unit q.items)) c.as_slice.ensures.value) in
+    let begins = here.1 c.index_mut.result.now c.index_mut.ensures.value in
+    let items = c.in-Some.ensures.items in
+    let same : c.in-Some._unit ≡ length c.loop-unit.parts.items = eqb-true c.in-Some._unit c.loop-unit.unit (sym (ap (begins_with c.loop-unit.unit) items) ∙ begins) ∙ sym long in
+    let first = slice_get_read c.loop-unit.lists.items (length c.loop-unit.lists.items) c.holder_of-holder.result c.index_mut.result.now refl here.0 c.index_mut.ensures.value in
     record {
       parts = c.in_ok-push.ensures.len ∙ ap (λ (k : ℕ). k + 1) c.loop-unit.invariant.parts;
-      lists = c.loop-unit.invariant.lists;
-      each = λ v list left h k. subst (λ ps. IsMerged n v units (unit + 1) list.items ps left.items) (sym c.in_ok-push.ensures.items) (elim (cases_eq w v) [
-        | inl own ↦ (
-            let popped = slice_get-set_same c.loop-unit.lists.items w c.pop_front.new.self left (subst (λ (m : ℕ). w < m) (sym here) less) (subst (λ (m : ℕ). slice_get (slice_set c.loop-unit.lists.items w c.pop_front.new.self) m ≡ Some left) (sym own) k) in
-            let old = c.loop-unit.invariant.each v list c.index_mut.result.now h (subst (λ (m : ℕ). slice_get c.loop-unit.lists.items m ≡ Some c.index_mut.result.now) own rest) in
-            subst (λ (q : VecDeque g.row.P.Denot Global). IsMerged n v units (unit + 1) list.items (c.loop-unit.parts.items ++ c.in-Some.part ∷ []) q.items) popped
-            (part_is_merged n v units unit list.items c.loop-unit.parts.items c.in-Some.part c.pop_front.new.self.items c.loop-unit-test.true own parts
-            (subst (λ ps. IsMerged n v units unit list.items c.loop-unit.parts.items ps) c.in-Some.ensures.items old))
-            )
-        | inr other ↦ others_stay n v units unit list.items c.loop-unit.parts.items c.in-Some.part left.items c.loop-unit-test.true other parts
-            (c.loop-unit.invariant.each v list left h (sym (slice_get-set_other c.loop-unit.lists.items w v c.pop_front.new.self other) ∙ k))
-      ]);
+      merging = subst (IsMerging List_of c.args.lists.items (slice_set c.loop-unit.lists.items c.holder_of-holder.result c.pop_front.new.self)) (sym c.in_ok-push.ensures.items)
+          (one_merged List_of c.args.lists.items c.loop-unit.lists.items c.loop-unit.parts.items c.loop-unit.invariant.merging c.args.units c.requires.once c.requires.rising
+          c.holder_of-holder.result c.index_mut.result.now c.pop_front.new.self c.in-Some.part first
+          (items ∙ ap (λ (k : ℕ). (k, c.in-Some.part) ∷ c.pop_front.new.self.items) same) below);
     }
 
-pub returns-clause-each : goal.returns-clause-each
-returns-clause-each g c = λ w list h.
-    let same : length c.args.lists.items ≡ length c.loop-unit.lists.items = sym c.args.lists.ok.0 ∙ sym c.loop-unit.invariant.lists ∙ c.loop-unit.lists.ok.0 in
-    let rest = slice_get-is c.loop-unit.lists.items w (subst (λ (k : ℕ). w < k) same (slice_get_within c.args.lists.items w list h)) in
-    all_merged c.args.round.workers w c.args.round.units c.loop-unit.unit list.items c.loop-unit.parts.items rest.0.items c.loop-unit-test.false (c.loop-unit.invariant.each w list rest.0 h rest.1)
+pub returns-clause-dealt : goal.returns-clause-dealt
+returns-clause-dealt g c =
+    let calls_in : VecDeque (ℕ × g.row.P.Denot) Global → List (ℕ × g.row.P.Denot) = λ q. q.items in
+    let merging = c.loop-unit.invariant.merging in
+    let long : length c.loop-unit.parts.items ≡ c.loop-unit.unit = sym c.loop-unit.parts.ok.0 ∙ c.loop-unit.invariant.parts in
+    record {
+      dealt = merging.dealt;
+      to_one = merging.to_one;
+      each = λ w list a. all_merged calls_in c.args.lists.items c.loop-unit.lists.items c.loop-unit.parts.items merging c.args.units c.requires.once c.requires.rising
+          (let past = c.loop-unit-test.false in omega arith) w list a;
+    }

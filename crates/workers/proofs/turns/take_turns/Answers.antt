@@ -1,29 +1,37 @@
--- A worker has done the units below the one that it comes to.
-use Rattle.std.proofs.Common.{◌≡◌, ℕ, ◌+◌, ◌%◌, min, sym, ap, ◌∙◌, subst, arith}
-use Rattle.std.proofs.Math.Nat.{mod-eq_of_lt, add-mod_right}
-use Rattle.workers.specs.Turns.{IsDone}
-use Rattle.workers.proofs.TurnLemmas.{nothing_done, one_more_done}
+-- A worker has done the units that it drew.
+use Rattle.std.proofs.Common.{ℕ, ◌<◌, ◌∷◌, [], ◌++◌, length, sym, ap, ◌∙◌, subst, arith}
+use Rattle.std.proofs.lemmas.List.{length_push}
+use Rattle.std.proofs.lemmas.Fn.{FoldsTo-push}
+use Rattle.claims.specs.Counting.{times}
+use Rattle.claims.specs.Seats.{Seated}
+use Rattle.workers.specs.Turns.{Runs, units_in, IsRising}
+use Rattle.workers.proofs.TurnLemmas.{units_push, more_rising, more_low, more_fit}
 use Rattle.workers.proofs.turns.take_turns.Goals as goal
 
-pub loop-unit-init : goal.loop-unit-init
-loop-unit-init g c = record {
-  own = λ _. mod-eq_of_lt c.requires;
-  done = subst (λ parts. IsDone g.W.Work.gives c.args.round.workers c.args.seat.number (min c.args.seat.number c.args.round.units) c.args.seat.work parts c.args.seat.work)
-      (sym c.new-parts.ensures.items)
-      (nothing_done g.W.Work.gives c.args.round.workers c.args.seat.number c.args.seat.work (min c.args.seat.number c.args.round.units) c.requires (omega arith));
-}
+pub loop-unit-smaller : goal.loop-unit-smaller
+loop-unit-smaller g c =
+    let inv = c.loop-unit.invariant in
+    let drew = c.in-Some.ensures.unit in
+    let fits = more_fit c.loop-unit.calls.items c.in-Some.unit c.in_ok-part.field-0 c.args.claims.now.units inv.rising inv.low (subst (λ (k : ℕ). c.in-Some.unit < k) inv.units drew.1)
+    (λ u stands. drew.2 u (subst (λ us. 0 < times u us) (sym inv.drawn) stands)) in
+    let long = ap length c.in_ok-push_back.ensures.items ∙ length_push c.loop-unit.calls.items (c.in-Some.unit, c.in_ok-part.field-0) in
+    omega arith
 
 pub loop-unit-preserved : goal.loop-unit-preserved
 loop-unit-preserved g c =
-    let own = c.loop-unit.invariant.own c.loop-unit-test.true in
-    let here : min c.loop-unit.unit c.args.round.units ≡ c.loop-unit.unit = omega arith in
-    let done = subst (λ (m : ℕ). IsDone g.W.Work.gives c.args.round.workers c.args.seat.number m c.args.seat.work c.loop-unit.parts.items c.loop-unit.work) here c.loop-unit.invariant.done in
+    let inv = c.loop-unit.invariant in
+    let drew = c.in-Some.ensures.unit in
+    let part = c.in_ok-part.field-0 in
+    let calls = c.loop-unit.calls.items in
+    let below : c.in-Some.unit < c.args.claims.now.units = subst (λ (k : ℕ). c.in-Some.unit < k) inv.units drew.1 in
+    let above : (u : ℕ) → 0 < times u (units_in calls) → u < c.in-Some.unit = λ u stands. drew.2 u (subst (λ us. 0 < times u us) (sym inv.drawn) stands) in
+    let items = sym c.in_ok-push_back.ensures.items in
     record {
-      own = λ below.
-          let next : c.saturating_add-unit.result ≡ c.loop-unit.unit + c.args.round.workers = omega arith in
-          ap (λ (m : ℕ). m % c.args.round.workers) next ∙ add-mod_right c.loop-unit.unit c.args.round.workers ∙ own;
-      done = subst (λ parts. IsDone g.W.Work.gives c.args.round.workers c.args.seat.number (min c.saturating_add-unit.result c.args.round.units) c.args.seat.work parts c.part.new.self)
-          (sym c.in_ok-push_back.ensures.items)
-          (one_more_done g.W.Work.gives c.args.round.workers c.args.seat.number c.args.seat.work c.loop-unit.unit (min c.saturating_add-unit.result c.args.round.units)
-          c.loop-unit.parts.items c.loop-unit.work c.in_ok-part.field-0 c.part.new.self own (omega arith) (omega arith) done c.in_ok-part.ensures.part);
+      own = ap (λ (s : Seated). s.of) drew.0 ∙ inv.own;
+      units = ap (λ (s : Seated). s.units) drew.0 ∙ inv.units;
+      drawn = ap (λ (s : Seated). s.drawn) drew.0 ∙ ap (λ us. us ++ c.in-Some.unit ∷ []) inv.drawn ∙ sym (units_push calls c.in-Some.unit part c.args.claims.now.units inv.rising inv.low below above) ∙ ap units_in items;
+      rising = subst (λ cs. IsRising (units_in cs)) items (more_rising calls c.in-Some.unit part c.args.claims.now.units inv.rising inv.low below above);
+      low = subst (λ cs. (u : ℕ) → 0 < times u (units_in cs) → u < c.args.claims.now.units) items (more_low calls c.in-Some.unit part c.args.claims.now.units inv.rising inv.low below above);
+      runs = subst (λ cs. Runs g.W.Work.gives c.args.hand.work cs c.part.new.self) items
+          (FoldsTo-push (λ worker call next. g.W.Work.gives worker call.0 call.1 next) c.args.hand.work calls c.loop-unit.work (c.in-Some.unit, part) c.part.new.self inv.runs c.in_ok-part.ensures.part);
     }
