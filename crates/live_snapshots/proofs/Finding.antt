@@ -1,14 +1,20 @@
--- The orphans below a number, one number after the other.
-use Rattle.std.proofs.Common.{◌≡◌, ◌<◌, ◌≤◌, ℕ, suc, Bool, true, false, ◌&&◌, ◌||◌, eqb, ltb, List, [], IsTrue, inl, inr, refl, sym, ap, ◌∙◌, arith, eq-eqb, ne_eqb, lt-ltb, le-ltb, ltb-true}
-use Rattle.std.proofs.lemmas.Bool.{and_parts, cases_eq, cases_lt, false_from_ne_true}
+-- The orphans that the handles below one are open on, one handle after the other.
+use Rattle.std.proofs.Common.{◌≡◌, ◌<◌, ℕ, suc, Bool, true, false, ◌&&◌, ◌||◌, eqb, List, [], IsTrue, Option, Some, None, inl, inr, refl, sym, ap, ◌∙◌, eq-eqb, eqb-true, ne_eqb, ltb-true}
+use Rattle.std.specs.Option.{option_and_then, option_map_or}
+use Rattle.std.specs.Bool.{then_some}
+use Rattle.std.proofs.lemmas.Bool.{and_parts, cases_eq}
+use Rattle.std.proofs.lemmas.Option.{none-some, same_Some}
+use Rattle.queue_model.proofs.Lists.{bool_same}
 use Rattle.model.specs.Layout.{inode_count, is_number}
 use Rattle.model.specs.Uses.{is_sound, is_sound_at}
 use Rattle.machine.specs.Below.{any_below}
 use Rattle.machine.specs.Cells.{claims}
+use Rattle.machine.proofs.Decisions.{any_found, any_here, any_none, any_same}
 use Rattle.updates.specs.declared.change.Update as program
 use Rattle.frozen.specs.Kept.{Kept, frozen_view}
-use Rattle.live_states.specs.Holdings.{Holdings, is_open_by}
-use Rattle.live_snapshots.specs.Orphans.{Frees, FreesToo, is_of_orphan_below, is_orphan_of}
+use Rattle.live_states.specs.Holdings.{Holdings}
+use Rattle.live_holdings.specs.Handles.{handle_at}
+use Rattle.live_snapshots.specs.Orphans.{Frees, FreesToo, is_bare, orphan_by}
 use Rattle.live_snapshots.proofs.Freeing.{frees_as, frees_none}
 
 or_true : (b : Bool) → (b || true) ≡ true
@@ -19,71 +25,167 @@ or_false : (b : Bool) → (b || false) ≡ b
 or_false true = refl
 or_false false = refl
 
-next_low : (i k : ℕ) → (i ≡ k → ⊥) → ltb i k ≡ ltb i (suc k)
-next_low i k differs = elim (cases_lt i k) [
-  | inl low ↦ lt-ltb i k low ∙ sym (lt-ltb i (suc k) (omega (arith, low)))
-  | inr past ↦ le-ltb i k past ∙ sym (le-ltb i (suc k) (omega (arith, past, differs)))
-]
+and_false : (b : Bool) → (b && false) ≡ false
+and_false true = refl
+and_false false = refl
+
+-- from either of two
+either : (x y z : Bool) → (x || y) ≡ true → (x ≡ true → z ≡ true) → (y ≡ true → z ≡ true) → z ≡ true
+either true y z t one other = one refl
+either false y z t one other = other t
+
+both : (x y : Bool) → x ≡ true → y ≡ true → (x && y) ≡ true
+both x y s t = ap (λ b. b && y) s ∙ t
 
 module _ (kept : Kept) (holdings : Holdings) where
-  abbrev orphan : ℕ → Bool
-  orphan = is_orphan_of kept holdings
+  abbrev bare : ℕ → Bool
+  bare = is_bare kept
 
-  abbrev blocks_below : ℕ → ℕ → Bool
-  blocks_below = is_of_orphan_below kept holdings
+  abbrev claimed : ℕ → ℕ → Bool
+  claimed i a = claims kept.geometry (frozen_view kept) i a
 
-  -- these updates free the orphans below a number
-  abbrev pub FreesBelow : ℕ → List program.Update → Type 0
-  FreesBelow n us = Frees kept.geometry (λ i. ltb i n && orphan i) (blocks_below n) us
+  abbrev numbers : ℕ
+  numbers = inode_count kept.geometry
 
-  pub none_below : FreesBelow 0 []
+  -- handle h is open on inode i
+  abbrev names : ℕ → ℕ → Bool
+  names h i = option_map_or (λ j. eqb j i) (handle_at holdings h) false
+
+  -- a handle below h is open on inode i, which is bare
+  abbrev found : ℕ → ℕ → Bool
+  found h i = bare i && any_below h (λ k. names k i)
+
+  -- one of these numbers claims block a
+  abbrev taken : (ℕ → Bool) → ℕ → Bool
+  taken ns a = any_below numbers (λ i. ns i && claimed i a)
+
+  -- these numbers, and their blocks, are freed
+  abbrev FreesThem : (ℕ → Bool) → List program.Update → Type 0
+  FreesThem ns us = Frees kept.geometry ns (taken ns) us
+
+  -- these numbers and n
+  abbrev with_number : (ℕ → Bool) → ℕ → ℕ → Bool
+  with_number ns n i = ns i || eqb i n
+
+  -- these updates free the orphans of the handles below one
+  abbrev pub FreesFound : ℕ → List program.Update → Type 0
+  FreesFound h us = FreesThem (found h) us
+
+  same_numbers : (ns ns' : ℕ → Bool) (us : List program.Update) → ((i : ℕ) → ns i ≡ ns' i) → FreesThem ns us → FreesThem ns' us
+  same_numbers ns ns' us same frees =
+      frees_as kept.geometry ns (taken ns) ns' (taken ns') us same
+      (λ a. any_same numbers (λ i. ns i && claimed i a) (λ i. ns' i && claimed i a) (λ i low. ap (λ b. b && claimed i a) (same i)))
+      frees
+
+  pub none_found : FreesFound 0 []
   unfolding any_below
-  none_below = frees_as kept.geometry (λ i. false) (λ a. false) (λ i. ltb i 0 && orphan i) (blocks_below 0) [] (λ i. sym (ap (λ b. b && orphan i) (le-ltb i 0 (omega arith)))) (λ a. refl)
+  none_found =
+      frees_as kept.geometry (λ i. false) (λ a. false) (found 0) (taken (found 0)) [] (λ i. sym (and_false (bare i)))
+      (λ a. sym (any_none numbers (λ i. found 0 i && claimed i a) (λ i low. ap (λ b. b && claimed i a) (and_false (bare i)))))
       (frees_none kept.geometry)
 
-  -- one that is an orphan, and one that is none
-  pub one_more : (n : ℕ) (old new : List program.Update) → orphan n ≡ true → FreesBelow n old → FreesToo kept.geometry (λ i. eqb i n) (claims kept.geometry (frozen_view kept) n) old new → FreesBelow (suc n) new
-  unfolding any_below
-  one_more n old new is frees too =
-      frees_as kept.geometry (λ i. ltb i n && orphan i || eqb i n) (λ a. blocks_below n a || claims kept.geometry (frozen_view kept) n a) (λ i. ltb i (suc n) && orphan i) (blocks_below (suc n)) new
-      (λ i. elim (cases_eq i n) [
-        | inl e ↦ ap (λ b. ltb i n && orphan i || b) (eq-eqb i n e) ∙ or_true (ltb i n && orphan i) ∙ sym (ap (λ b. b && orphan i) (lt-ltb i (suc n) (omega (arith, e))) ∙ ap orphan e ∙ is)
-        | inr d ↦ ap (λ b. ltb i n && orphan i || b) (ne_eqb i n d) ∙ or_false (ltb i n && orphan i) ∙ ap (λ b. b && orphan i) (next_low i n d)
-      ])
-      (λ a. ap (λ b. blocks_below n a || (b && claims kept.geometry (frozen_view kept) n a)) (sym is))
-      (too (λ i. ltb i n && orphan i) (blocks_below n) frees)
+  -- a bare inode's number is one of the volume's
+  bare_number : (i : ℕ) → bare i ≡ true → i < numbers
+  bare_number i is =
+      let sound = (and_parts (is_sound_at kept.geometry (frozen_view kept) i) (eqb ((frozen_view kept).inode i).links 0) is).0 in
+      let number = (and_parts (is_number kept.geometry i) (is_sound ((frozen_view kept).inode i)) sound).0 in
+      ltb-true i numbers (and_parts _ _ number).1
 
-  pub not_this : (n : ℕ) (us : List program.Update) → orphan n ≡ false → FreesBelow n us → FreesBelow (suc n) us
+  -- one number more
+  one_number_more : (ns : ℕ → Bool) (n : ℕ) (old new : List program.Update) → n < numbers → FreesThem ns old → FreesToo kept.geometry (λ i. eqb i n) (claimed n) old new
+      → FreesThem (with_number ns n) new
+  one_number_more ns n old new low frees too =
+      frees_as kept.geometry (with_number ns n) (λ a. taken ns a || claimed n a) (with_number ns n) (taken (with_number ns n)) new (λ i. refl)
+      (λ a. bool_same (taken ns a || claimed n a) (taken (with_number ns n) a) (grows a) (shrinks a))
+      (too ns (taken ns) frees)
+    where
+      here : (a : ℕ) → claimed n a ≡ true → taken (with_number ns n) a ≡ true
+      here a claim =
+          any_here numbers (λ i. (ns i || eqb i n) && claimed i a) n low
+          (both (ns n || eqb n n) (claimed n a) (ap (λ b. ns n || b) (eq-eqb n n refl) ∙ or_true (ns n)) claim)
+
+      stays : (a : ℕ) → taken ns a ≡ true → taken (with_number ns n) a ≡ true
+      stays a was =
+          let at = any_found numbers (λ i. ns i && claimed i a) was in
+          let parts = and_parts (ns at.0) (claimed at.0 a) at.2 in
+          any_here numbers (λ i. (ns i || eqb i n) && claimed i a) at.0 at.1
+          (both (ns at.0 || eqb at.0 n) (claimed at.0 a) (ap (λ b. b || eqb at.0 n) parts.0) parts.1)
+
+      grows : (a : ℕ) → IsTrue (taken ns a || claimed n a) → taken (with_number ns n) a ≡ true
+      grows a t = either (taken ns a) (claimed n a) (taken (with_number ns n) a) t (stays a) (here a)
+
+      shrinks : (a : ℕ) → IsTrue (taken (with_number ns n) a) → (taken ns a || claimed n a) ≡ true
+      shrinks a t =
+          let at = any_found numbers (λ i. (ns i || eqb i n) && claimed i a) t in
+          let parts = and_parts (ns at.0 || eqb at.0 n) (claimed at.0 a) at.2 in
+          elim (cases_eq at.0 n) [
+            | inl e ↦ ap (λ b. taken ns a || b) (sym (ap (λ i. claimed i a) e) ∙ parts.1) ∙ or_true (taken ns a)
+            | inr d ↦ ap (λ b. b || claimed n a)
+                (any_here numbers (λ i. ns i && claimed i a) at.0 at.1
+                (both (ns at.0) (claimed at.0 a) (sym (or_false (ns at.0)) ∙ ap (λ b. ns at.0 || b) (sym (ne_eqb at.0 n d)) ∙ parts.0) parts.1))
+          ]
+
+  -- what the handles up to h name, where h names n
+  with_one : (h n i : ℕ) → handle_at holdings h ≡ Some n → any_below (suc h) (λ k. names k i) ≡ (any_below h (λ k. names k i) || eqb i n)
   unfolding any_below
-  not_this n us is frees =
-      frees_as kept.geometry (λ i. ltb i n && orphan i) (blocks_below n) (λ i. ltb i (suc n) && orphan i) (blocks_below (suc n)) us
-      (λ i. elim (cases_eq i n) [
-        | inl e ↦ ap (λ b. ltb i n && b) (ap orphan e ∙ is) ∙ and_false (ltb i n) ∙ sym (and_false (ltb i (suc n))) ∙ sym (ap (λ b. ltb i (suc n) && b) (ap orphan e ∙ is))
-        | inr d ↦ ap (λ b. b && orphan i) (next_low i n d)
-      ])
-      (λ a. sym (or_false (blocks_below n a)) ∙ ap (λ b. blocks_below n a || (b && claims kept.geometry (frozen_view kept) n a)) (sym is))
+  with_one h n i is = ap (λ b. any_below h (λ k. names k i) || b) (ap (λ (o : Option ℕ). option_map_or (λ j. eqb j i) o false) is ∙ other_way n i)
+    where
+      other_way : (a b : ℕ) → eqb a b ≡ eqb b a
+      other_way a b = bool_same (eqb a b) (eqb b a) (λ t. eq-eqb b a (sym (eqb-true a b t))) (λ t. eq-eqb a b (sym (eqb-true b a t)))
+
+  -- a handle that is open on a bare inode, on another one, and on none
+  one_more : (h n : ℕ) (old new : List program.Update) → handle_at holdings h ≡ Some n → bare n ≡ true → FreesFound h old → FreesToo kept.geometry (λ i. eqb i n) (claimed n) old new → FreesFound (suc h) new
+  one_more h n old new at is frees too =
+      same_numbers (λ i. found h i || eqb i n) (found (suc h)) new
+      (λ i. same i ∙ ap (λ b. bare i && b) (sym (with_one h n i at)))
+      (one_number_more (found h) n old new (bare_number n is) frees too)
+    where
+      same : (i : ℕ) → (found h i || eqb i n) ≡ (bare i && (any_below h (λ k. names k i) || eqb i n))
+      same i = elim (cases_eq i n) [
+        | inl e ↦ ap (λ b. found h i || b) (eq-eqb i n e) ∙ or_true (found h i)
+            ∙ sym (both (bare i) (any_below h (λ k. names k i) || eqb i n) (ap bare e ∙ is) (ap (λ b. any_below h (λ k. names k i) || b) (eq-eqb i n e) ∙ or_true (any_below h (λ k. names k i))))
+        | inr d ↦ ap (λ b. found h i || b) (ne_eqb i n d) ∙ or_false (found h i)
+            ∙ sym (ap (λ b. bare i && (any_below h (λ k. names k i) || b)) (ne_eqb i n d) ∙ ap (λ b. bare i && b) (or_false (any_below h (λ k. names k i))))
+      ]
+
+  not_this : (h n : ℕ) (us : List program.Update) → handle_at holdings h ≡ Some n → bare n ≡ false → FreesFound h us → FreesFound (suc h) us
+  not_this h n us at is frees =
+      same_numbers (found h) (found (suc h)) us
+      (λ i. same i ∙ ap (λ b. bare i && b) (sym (with_one h n i at)))
       frees
     where
-      and_false : (b : Bool) → (b && false) ≡ false
-      and_false true = refl
-      and_false false = refl
+      same : (i : ℕ) → found h i ≡ (bare i && (any_below h (λ k. names k i) || eqb i n))
+      same i = elim (cases_eq i n) [
+        | inl e ↦ ap (λ b. b && any_below h (λ k. names k i)) (ap bare e ∙ is) ∙ sym (ap (λ b. b && (any_below h (λ k. names k i) || eqb i n)) (ap bare e ∙ is))
+        | inr d ↦ sym (ap (λ b. bare i && (any_below h (λ k. names k i) || b)) (ne_eqb i n d) ∙ ap (λ b. bare i && b) (or_false (any_below h (λ k. names k i))))
+      ]
 
-  -- an orphan's number is one of the volume's
-  pub orphan_number : (i : ℕ) → IsTrue (orphan i) → IsTrue (is_number kept.geometry i)
-  orphan_number i t =
-      let first = (and_parts (is_sound_at kept.geometry (frozen_view kept) i && eqb ((frozen_view kept).inode i).links 0) (is_open_by holdings i) t).0 in
-      let sound = (and_parts (is_sound_at kept.geometry (frozen_view kept) i) (eqb ((frozen_view kept).inode i).links 0) first).0 in
-      (and_parts (is_number kept.geometry i) (is_sound ((frozen_view kept).inode i)) sound).0
+  not_open : (h : ℕ) (us : List program.Update) → handle_at holdings h ≡ None → FreesFound h us → FreesFound (suc h) us
+  unfolding any_below
+  not_open h us at frees =
+      same_numbers (found h) (found (suc h)) us
+      (λ i. ap (λ b. bare i && b) (sym (ap (λ b. any_below h (λ k. names k i) || b) (ap (λ (o : Option ℕ). option_map_or (λ j. eqb j i) o false) at) ∙ or_false (any_below h (λ k. names k i)))))
+      frees
 
-  -- so all numbers are all orphans
-  pub all_found : (us : List program.Update) → FreesBelow (inode_count kept.geometry) us → Frees kept.geometry orphan (blocks_below (inode_count kept.geometry)) us
-  all_found us frees =
-      frees_as kept.geometry (λ i. ltb i (inode_count kept.geometry) && orphan i) (blocks_below (inode_count kept.geometry)) orphan (blocks_below (inode_count kept.geometry)) us
-      (λ i. elim (cases_lt i (inode_count kept.geometry)) [
-        | inl low ↦ ap (λ b. b && orphan i) (lt-ltb i (inode_count kept.geometry) low)
-        | inr past ↦ ap (λ b. b && orphan i) (le-ltb i (inode_count kept.geometry) past) ∙ sym (false_from_ne_true (orphan i) (λ t. beyond i past (orphan_number i t)))
-      ])
-      (λ a. refl) frees
+  -- by what a handle is open on
+  then_is : (b : Bool) (m n : ℕ) → then_some b m ≡ Some n → (b ≡ true) × (m ≡ n)
+  then_is true m n e = (refl, same_Some m n e)
+  then_is false m n e = absurd (none-some n e)
+
+  then_none : (b : Bool) (m : ℕ) → then_some b m ≡ None → b ≡ false
+  then_none true m e = absurd (none-some m (sym e))
+  then_none false m e = refl
+
+  one_of : (o : Option ℕ) (n : ℕ) → option_and_then (λ i. then_some (bare i) i) o ≡ Some n → (o ≡ Some n) × (bare n ≡ true)
+  one_of None n e = absurd (none-some n e)
+  one_of (Some m) n e = let is = then_is (bare m) m n e in (ap Some is.1, sym (ap bare is.1) ∙ is.0)
+
+  pub an_orphan : (h n : ℕ) (old new : List program.Update) → orphan_by kept holdings h ≡ Some n → FreesFound h old → FreesToo kept.geometry (λ i. eqb i n) (claimed n) old new → FreesFound (suc h) new
+  an_orphan h n old new is = let at = one_of (handle_at holdings h) n is in one_more h n old new at.0 at.1
+
+  pub no_orphan : (h : ℕ) (us : List program.Update) → orphan_by kept holdings h ≡ None → FreesFound h us → FreesFound (suc h) us
+  no_orphan h us is = by (handle_at holdings h) refl is
     where
-      beyond : (i : ℕ) → inode_count kept.geometry ≤ i → IsTrue (is_number kept.geometry i) → ⊥
-      beyond i past t = omega (arith, past, ltb-true i (inode_count kept.geometry) (and_parts _ (ltb i (inode_count kept.geometry)) t).1)
+      by : (o : Option ℕ) → handle_at holdings h ≡ o → option_and_then (λ i. then_some (bare i) i) o ≡ None → FreesFound h us → FreesFound (suc h) us
+      by None at e = not_open h us at
+      by (Some m) at e = not_this h m us at (then_none (bare m) m e)

@@ -1,7 +1,8 @@
 -- Open inodes without links, and updates that free inodes.
-use Rattle.std.specs.Prelude.{◌≡◌, ℕ, Bool, false, not, ◌&&◌, ◌||◌, ◌==◌, List, [], ◌∷◌, ◌++◌, if◌then◌else◌}
+use Rattle.std.specs.Prelude.{◌≡◌, ℕ, Bool, false, not, ◌&&◌, ◌||◌, ◌==◌, List, [], ◌∷◌, ◌++◌, Option, if◌then◌else◌}
+use Rattle.std.specs.Bool.{then_some}
 use Rattle.std.specs.List.{All}
-use Rattle.std.specs.Option.{option_map_or}
+use Rattle.std.specs.Option.{option_and_then, option_map_or}
 use Rattle.model.specs.Layout.{Geometry, inode_count}
 use Rattle.model.specs.View.{View, free_inode}
 use Rattle.model.specs.Cells.{Update, updated_all}
@@ -16,10 +17,19 @@ use Rattle.frozen.specs.Kept.{Kept, frozen_view}
 use Rattle.metadata.specs.Shown.{Shows}
 use Rattle.metadata.specs.Staged.{changes}
 use Rattle.live_states.specs.Holdings.{Holdings, is_open_by}
+use Rattle.live_holdings.specs.Handles.{handle_at}
 
--- a sound inode without links that some handle is open on
+-- a sound inode without links
+abbrev pub is_bare : Kept → ℕ → Bool
+is_bare kept i = is_sound_at kept.geometry (frozen_view kept) i && ((frozen_view kept).inode i).links == 0
+
+-- one that some handle is open on
 abbrev pub is_orphan_of : Kept → Holdings → ℕ → Bool
-is_orphan_of kept holdings i = is_sound_at kept.geometry (frozen_view kept) i && ((frozen_view kept).inode i).links == 0 && is_open_by holdings i
+is_orphan_of kept holdings i = is_bare kept i && is_open_by holdings i
+
+-- the one that handle h is open on
+abbrev pub orphan_by : Kept → Holdings → ℕ → Option ℕ
+orphan_by kept holdings h = option_and_then (λ i. then_some (is_bare kept i) i) (handle_at holdings h)
 
 -- some number below this one is such an inode's, and that inode claims block a
 abbrev pub is_of_orphan_below : Kept → Holdings → ℕ → ℕ → Bool

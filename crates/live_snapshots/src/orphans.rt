@@ -4,7 +4,7 @@ ghost use Rattle.machine.specs.Cells.{claims};
 ghost use Rattle.model.specs.Layout.{inode_count, is_number};
 ghost use Rattle.model.specs.View.{free_inode};
 ghost use Rattle.updates.specs.Values.{change as change_of};
-ghost use Rattle.live_snapshots.specs.Orphans.{Adds, Frees, FreesToo, LacksOrphans, is_of_orphan_below, is_orphan_of};
+ghost use Rattle.live_snapshots.specs.Orphans.{Adds, Frees, FreesToo, LacksOrphans, is_of_orphan_below, is_orphan_of, orphan_by};
 
 use frozen::Frozen;
 use inode::{DIRECT_POINTERS, FREE, INDIRECT_POSITION, Record};
@@ -29,7 +29,11 @@ pub(crate) fn without_orphans(
     metadata.copy_with(alloc, staged)
 }
 
-/// The updates that free each open inode without links.
+/// How many handles may be open at once.
+const HANDLES: u32 = 1024;
+
+/// The updates that free each open inode without links. One that is open more than once is freed as often, which leaves
+/// what freeing it once does.
 fn free_orphans(
     alloc: Global,
     frozen: &Frozen,
@@ -39,19 +43,20 @@ fn free_orphans(
         (is_of_orphan_below frozen.now holdings.now (inode_count frozen.now.geometry)) updates.items) }
 {
     let mut updates = Vec::new(alloc);
-    for number in 0..frozen.geometry().inodes() {
-        if is_orphan(frozen, holdings, number) {
+    for handle in 0..HANDLES {
+        if let Some(number) = orphan_at(frozen, holdings, handle) {
             free(alloc, frozen, number, &mut updates)?;
         }
     }
     Ok(updates)
 }
 
-/// Whether a number is that of an open inode without links.
-fn is_orphan(frozen: &Frozen, holdings: &Holdings, number: u32) -> bool
-    ensures orphan { result ≡ is_orphan_of frozen.now holdings.now number }
+/// The inode that a handle is open on, if it has no links.
+fn orphan_at(frozen: &Frozen, holdings: &Holdings, handle: u32) -> Option<u32>
+    ensures { result ≡ orphan_by frozen.now holdings.now handle }
 {
-    frozen.is_sound_at(number) && frozen.record(number).links == 0 && holdings.is_open(number)
+    let number = holdings.file_of(handle)?;
+    (frozen.is_sound_at(number) && frozen.record(number).links == 0).then_some(number)
 }
 
 /// Adds the updates that free a number, with its record and all blocks that it claims.

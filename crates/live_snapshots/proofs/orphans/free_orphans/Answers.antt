@@ -1,39 +1,35 @@
--- Each turn frees one more orphan, or finds none; at the end all numbers were looked at.
-use Rattle.std.proofs.Common.{◌≡◌, ◌+◌, List, [], sym, ap, ◌∙◌, subst, add-one, arith}
-use Rattle.model.specs.Layout.{inode_count}
-use Rattle.updates.specs.declared.change.Update.{Update}
-use Rattle.live_snapshots.proofs.Finding.{FreesBelow, all_found, none_below, not_this, one_more}
+-- Each turn frees one more orphan, or finds none; at the end all handles were looked at.
+use Rattle.std.proofs.Common.{◌≡◌, ◌+◌, sym, ◌∙◌, subst, add-one, arith}
+use Rattle.live_snapshots.proofs.Finding.{FreesFound, an_orphan, no_orphan, none_found}
 use Rattle.live_snapshots.proofs.orphans.free_orphans.Goals as goal
-use Rattle.live_snapshots.proofs.orphans.free_orphans.Goals.{then-is_orphan+in_ok-free, else-is_orphan}
+use Rattle.live_snapshots.proofs.orphans.free_orphans.Goals.{in-Some+in_ok-free, in_default}
 
-pub loop-number-init : goal.loop-number-init
-loop-number-init c =
+pub loop-handle-init : goal.loop-handle-init
+loop-handle-init c =
     let kept = c.args.frozen.now in
     let holdings = c.args.holdings.now in
-    (subst (FreesBelow kept holdings 0) (sym c.new-updates.ensures.items) (none_below kept holdings), omega arith)
+    (subst (FreesFound kept holdings 0) (sym c.new-updates.ensures.items) (none_found kept holdings), omega arith)
 
-pub loop-number-preserved : goal.loop-number-preserved
-loop-number-preserved c =
+pub loop-handle-preserved : goal.loop-handle-preserved
+loop-handle-preserved c =
     let kept = c.args.frozen.now in
     let holdings = c.args.holdings.now in
-    let n = c.loop-number.number in
-    let old = c.loop-number.updates.items in
-    let inv = c.loop-number.invariant in
-    let end : c.inodes-number-end.result ≡ inode_count kept.geometry = c.inodes-number-end.ensures.count ∙ ap inode_count c.geometry.ensures.geometry in (
-      elim c.if-is_orphan.branch [
-        | then-is_orphan+in_ok-free w ↦ rw (w.updates-is)
-            (subst (λ m. FreesBelow kept holdings m w.free.new.updates.items) (sym (add-one n))
-            (one_more kept holdings n old w.free.new.updates.items (sym c.is_orphan.ensures.orphan ∙ w.if-is_orphan.true) inv.0 w.in_ok-free.ensures))
-        | else-is_orphan w ↦ rw (w.updates-is)
-            (subst (λ m. FreesBelow kept holdings m old) (sym (add-one n)) (not_this kept holdings n old (sym c.is_orphan.ensures.orphan ∙ w.if-is_orphan.false) inv.0))
+    let h = c.loop-handle.handle in
+    let old = c.loop-handle.updates.items in
+    let inv = c.loop-handle.invariant in (
+      elim c.match-orphan_at.branch [
+        | in-Some+in_ok-free w ↦ rw (w.updates-is)
+            (subst (λ m. FreesFound kept holdings m w.free.new.updates.items) (sym (add-one h))
+            (an_orphan kept holdings h w.in-Some.number old w.free.new.updates.items (sym c.orphan_at.ensures ∙ w.in-Some.is) inv.0 w.in_ok-free.ensures))
+        | in_default w ↦ rw (w.updates-is)
+            (subst (λ m. FreesFound kept holdings m old) (sym (add-one h)) (no_orphan kept holdings h old (sym c.orphan_at.ensures ∙ w.in_default.is) inv.0))
       ],
-      omega (arith, c.loop-number-test.true, end),
+      omega (arith, c.loop-handle-test.true),
     )
 
 pub returns : goal.returns
 returns c =
     let kept = c.args.frozen.now in
     let holdings = c.args.holdings.now in
-    let is : c.inodes-number-end.result ≡ inode_count kept.geometry = c.inodes-number-end.ensures.count ∙ ap inode_count c.geometry.ensures.geometry in
-    let end : c.loop-number.number ≡ inode_count kept.geometry = omega (arith, c.loop-number-test.false, c.loop-number.invariant.1, is) in
-    all_found kept holdings c.loop-number.updates.items (subst (λ m. FreesBelow kept holdings m c.loop-number.updates.items) end c.loop-number.invariant.0)
+    let end : c.loop-handle.handle ≡ 1024 = omega (arith, c.loop-handle-test.false, c.loop-handle.invariant.1) in
+    subst (λ h. FreesFound kept holdings h c.loop-handle.updates.items) end c.loop-handle.invariant.0

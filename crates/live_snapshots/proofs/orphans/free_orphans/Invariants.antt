@@ -1,8 +1,7 @@
 use Rattle.std.proofs.Common.{◌≤◌}
-use Rattle.model.specs.Layout.{inode_count}
-use Rattle.live_snapshots.proofs.Finding.{FreesBelow}
+use Rattle.live_snapshots.proofs.Finding.{FreesFound}
 use Rattle.live_snapshots.proofs.orphans.free_orphans.Given as goal
 
--- the orphans below the number are freed
-abbrev pub invariant-loop-number : goal.invariant-loop-number
-invariant-loop-number l = FreesBelow l.frozen l.holdings l.number l.updates.items × (l.number ≤ inode_count l.frozen.geometry)
+-- the orphans that the handles below this one are open on are freed
+abbrev pub invariant-loop-handle : goal.invariant-loop-handle
+invariant-loop-handle l = FreesFound l.frozen l.holdings l.handle l.updates.items × (l.handle ≤ 1024)
