@@ -75,14 +75,17 @@ fn run_on<L: Ledger + Send + Sync, M: Ledger + Send + Sync, R: Threads + Wait + 
     let posts = posted(alloc, seats)?;
     let ended = &AtomicU64::new(0);
     let shared = &shared;
-    let all_users = u64::from(load.users);
     let (used, (checks, flushed)) = join(
         rt,
-        move || use_all(rt, alloc, shared, posts, load.rounds, ended),
+        move || {
+            let used = use_all(rt, alloc, shared, posts, load.rounds);
+            ended.fetch_add(1, Ordering::SeqCst);
+            used
+        },
         move || join(
             rt,
             move || check_until(rt, alloc, shared, &mut checker, load, ended),
-            move || flush_until(rt, alloc, shared, &mut flusher, ended, all_users),
+            move || flush_until(rt, alloc, shared, &mut flusher, ended, 1),
         ),
     );
     let (used, all) = used?;
@@ -120,14 +123,11 @@ fn use_all<L: Ledger + Send + Sync, M: Ledger + Send + Sync, R: Threads + Wait +
     shared: &Shared<MemDevice, L, M>,
     posts: Vec<Post<L, M>>,
     rounds: u32,
-    ended: &AtomicU64,
 ) -> Result<(Used, u128), Refusal> {
     let start = Instant::now(rt);
     let take = |post: Post<L, M>| {
         let Post { mut seat, user } = post;
-        let used = use_volume(rt, alloc, shared, &mut seat, user, rounds);
-        ended.fetch_add(1, Ordering::SeqCst);
-        used
+        use_volume(rt, alloc, shared, &mut seat, user, rounds)
     };
     let used = map_vec(rt, posts, &take)?;
     let start = start.map_err(|_| Refusal::Device)?;
@@ -150,7 +150,7 @@ fn check_until<L: Ledger + Send + Sync, M: Ledger + Send + Sync, R: Threads + Wa
 ) -> Result<u32, Refusal> {
     let mut checks = 0u32;
     for _ in rt.forever() {
-        if !load.beside || ended.load(Ordering::SeqCst) >= u64::from(load.users) {
+        if !load.beside || ended.load(Ordering::SeqCst) > 0 {
             return Ok(checks);
         }
         mend(rt, alloc, shared, seat, load.workers)?;

@@ -187,6 +187,9 @@ type AllWork<L, M> = (
     (Seat<L, M>, Result<(), Refusal>),
 );
 
+/// Whom the thread that flushes waits for: the users, all together, and the one that checks.
+const OTHERS: u64 = 2;
+
 /// Runs the threads of the users, the one that checks and the one that flushes.
 fn work_all<
     D: Device + Drop + Send,
@@ -205,12 +208,15 @@ fn work_all<
     ensures { IfOk result.0 (λ left. vec_len left ≡ vec_len posts) }
 {
     let ended = &AtomicU64::new(0);
-    let others = (posts.len() as u64).saturating_add(1);
     let (left, (checked, flushed)) = join(
         rt,
         move || -> Result<Vec<Left<L, M>>, AllocError>
             ensures { IfOk result (λ left. vec_len left ≡ vec_len posts) }
-        { carry_out_all(rt, alloc, shared, posts, ended) },
+        {
+            let left = carry_out_all(rt, alloc, shared, posts);
+            ended.fetch_add(1, Ordering::SeqCst);
+            left
+        },
         move || join(
             rt,
             move || {
@@ -221,7 +227,7 @@ fn work_all<
             },
             move || {
                 let mut seat = flusher;
-                let flushed = flush_until(rt, alloc, shared, &mut seat, ended, others);
+                let flushed = flush_until(rt, alloc, shared, &mut seat, ended, OTHERS);
                 (seat, flushed)
             },
         ),
@@ -240,14 +246,12 @@ fn carry_out_all<
     alloc: Global,
     shared: &Shared<D, L, M>,
     posts: Vec<Post<L, M>>,
-    ended: &AtomicU64,
 ) -> Result<Vec<Left<L, M>>, AllocError>
     ensures { IfOk result (λ left. vec_len left ≡ vec_len posts) }
 {
     let take = |post: Post<L, M>| {
         let Post { mut seat, lines } = post;
         let answered = carry_out(rt, alloc, shared, &mut seat, lines);
-        ended.fetch_add(1, Ordering::SeqCst);
         Left { seat, answered }
     };
     map_vec(rt, posts, &take)
