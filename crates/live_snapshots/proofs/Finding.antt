@@ -1,8 +1,8 @@
 -- The orphans that the handles below one are open on, one handle after the other.
-use Rattle.std.proofs.Common.{◌≡◌, ◌<◌, ℕ, suc, Bool, true, false, ◌&&◌, ◌||◌, eqb, List, [], IsTrue, Option, Some, None, inl, inr, refl, sym, ap, ◌∙◌, eq-eqb, eqb-true, ne_eqb, ltb-true}
+use Rattle.std.proofs.Common.{◌≡◌, ◌<◌, ℕ, suc, Bool, true, false, not, ◌&&◌, ◌||◌, eqb, List, [], IsTrue, Option, Some, None, ◌⊎◌, inl, inr, refl, sym, ap, ◌∙◌, eq-eqb, eqb-true, ne_eqb, ltb-true}
 use Rattle.std.specs.Option.{option_and_then, option_map_or}
 use Rattle.std.specs.Bool.{then_some}
-use Rattle.std.proofs.lemmas.Bool.{and_parts, cases_eq}
+use Rattle.std.proofs.lemmas.Bool.{and_parts, both_ways, cases_eq}
 use Rattle.std.proofs.lemmas.Option.{none-some, same_Some}
 use Rattle.queue_model.proofs.Lists.{bool_same}
 use Rattle.model.specs.Layout.{inode_count, is_number}
@@ -14,7 +14,7 @@ use Rattle.updates.specs.declared.change.Update as program
 use Rattle.frozen.specs.Kept.{Kept, frozen_view}
 use Rattle.live_states.specs.Holdings.{Holdings}
 use Rattle.live_holdings.specs.Handles.{handle_at}
-use Rattle.live_snapshots.specs.Orphans.{Frees, FreesToo, is_bare, orphan_by}
+use Rattle.live_snapshots.specs.Orphans.{Frees, FreesToo, is_bare, is_open_below, orphan_by}
 use Rattle.live_snapshots.proofs.Freeing.{frees_as, frees_none}
 
 or_true : (b : Bool) → (b || true) ≡ true
@@ -47,13 +47,9 @@ module _ (kept : Kept) (holdings : Holdings) where
   abbrev numbers : ℕ
   numbers = inode_count kept.geometry
 
-  -- handle h is open on inode i
-  abbrev names : ℕ → ℕ → Bool
-  names h i = option_map_or (λ j. eqb j i) (handle_at holdings h) false
-
   -- a handle below h is open on inode i, which is bare
   abbrev found : ℕ → ℕ → Bool
-  found h i = bare i && any_below h (λ k. names k i)
+  found h i = bare i && is_open_below holdings h i
 
   -- one of these numbers claims block a
   abbrev taken : (ℕ → Bool) → ℕ → Bool
@@ -126,9 +122,9 @@ module _ (kept : Kept) (holdings : Holdings) where
           ]
 
   -- what the handles up to h name, where h names n
-  with_one : (h n i : ℕ) → handle_at holdings h ≡ Some n → any_below (suc h) (λ k. names k i) ≡ (any_below h (λ k. names k i) || eqb i n)
+  with_one : (h n i : ℕ) → handle_at holdings h ≡ Some n → is_open_below holdings (suc h) i ≡ (is_open_below holdings h i || eqb i n)
   unfolding any_below
-  with_one h n i is = ap (λ b. any_below h (λ k. names k i) || b) (ap (λ (o : Option ℕ). option_map_or (λ j. eqb j i) o false) is ∙ other_way n i)
+  with_one h n i is = ap (λ b. is_open_below holdings h i || b) (ap (λ (o : Option ℕ). option_map_or (λ j. eqb j i) o false) is ∙ other_way n i)
     where
       other_way : (a b : ℕ) → eqb a b ≡ eqb b a
       other_way a b = bool_same (eqb a b) (eqb b a) (λ t. eq-eqb b a (sym (eqb-true a b t))) (λ t. eq-eqb a b (sym (eqb-true b a t)))
@@ -140,12 +136,12 @@ module _ (kept : Kept) (holdings : Holdings) where
       (λ i. same i ∙ ap (λ b. bare i && b) (sym (with_one h n i at)))
       (one_number_more (found h) n old new (bare_number n is) frees too)
     where
-      same : (i : ℕ) → (found h i || eqb i n) ≡ (bare i && (any_below h (λ k. names k i) || eqb i n))
+      same : (i : ℕ) → (found h i || eqb i n) ≡ (bare i && (is_open_below holdings h i || eqb i n))
       same i = elim (cases_eq i n) [
         | inl e ↦ ap (λ b. found h i || b) (eq-eqb i n e) ∙ or_true (found h i)
-            ∙ sym (both (bare i) (any_below h (λ k. names k i) || eqb i n) (ap bare e ∙ is) (ap (λ b. any_below h (λ k. names k i) || b) (eq-eqb i n e) ∙ or_true (any_below h (λ k. names k i))))
+            ∙ sym (both (bare i) (is_open_below holdings h i || eqb i n) (ap bare e ∙ is) (ap (λ b. is_open_below holdings h i || b) (eq-eqb i n e) ∙ or_true (is_open_below holdings h i)))
         | inr d ↦ ap (λ b. found h i || b) (ne_eqb i n d) ∙ or_false (found h i)
-            ∙ sym (ap (λ b. bare i && (any_below h (λ k. names k i) || b)) (ne_eqb i n d) ∙ ap (λ b. bare i && b) (or_false (any_below h (λ k. names k i))))
+            ∙ sym (ap (λ b. bare i && (is_open_below holdings h i || b)) (ne_eqb i n d) ∙ ap (λ b. bare i && b) (or_false (is_open_below holdings h i)))
       ]
 
   not_this : (h n : ℕ) (us : List program.Update) → handle_at holdings h ≡ Some n → bare n ≡ false → FreesFound h us → FreesFound (suc h) us
@@ -154,17 +150,29 @@ module _ (kept : Kept) (holdings : Holdings) where
       (λ i. same i ∙ ap (λ b. bare i && b) (sym (with_one h n i at)))
       frees
     where
-      same : (i : ℕ) → found h i ≡ (bare i && (any_below h (λ k. names k i) || eqb i n))
+      same : (i : ℕ) → found h i ≡ (bare i && (is_open_below holdings h i || eqb i n))
       same i = elim (cases_eq i n) [
-        | inl e ↦ ap (λ b. b && any_below h (λ k. names k i)) (ap bare e ∙ is) ∙ sym (ap (λ b. b && (any_below h (λ k. names k i) || eqb i n)) (ap bare e ∙ is))
-        | inr d ↦ sym (ap (λ b. bare i && (any_below h (λ k. names k i) || b)) (ne_eqb i n d) ∙ ap (λ b. bare i && b) (or_false (any_below h (λ k. names k i))))
+        | inl e ↦ ap (λ b. b && is_open_below holdings h i) (ap bare e ∙ is) ∙ sym (ap (λ b. b && (is_open_below holdings h i || eqb i n)) (ap bare e ∙ is))
+        | inr d ↦ sym (ap (λ b. bare i && (is_open_below holdings h i || b)) (ne_eqb i n d) ∙ ap (λ b. bare i && b) (or_false (is_open_below holdings h i)))
+      ]
+
+  not_again : (h n : ℕ) (us : List program.Update) → handle_at holdings h ≡ Some n → is_open_below holdings h n ≡ true → FreesFound h us → FreesFound (suc h) us
+  not_again h n us at is frees =
+      same_numbers (found h) (found (suc h)) us
+      (λ i. same i ∙ ap (λ b. bare i && b) (sym (with_one h n i at)))
+      frees
+    where
+      same : (i : ℕ) → found h i ≡ (bare i && (is_open_below holdings h i || eqb i n))
+      same i = elim (cases_eq i n) [
+        | inl e ↦ ap (λ b. bare i && b) (ap (is_open_below holdings h) e ∙ is) ∙ sym (ap (λ b. bare i && b) (ap (λ b. is_open_below holdings h i || b) (eq-eqb i n e) ∙ or_true (is_open_below holdings h i)))
+        | inr d ↦ sym (ap (λ b. bare i && (is_open_below holdings h i || b)) (ne_eqb i n d) ∙ ap (λ b. bare i && b) (or_false (is_open_below holdings h i)))
       ]
 
   not_open : (h : ℕ) (us : List program.Update) → handle_at holdings h ≡ None → FreesFound h us → FreesFound (suc h) us
   unfolding any_below
   not_open h us at frees =
       same_numbers (found h) (found (suc h)) us
-      (λ i. ap (λ b. bare i && b) (sym (ap (λ b. any_below h (λ k. names k i) || b) (ap (λ (o : Option ℕ). option_map_or (λ j. eqb j i) o false) at) ∙ or_false (any_below h (λ k. names k i)))))
+      (λ i. ap (λ b. bare i && b) (sym (ap (λ b. is_open_below holdings h i || b) (ap (λ (o : Option ℕ). option_map_or (λ j. eqb j i) o false) at) ∙ or_false (is_open_below holdings h i))))
       frees
 
   -- by what a handle is open on
@@ -176,16 +184,27 @@ module _ (kept : Kept) (holdings : Holdings) where
   then_none true m e = absurd (none-some m (sym e))
   then_none false m e = refl
 
-  one_of : (o : Option ℕ) (n : ℕ) → option_and_then (λ i. then_some (bare i) i) o ≡ Some n → (o ≡ Some n) × (bare n ≡ true)
-  one_of None n e = absurd (none-some n e)
-  one_of (Some m) n e = let is = then_is (bare m) m n e in (ap Some is.1, sym (ap bare is.1) ∙ is.0)
+  abbrev first : ℕ → ℕ → Bool
+  first h i = bare i && not (is_open_below holdings h i)
+
+  one_of : (h n : ℕ) (o : Option ℕ) → option_and_then (λ i. then_some (first h i) i) o ≡ Some n → (o ≡ Some n) × (bare n ≡ true)
+  one_of h n None e = absurd (none-some n e)
+  one_of h n (Some m) e = let is = then_is (first h m) m n e in (ap Some is.1, sym (ap bare is.1) ∙ (and_parts (bare m) (not (is_open_below holdings h m)) is.0).0)
 
   pub an_orphan : (h n : ℕ) (old new : List program.Update) → orphan_by kept holdings h ≡ Some n → FreesFound h old → FreesToo kept.geometry (λ i. eqb i n) (claimed n) old new → FreesFound (suc h) new
-  an_orphan h n old new is = let at = one_of (handle_at holdings h) n is in one_more h n old new at.0 at.1
+  an_orphan h n old new is = let at = one_of h n (handle_at holdings h) is in one_more h n old new at.0 at.1
 
   pub no_orphan : (h : ℕ) (us : List program.Update) → orphan_by kept holdings h ≡ None → FreesFound h us → FreesFound (suc h) us
   no_orphan h us is = by (handle_at holdings h) refl is
     where
-      by : (o : Option ℕ) → handle_at holdings h ≡ o → option_and_then (λ i. then_some (bare i) i) o ≡ None → FreesFound h us → FreesFound (suc h) us
+      neither : (b o : Bool) → (b && not o) ≡ false → (b ≡ false) ⊎ (o ≡ true)
+      neither false o e = inl refl
+      neither true true e = inr refl
+      neither true false e = absurd (both_ways true e refl)
+
+      by : (o : Option ℕ) → handle_at holdings h ≡ o → option_and_then (λ i. then_some (first h i) i) o ≡ None → FreesFound h us → FreesFound (suc h) us
       by None at e = not_open h us at
-      by (Some m) at e = not_this h m us at (then_none (bare m) m e)
+      by (Some m) at e = elim (neither (bare m) (is_open_below holdings h m) (then_none (first h m) m e)) [
+        | inl none ↦ not_this h m us at none
+        | inr again ↦ not_again h m us at again
+      ]

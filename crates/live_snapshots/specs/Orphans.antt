@@ -3,7 +3,7 @@ use Rattle.std.specs.Prelude.{◌≡◌, ℕ, Bool, false, not, ◌&&◌, ◌||�
 use Rattle.std.specs.Bool.{then_some}
 use Rattle.std.specs.List.{All}
 use Rattle.std.specs.Option.{option_and_then, option_map_or}
-use Rattle.model.specs.Layout.{Geometry, inode_count}
+use Rattle.model.specs.Layout.{Geometry}
 use Rattle.model.specs.View.{View, free_inode}
 use Rattle.model.specs.Cells.{Update, updated_all}
 use Rattle.model.specs.Uses.{claim_at, is_sound_at}
@@ -27,9 +27,13 @@ is_bare kept i = is_sound_at kept.geometry (frozen_view kept) i && ((frozen_view
 abbrev pub is_orphan_of : Kept → Holdings → ℕ → Bool
 is_orphan_of kept holdings i = is_bare kept i && is_open_by holdings i
 
--- the one that handle h is open on
+-- a handle below h is open on inode i
+abbrev pub is_open_below : Holdings → ℕ → ℕ → Bool
+is_open_below holdings h i = any_below h (λ k. option_map_or (λ j. j == i) (handle_at holdings k) false)
+
+-- the one that handle h is open on, and none before
 abbrev pub orphan_by : Kept → Holdings → ℕ → Option ℕ
-orphan_by kept holdings h = option_and_then (λ i. then_some (is_bare kept i) i) (handle_at holdings h)
+orphan_by kept holdings h = option_and_then (λ i. then_some (is_bare kept i && not (is_open_below holdings h i)) i) (handle_at holdings h)
 
 -- some number below this one is such an inode's, and that inode claims block a
 abbrev pub is_of_orphan_below : Kept → Holdings → ℕ → ℕ → Bool

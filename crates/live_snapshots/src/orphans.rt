@@ -4,7 +4,7 @@ ghost use Rattle.machine.specs.Cells.{claims};
 ghost use Rattle.model.specs.Layout.{inode_count, is_number};
 ghost use Rattle.model.specs.View.{free_inode};
 ghost use Rattle.updates.specs.Values.{change as change_of};
-ghost use Rattle.live_snapshots.specs.Orphans.{Adds, Frees, FreesToo, LacksOrphans, is_of_orphan_below, is_orphan_of, orphan_by};
+ghost use Rattle.live_snapshots.specs.Orphans.{Adds, Frees, FreesToo, LacksOrphans, is_of_orphan_below, is_open_below, is_orphan_of, orphan_by};
 
 use frozen::Frozen;
 use inode::{DIRECT_POINTERS, FREE, INDIRECT_POSITION, Record};
@@ -32,8 +32,7 @@ pub(crate) fn without_orphans(
 /// How many handles may be open at once.
 const HANDLES: u32 = 1024;
 
-/// The updates that free each open inode without links. One that is open more than once is freed as often, which leaves
-/// what freeing it once does.
+/// The updates that free each open inode without links, once each.
 fn free_orphans(
     alloc: Global,
     frozen: &Frozen,
@@ -51,12 +50,27 @@ fn free_orphans(
     Ok(updates)
 }
 
-/// The inode that a handle is open on, if it has no links.
+/// The inode that a handle is open on, if it has no links and no handle before is open on it.
 fn orphan_at(frozen: &Frozen, holdings: &Holdings, handle: u32) -> Option<u32>
     ensures { result ≡ orphan_by frozen.now holdings.now handle }
 {
     let number = holdings.file_of(handle)?;
-    (frozen.is_sound_at(number) && frozen.record(number).links == 0).then_some(number)
+    let is_orphan = frozen.is_sound_at(number)
+        && frozen.record(number).links == 0
+        && !is_open_before(holdings, number, handle);
+    is_orphan.then_some(number)
+}
+
+/// Whether a handle before this one is open on an inode.
+fn is_open_before(holdings: &Holdings, number: u32, handle: u32) -> bool
+    ensures { result ≡ is_open_below holdings.now handle number }
+{
+    for earlier in 0..handle {
+        if holdings.file_of(earlier) == Some(number) {
+            return true;
+        }
+    }
+    false
 }
 
 /// Adds the updates that free a number, with its record and all blocks that it claims.

@@ -1,9 +1,8 @@
 -- First the number goes, and then the block at each position, if there is one.
-use Rattle.std.proofs.Common.{◌≡◌, ◌+◌, suc, sym, ap, ◌∙◌, subst, List, eqb, add-one, arith}
+use Rattle.std.proofs.Common.{◌≡◌, ◌+◌, sym, ◌∙◌, subst, eqb, add-one, arith}
 use Rattle.model.specs.View.{Inode}
 use Rattle.model.specs.Cells.{SetInode}
 use Rattle.model.proofs.UseLemmas.{claim_parts}
-use Rattle.updates.specs.declared.change.Update.{Update}
 use Rattle.frozen.specs.Kept.{frozen_view}
 use Rattle.live_snapshots.specs.Orphans.{Adds, FreesToo, is_claimed_below}
 use Rattle.live_snapshots.proofs.Freeing.{all_go, block_goes, nothing_goes, number_goes}

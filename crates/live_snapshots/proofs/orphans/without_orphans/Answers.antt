@@ -1,7 +1,7 @@
 -- What is staged is what the updates free.
 use Rattle.std.proofs.Common.{◌≡◌, List, sym, ap, ◌∙◌, subst}
 use Rattle.std.proofs.lemmas.Result.{IfOk-weaker}
-use Rattle.model.specs.Layout.{Geometry, inode_count}
+use Rattle.model.specs.Layout.{inode_count}
 use Rattle.updates.specs.declared.change.Update.{Update}
 use Rattle.frozen.specs.Kept.{Kept, KeepsMetadata}
 use Rattle.metadata.specs.declared.staged.Staged.{Staged}
