@@ -9,6 +9,7 @@ use crate::line::{Job, parse};
 use crate::repairs::repair;
 use crate::runs::run;
 use crate::stops::stops;
+use crate::tooling::answer_tool;
 use device::{Before, FileDevice};
 use layout::{Geometry, Refusal};
 use std::convert::AsStr;
@@ -54,7 +55,11 @@ where
     R::File: FileExt + Send,
     ensures { IfOk result (λ answer. answer.status < 3) }
 {
-    match parse(rt.alloc(), words)? {
+    let job = match parse(rt.alloc(), words) {
+        Ok(job) => job,
+        Err(failure) => return Err(failure),
+    };
+    match job {
         Job::Mkfs {
             image,
             groups,
@@ -70,6 +75,7 @@ where
         } => run_on_file(rt, image, script, workers),
         Job::Stops { image, script } => stops_of_file(rt, image, script),
         Job::Bits { image } => bits_of_file(rt, image),
+        Job::Tool(tool) => answer_tool(rt, &tool),
         Job::Sample => {
             let findings = check_sample(rt.alloc())?;
             Ok(bits(rt.alloc(), findings.as_slice())?)

@@ -32,6 +32,12 @@ pub enum Failure {
     Line(String),
     /// What the line asks for was refused.
     Refused(Refusal),
+    /// The first commands of the line, so many of so many, were carried out and written, and the next one was refused.
+    Stopped {
+        cause: Refusal,
+        done: usize,
+        count: usize,
+    },
 }
 
 impl From<Refusal> for Failure {
@@ -83,9 +89,8 @@ impl Failure {
     {
         match self {
             Failure::Line(_) => REFUSED,
-            Failure::Refused(Refusal::NoMemory | Refusal::Device) => GAVE_OUT,
-            Failure::Refused(Refusal::Damaged) => DAMAGED,
-            Failure::Refused(_) => REFUSED,
+            Failure::Refused(refusal) => status_of_refusal(*refusal),
+            Failure::Stopped { cause, .. } => status_of_refusal(*cause),
         }
     }
 
@@ -96,7 +101,21 @@ impl Failure {
         let _ = match self {
             Failure::Line(text) => err.write_all(text.as_bytes()),
             Failure::Refused(refusal) => writeln!(err, "refused {refusal}"),
+            Failure::Stopped { cause, done, count } => {
+                writeln!(err, "refused {cause}\ndone {done} of {count}")
+            }
         };
         self.status()
+    }
+}
+
+/// The status that the program ends with where a call of its own was refused.
+fn status_of_refusal(refusal: Refusal) -> u8
+    ensures { result ≡ spec.status_of_refusal refusal }
+{
+    match refusal {
+        Refusal::NoMemory | Refusal::Device => GAVE_OUT,
+        Refusal::Damaged => DAMAGED,
+        _ => REFUSED,
     }
 }

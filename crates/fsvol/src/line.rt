@@ -2,6 +2,7 @@
 ghost use Rattle.std.specs.Prelude.{◌≡◌, ◌≢◌, ◌↔◌, [], Ok, IfOk, IfSome};
 
 use crate::failure::Failure;
+use crate::tool_line::{Tool, tool_of, with_tools};
 use clap::error::ErrorKind;
 use clap::{Arg, ArgMatches, Command, value_parser};
 use layout::Refusal;
@@ -11,7 +12,7 @@ use std::env::Env;
 use std::{env, io};
 
 /// What a line asks for.
-#[derive(Clone, Copy, Debug, PartialEq, Eq)]
+#[derive(Debug, PartialEq, Eq, Drop)]
 pub enum Job<'a> {
     /// A fresh image of this geometry.
     Mkfs {
@@ -45,6 +46,8 @@ pub enum Job<'a> {
     Bits {
         image: &'a str,
     },
+    /// What a line of the everyday tools asks for.
+    Tool(Tool<'a>),
     /// No words at all: the findings of a small fresh image in memory.
     Sample,
 }
@@ -81,7 +84,11 @@ fn parse_words<'a, S: AsStr>(alloc: Global, words: &'a [S]) -> Result<Job<'a>, c
 {
     let mut command = program(alloc)?;
     let matches = command.try_get_matches_from_mut(words)?;
-    match job_of(&matches) {
+    let asked = match job_of(alloc, &matches) {
+        Ok(asked) => asked,
+        Err(error) => return Err(clap::Error::from(error)),
+    };
+    match asked {
         Some(job) => Ok(job),
         // Each argument is required, so the parse has refused such a line.
         None => Err(command.error(ErrorKind::MissingRequiredArgument, "an argument is missing")?),
@@ -89,34 +96,51 @@ fn parse_words<'a, S: AsStr>(alloc: Global, words: &'a [S]) -> Result<Job<'a>, c
 }
 
 /// What the matches of the program's command ask for.
-fn job_of<'a>(matches: &ArgMatches<'a>) -> Option<Job<'a>>
+fn job_of<'a>(alloc: Global, matches: &ArgMatches<'a>) -> Result<Option<Job<'a>>, AllocError>
+    ensures { IfOk result (λ asked. IfSome asked (λ job. job ≢ Job.Sample)) }
+{
+    let Some((name, options)) = matches.subcommand() else {
+        return Ok(None);
+    };
+    if let Some(job) = image_job_of(name, options) {
+        return Ok(Some(job));
+    }
+    match tool_of(alloc, name, options) {
+        Ok(Some(tool)) => Ok(Some(Job::Tool(tool))),
+        Ok(None) => Ok(None),
+        Err(error) => Err(error),
+    }
+}
+
+/// What the matches of a command that makes, checks or mends an image ask for.
+fn image_job_of<'a>(name: &str, options: &ArgMatches<'a>) -> Option<Job<'a>>
     ensures { IfSome result (λ job. job ≢ Job.Sample) }
 {
-    match matches.subcommand()? {
-        ("mkfs", options) => Some(Job::Mkfs {
+    match name {
+        "mkfs" => Some(Job::Mkfs {
             image: options.get_str("image")?,
             groups: options.get_one("groups")?,
             blocks: options.get_one("blocks")?,
             inodes: options.get_one("inodes")?,
         }),
-        ("check", options) => Some(Job::Check {
+        "check" => Some(Job::Check {
             image: options.get_str("image")?,
             workers: options.get_one("workers")?,
         }),
-        ("repair", options) => Some(Job::Repair {
+        "repair" => Some(Job::Repair {
             image: options.get_str("image")?,
             workers: options.get_one("workers")?,
         }),
-        ("run", options) => Some(Job::Run {
+        "run" => Some(Job::Run {
             image: options.get_str("image")?,
             script: options.get_str("script")?,
             workers: options.get_one("workers")?,
         }),
-        ("stops", options) => Some(Job::Stops {
+        "stops" => Some(Job::Stops {
             image: options.get_str("image")?,
             script: options.get_str("script")?,
         }),
-        ("bits", options) => Some(Job::Bits {
+        "bits" => Some(Job::Bits {
             image: options.get_str("image")?,
         }),
         _ => None,
@@ -124,7 +148,7 @@ fn job_of<'a>(matches: &ArgMatches<'a>) -> Option<Job<'a>>
 }
 
 fn program<'a>(alloc: Global) -> Result<Command<'a>, AllocError> {
-    Command::new(alloc, "fsvol")
+    let program = Command::new(alloc, "fsvol")
         .about("Makes and reads the images of volumes")
         .bin_name("fsvol")?
         .no_binary_name(true)
@@ -134,7 +158,8 @@ fn program<'a>(alloc: Global) -> Result<Command<'a>, AllocError> {
         .subcommand(repair(alloc)?)?
         .subcommand(run(alloc)?)?
         .subcommand(stops(alloc)?)?
-        .subcommand(bits(alloc)?)
+        .subcommand(bits(alloc)?)?;
+    with_tools(alloc, program)
 }
 
 fn mkfs<'a>(alloc: Global) -> Result<Command<'a>, AllocError> {

@@ -10,6 +10,8 @@ mod repairs;
 mod rows;
 mod runs;
 mod stops;
+mod tool_line;
+mod tooling;
 
 use entry::perform;
 use line::words_given;

@@ -1,4 +1,6 @@
 //! What the lines print and give, on files of the tests' own.
+mod everyday;
+
 use crate::entry::perform;
 use std::io::Write;
 use std::os::unix::fs::FileExt;

@@ -75,17 +75,18 @@ fn run_on<L: Ledger + Send + Sync, M: Ledger + Send + Sync, R: Threads + Wait + 
     let posts = posted(alloc, seats)?;
     let ended = &AtomicU64::new(0);
     let shared = &shared;
-    let (used, (checks, flushed)) = join(
+    // Where no thread can be made the first of two comes last: so those that wait for the users do.
+    let (flushed, (checks, used)) = join(
         rt,
-        move || {
-            let used = use_all(rt, alloc, shared, posts, load.rounds);
-            ended.fetch_add(1, Ordering::SeqCst);
-            used
-        },
+        move || flush_until(rt, alloc, shared, &mut flusher, ended, 1),
         move || join(
             rt,
             move || check_until(rt, alloc, shared, &mut checker, load, ended),
-            move || flush_until(rt, alloc, shared, &mut flusher, ended, 1),
+            move || {
+                let used = use_all(rt, alloc, shared, posts, load.rounds);
+                ended.fetch_add(1, Ordering::SeqCst);
+                used
+            },
         ),
     );
     let (used, all) = used?;

@@ -208,14 +208,13 @@ fn work_all<
     ensures { IfOk result.0 (λ left. vec_len left ≡ vec_len posts) }
 {
     let ended = &AtomicU64::new(0);
-    let (left, (checked, flushed)) = join(
+    // Where no thread can be made the first of two comes last: so the one that waits for the others does.
+    let (flushed, (checked, left)) = join(
         rt,
-        move || -> Result<Vec<Left<L, M>>, AllocError>
-            ensures { IfOk result (λ left. vec_len left ≡ vec_len posts) }
-        {
-            let left = carry_out_all(rt, alloc, shared, posts);
-            ended.fetch_add(1, Ordering::SeqCst);
-            left
+        move || {
+            let mut seat = flusher;
+            let flushed = flush_until(rt, alloc, shared, &mut seat, ended, OTHERS);
+            (seat, flushed)
         },
         move || join(
             rt,
@@ -225,10 +224,12 @@ fn work_all<
                 ended.fetch_add(1, Ordering::SeqCst);
                 (seat, mended)
             },
-            move || {
-                let mut seat = flusher;
-                let flushed = flush_until(rt, alloc, shared, &mut seat, ended, OTHERS);
-                (seat, flushed)
+            move || -> Result<Vec<Left<L, M>>, AllocError>
+                ensures { IfOk result (λ left. vec_len left ≡ vec_len posts) }
+            {
+                let left = carry_out_all(rt, alloc, shared, posts);
+                ended.fetch_add(1, Ordering::SeqCst);
+                left
             },
         ),
     );

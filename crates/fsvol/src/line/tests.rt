@@ -14,7 +14,7 @@ fn refusal_of(alloc: Global, line: &str) -> Result<String, Fail> {
     match parse(alloc, words.as_slice()) {
         Ok(_) => Err(Fail::from("the line was read")),
         Err(Failure::Line(text)) => Ok(text),
-        Err(Failure::Refused(_)) => Err(Fail::from("no memory")),
+        Err(Failure::Refused(_) | Failure::Stopped { .. }) => Err(Fail::from("no memory")),
     }
 }
 
@@ -164,6 +164,15 @@ fn refuses_a_wrong_line(rt: HostRuntime) -> Result<(), Fail> {
             "required arguments were not provided:\n  <IMAGE>",
         ),
         ("bits a.img b.img", "unexpected argument 'b.img' found"),
+        (
+            "ls a.img",
+            "required arguments were not provided:\n  <PATH>",
+        ),
+        (
+            "mkdir a.img",
+            "required arguments were not provided:\n  <PATH>...",
+        ),
+        ("mv a.img /b", "values required by"),
         (
             "run --workers 1 a.img",
             "required arguments were not provided:\n  <SCRIPT>",

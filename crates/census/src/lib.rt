@@ -1,0 +1,104 @@
+//! What an image holds, in numbers: how many inode numbers and data blocks are marked and may be given out, how many
+//! files and directories there are, and how long the longest run of free blocks is. All is told by an image's metadata, so it is told
+//! of a soft or a damaged image too, and nothing is written.
+#![tactic(auto)]
+
+mod counting;
+mod runs;
+#[cfg(test)]
+mod tests;
+
+ghost use Rattle.std.specs.Prelude.{◌≡◌, IfErr, IfOk, IsErrOf};
+ghost use Rattle.census.specs.Census.{IsCensus};
+ghost use Rattle.device.specs.Writes.{HasFailed};
+ghost use Rattle.frozen.specs.Kept.{frozen_view};
+ghost use Rattle.frozen.specs.Loading.{LoadRefuses};
+ghost use Rattle.model.specs.Image.{IsImage, image_view};
+ghost use Rattle.model.specs.Layout.{Geometry as Numbers};
+
+pub use counting::Counted;
+use counting::count;
+use device::Device;
+use frozen::{Frozen, load};
+use layout::{BLOCK_BYTES, Geometry, Refusal};
+use runs::longest_run;
+use std::alloc::{AllocError, Global};
+
+/// What an image holds, in numbers.
+#[derive(Clone, Copy, Debug, PartialEq, Eq)]
+pub struct Census {
+    pub geometry: Geometry,
+    /// Inode numbers from the root's on that are marked.
+    pub numbers_used: u32,
+    /// Those that are not, and may be given out.
+    pub numbers_free: u32,
+    /// Data blocks that are marked.
+    pub blocks_used: u32,
+    /// Those that are not, and may be given out.
+    pub blocks_free: u32,
+    /// Records of files, also of those that no name leads to.
+    pub files: u32,
+    /// Records of directories, also of those that no name leads to.
+    pub directories: u32,
+    /// The most free data blocks that stand one behind the other.
+    pub longest_free_run: u32,
+}
+
+/// The numbers of a device's image, which is read alone. Refused as an image that cannot be loaded.
+pub fn census_of<D: Device>(alloc: Global, device: &mut D) -> Result<Census, Refusal>
+    // Where each read gave what stood there, the blocks are an image, and these are its numbers.
+    ensures counted { IfOk result (λ census. D.honest device.new → (geo : Numbers) × IsImage geo (D.image device.old)
+        × IsCensus geo (image_view geo (D.image device.old)) census) }
+    ensures refused { IfErr result (λ refusal. LoadRefuses (D.honest device.new) (D.image device.old) refusal) }
+    ensures cause { IsErrOf result Refusal.Device → HasFailed (D.failures device.old) (D.failures device.new) }
+
+    ensures same { D.image device.new ≡ D.image device.old }
+    ensures held { D.held device.new ≡ D.held device.old }
+{
+    let frozen = load(alloc, device)?;
+    Ok(take_census(&frozen))
+}
+
+/// The numbers of a frozen image.
+pub fn take_census(frozen: &Frozen) -> Census
+    ensures { IsCensus frozen.now.geometry (frozen_view frozen.now) result }
+{
+    Census {
+        geometry: frozen.geometry(),
+        numbers_used: count(frozen, Counted::UsedNumbers),
+        numbers_free: count(frozen, Counted::FreeNumbers),
+        blocks_used: count(frozen, Counted::UsedBlocks),
+        blocks_free: count(frozen, Counted::FreeBlocks),
+        files: count(frozen, Counted::Files),
+        directories: count(frozen, Counted::Directories),
+        longest_free_run: longest_run(frozen),
+    }
+}
+
+impl Census {
+    /// Writes a line for each number behind a text: its name, a blank and the number.
+    pub fn write(&self, text: &mut String) -> Result<(), AllocError> {
+        let Census {
+            geometry,
+            numbers_used,
+            numbers_free,
+            blocks_used,
+            blocks_free,
+            files,
+            directories,
+            longest_free_run,
+        } = *self;
+        writeln!(text, "groups {}", geometry.groups())?;
+        writeln!(text, "blocks-a-group {}", geometry.blocks_a_group())?;
+        writeln!(text, "inodes-a-group {}", geometry.inodes_a_group())?;
+        writeln!(text, "blocks {}", geometry.blocks())?;
+        writeln!(text, "block-bytes {BLOCK_BYTES}")?;
+        writeln!(text, "numbers-used {numbers_used}")?;
+        writeln!(text, "numbers-free {numbers_free}")?;
+        writeln!(text, "data-blocks-used {blocks_used}")?;
+        writeln!(text, "data-blocks-free {blocks_free}")?;
+        writeln!(text, "files {files}")?;
+        writeln!(text, "directories {directories}")?;
+        writeln!(text, "longest-free-run {longest_free_run}")
+    }
+}

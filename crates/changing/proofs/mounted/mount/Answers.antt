@@ -1,0 +1,8 @@
+use Rattle.std.proofs.Common.{sym, subst}
+use Rattle.live.specs.Alive.{Alive}
+use Rattle.live.specs.Mounting.{IsMountable}
+use Rattle.changing.proofs.mounted.mount.Goals as goal
+
+pub returns-in-Ok-clause-mounted : goal.returns-in-Ok-clause-mounted
+returns-in-Ok-clause-mounted g c =
+    subst (λ (l : Alive _). g.D.Device.honest l.device → IsMountable l.kept.geometry (g.D.Device.image c.args.device)) (sym c.new.ensures) c.in-Ok.ensures.mounted

@@ -1,0 +1,50 @@
+ghost use Rattle.std.specs.Prelude.{◌≡◌, [], IfOk, length, take};
+ghost use Rattle.changing.specs.Changes.{ChangesMounted};
+ghost use Rattle.changing.specs.Stops.{StopsAtRefusal};
+ghost use Rattle.live.specs.Mounting.{IsMountable};
+ghost use Rattle.live_states.specs.Holdings.{IsIdle};
+ghost use Rattle.softdep.specs.Queued.{pending_of};
+
+use crate::change;
+use device::Device;
+use layout::Refusal;
+use live::{Live, NotMounted};
+use snapshot::{Command, Reply, Volume};
+use std::alloc::Global;
+
+/// A volume that was mounted and changed, and the replies to the commands.
+#[derive(Drop)]
+pub struct Changed<D: Device> {
+    pub replies: Vec<Reply>,
+    pub volume: Volume<D>,
+}
+
+/// Mounts the volume of a device, carries out commands up to the first one that is refused, and writes all. A volume that cannot
+/// be mounted is not written: one whose image breaks a rule is refused with `Damaged`.
+pub fn change_device<D: Device + Drop>(
+    alloc: Global,
+    device: D,
+    commands: &[Command],
+) -> Result<Changed<D>, Refusal>
+    // Where the device was honest, the volume of its image went through these commands and a sync.
+    ensures changed { IfOk result (λ changed. D.honest changed.volume.device → ChangesMounted (D.image device)
+        (take (length changed.replies.items) commands.now) changed.replies.items (D.held changed.volume.device) (D.image changed.volume.device) changed.volume) }
+    ensures stopped { IfOk result (λ changed. StopsAtRefusal (length commands.now) changed.replies.items) }
+{
+    let mut volume = mount(alloc, device)?;
+    let replies = change(alloc, &mut volume, commands)?;
+    Ok(Changed { replies, volume })
+}
+
+/// Mounts the volume of a device, which is let go where it cannot be mounted.
+pub fn mount<D: Device + Drop>(alloc: Global, device: D) -> Result<Volume<D>, Refusal>
+    ensures image { IfOk result (λ volume. D.image volume.device ≡ D.image device) }
+    ensures pending { IfOk result (λ volume. pending_of volume.queue ≡ []) }
+    ensures idle { IfOk result (λ volume. IsIdle volume.holdings) }
+    ensures mounted { IfOk result (λ volume. D.honest volume.device → IsMountable volume.kept.geometry (D.image device)) }
+{
+    match Live::mount(alloc, device) {
+        Ok(live) => Ok(Volume::new(live)),
+        Err(NotMounted { device: _, cause }) => Err(cause),
+    }
+}

@@ -1,0 +1,238 @@
+//! The lines of the everyday tools.
+use super::{
+    CLEAN_REPORT, NOTHING_PRINTED, SHARED_BLOCK, Wanted, gives, gives_of_bytes, made, made_small,
+    printed, refused, set_all,
+};
+use std::fs;
+use std::os::unix::fs::FileExt;
+use std::process::Abort;
+use std::rt::Files;
+use std::sync::Wait;
+use std::test::Fail;
+use std::thread::Threads;
+
+/// Carries out lines on an image, one after another: what stands before the image's name in each, what stands behind it but
+/// for its last word, and that word, and what it is to give.
+fn give<R: Files + AllocGlobal + Threads + Wait + Sync + Abort>(
+    rt: &R,
+    image: &str,
+    lines: &[(&str, &str, &str, Wanted<'_>)],
+) -> Result<(), Fail>
+where
+    R::File: FileExt + Send,
+{
+    for &(name, words, last, wanted) in lines {
+        let start = format!(in rt.alloc(); "{name} {image}{words}")?;
+        gives(rt, start.as_str(), last, wanted)?;
+    }
+    Ok(())
+}
+
+/// What the numbers of the image are at the end of the next row.
+const NUMBERS: &str =
+    "groups 1\nblocks-a-group 16\ninodes-a-group 16\nblocks 17\nblock-bytes 1024\nnumbers-used 5\nnumbers-free 9\ndata-blocks-used 5\ndata-blocks-free 8\nfiles 1\ndirectories 4\nlongest-free-run 8\n";
+
+/// What the users of a script are told that writes the file `/f`, and the report behind it.
+const WRITTEN: &str =
+    "1 create /f -> ok 6\n1 open /f -> ok 0\n1 write 0 0 abc -> ok\n1 close 0 -> ok\n";
+
+#[test]
+fn an_image_is_changed_and_looked_into(rt: HostRuntime) -> Result<(), Fail> {
+    let image = "rows_everyday.img";
+    let script = "rows_everyday.script";
+    made_small(&rt, image)?;
+    fs::write(
+        &rt,
+        script,
+        "1 create /f\n1 open /f\n1 write 0 0 abc\n1 close 0\n",
+    )?;
+    let ran = format!(in rt.alloc(); "{WRITTEN}{CLEAN_REPORT}repaired 0\n")?;
+    give(
+        &rt,
+        image,
+        &[
+            ("mkdir", " /a /a/b", "/c", NOTHING_PRINTED),
+            ("run --workers 1", "", script, printed(ran.as_str(), 0)),
+            ("ls", "", "/", printed("a\nc\nf\n", 0)),
+            ("cat", "", "/f", printed("abc", 0)),
+            ("ln", " /f", "/%20", NOTHING_PRINTED),
+            ("ln", " /f", "/a", NOTHING_PRINTED),
+            (
+                "stat",
+                "",
+                "/f",
+                printed("number 6\nkind file\nlinks 3\nsize 3\nblocks 1\n", 0),
+            ),
+            (
+                "stat",
+                "",
+                "/",
+                printed(
+                    "number 2\nkind directory\nlinks 4\nsize 1024\nblocks 1\n",
+                    0,
+                ),
+            ),
+        ],
+    )?;
+    give(
+        &rt,
+        image,
+        &[
+            (
+                "ls -l",
+                "",
+                "/",
+                printed(
+                    "3 directory 3 1024 a\n5 directory 2 1024 c\n6 file 3 3 f\n6 file 3 3 %20\n",
+                    0,
+                ),
+            ),
+            (
+                "ls -R",
+                "",
+                "/",
+                printed("/:\na\nc\nf\n%20\n\n/a:\nb\nf\n\n/a/b:\n\n/c:\n", 0),
+            ),
+            ("mv", " /%20", "/g", NOTHING_PRINTED),
+            ("mv", " /f /g", "/c", NOTHING_PRINTED),
+            (
+                "ls -lR",
+                "",
+                "/c",
+                printed("/c:\n6 file 3 3 f\n6 file 3 3 g\n", 0),
+            ),
+        ],
+    )?;
+    give(
+        &rt,
+        image,
+        &[
+            ("rm", " /a/f", "/c/f", NOTHING_PRINTED),
+            ("rmdir", "", "/a/b", NOTHING_PRINTED),
+            ("mkdir", "", "/d", NOTHING_PRINTED),
+            ("cat", "", "/c/g", printed("abc", 0)),
+        ],
+    )?;
+    gives(&rt, "info", image, printed(NUMBERS, 0))?;
+    gives(&rt, "check --workers 1", image, printed(CLEAN_REPORT, 0))?;
+    fs::remove_file(&rt, script)?;
+    fs::remove_file(&rt, image)?;
+    Ok(())
+}
+
+/// Lines that are refused on a fresh image, as `give` takes them, and with which text: the status of each is 3.
+const REFUSED: &[(&str, &str, &str, &str)] = &[
+    (
+        "mkdir",
+        " /a /b /a",
+        "/c",
+        "refused 8 Exists\ndone 2 of 4\n",
+    ),
+    ("mkdir", "", "/", "refused 30 IsRoot\ndone 0 of 1\n"),
+    ("mkdir", " /c", "/x/y", "refused 7 NotFound\ndone 1 of 2\n"),
+    ("mkdir", " /d", "/%2", "refused 12 BadName\n"),
+    ("rmdir", " /c", "/", "refused 30 IsRoot\ndone 1 of 2\n"),
+    ("rm", "", "/a", "refused 10 IsDirectory\ndone 0 of 1\n"),
+    ("mv", " /a /b", "/x", "refused 7 NotFound\n"),
+    ("mv", " /a", "/x/y", "refused 7 NotFound\ndone 0 of 1\n"),
+    ("mv", " /a", "/b", "refused 10 IsDirectory\ndone 0 of 1\n"),
+    ("ln", " /a", "/x", "refused 10 IsDirectory\ndone 0 of 1\n"),
+    ("ls", "", "/x", "refused 7 NotFound\n"),
+    ("ls", "", "a", "refused 12 BadName\n"),
+    ("cat", "", "/a", "refused 10 IsDirectory\n"),
+    ("stat", "", "/a/b", "refused 7 NotFound\n"),
+];
+
+#[test]
+fn a_refused_change_tells_how_far_it_came(rt: HostRuntime) -> Result<(), Fail> {
+    let image = "rows_everyday_refused.img";
+    made_small(&rt, image)?;
+    for &(name, words, last, err) in REFUSED {
+        let start = format!(in rt.alloc(); "{name} {image}{words}")?;
+        gives(&rt, start.as_str(), last, refused(err, 3))?;
+    }
+    let start = format!(in rt.alloc(); "ls {image}")?;
+    gives(&rt, start.as_str(), "/", printed("a\nb\n", 0))?;
+    gives(&rt, "check --workers 1", image, printed(CLEAN_REPORT, 0))?;
+    fs::remove_file(&rt, image)?;
+    for (name, words) in [("ls", ""), ("mkdir", ""), ("mv", " /a")] {
+        let start = format!(in rt.alloc(); "{name} {image}{words}")?;
+        gives(&rt, start.as_str(), "/b", refused("refused 2 Device\n", 4))?;
+    }
+    Ok(())
+}
+
+#[test]
+fn a_full_image_keeps_what_went_before(rt: HostRuntime) -> Result<(), Fail> {
+    let image = "rows_everyday_full.img";
+    made_small(&rt, image)?;
+    let many = " /1 /2 /3 /4 /5 /6 /7 /8 /9 /10 /11 /12";
+    give(
+        &rt,
+        image,
+        &[
+            (
+                "mkdir",
+                many,
+                "/13",
+                refused("refused 14 NoBlock\ndone 12 of 13\n", 3),
+            ),
+            (
+                "rmdir",
+                many,
+                "/13",
+                refused("refused 7 NotFound\ndone 12 of 13\n", 3),
+            ),
+            ("ls", "", "/", printed("", 0)),
+        ],
+    )?;
+    made(&rt, "--groups 1 --blocks 16 --inodes 8", image)?;
+    give(
+        &rt,
+        image,
+        &[
+            (
+                "mkdir",
+                many,
+                "/13",
+                refused("refused 13 NoInode\ndone 5 of 13\n", 3),
+            ),
+            ("ls", "", "/", printed("1\n2\n3\n4\n5\n", 0)),
+        ],
+    )?;
+    gives(&rt, "check --workers 1", image, printed(CLEAN_REPORT, 0))?;
+    fs::remove_file(&rt, image)?;
+    Ok(())
+}
+
+#[test]
+fn a_damaged_image_is_looked_into_and_not_written(rt: HostRuntime) -> Result<(), Fail> {
+    let image = "rows_everyday_damaged.img";
+    let mut bytes = made_small(&rt, image)?;
+    set_all(bytes.as_mut_slice(), SHARED_BLOCK);
+    for (name, last, wanted) in [
+        ("ls", "/", printed("a\nb\n", 0)),
+        ("mkdir", "/c", refused("refused 24 Damaged\n", 2)),
+        ("rm", "/a", refused("refused 24 Damaged\n", 2)),
+    ] {
+        let start = format!(in rt.alloc(); "{name} {image}")?;
+        fs::write(&rt, image, bytes.as_slice())?;
+        gives(&rt, start.as_str(), last, wanted)?;
+        assert!(rt; fs::read(&rt, image)? == bytes, "{name}");
+    }
+    let mut soft = made_small(&rt, image)?;
+    set_all(soft.as_mut_slice(), &[(1_184, 33)]);
+    gives_of_bytes(
+        &rt,
+        "info",
+        image,
+        soft.as_slice(),
+        printed(SOFT_NUMBERS, 0),
+    )?;
+    fs::remove_file(&rt, image)?;
+    Ok(())
+}
+
+/// What the numbers of a fresh image are whose block 9 is marked.
+const SOFT_NUMBERS: &str =
+    "groups 1\nblocks-a-group 16\ninodes-a-group 16\nblocks 17\nblock-bytes 1024\nnumbers-used 1\nnumbers-free 13\ndata-blocks-used 2\ndata-blocks-free 11\nfiles 0\ndirectories 1\nlongest-free-run 7\n";

@@ -1,0 +1,139 @@
+//! A line of the everyday tools, from what it asks for to what it prints.
+ghost use Rattle.std.specs.Prelude.{◌≡◌, IfOk};
+
+use crate::failure::Failure;
+use crate::jobs::Answer;
+use crate::tool_line::Tool;
+use changing::{Outcome, change_device, outcome_of};
+use device::FileDevice;
+use frozen::load;
+use layout::Refusal;
+use snapshot::Command;
+use std::alloc::Global;
+use std::marker::Brand;
+use std::os::unix::fs::FileExt;
+use std::rt::Files;
+use tools::{Deed, Naming, aim_at, cat, deeds, info, ls, namings, path_of, stat};
+
+/// Does what a line of the everyday tools asks for. Those that only look open the image to be read alone.
+pub fn answer_tool<R: Files + AllocGlobal>(rt: &R, tool: &Tool<'_>) -> Result<Answer, Failure>
+where
+    R::File: FileExt,
+    ensures { IfOk result (λ answer. answer.status ≡ 0) }
+{
+    match tool {
+        Tool::Do { image, deed, paths } => do_in_file(rt, image, *deed, paths.as_slice()),
+        Tool::Name {
+            image,
+            naming,
+            paths,
+        } => name_in_file(rt, image, *naming, paths.as_slice()),
+        _ => Ok(Answer {
+            text: text_of(rt, tool)?,
+            status: 0,
+        }),
+    }
+}
+
+/// What a line prints that only looks; nothing of another one.
+fn text_of<R: Files + AllocGlobal>(rt: &R, tool: &Tool<'_>) -> Result<Vec<u8>, Refusal>
+where
+    R::File: FileExt,
+{
+    let alloc = rt.alloc();
+    match tool {
+        Tool::Info { image } => {
+            let mut device: FileDevice<R::File, Brand> = FileDevice::open(rt, image)?;
+            info(alloc, &mut device)
+        }
+        Tool::Ls { image, path, style } => {
+            let path = path_of(alloc, path)?;
+            let mut device: FileDevice<R::File, Brand> = FileDevice::open(rt, image)?;
+            ls(alloc, &mut device, &path, *style)
+        }
+        Tool::Stat { image, path } => {
+            let path = path_of(alloc, path)?;
+            let mut device: FileDevice<R::File, Brand> = FileDevice::open(rt, image)?;
+            stat(alloc, &mut device, &path)
+        }
+        Tool::Cat { image, path } => {
+            let path = path_of(alloc, path)?;
+            let mut device: FileDevice<R::File, Brand> = FileDevice::open(rt, image)?;
+            cat(alloc, &mut device, &path)
+        }
+        Tool::Do { .. } | Tool::Name { .. } => Ok(Vec::new(alloc)),
+    }
+}
+
+/// Does this with each of these paths in a file's image.
+fn do_in_file<R: Files + AllocGlobal>(
+    rt: &R,
+    image: &str,
+    deed: Deed,
+    words: &[&str],
+) -> Result<Answer, Failure>
+where
+    R::File: FileExt,
+    ensures { IfOk result (λ answer. answer.status ≡ 0) }
+{
+    let paths = paths_of(rt.alloc(), words)?;
+    let commands = deeds(rt.alloc(), deed, paths.as_slice())?;
+    change_file(rt, image, commands.as_slice())
+}
+
+/// Gives names in a file's image; the last path is the target.
+fn name_in_file<R: Files + AllocGlobal>(
+    rt: &R,
+    image: &str,
+    naming: Naming,
+    words: &[&str],
+) -> Result<Answer, Failure>
+where
+    R::File: FileExt,
+    ensures { IfOk result (λ answer. answer.status ≡ 0) }
+{
+    let paths = paths_of(rt.alloc(), words)?;
+    let Some((target, named)) = paths.split_last() else {
+        return Err(Failure::Refused(Refusal::BadName));
+    };
+    let mut device: FileDevice<R::File, Brand> = FileDevice::open(rt, image)?;
+    let frozen = load(rt.alloc(), &mut device)?;
+    let aim = aim_at(&frozen, target, named.len())?;
+    let commands = namings(rt.alloc(), naming, aim, named, target)?;
+    change_file(rt, image, commands.as_slice())
+}
+
+/// The paths that words stand for.
+fn paths_of(alloc: Global, words: &[&str]) -> Result<Vec<Vec<u8>>, Refusal> {
+    let mut paths = Vec::new(alloc);
+    for word in words {
+        paths.push(path_of(alloc, word)?)?;
+    }
+    Ok(paths)
+}
+
+/// Carries out commands on the volume of a file's image up to the first one that is refused, and writes all.
+fn change_file<R: Files + AllocGlobal>(
+    rt: &R,
+    image: &str,
+    commands: &[Command],
+) -> Result<Answer, Failure>
+where
+    R::File: FileExt,
+    ensures { IfOk result (λ answer. answer.status ≡ 0) }
+{
+    let device: FileDevice<R::File, Brand> = FileDevice::open_to_write(rt, image)?;
+    let changed = change_device(rt.alloc(), device, commands)?;
+    let Outcome { done, refused } = outcome_of(changed.replies.as_slice());
+    match refused {
+        None => Ok(Answer {
+            text: Vec::new(rt.alloc()),
+            status: 0,
+        }),
+        Some(cause) => Err(Failure::Stopped {
+            cause,
+            done,
+            count: commands.len(),
+        }),
+    }
+}

@@ -1,0 +1,2 @@
+mod CauseLemmas
+mod ByteLemmas

@@ -1,0 +1,3 @@
+pub mod Replies
+pub mod Bytes
+pub mod Trees

@@ -1,0 +1,22 @@
+-- What is printed of the names in a directory.
+use Rattle.std.specs.Prelude.{◌≡◌, ℕ, List, [], ◌∷◌, ◌++◌, Ok, flat_map}
+use Rattle.model.specs.Image.{IsImage, image_view}
+use Rattle.model.specs.Layout.{Geometry}
+use Rattle.machine.specs.Command.{ListNames, Listed, Name}
+use Rattle.reading.specs.Replies.{MayReply}
+use Rattle.tools.specs.Names.{written}
+
+-- a line for each name, in their order
+abbrev pub name_line : Name → List ℕ
+name_line name = written name.name ++ 10 ∷ []
+
+abbrev pub name_lines : List Name → List ℕ
+name_lines names = flat_map name_line names
+
+-- The machine lists these names at this path of an image, and they are what is printed.
+pub record IsListed (image : List (List ℕ)) (path printed : List ℕ) : Type 0 where
+  pub geometry : Geometry
+  pub is_image : IsImage geometry image
+  pub names : List Name
+  pub lists : MayReply geometry (image_view geometry image) (ListNames path) (Ok (Listed names))
+  pub text : printed ≡ name_lines names

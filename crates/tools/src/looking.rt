@@ -1,0 +1,133 @@
+//! What stands in the image of a device, which is read alone.
+ghost use Rattle.std.specs.Prelude.{◌≡◌, ◌++◌, ℕ, false, IfOk, IsErrOf, List, OnOk, map};
+ghost use Rattle.device.specs.Writes.{HasFailed};
+ghost use Rattle.frozen.specs.Kept.{IsKeptOf};
+ghost use Rattle.live_paths.specs.Listed.{name_of};
+ghost use Rattle.model.specs.Image.{IsImage, image_view};
+ghost use Rattle.model.specs.Layout.{Geometry as Numbers};
+ghost use Rattle.reading.specs.Bytes.{AreBytesAt};
+ghost use Rattle.tools.specs.Told.{IsListed, name_lines};
+
+use crate::texts::{status_text, write_head, write_long_names, write_names};
+use census::census_of;
+use device::Device;
+use frozen::{Frozen, load};
+use layout::Refusal;
+use live_paths::Named;
+use reading::{Listing, list, tree};
+use std::alloc::{AllocError, Global};
+
+/// How names are listed.
+#[derive(Clone, Copy, Debug, PartialEq, Eq)]
+pub struct Style {
+    /// With what each stands for.
+    pub long: bool,
+    /// With each directory below.
+    pub recursive: bool,
+}
+
+/// The numbers of a device's image, a line for each.
+pub fn info<D: Device>(alloc: Global, device: &mut D) -> Result<Vec<u8>, Refusal>
+    ensures same { D.image device.new ≡ D.image device.old }
+    ensures held { D.held device.new ≡ D.held device.old }
+    ensures cause { IsErrOf result Refusal.Device → HasFailed (D.failures device.old) (D.failures device.new) }
+{
+    let census = census_of(alloc, device)?;
+    let mut text = String::new(alloc);
+    census.write(&mut text)?;
+    Ok(text.into_bytes())
+}
+
+/// What a path leads to, a line for each of its number, kind, links, size and blocks.
+pub fn stat<D: Device>(alloc: Global, device: &mut D, path: &[u8]) -> Result<Vec<u8>, Refusal>
+    ensures same { D.image device.new ≡ D.image device.old }
+    ensures held { D.held device.new ≡ D.held device.old }
+{
+    let frozen = load(alloc, device)?;
+    let found = reading::stat(&frozen, path)?;
+    Ok(status_text(alloc, &found)?.into_bytes())
+}
+
+/// The bytes of a file.
+pub fn cat<D: Device>(alloc: Global, device: &mut D, path: &[u8]) -> Result<Vec<u8>, Refusal>
+    // Where the device was honest it holds an image, and these are the bytes that users see of the file.
+    ensures bytes { IfOk result (λ bytes. D.honest device.new → (geo : Numbers) × IsImage geo (D.image device.old)
+        × AreBytesAt geo (image_view geo (D.image device.old)) path.now bytes.items) }
+    ensures same { D.image device.new ≡ D.image device.old }
+    ensures held { D.held device.new ≡ D.held device.old }
+{
+    let frozen = load(alloc, device)?;
+    reading::read(alloc, &frozen, device, path)
+}
+
+/// The names in a directory, a line for each, in the order of its slots.
+pub fn ls<D: Device>(
+    alloc: Global,
+    device: &mut D,
+    path: &[u8],
+    style: Style,
+) -> Result<Vec<u8>, Refusal>
+    // Where the device was honest it holds an image, and the lines are the names that the machine lists.
+    ensures listed { (style.long ≡ false) → (style.recursive ≡ false) → IfOk result (λ text. D.honest device.new → IsListed (D.image device.old) path.now text.items) }
+    ensures same { D.image device.new ≡ D.image device.old }
+    ensures held { D.held device.new ≡ D.held device.old }
+{
+    let frozen = load(alloc, device)?;
+    if style.recursive {
+        return listings_text(alloc, &frozen, path, style.long);
+    }
+    names_text(alloc, &frozen, path, style.long)
+}
+
+/// The names in a directory, a line for each.
+fn names_text(alloc: Global, frozen: &Frozen, path: &[u8], long: bool) -> Result<Vec<u8>, Refusal>
+    ensures { long ≡ false → IfOk result (λ text. (image : List (List ℕ)) → IsKeptOf frozen.now image → IsListed image path.now text.items) }
+{
+    let names = list(alloc, frozen, path)?;
+    let mut text = Vec::new(alloc);
+    add_names(alloc, &mut text, frozen, names.as_slice(), long)?;
+    Ok(text)
+}
+
+/// The names in a directory and in each one below it, each behind a line with its path.
+fn listings_text(
+    alloc: Global,
+    frozen: &Frozen,
+    path: &[u8],
+    long: bool,
+) -> Result<Vec<u8>, Refusal> {
+    let listings = tree(alloc, frozen, path)?;
+    let mut text = Vec::new(alloc);
+    for listing in &listings {
+        add_listing(alloc, &mut text, frozen, listing, long)?;
+    }
+    Ok(text)
+}
+
+/// Adds the names in a directory, behind a line with its path.
+fn add_listing(
+    alloc: Global,
+    text: &mut Vec<u8>,
+    frozen: &Frozen,
+    listing: &Listing,
+    long: bool,
+) -> Result<(), AllocError> {
+    write_head(text, listing)?;
+    add_names(alloc, text, frozen, listing.names.as_slice(), long)
+}
+
+/// Adds a line for each name.
+fn add_names(
+    alloc: Global,
+    text: &mut Vec<u8>,
+    frozen: &Frozen,
+    names: &[Named],
+    long: bool,
+) -> Result<(), AllocError>
+    ensures { long ≡ false → OnOk result (text.new.items ≡ text.old.items ++ name_lines (map name_of names.now)) }
+{
+    if long {
+        return write_long_names(alloc, text, frozen, names);
+    }
+    write_names(text, names)
+}
