@@ -4,8 +4,6 @@
 
 mod looking;
 mod names;
-#[cfg(test)]
-mod tests;
 mod texts;
 mod words;
 
