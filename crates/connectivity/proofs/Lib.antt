@@ -1,3 +1,9 @@
 mod LostLemmas
 mod VisitLemmas
 mod WalkLemmas
+mod AskLemmas
+mod FlatLemmas
+mod RunLemmas
+mod SharedLemmas
+mod SetLemmas
+mod LoneLemmas

@@ -10,7 +10,7 @@ use layout::Refusal;
 use std::alloc::Global;
 
 /// The slot of the first entry of a directory: those before it are the dots.
-const FIRST_ENTRY: u32 = 2;
+pub(crate) const FIRST_ENTRY: u32 = 2;
 
 /// The entries of the directories of a cylinder group: what their slots from 2 on name. A unit that is no group has
 /// none.

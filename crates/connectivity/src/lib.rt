@@ -1,15 +1,21 @@
-//! Phase 3 of a check, which looks for what nothing reaches: `part` reads the entries of the directories of a cylinder
-//! group, `merge` joins what was read, in any order and any grouping, `walk` goes over the entries of all groups from
-//! the root on, and `findings` tells the sound inodes that the walk did not reach.
+//! Phase 3 of a check, which looks for what nothing reaches. `rounds` goes over the entries of directories from the root
+//! on, by many workers. By one, `part` reads the entries of the directories of a cylinder group, `merge` joins what was
+//! read, in any order and any grouping, and `walk` goes over the entries of all groups. `findings` tells the sound inodes
+//! that were not reached.
 #![tactic(auto)]
 
+mod alone;
+mod asking;
 mod entries;
+mod lone_round;
 mod lost;
-mod rounds;
+mod shared_rounds;
 #[cfg(test)]
 mod tests;
+mod walkers;
 
+pub use alone::walk;
 pub use directories::{Named as Part, merge};
 pub use entries::part;
 pub use lost::findings;
-pub use rounds::walk;
+pub use shared_rounds::rounds;

@@ -1,9 +1,10 @@
-use crate::{findings, merge, part, walk};
+use crate::{findings, merge, part, rounds, walk};
 use device::{Before, Device, MemDevice, format};
 use findings::Finding;
 use frozen::{Frozen, load};
 use layout::{BLOCK_BYTES, Geometry, Refusal};
 use std::alloc::Global;
+use workers::OpenGate;
 
 /// The bytes that differ from a fresh image of two groups of 16 blocks and 16 inodes: the block, the byte, the value.
 /// The root names 3, 18 and 6, and has a bad slot. Directory 3, in block 5, names the root in slot 2 and 17 in its last
@@ -98,5 +99,23 @@ fn a_cycle_that_is_not_reachable_is_lost(rt: HostRuntime) -> Result<(), Refusal>
         found.as_slice(),
         &[Finding::LostInode(19), Finding::LostInode(20)][..]
     );
+    Ok(())
+}
+
+#[test]
+fn many_workers_reach_what_one_reaches(rt: HostRuntime) -> Result<(), Refusal> {
+    let alloc = rt.alloc();
+    let frozen = image(alloc)?;
+    for workers in [0, 65] {
+        match rounds(&rt, alloc, &frozen, workers, &OpenGate) {
+            Ok(_) => panic!(&rt; "{workers} workers"),
+            Err(refusal) => assert_eq!(rt; refusal, Refusal::BadWorkers),
+        }
+    }
+    for workers in [1, 2, 3, 64] {
+        let reached = rounds(&rt, alloc, &frozen, workers, &OpenGate)?;
+        let numbers: Vec<u32> = reached.iter().copied().collect(alloc)?;
+        assert_eq!(rt; numbers.as_slice(), &[2, 3, 17, 18][..]);
+    }
     Ok(())
 }

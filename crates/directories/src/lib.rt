@@ -1,5 +1,5 @@
 //! What the slots of directories name, by directory. The work is split by cylinder group: `named` reads the directories
-//! of one group, and `merge` joins what was read, in any order and any grouping.
+//! of one group, and `merge` joins what was read, in any order and any grouping. `numbers_named` reads one directory.
 #![tactic(auto)]
 
 ghost use Rattle.std.specs.Prelude.{◌≡◌, ◌<◌, ℕ, List, [], IsTrue, IsFalse};
@@ -15,7 +15,7 @@ mod table;
 #[cfg(test)]
 mod tests;
 
-pub use reading::named;
+pub use reading::{named, numbers_named};
 pub use table::{Named, merge};
 
 /// Two tables of the same groups of an image are equal, and so a table knows nothing of the order and the grouping in

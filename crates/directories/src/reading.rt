@@ -53,8 +53,8 @@ fn add_inode(
 }
 
 /// The numbers that the good slots of a directory name, in order of the slots from slot `first` on; none where the
-/// number is no sound directory's.
-fn numbers_named(
+/// number is no sound directory's. Only `NoMemory` is refused.
+pub fn numbers_named(
     alloc: Global,
     frozen: &Frozen,
     directory: u32,

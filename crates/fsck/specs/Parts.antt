@@ -1,8 +1,10 @@
 -- The parts of a phase's work, one for each group.
 use Rattle.std.specs.Prelude.{◌≡◌, ℕ, List, length, Some, slice_get, Result, Vec, IfOk, IsOkUnless}
+use Rattle.std.specs.BTreeSet.{BTreeSet}
 use Rattle.std.specs.declared.alloc.Global.{Global}
 use Rattle.layout.specs.declared.refusal.Refusal.{Refusal}
 use Rattle.layout.specs.declared.refusal.Refusal.TheVariants.{NoMemory}
+use Rattle.model.specs.Reached.{AreReached}
 use Rattle.model.specs.Units.{Units, only}
 use Rattle.frozen.specs.Kept.{Kept, frozen_view}
 use Rattle.directories.specs.Named.{IsNamed}
@@ -40,4 +42,9 @@ MakesItsOwn {W} {P} gives is_part = (before : W) (unit : ℕ) (part : P) (after 
 pub record MakesParts {P : Type 0} (is_part : Units → P → Type 0) (groups : ℕ)
     (result : Result (Vec P Global) Refusal) : Type 0 where
   pub made : IfOk result (λ parts. AreParts is_part groups parts.items)
+  pub error : IsOkUnless result NoMemory
+
+-- The reachable inodes were found, unless memory ran out.
+pub record Reaches (kept : Kept) (result : Result (BTreeSet ℕ) Refusal) : Type 0 where
+  pub reached : IfOk result (λ reached. AreReached kept.geometry (frozen_view kept) reached.keys)
   pub error : IsOkUnless result NoMemory

@@ -1,6 +1,6 @@
 //! The check of a whole image: records and the blocks that they use, names, connectivity, reference counts, and the
-//! maps of the cylinder groups, one after another. In each of these phases workers share the groups, and what they made
-//! of them is merged on the calling thread.
+//! maps of the cylinder groups, one after another. In each of these phases workers share the groups; the walk of the
+//! third they share round by round. What they made of the groups is merged on the calling thread.
 #![tactic(auto)]
 
 ghost use Rattle.std.specs.Prelude.{◌≡◌, ◌↔◌, ℕ, List, IfOk, IsErrOf, IsFalse, IsOkUnless, IsTrue};
@@ -16,8 +16,8 @@ ghost use Rattle.model.specs.Rules.{ObeysRules};
 ghost use Rattle.model.specs.View.{View};
 ghost use Rattle.workers.specs.Workers.{may_work};
 ghost use Rattle.fsck.specs.Checked.{CheckedImage, IsChecked, IsFoundIn};
-ghost use Rattle.fsck.specs.Parts.{MakesParts};
-ghost use Rattle.fsck.specs.Parts.{is_blocks_part, is_counts_part, is_entries_part, is_maps_part, is_names_part};
+ghost use Rattle.fsck.specs.Parts.{MakesParts, Reaches};
+ghost use Rattle.fsck.specs.Parts.{is_blocks_part, is_counts_part, is_maps_part, is_names_part};
 
 mod checked;
 mod hands;
@@ -33,8 +33,9 @@ use frozen::Frozen;
 use hands::{parts_of_crew, parts_of_one};
 use layout::Refusal;
 use order::in_order;
-use phases::{check_blocks, check_counts, check_maps, check_names, reach};
+use phases::{check_blocks, check_counts, check_maps, check_names, walk_of};
 use std::alloc::Global;
+use std::collections::BTreeSet;
 use std::sync::Arc;
 use std::thread::Threads;
 use workers::{Gate, MOST_WORKERS};
@@ -44,7 +45,7 @@ use works::{Blocks, Counts, Entries, Maps, Names};
 /// otherwise `NoMemory` alone. What is found is the same for every number of workers.
 ///
 /// The workers pass the gate before each group in each phase, with the phase's number from 1 to 5: first all groups in
-/// phase 1, and so on.
+/// phase 1, and so on. In phase 3 they do so in each round of the walk.
 pub fn check<G: Gate>(
     rt: &(impl Threads + Sync),
     alloc: Global,
@@ -113,9 +114,9 @@ pub fn find(alloc: Global, frozen: &Frozen) -> Result<Vec<Finding>, Refusal>
         || -> Result<Vec<phase_names::Part>, Refusal>
             ensures { MakesParts (is_names_part frozen.entry.now) frozen.entry.now.geometry.groups result }
         { parts_of_one(alloc, frozen, Names { alloc, frozen }) },
-        || -> Result<Vec<connectivity::Part>, Refusal>
-            ensures { MakesParts (is_entries_part frozen.entry.now) frozen.entry.now.geometry.groups result }
-        { parts_of_one(alloc, frozen, Entries { alloc, frozen }) },
+        || -> Result<BTreeSet<u32>, Refusal>
+            ensures { Reaches frozen.entry.now result }
+        { reach(alloc, frozen) },
         || -> Result<Vec<refcounts::Part>, Refusal>
             ensures { MakesParts (is_counts_part frozen.entry.now) frozen.entry.now.geometry.groups result }
         { parts_of_one(alloc, frozen, Counts { alloc, frozen }) },
@@ -148,10 +149,10 @@ fn find_shared<R: Threads + Sync, G: Gate>(
             requires { IsTrue (may_work workers) }
             ensures { MakesParts (is_names_part frozen.entry.now) frozen.entry.now.geometry.groups result }
         { parts_of_crew(rt, workers, gate, alloc, frozen, Names { alloc, frozen }) },
-        || -> Result<Vec<connectivity::Part>, Refusal>
+        || -> Result<BTreeSet<u32>, Refusal>
             requires { IsTrue (may_work workers) }
-            ensures { MakesParts (is_entries_part frozen.entry.now) frozen.entry.now.geometry.groups result }
-        { parts_of_crew(rt, workers, gate, alloc, frozen, Entries { alloc, frozen }) },
+            ensures { Reaches frozen.entry.now result }
+        { connectivity::rounds(rt, alloc, frozen, workers, gate) },
         || -> Result<Vec<refcounts::Part>, Refusal>
             requires { IsTrue (may_work workers) }
             ensures { MakesParts (is_counts_part frozen.entry.now) frozen.entry.now.geometry.groups result }
@@ -163,30 +164,37 @@ fn find_shared<R: Threads + Sync, G: Gate>(
     )
 }
 
+/// The reachable inodes, by one worker on the calling thread.
+fn reach(alloc: Global, frozen: &Frozen) -> Result<BTreeSet<u32>, Refusal>
+    ensures { Reaches frozen.now result }
+{
+    let parts = parts_of_one(alloc, frozen, Entries { alloc, frozen })?;
+    walk_of(alloc, frozen, parts)
+}
+
 /// What the five phases find, one after another, whoever makes the parts: of each phase a call gives those of all
-/// groups. The parts of phase 2 wait for what phase 3 reaches.
-fn find_by<B, N, E, C, M>(
+/// groups, and of phase 3 what is reachable. The parts of phase 2 wait for that.
+fn find_by<B, N, W, C, M>(
     alloc: Global,
     frozen: &Frozen,
     blocks: B,
     names: N,
-    entries: E,
+    walk: W,
     counts: C,
     maps: M,
 ) -> Result<Vec<Finding>, Refusal>
 where
     B: FnOnce() -> Result<Vec<phase_blocks::Part>, Refusal>,
     N: FnOnce() -> Result<Vec<phase_names::Part>, Refusal>,
-    E: FnOnce() -> Result<Vec<connectivity::Part>, Refusal>,
+    W: FnOnce() -> Result<BTreeSet<u32>, Refusal>,
     C: FnOnce() -> Result<Vec<refcounts::Part>, Refusal>,
     M: FnOnce() -> Result<Vec<phase_maps::Part>, Refusal>,
-    requires callable { B.pre blocks × N.pre names × E.pre entries × C.pre counts × M.pre maps }
+    requires callable { B.pre blocks × N.pre names × W.pre walk × C.pre counts × M.pre maps }
     requires blocks { (made : _) → B.post blocks made
         → MakesParts (is_blocks_part frozen.now) frozen.now.geometry.groups made }
     requires names { (made : _) → N.post names made
         → MakesParts (is_names_part frozen.now) frozen.now.geometry.groups made }
-    requires entries { (made : _) → E.post entries made
-        → MakesParts (is_entries_part frozen.now) frozen.now.geometry.groups made }
+    requires walk { (reached : _) → W.post walk reached → Reaches frozen.now reached }
     requires counts { (made : _) → C.post counts made
         → MakesParts (is_counts_part frozen.now) frozen.now.geometry.groups made }
     requires maps { (made : _) → M.post maps made
@@ -196,7 +204,7 @@ where
 {
     let mut found = check_blocks(alloc, frozen, blocks()?)?;
     let names = names()?;
-    let reached = reach(alloc, frozen, entries()?)?;
+    let reached = walk()?;
     found.append(&mut check_names(alloc, frozen, names, &reached)?)?;
     found.append(&mut connectivity::findings(alloc, frozen, &reached)?)?;
     found.append(&mut check_counts(alloc, frozen, counts()?, &reached)?)?;

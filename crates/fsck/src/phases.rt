@@ -48,8 +48,8 @@ pub(crate) fn check_names(
     phase_names::finish(alloc, frozen, &whole, reached)
 }
 
-/// The first half of phase 3: the reachable inodes.
-pub(crate) fn reach(
+/// The first half of phase 3, by one worker: the reachable inodes.
+pub(crate) fn walk_of(
     alloc: Global,
     frozen: &Frozen,
     parts: Vec<connectivity::Part>,

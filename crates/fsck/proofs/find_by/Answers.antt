@@ -1,4 +1,4 @@
-use Rattle.std.proofs.Common.{◌≡◌, ◌++◌, ap, ◌∙◌, sym, subst, List}
+use Rattle.std.proofs.Common.{◌≡◌, ◌++◌, ap, ◌∙◌, sym, subst, List, Ok}
 use Rattle.frozen.specs.Kept.{frozen_view}
 use Rattle.findings.specs.declared.finding.Finding.{Finding}
 use Rattle.fsck.specs.Checked.{IsFoundIn}
@@ -8,7 +8,7 @@ use Rattle.fsck.proofs.find_by.Goals as goal
 pub returns-clause-found : goal.returns-clause-found
 returns-clause-found g c = λ f.
     let kept = c.args.frozen.now in
-    let reached = c.in_ok-reached.ensures.reached in
+    let reached = (c.requires.walk (Ok c.in_ok-reached.reached) c.in_ok-reached.ensures).reached in
     let blocks = c.in_ok-found.found.items in
     let names = c.in_ok-check_names.field-0.items in
     let lost = c.in_ok-findings.field-0.items in

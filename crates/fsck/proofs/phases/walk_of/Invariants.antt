@@ -2,7 +2,7 @@ use Rattle.std.proofs.Common.{◌≡◌, ◌++◌, length}
 use Rattle.frozen.specs.Kept.{frozen_view}
 use Rattle.directories.specs.Named.{IsNamed}
 use Rattle.fsck.specs.Checked.{units_below}
-use Rattle.fsck.proofs.phases.reach.Given as goal
+use Rattle.fsck.proofs.phases.walk_of.Given as goal
 
 abbrev pub invariant-loop-part : goal.invariant-loop-part
 invariant-loop-part l = record {

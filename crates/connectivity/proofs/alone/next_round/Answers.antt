@@ -6,7 +6,7 @@ use Rattle.frozen.specs.Kept.{frozen_view}
 use Rattle.directories.specs.Named.{numbers_in}
 use Rattle.connectivity.specs.Walk.{Visits, numbers_of}
 use Rattle.connectivity.proofs.VisitLemmas.{visits_append}
-use Rattle.connectivity.proofs.rounds.next_round.Goals as goal
+use Rattle.connectivity.proofs.alone.next_round.Goals as goal
 
 pub loop-directory-preserved : goal.loop-directory-preserved
 loop-directory-preserved c =

@@ -1,7 +1,7 @@
 use Rattle.std.proofs.Common.{take}
 use Rattle.frozen.specs.Kept.{frozen_view}
 use Rattle.connectivity.specs.Walk.{Visits}
-use Rattle.connectivity.proofs.rounds.visit_all.Given as goal
+use Rattle.connectivity.proofs.alone.visit_all.Given as goal
 
 abbrev pub invariant-loop-number : goal.invariant-loop-number
 invariant-loop-number l =

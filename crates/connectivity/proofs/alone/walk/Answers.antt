@@ -7,8 +7,8 @@ use Rattle.frozen.specs.Kept.{frozen_view}
 use Rattle.model.specs.Layout.{inode_count}
 use Rattle.connectivity.specs.Walk.{IsWalk, Visits, numbers_of}
 use Rattle.connectivity.proofs.WalkLemmas.{walk_from_nothing, walk_from_root, walk_round, walk_done, walk_small, round_smaller}
-use Rattle.connectivity.proofs.rounds.walk.Goals as goal
-use Rattle.connectivity.proofs.rounds.walk.Goals.{then-is_directory_at+in_ok-visit, else-is_directory_at}
+use Rattle.connectivity.proofs.alone.walk.Goals as goal
+use Rattle.connectivity.proofs.alone.walk.Goals.{then-is_directory_at+in_ok-visit, else-is_directory_at}
 
 pub loop-alloc-init : goal.loop-alloc-init
 loop-alloc-init c =

@@ -1,7 +1,7 @@
 use Rattle.std.proofs.Common.{[], take}
 use Rattle.frozen.specs.Kept.{frozen_view}
 use Rattle.connectivity.specs.Walk.{Visits, numbers_of}
-use Rattle.connectivity.proofs.rounds.next_round.Given as goal
+use Rattle.connectivity.proofs.alone.next_round.Given as goal
 
 abbrev pub invariant-loop-directory : goal.invariant-loop-directory
 invariant-loop-directory l =

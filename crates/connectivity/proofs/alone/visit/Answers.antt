@@ -6,8 +6,8 @@ use Rattle.frozen.specs.Kept.{frozen_view}
 use Rattle.model.specs.Uses.{is_sound_at, is_directory_at}
 use Rattle.connectivity.specs.Walk.{Visits}
 use Rattle.connectivity.proofs.VisitLemmas.{inserted, is_member, not_member, visit_directory, visit_file, visit_known}
-use Rattle.connectivity.proofs.rounds.visit.Goals as goal
-use Rattle.connectivity.proofs.rounds.visit.Goals.{else-is_new-via-then-is_new+else-is_directory_at, else-is_new-via-else-is_new}
+use Rattle.connectivity.proofs.alone.visit.Goals as goal
+use Rattle.connectivity.proofs.alone.visit.Goals.{else-is_new-via-then-is_new+else-is_directory_at, else-is_new-via-else-is_new}
 
 pub returns-in_ok-push-clause-visited : goal.returns-in_ok-push-clause-visited
 returns-in_ok-push-clause-visited c =

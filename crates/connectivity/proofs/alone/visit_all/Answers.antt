@@ -4,7 +4,7 @@ use Rattle.std.proofs.lemmas.List.{take_more}
 use Rattle.frozen.specs.Kept.{frozen_view}
 use Rattle.connectivity.specs.Walk.{Visits}
 use Rattle.connectivity.proofs.VisitLemmas.{visits_append}
-use Rattle.connectivity.proofs.rounds.visit_all.Goals as goal
+use Rattle.connectivity.proofs.alone.visit_all.Goals as goal
 
 pub loop-number-preserved : goal.loop-number-preserved
 loop-number-preserved c =

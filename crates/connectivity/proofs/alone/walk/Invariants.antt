@@ -2,7 +2,7 @@ use Rattle.std.proofs.Common.{◌+◌, ◌-◌, length}
 use Rattle.frozen.specs.Kept.{frozen_view}
 use Rattle.model.specs.Layout.{inode_count}
 use Rattle.connectivity.specs.Walk.{IsWalk}
-use Rattle.connectivity.proofs.rounds.walk.Given as goal
+use Rattle.connectivity.proofs.alone.walk.Given as goal
 
 abbrev pub invariant-loop-alloc : goal.invariant-loop-alloc
 invariant-loop-alloc l = IsWalk l.frozen.geometry (frozen_view l.frozen) l.whole l.reached.keys l.round.items

@@ -6,7 +6,7 @@ use Rattle.directories.specs.Named.{IsNamed}
 use Rattle.fsck.specs.Checked.{units_below}
 use Rattle.fsck.proofs.UnitLemmas.{none_below}
 use Rattle.fsck.proofs.PartLemmas.{one_more, all_taken}
-use Rattle.fsck.proofs.phases.reach.Goals as goal
+use Rattle.fsck.proofs.phases.walk_of.Goals as goal
 
 pub loop-part-init : goal.loop-part-init
 loop-part-init c =

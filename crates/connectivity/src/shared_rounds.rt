@@ -1,0 +1,185 @@
+//! The walk in rounds, shared among workers.
+ghost use Rattle.std.specs.Prelude.{◌≡◌, ◌↔◌, All, IfOk, IsErrOf, IsFalse, IsOkUnless, IsTrue, vec_len};
+ghost use Rattle.frozen.specs.Kept.{frozen_view};
+ghost use Rattle.claims.specs.Seats.{new_seat};
+ghost use Rattle.model.specs.Layout.{inode_count};
+ghost use Rattle.model.specs.Reached.{AreReached};
+ghost use Rattle.model.specs.Uses.{is_directory_at};
+ghost use Rattle.workers.specs.Workers.{may_work};
+ghost use Rattle.connectivity.specs.Asked.{HasWalked, HaveAsked, IsSetOf, opening_round};
+
+use crate::lone_round::{is_short, lone_round};
+use crate::walkers::{hired, paid};
+use claims::{Claims, Seat};
+use frozen::Frozen;
+use layout::{ROOT, Refusal};
+use std::alloc::{AllocError, Global};
+use std::collections::BTreeSet;
+use std::thread::Threads;
+use workers::{Gate, MOST_WORKERS, each_group};
+
+/// The number of the phase, with which the gate is passed.
+pub(crate) const PHASE: u8 = 3;
+
+/// The reachable inodes, by 1 to 64 workers: what `walk` finds.
+///
+/// The walk goes in rounds, from the root on. In each the workers draw the groups, and of a group they follow those
+/// directories whose records stand there and that the round before reached first: they claim each sound inode that an
+/// entry names, and a directory that is given to one of them is for the next round. So each directory is followed once.
+/// They pass the gate before each group in each round. A round after the first whose directories have few blocks is
+/// followed on the calling thread alone, as by one worker that draws all groups.
+///
+/// `BadWorkers` is refused where there are not 1 to 64 workers, and `NoMemory` where memory ran out.
+pub fn rounds<R: Threads + Sync, G: Gate>(
+    rt: &R,
+    alloc: Global,
+    frozen: &Frozen,
+    workers: u32,
+    gate: &G,
+) -> Result<BTreeSet<u32>, Refusal>
+    ensures reached { IfOk result (λ reached. AreReached frozen.now.geometry (frozen_view frozen.now) reached.keys) }
+    ensures workers { IsErrOf result Refusal.BadWorkers ↔ IsFalse (may_work workers) }
+    ensures error { IsTrue (may_work workers) → IsOkUnless result Refusal.NoMemory }
+{
+    if workers == 0 || workers as usize > MOST_WORKERS {
+        return Err(Refusal::BadWorkers);
+    }
+    shared_walk(rt, alloc, frozen, workers, gate)
+}
+
+/// The same, where there are 1 to 64 workers.
+fn shared_walk<R: Threads + Sync, G: Gate>(
+    rt: &R,
+    alloc: Global,
+    frozen: &Frozen,
+    workers: u32,
+    gate: &G,
+) -> Result<BTreeSet<u32>, Refusal>
+    requires { IsTrue (may_work workers) }
+    ensures reached { IfOk result (λ reached. AreReached frozen.now.geometry (frozen_view frozen.now) reached.keys) }
+    ensures error { IsOkUnless result Refusal.NoMemory }
+{
+    let geometry = frozen.geometry();
+    let opening = first_round(alloc, frozen)?;
+    let (claims, seats) = Claims::new(alloc, &geometry, 0, workers, opening)?;
+    let seats = all_rounds(rt, alloc, frozen, &claims, seats, gate)?;
+    let marked = claims.gather(alloc, seats)?;
+    Ok(set_of(alloc, marked.as_slice())?)
+}
+
+/// The root, if it is a sound directory.
+fn first_round(alloc: Global, frozen: &Frozen) -> Result<Vec<u32>, AllocError>
+    ensures { IfOk result (λ round. round.items ≡ opening_round frozen.now.geometry (frozen_view frozen.now)) }
+{
+    let mut round = Vec::new(alloc);
+    if frozen.is_directory_at(ROOT) {
+        round.push(ROOT)?;
+    }
+    Ok(round)
+}
+
+/// Follows round after round, until one finds no directory. There are at most as many as there are inodes, since each
+/// but the last gives some number to a seat.
+fn all_rounds<R: Threads + Sync, G: Gate>(
+    rt: &R,
+    alloc: Global,
+    frozen: &Frozen,
+    claims: &Claims,
+    seats: Vec<Seat>,
+    gate: &G,
+) -> Result<Vec<Seat>, Refusal>
+    requires own { All (λ seat. seat ≡ new_seat claims.now.id claims.now.units) seats.items }
+    requires seats { IsTrue (may_work (vec_len seats)) }
+    requires inodes { claims.now.inodes ≡ inode_count frozen.now.geometry }
+    requires opening { claims.now.opening ≡ opening_round frozen.now.geometry (frozen_view frozen.now) }
+    ensures own { IfOk result (λ back. All (λ seat. seat.of ≡ claims.now.id) back.items) }
+    ensures count { IfOk result (λ back. vec_len back ≡ vec_len seats) }
+    ensures walked { IfOk result (λ back. HasWalked frozen.now.geometry (frozen_view frozen.now) claims.now.opening back.items) }
+    ensures error { IsOkUnless result Refusal.NoMemory }
+{
+    let mut round = first_round(alloc, frozen)?;
+    let mut seats = seats;
+    let inodes = frozen.geometry().inodes();
+    for number in 0..inodes {
+        if round.is_empty() {
+            return Ok(seats);
+        }
+        let is_first = number == 0;
+        let directories = round.as_slice();
+        let (back, found) = one_round(
+            rt,
+            alloc,
+            frozen,
+            claims,
+            seats,
+            directories,
+            is_first,
+            gate,
+        )?;
+        seats = back;
+        round = found;
+    }
+    Ok(seats)
+}
+
+/// Follows the entries of the directories of a round. The result has the seats, and the directories that are given to
+/// one of them for the first time.
+fn one_round<R: Threads + Sync, G: Gate>(
+    rt: &R,
+    alloc: Global,
+    frozen: &Frozen,
+    claims: &Claims,
+    seats: Vec<Seat>,
+    round: &[u32],
+    is_first: bool,
+    gate: &G,
+) -> Result<(Vec<Seat>, Vec<u32>), Refusal>
+    requires own { All (λ seat. seat.of ≡ claims.now.id) seats.items }
+    requires seats { IsTrue (may_work (vec_len seats)) }
+    requires inodes { claims.now.inodes ≡ inode_count frozen.now.geometry }
+    requires directories { All (λ d. IsTrue (is_directory_at frozen.now.geometry (frozen_view frozen.now) d)) round.now }
+    ensures own { IfOk result (λ done. All (λ seat. seat.of ≡ claims.now.id) done.0.items) }
+    ensures asked { IfOk result (λ done. HaveAsked frozen.now.geometry (frozen_view frozen.now) round.now seats.items done.0.items done.1.items) }
+    ensures error { IsOkUnless result Refusal.NoMemory }
+{
+    if is_first || !is_short(frozen, round, seats.len()) {
+        shared_round(rt, alloc, frozen, claims, seats, round, gate)
+    } else {
+        lone_round(alloc, frozen, claims, seats, round, gate)
+    }
+}
+
+/// The same, by a worker for each seat.
+fn shared_round<R: Threads + Sync, G: Gate>(
+    rt: &R,
+    alloc: Global,
+    frozen: &Frozen,
+    claims: &Claims,
+    seats: Vec<Seat>,
+    round: &[u32],
+    gate: &G,
+) -> Result<(Vec<Seat>, Vec<u32>), Refusal>
+    requires own { All (λ seat. seat.of ≡ claims.now.id) seats.items }
+    requires seats { IsTrue (may_work (vec_len seats)) }
+    requires inodes { claims.now.inodes ≡ inode_count frozen.now.geometry }
+    requires directories { All (λ d. IsTrue (is_directory_at frozen.now.geometry (frozen_view frozen.now) d)) round.now }
+    ensures own { IfOk result (λ done. All (λ seat. seat.of ≡ claims.now.id) done.0.items) }
+    ensures asked { IfOk result (λ done. HaveAsked frozen.now.geometry (frozen_view frozen.now) round.now seats.items done.0.items done.1.items) }
+    ensures error { IsOkUnless result Refusal.NoMemory }
+{
+    let walkers = hired(alloc, frozen, claims, round, seats)?;
+    let groups = frozen.geometry().groups();
+    let (_parts, walkers) = each_group(rt, alloc, PHASE, groups, walkers, gate)?;
+    Ok(paid(alloc, walkers)?)
+}
+
+/// The set of these numbers.
+fn set_of(alloc: Global, numbers: &[u32]) -> Result<BTreeSet<u32>, AllocError>
+    ensures { IfOk result (λ set. IsSetOf numbers.now set.keys) }
+{
+    let mut set = BTreeSet::new(alloc);
+    for number in numbers {
+        set.insert(*number)?;
+    }
+    Ok(set)
+}
