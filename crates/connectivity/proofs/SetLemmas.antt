@@ -1,33 +1,20 @@
--- A set that is filled number by number.
-use Rattle.std.proofs.Common.{◌≡◌, ℕ, ◌<◌, List, [], ◌∷◌, ◌++◌, Contains, All, refl, subst, sym, arith, inl, inr, ◌⊎◌, ◌↔◌}
-use Rattle.std.specs.List.Sorted.{IsStrictlySortedBy}
+-- A set that is made of a list, and what holds of each number of a list.
+use Rattle.std.proofs.Common.{ℕ, ◌<◌, List, [], ◌∷◌, Contains, All, refl, sym, arith, ◌∙◌}
+use Rattle.std.specs.BTreeSet.{BTreeSet, IsFromIterResult}
 use Rattle.std.specs.Ordering.{nat_cmp}
-use Rattle.std.proofs.lemmas.List.Elements.{All-nil, All-cons, Contains-append_left, Contains-push, Contains-push_cases}
-use Rattle.findings.proofs.FoundBelow.{sorted-none}
-use Rattle.findings.proofs.Sorted.{Contains-here, Contains-there, Contains-none}
+use Rattle.std.proofs.lemmas.List.Elements.{All-nil, All-cons}
+use Rattle.findings.proofs.Sorted.{Contains-here, Contains-there}
 use Rattle.claims.specs.Counting.{times}
 use Rattle.claims.proofs.CountLemmas.{one_where}
 use Rattle.connectivity.specs.Asked.{IsSetOf}
+use Rattle.connectivity.proofs.VisitLemmas.{is_member}
 
-pub set_of_none : (keys : List ℕ) → keys ≡ [] → IsSetOf [] keys
-set_of_none keys none = subst (λ (k : List ℕ). IsSetOf [] k) (sym none) (record {
-  in_order = sorted-none nat_cmp;
-  same = λ i. ((λ c. absurd (Contains-none i c)), (λ c. absurd (Contains-none i c)));
-})
-
-pub set_of_more : (numbers keys after : List ℕ) (n : ℕ) → IsSetOf numbers keys → IsStrictlySortedBy nat_cmp after → ((i : ℕ) → Contains after i ↔ (Contains keys i ⊎ (n ≡ i)))
-    → IsSetOf (numbers ++ n ∷ []) after
-set_of_more numbers keys after n set in_order more = record {
-  in_order = in_order;
+pub set_of_all : (numbers : List ℕ) (set : BTreeSet ℕ) → IsFromIterResult nat_cmp numbers set → IsSetOf numbers set.keys
+set_of_all numbers set is = record {
+  in_order = is.1;
   same = λ i. (
-    (λ c. elim ((more i).0 c) [
-      | inl old ↦ Contains-append_left numbers (n ∷ []) i ((set.same i).0 old)
-      | inr e ↦ subst (λ z. Contains (numbers ++ n ∷ []) z) e (Contains-push numbers n)
-    ]),
-    (λ c. (more i).1 (elim (Contains-push_cases numbers n i c) [
-      | inl old ↦ inl ((set.same i).1 old)
-      | inr e ↦ inr e
-    ])),
+    (λ c. (is_member (record { keys = numbers }) i).0 (sym (is.0 i) ∙ (is_member set i).1 c)),
+    (λ c. (is_member set i).0 (is.0 i ∙ (is_member (record { keys = numbers }) i).1 c)),
   );
 }
 

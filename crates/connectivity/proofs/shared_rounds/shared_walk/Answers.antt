@@ -8,7 +8,7 @@ use Rattle.claims.specs.Seats.{Seated, new_seat}
 use Rattle.frozen.specs.Kept.{frozen_view}
 use Rattle.model.specs.Layout.{Geometry, inode_count}
 use Rattle.workers.specs.Workers.{may_work}
-use Rattle.connectivity.specs.Asked.{IsSetOf, opening_round}
+use Rattle.connectivity.specs.Asked.{opening_round}
 use Rattle.connectivity.proofs.SharedLemmas.{opening_yes, opening_low, opening_once, walk_reached}
 use Rattle.connectivity.proofs.SetLemmas.{all_standing}
 use Rattle.connectivity.proofs.shared_rounds.shared_walk.Goals as goal
@@ -49,7 +49,7 @@ returns-clause-reached g c =
     let opening : c.in_ok-claims.claims.opening ≡ opening_round kept.geometry (frozen_view kept) = c.in_ok-claims.ensures.opening ∙ c.in_ok-opening.ensures in
     walk_reached kept.geometry (frozen_view kept) c.in_ok-claims.claims c.in_ok-seats.seats.items c.in_ok-marked.ensures.back c.in_ok-seats.ensures.walked
     c.in_ok-marked.marked.items c.in_ok-set_of.field-0.keys c.in_ok-marked.ensures.marked
-    (subst (λ (xs : List ℕ). IsSetOf xs c.in_ok-set_of.field-0.keys) c.as_slice.ensures.value c.in_ok-set_of.ensures)
+    c.in_ok-set_of.ensures
     (λ t. opening ∙ opening_yes kept.geometry (frozen_view kept) t)
 
 pub returns-in_err-claims-clause-reached : goal.returns-in_err-claims-clause-reached
