@@ -7,3 +7,4 @@ mod StepLemmas
 mod NameLemmas
 mod NameOrder
 mod WalkLemmas
+mod SameLemmas

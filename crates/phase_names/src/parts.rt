@@ -1,4 +1,5 @@
 ghost use Rattle.std.specs.Prelude.{◌≡◌, List, ℕ, [], IfOk, OnOk, IsOkUnless};
+ghost use Rattle.std.specs.Map.{keys_of};
 ghost use Rattle.std.specs.Option.{option_copied};
 ghost use Rattle.model.specs.Layout.{Geometry};
 ghost use Rattle.model.specs.View.{View};
@@ -10,7 +11,7 @@ ghost use Rattle.phase_names.specs.Told.{IsPart, Told};
 use crate::look::Look;
 use layout::Refusal;
 use sets::Members;
-use std::alloc::Global;
+use std::alloc::{AllocError, Global};
 use std::collections::BTreeMap;
 use std::marker::Model;
 
@@ -38,6 +39,13 @@ impl Part {
         Part {
             looks: BTreeMap::new(alloc),
         }
+    }
+
+    /// The numbers of its directories, in order.
+    pub(crate) fn numbers(&self, alloc: Global) -> Result<Vec<u32>, AllocError>
+        ensures { IfOk result (λ numbers. numbers.items ≡ keys_of self.now) }
+    {
+        self.looks.keys().copied().collect(alloc)
     }
 
     /// What the slots of a directory tell, if it is one of the reached.

@@ -1,11 +1,11 @@
-ghost use Rattle.std.specs.Prelude.{◌≡◌, IfOk, OnOk, IsOkUnless};
+ghost use Rattle.std.specs.Prelude.{◌≡◌, ℕ, IfOk, OnOk, IsOkUnless};
 ghost use Rattle.std.specs.List.{Contains};
 ghost use Rattle.model.specs.Growth.{Adds};
 ghost use Rattle.model.specs.Units.{Units, IsEveryGroup};
 ghost use Rattle.model.specs.Reached.{AreReached};
 ghost use Rattle.findings.specs.Findings.{AreFindingsOf, is_of_names};
 ghost use Rattle.frozen.specs.Kept.{frozen_view};
-ghost use Rattle.phase_names.specs.Entries.{AtBelow, IsFoundAlone, IsRootBad, IsWithoutParent, has_parent};
+ghost use Rattle.phase_names.specs.Entries.{AtBelow, IsFoundAlone, IsRootBad, IsWithoutParent, has_parent, told_by};
 ghost use Rattle.phase_names.specs.Told.{IsPart};
 
 use crate::entries::{add_extra_names, held_by_parents, reached_entries};
@@ -30,7 +30,7 @@ pub fn finish(
     ensures error { IsOkUnless result Refusal.NoMemory }
 {
     let inodes = frozen.geometry().inodes();
-    let members = Members::of_set(alloc, reached)?;
+    let members = directories_of(alloc, whole, reached)?;
     let entries = reached_entries(alloc, whole, &members, inodes)?;
     let held = held_by_parents(alloc, whole, &entries)?;
     let mut found = Vec::new(alloc);
@@ -39,6 +39,20 @@ pub fn finish(
     add_extra_names(alloc, &entries, &mut found)?;
     add_without_parent(whole, &members, inodes, &held, &mut found)?;
     in_order(found)
+}
+
+/// The directories of a table that are reached. Of each number they tell what all that is reached tells; to ask whether a
+/// number is one of them takes no search, and a search of the table is left out for each file.
+fn directories_of(
+    alloc: Global,
+    whole: &Part,
+    reached: &BTreeSet<u32>,
+) -> Result<Members, AllocError>
+    ensures { IfOk result (λ directories. (d : ℕ) → told_by whole.now directories d ≡ told_by whole.now reached.now.keys d) }
+{
+    let mut directories = whole.numbers(alloc)?;
+    directories.retain(|directory| reached.contains(directory));
+    Members::new(alloc, directories)
 }
 
 /// Adds that the root is no sound directory, where it is none.
