@@ -7,11 +7,12 @@ use Rattle.std.specs.Cmp.{on_total}
 use Rattle.std.specs.List.Sorted.{IsStrictlySortedBy}
 use Rattle.findings.specs.declared.finding.Finding.{Finding}
 use Rattle.findings.specs.declared.finding.Finding.TheVariants.{BadInode, BadPointer, Duplicate, RootBad, BadSlot, DupName, BadDot, BadDotDot, ToUnsound, ExtraName, LostInode, CountHigh, CountLow, LostBlock, UnmarkedBlock, LostNumber, UnmarkedInode}
-use Rattle.findings.specs.Findings.{IsFinding, AreFindings, AreFindingsOf, finding_cmp, is_of_blocks, is_of_names, is_of_connectivity, is_of_counts, is_of_maps}
+use Rattle.findings.specs.Findings.{IsFinding, AreFindings, finding_cmp, is_of_blocks, is_of_names, is_of_connectivity, is_of_counts, is_of_maps}
 use Rattle.findings.specs.Findings.{finding_key}
 use Rattle.findings.specs.Report.{report_of, verdict_of, repairs_of}
 use Rattle.findings.proofs.Sorted.{same_sorted}
 use Rattle.findings.proofs.SameFindings.{same_findings}
+use Rattle.by_group.specs.Groups.{AreFoundOf}
 use Rattle.model.specs.Layout.{Geometry}
 use Rattle.model.specs.View.{View}
 use Rattle.model.specs.Image.{image_view}
@@ -19,11 +20,7 @@ use Rattle.frozen.specs.Kept.{Kept, IsKeptOf, frozen_view}
 use Rattle.fsck.specs.Checked.{CheckedImage, IsChecked, IsFoundIn}
 
 module _ (geo : Geometry) (view : View) where
-  -- the list has the findings of these kinds
-  abbrev Tells : (Finding → Bool) → List Finding → Type 0
-  Tells kinds fs = (f : Finding) → Contains fs f ↔ (IsTrue (kinds f) × IsFinding geo view f)
-
-  both : (kinds others : Finding → Bool) (fs gs : List Finding) → Tells kinds fs → Tells others gs → Tells (λ f. kinds f || others f) (fs ++ gs)
+  both : (kinds others : Finding → Bool) (fs gs : List Finding) → AreFoundOf kinds geo view fs → AreFoundOf others geo view gs → AreFoundOf (λ f. kinds f || others f) geo view (fs ++ gs)
   both kinds others fs gs are more f = (
     λ c. elim (Contains-append_cases fs gs f c) [
       | inl d ↦ let is = (are f).0 d in (or_left (kinds f) (others f) is.0, is.1)
@@ -55,14 +52,14 @@ module _ (geo : Geometry) (view : View) where
   of_some_phase (LostNumber i) = refl
   of_some_phase (UnmarkedInode i) = refl
 
-  pub all_phases : (blocks names lost counts maps : List Finding) → AreFindingsOf is_of_blocks geo view blocks → AreFindingsOf is_of_names geo view names
-      → AreFindingsOf is_of_connectivity geo view lost → AreFindingsOf is_of_counts geo view counts → AreFindingsOf is_of_maps geo view maps
+  pub all_phases : (blocks names lost counts maps : List Finding) → AreFoundOf is_of_blocks geo view blocks → AreFoundOf is_of_names geo view names
+      → AreFoundOf is_of_connectivity geo view lost → AreFoundOf is_of_counts geo view counts → AreFoundOf is_of_maps geo view maps
       → (f : Finding) → Contains ((((blocks ++ names) ++ lost) ++ counts) ++ maps) f ↔ IsFinding geo view f
   all_phases blocks names lost counts maps one two three four five f =
       let told = both (λ g. ((is_of_blocks g || is_of_names g) || is_of_connectivity g) || is_of_counts g) is_of_maps (((blocks ++ names) ++ lost) ++ counts) maps
       (both (λ g. (is_of_blocks g || is_of_names g) || is_of_connectivity g) is_of_counts ((blocks ++ names) ++ lost) counts
       (both (λ g. is_of_blocks g || is_of_names g) is_of_connectivity (blocks ++ names) lost
-      (both is_of_blocks is_of_names blocks names one.exactly two.exactly) three.exactly) four.exactly) five.exactly f in
+      (both is_of_blocks is_of_names blocks names one two) three) four) five f in
       ((λ c. (told.0 c).1), (λ is. told.1 (of_some_phase f, is)))
 
 -- all that was found, in order

@@ -1,47 +1,76 @@
 -- The parts of a phase's work, one for each group.
-use Rattle.std.specs.Prelude.{◌≡◌, ℕ, List, length, Some, slice_get, Result, Vec, IfOk, IsOkUnless}
+use Rattle.std.specs.Prelude.{◌≡◌, ℕ, ◌<◌, List, Option, Result, Vec, IfOk, IsOkUnless}
 use Rattle.std.specs.BTreeSet.{BTreeSet}
 use Rattle.std.specs.declared.alloc.Global.{Global}
 use Rattle.layout.specs.declared.refusal.Refusal.{Refusal}
 use Rattle.layout.specs.declared.refusal.Refusal.TheVariants.{NoMemory}
+use Rattle.findings.specs.declared.finding.Finding.{Finding}
+use Rattle.findings.specs.Findings.{is_of_blocks, is_of_counts, is_of_maps}
 use Rattle.model.specs.Reached.{AreReached}
 use Rattle.model.specs.Units.{Units, only}
+use Rattle.by_group.specs.Groups.{AreFoundIn, IsEach}
 use Rattle.frozen.specs.Kept.{Kept, frozen_view}
 use Rattle.directories.specs.Named.{IsNamed}
+use Rattle.phase_blocks.specs.declared.parts.Claim.{Claim}
+use Rattle.phase_blocks.specs.Owners.{AreGathered, AreOwners}
 use Rattle.phase_blocks.specs.Parts as phase_blocks
 use Rattle.phase_names.specs.Told as phase_names
-use Rattle.phase_maps.specs.Parts as phase_maps
+use Rattle.refcounts.specs.Parts as refcounts
 
--- what the part of some groups of an image is, in each phase
-abbrev pub is_blocks_part : Kept → Units → phase_blocks.Gathered → Type 0
-is_blocks_part kept = phase_blocks.IsPart kept.geometry (frozen_view kept)
-
+-- what the part of some groups of an image is, in the phases that join parts
 abbrev pub is_names_part : Kept → Units → List (ℕ × phase_names.Told) → Type 0
 is_names_part kept = phase_names.IsPart kept.geometry (frozen_view kept)
 
 abbrev pub is_entries_part : Kept → Units → List (ℕ × List ℕ) → Type 0
 is_entries_part kept = IsNamed kept.geometry (frozen_view kept) 2
 
-abbrev pub is_counts_part : Kept → Units → List (ℕ × List ℕ) → Type 0
-is_counts_part kept = IsNamed kept.geometry (frozen_view kept) 0
+-- what the part of a group is, in the first pass over the groups of the phases that have two
+abbrev pub is_blocks_part : Kept → ℕ → phase_blocks.Gathered → Type 0
+is_blocks_part kept unit = phase_blocks.IsPart kept.geometry (frozen_view kept) (only unit)
 
-abbrev pub is_maps_part : Kept → Units → phase_maps.Gathered → Type 0
-is_maps_part kept = phase_maps.IsPart kept.geometry (frozen_view kept)
+abbrev pub is_counts_part : Kept → List ℕ → ℕ → List (List ℕ) → Type 0
+is_counts_part kept reached unit part = unit < kept.geometry.groups → refcounts.IsPart kept.geometry (frozen_view kept) reached unit part
+
+-- who owns the blocks of a group, and what phase 1 finds of it
+abbrev pub is_owned : Kept → ℕ → List (Option Claim) → List Finding → Type 0
+is_owned kept unit owners found =
+    AreOwners kept.geometry (frozen_view kept) unit owners × AreFoundIn is_of_blocks kept.geometry (frozen_view kept) unit found
+
+-- what phase 4 and phase 5 find of a group
+abbrev pub are_links : Kept → ℕ → List Finding → Type 0
+are_links kept unit found = AreFoundIn is_of_counts kept.geometry (frozen_view kept) unit found
+
+abbrev pub are_maps : Kept → ℕ → List Finding → Type 0
+are_maps kept unit found = AreFoundIn is_of_maps kept.geometry (frozen_view kept) unit found
+
+-- the same of whatever unit, where each group has its part of the pass before
+abbrev pub is_owned_of : Kept → List phase_blocks.Gathered → ℕ → List (Option Claim) → List Finding → Type 0
+is_owned_of kept parts unit owners found = AreGathered kept.geometry (frozen_view kept) parts → unit < kept.geometry.groups → is_owned kept unit owners found
+
+abbrev pub are_links_of : Kept → List ℕ → List (List (List ℕ)) → ℕ → List Finding → Type 0
+are_links_of kept reached parts unit found = AreReached kept.geometry (frozen_view kept) reached
+    → IsEach (refcounts.IsPart kept.geometry (frozen_view kept) reached) kept.geometry.groups parts → unit < kept.geometry.groups → are_links kept unit found
+
+-- what phase 4 finds of a group, where these are the reachable inodes
+abbrev pub are_links_if : Kept → List ℕ → ℕ → List Finding → Type 0
+are_links_if kept reached unit found = AreReached kept.geometry (frozen_view kept) reached → are_links kept unit found
+
+abbrev pub are_maps_of : Kept → List (List (Option Claim)) → ℕ → List Finding → Type 0
+are_maps_of kept owners unit found = IsEach (AreOwners kept.geometry (frozen_view kept)) kept.geometry.groups owners → unit < kept.geometry.groups → are_maps kept unit found
 
 -- Each group has its part, in order of the groups, where `is_part` says what the part of some units is.
-pub record AreParts {P : Type 0} (is_part : Units → P → Type 0) (groups : ℕ) (parts : List P) : Type 0 where
-  pub count : length parts ≡ groups
-  pub each : (unit : ℕ) (part : P) → slice_get parts unit ≡ Some part → is_part (only unit) part
+abbrev pub AreParts : {P : Type 0} → (Units → P → Type 0) → ℕ → List P → Type 0
+AreParts is_part groups parts = IsEach (λ unit part. is_part (only unit) part) groups parts
 
--- A worker makes of a unit the part of that group alone, and stays as it is.
-abbrev pub MakesItsOwn : {W P : Type 0} → (W → ℕ → P → W → Type 0) → (W → Units → P → Type 0) → Type 0
-MakesItsOwn {W} {P} gives is_part = (before : W) (unit : ℕ) (part : P) (after : W) → gives before unit part after
-    → is_part before (only unit) part × (after ≡ before)
+-- A worker makes of a unit what is its part, and stays as it is.
+abbrev pub MakesItsOwn : {W P : Type 0} → (W → ℕ → P → W → Type 0) → (W → ℕ → P → Type 0) → Type 0
+MakesItsOwn {W} {P} gives is_of = (before : W) (unit : ℕ) (part : P) (after : W) → gives before unit part after
+    → is_of before unit part × (after ≡ before)
 
 -- The parts of all groups were made, unless memory ran out.
-pub record MakesParts {P : Type 0} (is_part : Units → P → Type 0) (groups : ℕ)
+pub record MakesParts {P : Type 0} (is_of : ℕ → P → Type 0) (groups : ℕ)
     (result : Result (Vec P Global) Refusal) : Type 0 where
-  pub made : IfOk result (λ parts. AreParts is_part groups parts.items)
+  pub made : IfOk result (λ parts. IsEach is_of groups parts.items)
   pub error : IsOkUnless result NoMemory
 
 -- The reachable inodes were found, unless memory ran out.

@@ -1,6 +1,7 @@
 //! Who makes the parts of a phase: one worker, or several at once.
 ghost use Rattle.std.specs.Prelude.{◌≡◌, All, IfOk, IsTrue, vec_len};
 ghost use Rattle.workers.specs.Workers.{may_work};
+ghost use Rattle.frozen.specs.Kept.{KeepsFrame};
 ghost use Rattle.fsck.specs.Parts.{MakesItsOwn, MakesParts};
 
 use crate::works::Look;
@@ -17,8 +18,9 @@ pub(crate) fn parts_of_one<W: Look>(
     frozen: &Frozen,
     work: W,
 ) -> Result<Vec<W::Part>, Refusal>
-    requires { MakesItsOwn W.gives W.is_part }
-    ensures { MakesParts (W.is_part work) frozen.now.geometry.groups result }
+    requires { MakesItsOwn W.gives W.is_of }
+    ensures frame { KeepsFrame frozen.now }
+    ensures made { MakesParts (W.is_of work) frozen.now.geometry.groups result }
 {
     let groups = frozen.geometry().groups();
     let (parts, _work) = in_turn(alloc, groups, work)?;
@@ -36,11 +38,12 @@ pub(crate) fn parts_of_crew<R: Threads + Sync, G: Gate, W: Look>(
     work: W,
 ) -> Result<Vec<W::Part>, Refusal>
     requires workers { IsTrue (may_work workers) }
-    requires work { MakesItsOwn W.gives W.is_part }
-    ensures { MakesParts (W.is_part work) frozen.now.geometry.groups result }
+    requires work { MakesItsOwn W.gives W.is_of }
+    ensures frame { KeepsFrame frozen.now }
+    ensures made { MakesParts (W.is_of work) frozen.now.geometry.groups result }
 {
-    let works = copies(alloc, work, workers)?;
     let groups = frozen.geometry().groups();
+    let works = copies(alloc, work, workers)?;
     let (parts, _works) = each_group(rt, alloc, work.phase(), groups, works, gate)?;
     Ok(parts)
 }

@@ -1,6 +1,7 @@
 //! The check of a whole image: records and the blocks that they use, names, connectivity, reference counts, and the
 //! maps of the cylinder groups, one after another. In each of these phases workers share the groups; the walk of the
-//! third they share round by round. What they made of the groups is merged on the calling thread.
+//! third they share round by round. The first and the fourth phase go over the groups twice: once each group has told
+//! what it claims or names, each learns what is claimed or named of it.
 #![tactic(auto)]
 
 ghost use Rattle.std.specs.Prelude.{◌≡◌, ◌↔◌, ℕ, List, IfOk, IsErrOf, IsFalse, IsOkUnless, IsTrue};
@@ -9,37 +10,43 @@ ghost use Rattle.findings.specs.Findings.{AreFindings};
 ghost use Rattle.findings.specs.Report.{verdict_of};
 ghost use Rattle.findings.specs.declared.finding.Finding.{Finding as Found};
 ghost use Rattle.findings.specs.declared.verdicts.Verdict.TheVariants.{Damaged};
-ghost use Rattle.frozen.specs.Kept.{Kept, IsKeptOf, frozen_view};
+ghost use Rattle.frozen.specs.Kept.{KeepsFrame, Kept, IsKeptOf, frozen_view};
 ghost use Rattle.model.specs.Image.{image_view};
 ghost use Rattle.model.specs.Layout.{Geometry};
 ghost use Rattle.model.specs.Rules.{ObeysRules};
 ghost use Rattle.model.specs.View.{View};
 ghost use Rattle.workers.specs.Workers.{may_work};
 ghost use Rattle.fsck.specs.Checked.{CheckedImage, IsChecked, IsFoundIn};
-ghost use Rattle.fsck.specs.Parts.{MakesParts, Reaches};
-ghost use Rattle.fsck.specs.Parts.{is_blocks_part, is_counts_part, is_maps_part, is_names_part};
+ghost use Rattle.model.specs.Units.{only};
+ghost use Rattle.fsck.specs.Parts.{MakesParts, Reaches, are_links_if, are_maps_of, is_names_part, is_owned};
 
 mod checked;
+mod crew;
 mod hands;
+mod lone;
 mod order;
 mod phases;
 #[cfg(test)]
 mod tests;
 mod works;
 
+use by_group::{OfGroup, all_found, joined};
 pub use checked::Checked;
+use crew::{links_by_crew, maps_by_crew, owners_by_crew};
 use findings::Finding;
 use frozen::Frozen;
 use hands::{parts_of_crew, parts_of_one};
 use layout::Refusal;
+use lone::{links_by_one, maps_by_one, owners_by_one, reach};
 use order::in_order;
-use phases::{check_blocks, check_counts, check_maps, check_names, walk_of};
+use phase_blocks::BlockOwners;
+use phases::check_names;
 use std::alloc::Global;
 use std::collections::BTreeSet;
 use std::sync::Arc;
 use std::thread::Threads;
 use workers::{Gate, MOST_WORKERS};
-use works::{Blocks, Counts, Entries, Maps, Names};
+use works::Names;
 
 /// Checks an image with 1 to 64 workers, which share the groups. `BadWorkers` is refused for any other number, and
 /// otherwise `NoMemory` alone. What is found is the same for every number of workers.
@@ -108,21 +115,22 @@ pub fn find(alloc: Global, frozen: &Frozen) -> Result<Vec<Finding>, Refusal>
     find_by(
         alloc,
         frozen,
-        || -> Result<Vec<phase_blocks::Part>, Refusal>
-            ensures { MakesParts (is_blocks_part frozen.entry.now) frozen.entry.now.geometry.groups result }
-        { parts_of_one(alloc, frozen, Blocks { alloc, frozen }) },
+        || -> Result<Vec<OfGroup<BlockOwners>>, Refusal>
+            ensures frame { KeepsFrame frozen.entry.now }
+            ensures made { MakesParts (λ unit made. is_owned frozen.entry.now unit made.kept made.found.items) frozen.entry.now.geometry.groups result }
+        { owners_by_one(alloc, frozen) },
         || -> Result<Vec<phase_names::Part>, Refusal>
-            ensures { MakesParts (is_names_part frozen.entry.now) frozen.entry.now.geometry.groups result }
+            ensures { MakesParts (λ unit. is_names_part frozen.entry.now (only unit)) frozen.entry.now.geometry.groups result }
         { parts_of_one(alloc, frozen, Names { alloc, frozen }) },
         || -> Result<BTreeSet<u32>, Refusal>
             ensures { Reaches frozen.entry.now result }
         { reach(alloc, frozen) },
-        || -> Result<Vec<refcounts::Part>, Refusal>
-            ensures { MakesParts (is_counts_part frozen.entry.now) frozen.entry.now.geometry.groups result }
-        { parts_of_one(alloc, frozen, Counts { alloc, frozen }) },
-        || -> Result<Vec<phase_maps::Part>, Refusal>
-            ensures { MakesParts (is_maps_part frozen.entry.now) frozen.entry.now.geometry.groups result }
-        { parts_of_one(alloc, frozen, Maps { alloc, frozen }) },
+        |reached: BTreeSet<u32>| -> Result<Vec<Vec<Finding>>, Refusal>
+            ensures { MakesParts (λ unit found. are_links_if frozen.entry.now reached.keys unit found.items) frozen.entry.now.geometry.groups result }
+        { links_by_one(alloc, frozen, &reached) },
+        |owners: Vec<BlockOwners>| -> Result<Vec<Vec<Finding>>, Refusal>
+            ensures { MakesParts (λ unit found. are_maps_of frozen.entry.now owners.items unit found.items) frozen.entry.now.geometry.groups result }
+        { maps_by_one(alloc, frozen, owners.as_slice()) },
     )
 }
 
@@ -141,38 +149,31 @@ fn find_shared<R: Threads + Sync, G: Gate>(
     find_by(
         alloc,
         frozen,
-        || -> Result<Vec<phase_blocks::Part>, Refusal>
+        || -> Result<Vec<OfGroup<BlockOwners>>, Refusal>
             requires { IsTrue (may_work workers) }
-            ensures { MakesParts (is_blocks_part frozen.entry.now) frozen.entry.now.geometry.groups result }
-        { parts_of_crew(rt, workers, gate, alloc, frozen, Blocks { alloc, frozen }) },
+            ensures frame { KeepsFrame frozen.entry.now }
+            ensures made { MakesParts (λ unit made. is_owned frozen.entry.now unit made.kept made.found.items) frozen.entry.now.geometry.groups result }
+        { owners_by_crew(rt, workers, gate, alloc, frozen) },
         || -> Result<Vec<phase_names::Part>, Refusal>
             requires { IsTrue (may_work workers) }
-            ensures { MakesParts (is_names_part frozen.entry.now) frozen.entry.now.geometry.groups result }
+            ensures { MakesParts (λ unit. is_names_part frozen.entry.now (only unit)) frozen.entry.now.geometry.groups result }
         { parts_of_crew(rt, workers, gate, alloc, frozen, Names { alloc, frozen }) },
         || -> Result<BTreeSet<u32>, Refusal>
             requires { IsTrue (may_work workers) }
             ensures { Reaches frozen.entry.now result }
         { connectivity::rounds(rt, alloc, frozen, workers, gate) },
-        || -> Result<Vec<refcounts::Part>, Refusal>
+        |reached: BTreeSet<u32>| -> Result<Vec<Vec<Finding>>, Refusal>
             requires { IsTrue (may_work workers) }
-            ensures { MakesParts (is_counts_part frozen.entry.now) frozen.entry.now.geometry.groups result }
-        { parts_of_crew(rt, workers, gate, alloc, frozen, Counts { alloc, frozen }) },
-        || -> Result<Vec<phase_maps::Part>, Refusal>
+            ensures { MakesParts (λ unit found. are_links_if frozen.entry.now reached.keys unit found.items) frozen.entry.now.geometry.groups result }
+        { links_by_crew(rt, workers, gate, alloc, frozen, &reached) },
+        |owners: Vec<BlockOwners>| -> Result<Vec<Vec<Finding>>, Refusal>
             requires { IsTrue (may_work workers) }
-            ensures { MakesParts (is_maps_part frozen.entry.now) frozen.entry.now.geometry.groups result }
-        { parts_of_crew(rt, workers, gate, alloc, frozen, Maps { alloc, frozen }) },
+            ensures { MakesParts (λ unit found. are_maps_of frozen.entry.now owners.items unit found.items) frozen.entry.now.geometry.groups result }
+        { maps_by_crew(rt, workers, gate, alloc, frozen, owners.as_slice()) },
     )
 }
 
-/// The reachable inodes, by one worker on the calling thread.
-fn reach(alloc: Global, frozen: &Frozen) -> Result<BTreeSet<u32>, Refusal>
-    ensures { Reaches frozen.now result }
-{
-    let parts = parts_of_one(alloc, frozen, Entries { alloc, frozen })?;
-    walk_of(alloc, frozen, parts)
-}
-
-/// What the five phases find, one after another, whoever makes the parts: of each phase a call gives those of all
+/// What the five phases find, one after another, whoever makes the parts: of each phase a call gives what is made of all
 /// groups, and of phase 3 what is reachable. The parts of phase 2 wait for that.
 fn find_by<B, N, W, C, M>(
     alloc: Global,
@@ -184,31 +185,31 @@ fn find_by<B, N, W, C, M>(
     maps: M,
 ) -> Result<Vec<Finding>, Refusal>
 where
-    B: FnOnce() -> Result<Vec<phase_blocks::Part>, Refusal>,
+    B: FnOnce() -> Result<Vec<OfGroup<BlockOwners>>, Refusal>,
     N: FnOnce() -> Result<Vec<phase_names::Part>, Refusal>,
     W: FnOnce() -> Result<BTreeSet<u32>, Refusal>,
-    C: FnOnce() -> Result<Vec<refcounts::Part>, Refusal>,
-    M: FnOnce() -> Result<Vec<phase_maps::Part>, Refusal>,
-    requires callable { B.pre blocks × N.pre names × W.pre walk × C.pre counts × M.pre maps }
-    requires blocks { (made : _) → B.post blocks made
-        → MakesParts (is_blocks_part frozen.now) frozen.now.geometry.groups made }
+    C: FnOnce(BTreeSet<u32>) -> Result<Vec<Vec<Finding>>, Refusal>,
+    M: FnOnce(Vec<BlockOwners>) -> Result<Vec<Vec<Finding>>, Refusal>,
+    requires callable { B.pre blocks × N.pre names × W.pre walk × ((reached : _) → C.pre counts reached) × ((owners : _) → M.pre maps owners) }
+    requires blocks { (made : _) → B.post blocks made → KeepsFrame frozen.now
+        × MakesParts (λ unit one. is_owned frozen.now unit one.kept one.found.items) frozen.now.geometry.groups made }
     requires names { (made : _) → N.post names made
-        → MakesParts (is_names_part frozen.now) frozen.now.geometry.groups made }
+        → MakesParts (λ unit. is_names_part frozen.now (only unit)) frozen.now.geometry.groups made }
     requires walk { (reached : _) → W.post walk reached → Reaches frozen.now reached }
-    requires counts { (made : _) → C.post counts made
-        → MakesParts (is_counts_part frozen.now) frozen.now.geometry.groups made }
-    requires maps { (made : _) → M.post maps made
-        → MakesParts (is_maps_part frozen.now) frozen.now.geometry.groups made }
+    requires counts { (reached : _) (made : _) → C.post counts reached made
+        → MakesParts (λ unit found. are_links_if frozen.now reached.keys unit found.items) frozen.now.geometry.groups made }
+    requires maps { (owners : _) (made : _) → M.post maps owners made
+        → MakesParts (λ unit found. are_maps_of frozen.now owners.items unit found.items) frozen.now.geometry.groups made }
     ensures found { IfOk result (λ found. (f : Found) → IsFoundIn frozen.now f found.items) }
     ensures error { IsOkUnless result Refusal.NoMemory }
 {
-    let mut found = check_blocks(alloc, frozen, blocks()?)?;
+    let (owners, mut found) = joined(alloc, blocks()?)?;
     let names = names()?;
     let reached = walk()?;
     found.append(&mut check_names(alloc, frozen, names, &reached)?)?;
     found.append(&mut connectivity::findings(alloc, frozen, &reached)?)?;
-    found.append(&mut check_counts(alloc, frozen, counts()?, &reached)?)?;
-    found.append(&mut check_maps(alloc, frozen, maps()?)?)?;
+    found.append(&mut all_found(alloc, counts(reached)?)?)?;
+    found.append(&mut all_found(alloc, maps(owners)?)?)?;
     Ok(found)
 }
 

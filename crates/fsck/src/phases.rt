@@ -1,33 +1,15 @@
-//! The five phases, each from the parts of all groups of a volume.
+//! The phases that join the parts of all groups of a volume.
 ghost use Rattle.std.specs.Prelude.{◌≡◌, IfOk, IsOkUnless};
-ghost use Rattle.findings.specs.Findings.{AreFindingsOf, is_of_blocks, is_of_names, is_of_counts, is_of_maps};
+ghost use Rattle.findings.specs.Findings.{AreFindingsOf, is_of_names};
 ghost use Rattle.model.specs.Reached.{AreReached};
 ghost use Rattle.frozen.specs.Kept.{frozen_view};
-ghost use Rattle.fsck.specs.Parts.{AreParts};
-ghost use Rattle.fsck.specs.Parts.{is_blocks_part, is_counts_part, is_entries_part, is_maps_part, is_names_part};
+ghost use Rattle.fsck.specs.Parts.{AreParts, is_entries_part, is_names_part};
 
 use findings::Finding;
 use frozen::Frozen;
 use layout::Refusal;
 use std::alloc::Global;
 use std::collections::BTreeSet;
-
-/// Phase 1: what is found of the records, and of the blocks that they use.
-pub(crate) fn check_blocks(
-    alloc: Global,
-    frozen: &Frozen,
-    parts: Vec<phase_blocks::Part>,
-) -> Result<Vec<Finding>, Refusal>
-    requires { AreParts (is_blocks_part frozen.now) frozen.now.geometry.groups parts.items }
-    ensures findings { IfOk result (λ found. AreFindingsOf is_of_blocks frozen.now.geometry (frozen_view frozen.now) found.items) }
-    ensures error { IsOkUnless result Refusal.NoMemory }
-{
-    let mut whole = phase_blocks::Part::new(alloc);
-    for part in parts {
-        whole = phase_blocks::merge(whole, part)?;
-    }
-    whole.findings(alloc)
-}
 
 /// Phase 2: what is found of the slots of reachable directories.
 pub(crate) fn check_names(
@@ -63,40 +45,4 @@ pub(crate) fn walk_of(
         whole = connectivity::merge(whole, part)?;
     }
     connectivity::walk(alloc, frozen, &whole)
-}
-
-/// Phase 4: what is found of the links of reachable inodes.
-pub(crate) fn check_counts(
-    alloc: Global,
-    frozen: &Frozen,
-    parts: Vec<refcounts::Part>,
-    reached: &BTreeSet<u32>,
-) -> Result<Vec<Finding>, Refusal>
-    requires { AreParts (is_counts_part frozen.now) frozen.now.geometry.groups parts.items }
-    ensures findings { IfOk result (λ found. AreReached frozen.now.geometry (frozen_view frozen.now) reached.now.keys
-        → AreFindingsOf is_of_counts frozen.now.geometry (frozen_view frozen.now) found.items) }
-    ensures error { IsOkUnless result Refusal.NoMemory }
-{
-    let mut whole = refcounts::Part::new(alloc);
-    for part in parts {
-        whole = refcounts::merge(whole, part)?;
-    }
-    refcounts::finish(alloc, frozen, &whole, reached)
-}
-
-/// Phase 5: what is found of the maps.
-pub(crate) fn check_maps(
-    alloc: Global,
-    frozen: &Frozen,
-    parts: Vec<phase_maps::Part>,
-) -> Result<Vec<Finding>, Refusal>
-    requires { AreParts (is_maps_part frozen.now) frozen.now.geometry.groups parts.items }
-    ensures findings { IfOk result (λ found. AreFindingsOf is_of_maps frozen.now.geometry (frozen_view frozen.now) found.items) }
-    ensures error { IsOkUnless result Refusal.NoMemory }
-{
-    let mut whole = phase_maps::Part::new(alloc);
-    for part in parts {
-        whole = phase_maps::merge(whole, part)?;
-    }
-    phase_maps::findings(alloc, frozen, &whole)
 }

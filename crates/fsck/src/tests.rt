@@ -127,6 +127,9 @@ struct Place {
     met: AtomicU64,
 }
 
+/// How often each phase goes over the groups.
+const PASSES: [u64; 5] = [2, 1, 1, 2, 1];
+
 /// The places of five phases, to which nobody came.
 fn five_places(alloc: Global) -> Result<Vec<Place>, AllocError> {
     let mut places = Vec::new(alloc);
@@ -180,9 +183,9 @@ fn two_workers_are_at_work_at_once_in_each_phase(rt: HostRuntime) -> Result<(), 
         places: places.as_slice(),
     };
     let checked = check(&rt, rt.alloc(), &frozen, 2, &gate)?;
-    for place in &places {
-        assert_eq!(rt; place.first.load(Ordering::SeqCst), 1);
-        assert_eq!(rt; place.second.load(Ordering::SeqCst), 1);
+    for (place, passes) in places.iter().zip(PASSES) {
+        assert_eq!(rt; place.first.load(Ordering::SeqCst), passes);
+        assert_eq!(rt; place.second.load(Ordering::SeqCst), passes);
         assert_eq!(rt; place.met.load(Ordering::SeqCst), 2);
     }
     assert_eq!(rt; checked.report(), CLEAN.as_bytes());

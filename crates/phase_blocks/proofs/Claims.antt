@@ -6,7 +6,11 @@ use Rattle.std.proofs.lemmas.Option.{same_Some}
 use Rattle.model.specs.Layout.{Geometry, inode_count, is_number}
 use Rattle.model.specs.View.{View}
 use Rattle.model.specs.Uses.{IsUse}
+use Rattle.phase_blocks.specs.declared.parts.Claim.{Claim}
 use Rattle.phase_blocks.specs.Parts.{Uses, with_use}
+
+abbrev pub claim : ℕ → ℕ → ℕ → Claim
+claim a i k = record { block = a; inode = i; position = k }
 
 -- a number stands in some group
 pub group_of_number : (geo : Geometry) (i : ℕ) → IsTrue (is_number geo i) → i / geo.inodes < geo.groups

@@ -1,11 +1,10 @@
 -- What a set of findings has after one more, and after those of another set.
-use Rattle.std.proofs.Common.{◌≡◌, sym, ◌∙◌, subst, Bool, List, true, ◌⊎◌, inl, inr, ◌↔◌, Contains}
-use Rattle.std.specs.BTreeSet.{BTreeSet, InsertsAll, Updates, contains}
-use Rattle.std.specs.Set.{is_member}
-use Rattle.std.specs.Cmp.{IsTotalOrder, eq_by_cmp_equiv}
-use Rattle.std.specs.Ordering.{eq_by_cmp, is_eq}
-use Rattle.std.proofs.lemmas.Bool.{cases_Bool, cond-true, cond-false, or_cases, or_left, or_right}
-use Rattle.std.proofs.lemmas.Map.Views.{Contains-from_any, btree_set_contains_iff, list_any-from_Contains, tells_apart}
+use Rattle.std.proofs.Common.{◌≡◌, sym, ◌∙◌, subst, true, ◌⊎◌, inl, inr, ◌↔◌, Contains}
+use Rattle.std.specs.BTreeSet.{BTreeSet, Updates, contains}
+use Rattle.std.specs.Cmp.{IsTotalOrder}
+use Rattle.std.specs.Ordering.{is_eq}
+use Rattle.std.proofs.lemmas.Bool.{cases_Bool, cond-true, cond-false}
+use Rattle.std.proofs.lemmas.Map.Views.{btree_set_contains_iff, tells_apart}
 use Rattle.std.proofs.lemmas.Map.Lookups.{CmpEqualImpliesEq}
 use Rattle.findings.specs.declared.finding.Finding.{Finding}
 use Rattle.findings.specs.contracts.finding.FindingOrd.TheImpl as derived
@@ -33,26 +32,3 @@ inserted s n key u f = (
     | inr e ↦ subst (λ k. contains derived.ghosts.cmp n k ≡ true) (sym e) u.1
   ])),
 )
-
-abbrev equal : Finding → Finding → Bool
-equal = eq_by_cmp derived.ghosts.cmp
-
--- the findings of two sets
-pub appended : (s n : BTreeSet Finding) (others : List Finding) → InsertsAll derived.ghosts.cmp s others n
-    → (f : Finding) → Contains n.keys f ↔ (Contains s.keys f ⊎ Contains others f)
-appended s n others h f = (
-  (λ x. elim (or_cases (is_member equal s.keys f) (is_member equal others f) (sym (h.0 f) ∙ member n.keys x)) [
-    | inl y ↦ inl (found s.keys y)
-    | inr y ↦ inr (found others y)
-  ]),
-  (λ x. found n.keys (h.0 f ∙ elim x [
-    | inl y ↦ or_left (is_member equal s.keys f) (is_member equal others f) (member s.keys y)
-    | inr y ↦ or_right (is_member equal s.keys f) (is_member equal others f) (member others y)
-  ])),
-)
-  where
-    found : (fs : List Finding) → is_member equal fs f ≡ true → Contains fs f
-    found fs x = Contains-from_any (tells_apart derived_exact) f fs x
-
-    member : (fs : List Finding) → Contains fs f → is_member equal fs f ≡ true
-    member fs x = list_any-from_Contains (eq_by_cmp_equiv derived_total) f fs x

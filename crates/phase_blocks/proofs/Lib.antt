@@ -2,6 +2,6 @@ pub mod Claims
 pub mod ClaimOrder
 pub mod FindingSets
 pub mod Gathering
-pub mod Joining
-pub mod Repeats
 pub mod Scanning
+pub mod FillLemmas
+pub mod OwnerLemmas

@@ -6,11 +6,11 @@ use Rattle.std.specs.List.Sorted.{IsStrictlySortedBy}
 use Rattle.std.specs.declared.cmp.Ordering.{Ordering}
 use Rattle.std.specs.Ordering.{nat_cmp, on}
 use Rattle.findings.specs.declared.finding.Finding.{Finding}
-use Rattle.findings.specs.declared.finding.Finding.TheVariants.{BadInode, BadPointer, Duplicate}
+use Rattle.findings.specs.declared.finding.Finding.TheVariants.{BadInode, BadPointer}
 use Rattle.findings.specs.Findings.{IsFinding, finding_cmp}
 use Rattle.model.specs.Layout.{Geometry}
 use Rattle.model.specs.View.{View}
-use Rattle.model.specs.Uses.{IsClaim, Before}
+use Rattle.model.specs.Uses.{IsClaim}
 use Rattle.model.specs.Units.{Units, stands_in}
 use Rattle.phase_blocks.specs.declared.parts.Claim.{Claim}
 
@@ -72,11 +72,6 @@ pub record AddsFinding (old new : Gathered) (finding : Finding) : Type 0 where
   pub claims : new.claims ≡ old.claims
   pub in_order : IsStrictlySortedBy finding_cmp new.found
   pub members : (f : Finding) → Contains new.found f ↔ (Contains old.found f ⊎ (f ≡ finding))
-
--- the finding that a claim of the list is a duplicate: the list has an earlier claim of its block
-abbrev pub IsRepeated : List Claim → Finding → Type 0
-IsRepeated claims (Duplicate i k a) = Contains claims (record { block = a; inode = i; position = k }) × (j : ℕ) × (l : ℕ) × Contains claims (record { block = a; inode = j; position = l }) × Before j l i k
-IsRepeated claims _ = ⊥
 
 -- a set with one inode more
 abbrev pub with_inode : Inodes → ℕ → Inodes

@@ -1,17 +1,15 @@
-ghost use Rattle.std.specs.Prelude.{◌≡◌, ◌↔◌, IfOk, OnOk, IsOkUnless};
+ghost use Rattle.std.specs.Prelude.{◌≡◌, ◌↔◌, ◌++◌, IfOk, OnOk, IsOkUnless};
 ghost use Rattle.std.specs.List.{Contains};
 ghost use Rattle.std.specs.List.Sorted.{IsStrictlySortedBy};
 ghost use Rattle.model.specs.Layout.{Geometry};
 ghost use Rattle.model.specs.View.{View};
-ghost use Rattle.model.specs.Units.{Units, IsEveryGroup, either, no_unit};
+ghost use Rattle.model.specs.Units.{no_unit};
 ghost use Rattle.findings.specs.declared.finding.Finding.{Finding};
-ghost use Rattle.findings.specs.Findings.{AreFindingsOf, is_of_blocks};
-ghost use Rattle.phase_blocks.specs.Parts.{AddsClaim, AddsFinding, IsPart, IsRepeated, claim_cmp, nothing_gathered};
+ghost use Rattle.phase_blocks.specs.Parts.{AddsClaim, AddsFinding, IsPart, claim_cmp, nothing_gathered};
 
-use findings::{Finding, in_order};
+use findings::Finding;
 use layout::Refusal;
-use sets::union;
-use std::alloc::Global;
+use std::alloc::{AllocError, Global};
 use std::collections::BTreeSet;
 use std::marker::Model;
 
@@ -41,7 +39,7 @@ impl Model for Part {
 }
 
 impl Part {
-    /// The part of no group, which a merge leaves as it is.
+    /// The part of no group.
     pub fn new(alloc: Global) -> Part
         ensures part { (geo : Geometry) (view : View) → IsPart geo view no_unit result }
         ensures empty { result ≡ nothing_gathered }
@@ -70,6 +68,20 @@ impl Part {
         Ok(())
     }
 
+    /// The claims.
+    pub(crate) fn claims(&self) -> &[Claim]
+        ensures { result.now ≡ self.now.claims }
+    {
+        &self.claims
+    }
+
+    /// Adds the findings that need one inode alone to others.
+    pub(crate) fn add_found(&self, found: &mut Vec<Finding>) -> Result<(), AllocError>
+        ensures { OnOk result (found.new.items ≡ found.old.items ++ self.now.found) }
+    {
+        found.extend(self.found.iter().copied())
+    }
+
     /// The same with the claims in order, each once.
     pub(crate) fn in_order(self) -> Result<Part, Refusal>
         ensures order { IfOk result (λ part. IsStrictlySortedBy claim_cmp part.claims) }
@@ -81,48 +93,4 @@ impl Part {
         let claims = sets::in_order(claims)?;
         Ok(Part { claims, found })
     }
-
-    /// The claims of blocks that an earlier claim owns, as findings. As the claims are in order, each of them comes right
-    /// after another claim of its block.
-    fn duplicates(&self, alloc: Global) -> Result<Vec<Finding>, Refusal>
-        ensures found { IfOk result (λ found. IsStrictlySortedBy claim_cmp self.now.claims → (f : Finding) → Contains found.items f ↔ IsRepeated self.now.claims f) }
-        ensures error { IsOkUnless result Refusal.NoMemory }
-    {
-        let mut found = Vec::new(alloc);
-        let mut last = None;
-        for claim in self.claims.iter() {
-            if last == Some(claim.block) {
-                found.push(Finding::Duplicate(claim.inode, claim.position, claim.block))?;
-            }
-            last = Some(claim.block);
-        }
-        Ok(found)
-    }
-
-    /// The findings of the parts that were joined, in order.
-    pub fn findings(&self, alloc: Global) -> Result<Vec<Finding>, Refusal>
-        ensures found { IfOk result (λ found. (geo : Geometry) (view : View) (units : Units) → IsPart geo view units self.now → IsEveryGroup geo units
-            → AreFindingsOf is_of_blocks geo view found.items) }
-        ensures error { IsOkUnless result Refusal.NoMemory }
-    {
-        let mut found = self.duplicates(alloc)?;
-        found.extend(self.found.iter().copied())?;
-        in_order(found)
-    }
-}
-
-/// Joins two parts of one image.
-pub fn merge(left: Part, right: Part) -> Result<Part, Refusal>
-    ensures merged { IfOk result (λ whole. (geo : Geometry) (view : View) (units others : Units) → IsPart geo view units left → IsPart geo view others right
-        → IsPart geo view (either units others) whole) }
-    ensures error { IsOkUnless result Refusal.NoMemory }
-{
-    let Part {
-        claims: more,
-        found: mut others,
-    } = right;
-    let Part { claims, mut found } = left;
-    found.append(&mut others)?;
-    let claims = union(claims, more)?;
-    Ok(Part { claims, found })
 }

@@ -1,6 +1,7 @@
-use crate::{Part, merge, part};
+use crate::{Claim, owners, part};
+use by_group::OfGroup;
 use device::{Before, Device, MemDevice, format};
-use findings::Finding;
+use findings::{Finding, in_order};
 use frozen::{Frozen, load};
 use inode::{DIRECT_POINTERS, FILE, RECORD_BYTES, Record};
 use layout::{BLOCK_BYTES, Geometry, INODES_PER_BLOCK, Refusal};
@@ -50,18 +51,31 @@ fn file(size: u32, pointers: [u32; 3], indirect: u32) -> Record {
     }
 }
 
-/// The findings of all parts, joined from the first or from the last.
-fn findings(alloc: Global, frozen: &Frozen, is_from_last: bool) -> Result<Vec<Finding>, Refusal> {
-    let mut whole = Part::new(alloc);
-    for unit in 0..3 {
-        let more = part(alloc, frozen, unit)?;
-        whole = if is_from_last {
-            merge(more, whole)?
-        } else {
-            merge(whole, more)?
-        };
+/// A claim of a block by an inode, at a position.
+fn claim(block: u32, inode: u32, position: u32) -> Claim {
+    Claim {
+        block,
+        inode,
+        position,
     }
-    whole.findings(alloc)
+}
+
+/// What is found of both groups, and who owns the first six data blocks of the second one.
+fn look(alloc: Global, frozen: &Frozen) -> Result<(Vec<Finding>, Vec<Option<Claim>>), Refusal> {
+    let mut parts = Vec::new(alloc);
+    for unit in 0..2 {
+        parts.push(part(alloc, frozen, unit)?)?;
+    }
+    let OfGroup { found, .. } = owners(alloc, frozen, parts.as_slice(), 0)?;
+    let mut found = found;
+    let OfGroup { kept, found: more } = owners(alloc, frozen, parts.as_slice(), 1)?;
+    let mut more = more;
+    found.append(&mut more)?;
+    let mut owned = Vec::new(alloc);
+    for bit in 0..6 {
+        owned.push(kept.of(bit))?;
+    }
+    Ok((in_order(found)?, owned))
 }
 
 #[test]
@@ -69,7 +83,9 @@ fn nothing_is_found_on_a_fresh_image(rt: HostRuntime) -> Result<(), Fail> {
     let alloc = rt.alloc();
     let mut device = fresh(alloc)?;
     let frozen = load(alloc, &mut device)?;
-    assert_eq!(rt; findings(alloc, &frozen, false)?.as_slice(), [].as_slice());
+    let (found, owned) = look(alloc, &frozen)?;
+    assert_eq!(rt; found.as_slice(), [].as_slice());
+    assert!(rt; owned.iter().all(|owner| owner.is_none()));
     Ok(())
 }
 
@@ -97,12 +113,8 @@ fn bad_records_pointers_and_duplicates_are_found(rt: HostRuntime) -> Result<(), 
     want.push(Finding::Duplicate(16, 0, 20))?;
     want.push(Finding::Duplicate(16, 1, 4))?;
     want.push(Finding::Duplicate(16, 2, 20))?;
-    for is_from_last in [false, true] {
-        assert_eq!(rt;
-            findings(alloc, &frozen, is_from_last)?.as_slice(),
-            want.as_slice()
-        );
-    }
+    let (found, _owned) = look(alloc, &frozen)?;
+    assert_eq!(rt; found.as_slice(), want.as_slice());
     Ok(())
 }
 
@@ -115,11 +127,16 @@ fn all_but_the_first_of_three_claims_are_duplicates(rt: HostRuntime) -> Result<(
     write_record(&mut device, 3, &file(3 * 1024, [23, 24, 21], 0))?;
     let frozen = load(alloc, &mut device)?;
     let want = [Finding::Duplicate(6, 1, 21), Finding::Duplicate(17, 0, 21)];
-    for is_from_last in [false, true] {
-        assert_eq!(rt;
-            findings(alloc, &frozen, is_from_last)?.as_slice(),
-            want.as_slice()
-        );
-    }
+    let (found, owned) = look(alloc, &frozen)?;
+    assert_eq!(rt; found.as_slice(), want.as_slice());
+    let claims = [
+        None,
+        Some(claim(21, 3, 2)),
+        Some(claim(22, 6, 0)),
+        Some(claim(23, 3, 0)),
+        Some(claim(24, 3, 1)),
+        None,
+    ];
+    assert_eq!(rt; owned.as_slice(), &claims[..]);
     Ok(())
 }

@@ -1,5 +1,3 @@
-mod ClaimLemmas
 mod NumberCases
-mod PartLemmas
-mod UnitLemmas
+mod NumberLemmas
 mod WalkLemmas

@@ -6,7 +6,7 @@ use Rattle.findings.specs.declared.finding.Finding.{Finding}
 use Rattle.findings.specs.declared.finding.Finding.TheVariants.{LostNumber, UnmarkedInode}
 use Rattle.model.specs.Layout.{Geometry, is_number, group_block}
 use Rattle.model.specs.View.{View, view_of, map_bit}
-use Rattle.phase_maps.specs.Parts.{IsFoundOfNumbers}
+use Rattle.phase_maps.specs.NumberFindings.{IsFoundOfNumbers}
 use Rattle.phase_maps.specs.Walks.{number_finding}
 
 -- the bit of a number that is looked at

@@ -1,22 +1,21 @@
 //! The findings of an image's number maps.
 ghost use Rattle.std.specs.Prelude.{◌≡◌, ◌<◌, ◌/◌, ◌%◌, ◌++◌, ◌==◌, IfOk, OnOk, IsOkUnless, IsTrue};
-ghost use Rattle.std.specs.List.Sorted.{IsStrictlySortedBy};
 ghost use Rattle.model.specs.Layout.{inode_count, group_block, is_number};
 ghost use Rattle.model.specs.View.{map_bit};
-ghost use Rattle.findings.specs.Findings.{AreFindingsOf, finding_cmp, is_of_numbers};
+ghost use Rattle.findings.specs.Findings.{AreFindingsOf, is_of_numbers};
 ghost use Rattle.findings.specs.Numbers.{is_lost_number, is_unmarked_number, lost_below, unmarked_below};
+ghost use Rattle.model.specs.Units.{only, stands_in};
 ghost use Rattle.frozen.specs.Kept.{frozen_view, kept_bytes};
-ghost use Rattle.phase_maps.specs.Parts.{IsFoundOfNumbers};
+ghost use Rattle.phase_maps.specs.NumberFindings.{IsFoundOfNumbers};
 ghost use Rattle.model.specs.Growth.{Adds};
 ghost use Rattle.phase_maps.specs.Walks.{number_finding};
 
 use cgmaps::{Map, bit_of};
 use findings::{Finding, numbers_tell_their_findings};
 use frozen::Frozen;
-use inode::{FREE, Record};
+use inode::FREE;
 use layout::{ROOT, Refusal};
 use std::alloc::{AllocError, Global};
-use std::collections::BTreeSet;
 
 /// The marked numbers whose records are free, and then the unmarked numbers whose records are not, each in ascending
 /// order. Only `NoMemory` is refused.
@@ -55,22 +54,32 @@ fn add_unmarked_inodes(frozen: &Frozen, found: &mut Vec<Finding>) -> Result<(), 
     Ok(())
 }
 
-/// Adds what is found of the number of an inode with this record.
-pub(crate) fn add_number(
-    numbers: &mut BTreeSet<Finding>,
+/// Adds what is found of the numbers of a group.
+pub(crate) fn add_numbers(
     frozen: &Frozen,
-    number: u32,
-    inode: &Record,
-) -> Result<(), Refusal>
-    requires number { IsTrue (is_number frozen.now.geometry number) }
-    requires inode { inode.now ≡ (frozen_view frozen.now).inode number }
-    ensures finding { OnOk result (Adds (IsFoundOfNumbers frozen.now.geometry (frozen_view frozen.now) (λ i. i == number)) numbers.old.keys numbers.new.keys) }
-    ensures ordered { OnOk result (IsStrictlySortedBy finding_cmp numbers.old.keys → IsStrictlySortedBy finding_cmp numbers.new.keys) }
-    ensures error { IsOkUnless result Refusal.NoMemory }
+    group: u32,
+    found: &mut Vec<Finding>,
+) -> Result<(), AllocError>
+    requires { group < frozen.now.geometry.groups }
+    ensures { OnOk result (Adds (IsFoundOfNumbers frozen.now.geometry (frozen_view frozen.now) (stands_in frozen.now.geometry (only group))) found.old.items found.new.items) }
 {
-    let is_free = inode.mode == FREE;
-    if let Some(finding) = number_finding(is_marked(frozen, number), is_free, number) {
-        numbers.insert(finding)?;
+    for number in frozen.geometry().numbers_of(group) {
+        add_number(frozen, number, found)?;
+    }
+    Ok(())
+}
+
+/// Adds what is found of a number.
+fn add_number(frozen: &Frozen, number: u32, found: &mut Vec<Finding>) -> Result<(), AllocError>
+    requires { IsTrue (is_number frozen.now.geometry number) }
+    ensures { OnOk result (Adds (IsFoundOfNumbers frozen.now.geometry (frozen_view frozen.now) (λ i. i == number)) found.old.items found.new.items) }
+{
+    if let Some(finding) = number_finding(
+        is_marked(frozen, number),
+        is_free(frozen, number),
+        number,
+    ) {
+        found.push(finding)?;
     }
     Ok(())
 }

@@ -1,8 +1,10 @@
-use crate::{Part, findings, merge, number_findings, part};
+use crate::{findings, number_findings};
+use by_group::OfGroup;
 use device::{Before, Device, MemDevice, format};
-use findings::Finding;
+use findings::{Finding, in_order};
 use frozen::{Frozen, load};
 use layout::{BLOCK_BYTES, Geometry, Refusal};
+use phase_blocks::{Part, owners, part};
 use std::alloc::Global;
 
 /// The bytes that differ from a fresh image of two groups of 16 blocks and 16 inodes: the block, the byte, the value.
@@ -46,18 +48,38 @@ fn set_byte(device: &mut MemDevice, address: u32, byte: usize, value: u8) -> Res
     Ok(())
 }
 
+/// What phase 1 made of both groups.
+fn parts(alloc: Global, frozen: &Frozen) -> Result<Vec<Part>, Refusal> {
+    let mut parts = Vec::new(alloc);
+    for unit in 0..2 {
+        parts.push(part(alloc, frozen, unit)?)?;
+    }
+    Ok(parts)
+}
+
+/// What phase 5 finds of the groups from 0 on and of a unit that is no group, in order.
+fn found(alloc: Global, frozen: &Frozen) -> Result<Vec<Finding>, Refusal> {
+    let parts = parts(alloc, frozen)?;
+    let mut all = Vec::new(alloc);
+    for unit in 0..3 {
+        let OfGroup { kept, .. } = owners(alloc, frozen, parts.as_slice(), unit)?;
+        let mut more = findings(alloc, frozen, unit, &kept)?;
+        all.append(&mut more)?;
+    }
+    in_order(all)
+}
+
 #[test]
 fn nothing_is_found_on_a_fresh_image(rt: HostRuntime) -> Result<(), Refusal> {
     let alloc = rt.alloc();
     let frozen = image_with(alloc, &[])?;
-    let whole = merge(part(alloc, &frozen, 0)?, part(alloc, &frozen, 1)?)?;
-    assert_eq!(rt; findings(alloc, &frozen, &whole)?.len(), 0);
+    assert_eq!(rt; found(alloc, &frozen)?.len(), 0);
     assert_eq!(rt; number_findings(alloc, &frozen)?.len(), 0);
     Ok(())
 }
 
 #[test]
-fn parts_are_merged_in_any_order(rt: HostRuntime) -> Result<(), Refusal> {
+fn maps_are_compared_with_owners_and_records(rt: HostRuntime) -> Result<(), Refusal> {
     let alloc = rt.alloc();
     let frozen = image_with(alloc, &CHANGES)?;
     let wanted = [
@@ -68,14 +90,7 @@ fn parts_are_merged_in_any_order(rt: HostRuntime) -> Result<(), Refusal> {
         Finding::LostNumber(31),
         Finding::UnmarkedInode(18),
     ];
-    for units in [[0, 1, 2], [2, 1, 0], [1, 0, 63]] {
-        let mut whole = Part::new(alloc);
-        for unit in units {
-            whole = merge(whole, part(alloc, &frozen, unit)?)?;
-        }
-        let found = findings(alloc, &frozen, &whole)?;
-        assert_eq!(rt; found.as_slice(), &wanted[..]);
-    }
+    assert_eq!(rt; found(alloc, &frozen)?.as_slice(), &wanted[..]);
     assert_eq!(rt; number_findings(alloc, &frozen)?.as_slice(), &wanted[4..]);
     Ok(())
 }

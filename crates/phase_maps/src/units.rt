@@ -1,26 +1,35 @@
-ghost use Rattle.std.specs.Prelude.{◌≡◌, ◌≤◌, IfOk, IsOkUnless, []};
-ghost use Rattle.model.specs.Units.{only};
+ghost use Rattle.std.specs.Prelude.{◌≡◌, ◌<◌, ◌≤◌, IfOk, IsOkUnless, []};
+ghost use Rattle.findings.specs.Findings.{is_of_maps};
 ghost use Rattle.frozen.specs.Kept.{frozen_view};
-ghost use Rattle.phase_maps.specs.Parts.{IsPart};
+ghost use Rattle.by_group.specs.Groups.{AreFoundIn};
+ghost use Rattle.phase_blocks.specs.Owners.{AreOwners};
 
-use crate::gathering::{Gathering, Part};
+use crate::blocks::add_blocks;
+use crate::numbers::add_numbers;
+use findings::Finding;
 use frozen::Frozen;
 use layout::Refusal;
+use phase_blocks::BlockOwners;
 use std::alloc::Global;
 
-/// What the inodes of this group claim, and what is wrong with their numbers. A unit that is no group has none.
-pub fn part(alloc: Global, frozen: &Frozen, unit: u32) -> Result<Part, Refusal>
-    ensures part { IfOk result (λ part. IsPart frozen.now.geometry (frozen_view frozen.now) (only unit) part) }
-    ensures no_group { frozen.now.geometry.groups ≤ unit → IfOk result (λ part. (part.claimed ≡ []) × (part.numbers ≡ [])) }
+/// What is found of the maps of a cylinder group, the data blocks of which have these owners. A unit that is no group has
+/// no maps.
+pub fn findings(
+    alloc: Global,
+    frozen: &Frozen,
+    unit: u32,
+    owners: &BlockOwners,
+) -> Result<Vec<Finding>, Refusal>
+    ensures found { IfOk result (λ found. AreOwners frozen.now.geometry (frozen_view frozen.now) unit owners.now → unit < frozen.now.geometry.groups
+        → AreFoundIn is_of_maps frozen.now.geometry (frozen_view frozen.now) unit found.items) }
+    ensures no_group { IfOk result (λ found. frozen.now.geometry.groups ≤ unit → found.items ≡ []) }
     ensures error { IsOkUnless result Refusal.NoMemory }
 {
-    let geometry = frozen.geometry();
-    if unit >= geometry.groups() {
-        return Ok(Part::new(alloc));
+    let mut found = Vec::new(alloc);
+    if unit >= frozen.geometry().groups() {
+        return Ok(found);
     }
-    let mut gathering = Gathering::new(alloc);
-    for number in geometry.numbers_of(unit) {
-        gathering.add_inode(frozen, number)?;
-    }
-    Ok(gathering.in_order()?)
+    add_blocks(frozen, unit, owners, &mut found)?;
+    add_numbers(frozen, unit, &mut found)?;
+    Ok(found)
 }

@@ -1,3 +1,4 @@
-pub mod CountLemmas
-pub mod EntryLemmas
-pub mod LinkLemmas
+mod CountLemmas
+mod LinkLemmas
+mod PartLemmas
+mod SetLemmas

@@ -1,60 +1,84 @@
--- What is found of links, and that these are the findings.
-use Rattle.std.proofs.Common.{◌≡◌, ◌<◌, ◌≤◌, ◌+◌, ℕ, true, false, cond, ltb, List, [], Option, Some, None, Contains, ◌⊎◌, inl, inr, ◌↔◌, refl, sym, ap, ◌∙◌, subst, arith, IsTrue}
-use Rattle.std.specs.List.Sorted.{IsStrictlySortedBy}
-use Rattle.std.proofs.lemmas.Bool.{cases_eq, cases_lt, le-ltb, lt-ltb, false≢true}
+-- What is found of the links of a group's inodes, and that these are the findings.
+use Rattle.std.proofs.Common.{◌≡◌, ◌<◌, ◌≤◌, ◌+◌, ◌/◌, ◌%◌, ℕ, Bool, true, false, cond, ◌&&◌, ◌||◌, eqb, ltb, List, [], Option, Some, None, ◌⊎◌, inl, inr, ◌↔◌, refl, sym, ap, ◌∙◌, subst, arith, IsTrue}
+use Rattle.std.proofs.lemmas.Bool.{cases_lt, eq-eqb, eqb-true, le-ltb, lt-ltb, false≢true}
 use Rattle.std.proofs.lemmas.Option.{none-some, same_Some}
 use Rattle.findings.specs.declared.finding.Finding.{Finding}
 use Rattle.findings.specs.declared.finding.Finding.TheVariants.{CountHigh, CountLow}
-use Rattle.findings.specs.Findings.{IsFinding, AreFindingsOf, finding_cmp, is_of_counts}
+use Rattle.findings.specs.Findings.{IsFinding, is_of_counts}
 use Rattle.findings.proofs.Sorted.{Contains-none}
+use Rattle.by_group.specs.Groups.{AreFoundIn, group_of}
 use Rattle.model.specs.Growth.{Adds}
-use Rattle.model.specs.Layout.{Geometry, inode_count, is_number}
+use Rattle.model.specs.Layout.{Geometry, is_number}
+use Rattle.model.specs.Units.{only, stands_in}
 use Rattle.model.specs.View.{View}
 use Rattle.model.specs.Reach.{HasEntries, IsReachable}
 use Rattle.model.specs.Reached.{AreReached}
-use Rattle.model.proofs.Adding.{adds_both, adds_nothing, adds_same}
+use Rattle.model.proofs.Adding.{adds_both, adds_nothing, adds_same, or_left, or_parts, or_right}
 use Rattle.model.proofs.Finite.{entries_once}
+use Rattle.model.proofs.GroupNumbers.{before_all, before_more, before_none}
 use Rattle.model.proofs.Same.{reachable_number}
-use Rattle.model.proofs.SlotLemmas.{number_low, number_below}
 use Rattle.sets.specs.Members.{is_among}
-use Rattle.refcounts.specs.Counts.{count_at}
-use Rattle.refcounts.specs.Links.{IsFoundBelow, IsFoundOfLinks, links_finding}
-use Rattle.refcounts.proofs.EntryLemmas.{among, there}
+use Rattle.refcounts.specs.Counts.{AreEntries, count_at}
+use Rattle.refcounts.specs.Links.{IsFoundAmong, IsFoundOfLinks, links_finding}
+use Rattle.refcounts.proofs.CountLemmas.{among, there}
 
-module _ (view : View) (reached counts : List ℕ) where
-  abbrev Here : ℕ → Finding → Type 0
-  Here n f = (is_among reached n ≡ true) × IsFoundOfLinks view n (count_at counts n) f
+module _ (geo : Geometry) (view : View) (reached counts : List ℕ) where
+  abbrev Among : (ℕ → Bool) → Finding → Type 0
+  Among = IsFoundAmong geo view reached counts
 
-  pub none_found : (found : List Finding) (n : ℕ) → n ≤ 2 → found ≡ [] → Adds (IsFoundBelow view reached counts n) [] found
-  none_found found n low e =
-      subst (λ xs. Adds (IsFoundBelow view reached counts n) [] xs) (sym e)
-      (adds_nothing (IsFoundBelow view reached counts n) [] (λ f h. omega (arith, h.1, h.2, low)))
+  same_found : (m n : ℕ → Bool) (old new : List Finding) → ((i : ℕ) → IsTrue (is_number geo i) → m i ≡ n i) → Adds (Among m) old new → Adds (Among n) old new
+  same_found m n old new same added =
+      adds_same (Among m) (Among n) old new
+      (λ f. ((λ h. (h.0, h.1, sym (same h.0 h.1) ∙ h.2, h.3, h.4)), (λ h. (h.0, h.1, same h.0 h.1 ∙ h.2, h.3, h.4)))) added
 
-  one_more : (n : ℕ) → 2 ≤ n → (f : Finding) → (IsFoundBelow view reached counts n f ⊎ Here n f) ↔ IsFoundBelow view reached counts (n + 1) f
-  one_more n some f = (
-    (λ h. elim h [ inl b ↦ (b.0, b.1, omega (arith, b.2), b.3, b.4) | inr p ↦ (n, some, omega arith, p.0, p.1) ]),
-    (λ b. elim (cases_eq b.0 n) [
-      | inl e ↦ inr (subst (λ k. Here k f) e (b.3, b.4))
-      | inr differs ↦ inl (b.0, b.1, omega (arith, b.2, differs), b.3, b.4)
-    ]),
-  )
+  module _ (m : ℕ → Bool) (n : ℕ) where
+    with_one : (f : Finding) → (Among m f ⊎ Among (λ i. eqb i n) f) ↔ Among (λ i. m i || eqb i n) f
+    with_one f = (
+      (λ h. elim h [ inl k ↦ (k.0, k.1, or_left (m k.0) (eqb k.0 n) k.2, k.3, k.4) | inr k ↦ (k.0, k.1, or_right (m k.0) (eqb k.0 n) k.2, k.3, k.4) ]),
+      (λ h. elim (or_parts (m h.0) (eqb h.0 n) h.2) [ inl k ↦ inl (h.0, h.1, k, h.3, h.4) | inr k ↦ inr (h.0, h.1, k, h.3, h.4) ]),
+    )
 
-  next_found : (n : ℕ) (mid new : List Finding) → 2 ≤ n → Adds (IsFoundBelow view reached counts n) [] mid → Adds (Here n) mid new → Adds (IsFoundBelow view reached counts (n + 1)) [] new
-  next_found n mid new some before here =
-      adds_same (λ f. IsFoundBelow view reached counts n f ⊎ Here n f) (IsFoundBelow view reached counts (n + 1)) [] new (one_more n some)
-      (adds_both (IsFoundBelow view reached counts n) (Here n) [] mid new before here)
+    more_found : (old mid new : List Finding) → Adds (Among m) old mid → Adds (Among (λ i. eqb i n)) mid new → Adds (Among (λ i. m i || eqb i n)) old new
+    more_found old mid new one two =
+        adds_same (λ f. Among m f ⊎ Among (λ i. eqb i n) f) (Among (λ i. m i || eqb i n)) old new with_one
+        (adds_both (Among m) (Among (λ i. eqb i n)) old mid new one two)
 
   -- an inode that is reached, and one that is not
-  pub reached_found : (n entries : ℕ) (mid new : List Finding) → 2 ≤ n → is_among reached n ≡ true → entries ≡ count_at counts n → Adds (IsFoundBelow view reached counts n) [] mid
-      → Adds (IsFoundOfLinks view n entries) mid new → Adds (IsFoundBelow view reached counts (n + 1)) [] new
-  reached_found n entries mid new some t e before here =
-      next_found n mid new some before
-      (adds_same (IsFoundOfLinks view n entries) (Here n) mid new (λ f. ((λ h. (t, subst (λ m. IsFoundOfLinks view n m f) e h)), (λ h. subst (λ m. IsFoundOfLinks view n m f) (sym e) h.1))) here)
+  pub reached_found : (n entries : ℕ) (mid new : List Finding) → IsTrue (is_number geo n) → is_among reached n ≡ true → entries ≡ count_at counts (n % geo.inodes)
+      → Adds (IsFoundOfLinks view n entries) mid new → Adds (Among (λ i. eqb i n)) mid new
+  reached_found n entries mid new t is e added =
+      adds_same (IsFoundOfLinks view n entries) (Among (λ i. eqb i n)) mid new
+      (λ f. (
+        (λ h. (n, t, eq-eqb n n refl, is, subst (λ m. IsFoundOfLinks view n m f) e h)),
+        (λ h. let same = eqb-true h.0 n h.2 in subst (λ m. IsFoundOfLinks view n m f) (sym e) (subst (λ i. IsFoundOfLinks view i (count_at counts (i % geo.inodes)) f) same h.4)),
+      )) added
 
-  pub other_found : (n : ℕ) (mid new : List Finding) → 2 ≤ n → is_among reached n ≡ false → new ≡ mid → Adds (IsFoundBelow view reached counts n) [] mid → Adds (IsFoundBelow view reached counts (n + 1)) [] new
-  other_found n mid new some f e before =
-      next_found n mid new some before
-      (subst (λ xs. Adds (Here n) mid xs) (sym e) (adds_nothing (Here n) mid (λ x h. false≢true (sym f ∙ h.0))))
+  pub other_found : (n : ℕ) (mid new : List Finding) → is_among reached n ≡ false → new ≡ mid → Adds (Among (λ i. eqb i n)) mid new
+  other_found n mid new none e =
+      subst (λ xs. Adds (Among (λ i. eqb i n)) mid xs) (sym e)
+      (adds_nothing (Among (λ i. eqb i n)) mid (λ f h. false≢true (sym none ∙ subst (λ i. is_among reached i ≡ true) (eqb-true h.0 n h.2) h.3)))
+
+  -- the numbers of a group, one after another
+  module _ (group : ℕ) where
+    abbrev pub In : ℕ → ℕ → Bool
+    In n i = stands_in geo (only group) i && ltb i n
+
+    pub found_first : (n : ℕ) → ((i : ℕ) → IsTrue (is_number geo i) → i / geo.inodes ≡ group → n ≤ i) → Adds (Among (In n)) [] []
+    found_first n first =
+        adds_nothing (Among (In n)) []
+        (λ f h. false≢true (sym (before_none (only group (h.0 / geo.inodes)) h.0 n (λ u. first h.0 h.1 (eqb-true (h.0 / geo.inodes) group u))) ∙ h.2))
+
+    pub found_next : (n : ℕ) (mid new : List Finding) → n / geo.inodes ≡ group → Adds (Among (In n)) [] mid → Adds (Among (λ i. eqb i n)) mid new → Adds (Among (In (n + 1))) [] new
+    found_next n mid new here one two =
+        same_found (λ i. In n i || eqb i n) (In (n + 1)) [] new
+        (λ i t. before_more (only group (i / geo.inodes)) i n (λ e. eq-eqb (i / geo.inodes) group (ap (λ m. m / geo.inodes) e ∙ here)))
+        (more_found (In n) n [] mid new one two)
+
+    pub found_all : (n : ℕ) (new : List Finding) → ((i : ℕ) → IsTrue (is_number geo i) → i / geo.inodes ≡ group → i < n) → Adds (Among (In n)) [] new
+        → Adds (Among (stands_in geo (only group))) [] new
+    found_all n new last added =
+        same_found (In n) (stands_in geo (only group)) [] new
+        (λ i t. before_all (only group (i / geo.inodes)) i n (λ u. last i t (eqb-true (i / geo.inodes) group u))) added
 
 -- ---- the findings
 module _ (i l e : ℕ) where
@@ -86,40 +110,41 @@ module _ (i l e : ℕ) where
     ]
   ]
 
-module _ (geo : Geometry) (view : View) (reached counts : List ℕ) (are : AreReached geo view reached) (counted : (i : ℕ) → IsTrue (is_number geo i) → HasEntries geo view i (count_at counts i)) where
-  is_finding : (n : ℕ) (f : Finding) → IsFoundBelow view reached counts n f → IsTrue (is_of_counts f) × IsFinding geo view f
-  is_finding n f h =
+module _ (geo : Geometry) (view : View) (reached counts : List ℕ) (group : ℕ) (are : AreReached geo view reached) (entries : AreEntries geo view group counts) where
+  abbrev IsIn : Finding → Type 0
+  IsIn f = IsTrue (is_of_counts f) × (group_of geo f ≡ group) × IsFinding geo view f
+
+  is_finding : (f : Finding) → IsFoundAmong geo view reached counts (stands_in geo (only group)) f → IsIn f
+  is_finding f h =
       let i = h.0 in
       let reachable = (are.exactly i).0 (there reached i h.3) in
-      let entries = counted i (reachable_number geo view i reachable) in
-      elim (links_cases i (view.inode i).links (count_at counts i) f h.4) [
-        | inl k ↦ subst (λ g. IsTrue (is_of_counts g) × IsFinding geo view g) (sym k.0) (refl, (reachable, refl, entries, k.1))
-        | inr k ↦ subst (λ g. IsTrue (is_of_counts g) × IsFinding geo view g) (sym k.0) (refl, (reachable, refl, entries, k.1))
+      let here = eqb-true (i / geo.inodes) group h.2 in
+      let has = entries.counted i h.1 here in
+      elim (links_cases i (view.inode i).links (count_at counts (i % geo.inodes)) f h.4) [
+        | inl k ↦ subst (λ g. IsIn g) (sym k.0) (refl, here, (reachable, refl, has, k.1))
+        | inr k ↦ subst (λ g. IsIn g) (sym k.0) (refl, here, (reachable, refl, has, k.1))
       ]
 
-  found_at : (i l e : ℕ) (f : Finding) → IsReachable geo view i → l ≡ (view.inode i).links → HasEntries geo view i e → links_finding i l e ≡ Some f → IsFoundBelow view reached counts (inode_count geo) f
-  found_at i l e f reachable links entries is =
+  found_at : (i l e : ℕ) (f : Finding) → i / geo.inodes ≡ group → IsReachable geo view i → l ≡ (view.inode i).links → HasEntries geo view i e → links_finding i l e ≡ Some f
+      → IsFoundAmong geo view reached counts (stands_in geo (only group)) f
+  found_at i l e f here reachable links has is =
       let number = reachable_number geo view i reachable in
-      let same : e ≡ count_at counts i = entries_once geo view i e (count_at counts i) entries (counted i number) in (
+      let same : e ≡ count_at counts (i % geo.inodes) = entries_once geo view i e (count_at counts (i % geo.inodes)) has (entries.counted i number here) in (
         i,
-        number_low geo i number,
-        number_below geo i number,
+        number,
+        eq-eqb (i / geo.inodes) group here,
         among reached i ((are.exactly i).1 reachable),
         subst (λ m. links_finding i (view.inode i).links m ≡ Some f) same (subst (λ m. links_finding i m e ≡ Some f) links is),
       )
 
-  finding_found : (f : Finding) → IsTrue (is_of_counts f) → IsFinding geo view f → IsFoundBelow view reached counts (inode_count geo) f
-  finding_found (CountHigh i l e) t h = found_at i l e (CountHigh i l e) h.0 h.1 h.2 (high_from i l e h.3)
-  finding_found (CountLow i l e) t h = found_at i l e (CountLow i l e) h.0 h.1 h.2 (low_from i l e h.3)
-  finding_found _ t h = absurd cc
+  finding_found : (f : Finding) → IsTrue (is_of_counts f) → group_of geo f ≡ group → IsFinding geo view f → IsFoundAmong geo view reached counts (stands_in geo (only group)) f
+  finding_found (CountHigh i l e) t here h = found_at i l e (CountHigh i l e) here h.0 h.1 h.2 (high_from i l e h.3)
+  finding_found (CountLow i l e) t here h = found_at i l e (CountLow i l e) here h.0 h.1 h.2 (low_from i l e h.3)
+  finding_found _ t here h = absurd cc
 
-  -- what is found of all reached inodes, in order
-  pub all_found : (found fs : List Finding) → Adds (IsFoundBelow view reached counts (inode_count geo)) [] found → IsStrictlySortedBy finding_cmp fs → ((f : Finding) → Contains fs f ↔ Contains found f)
-      → AreFindingsOf is_of_counts geo view fs
-  all_found found fs adds sorted same = record {
-    in_order = sorted;
-    exactly = λ f. (
-      (λ c. elim ((adds f).0 ((same f).0 c)) [ inl none ↦ absurd (Contains-none f none) | inr h ↦ is_finding (inode_count geo) f h ]),
-      (λ h. (same f).1 ((adds f).1 (inr (finding_found f h.0 h.1)))),
-    );
-  }
+  -- what is found of all reached inodes of the group
+  pub all_found : (found : List Finding) → Adds (IsFoundAmong geo view reached counts (stands_in geo (only group))) [] found → AreFoundIn is_of_counts geo view group found
+  all_found found adds f = (
+    (λ c. elim ((adds f).0 c) [ inl none ↦ absurd (Contains-none f none) | inr h ↦ is_finding f h ]),
+    (λ h. (adds f).1 (inr (finding_found f h.0 h.1 h.2))),
+  )

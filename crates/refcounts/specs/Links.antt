@@ -1,7 +1,8 @@
 -- What is found of an inode's links.
-use Rattle.std.specs.Prelude.{◌≡◌, ℕ, ◌≤◌, ◌<◌, nat_lt, true, List, Option, Some, None, if◌then◌else◌}
+use Rattle.std.specs.Prelude.{◌≡◌, ℕ, ◌%◌, Bool, nat_lt, true, List, Option, Some, None, if◌then◌else◌, IsTrue}
 use Rattle.findings.specs.declared.finding.Finding.{Finding}
 use Rattle.findings.specs.declared.finding.Finding.TheVariants.{CountHigh, CountLow}
+use Rattle.model.specs.Layout.{Geometry, is_number}
 use Rattle.model.specs.View.{View}
 use Rattle.sets.specs.Members.{is_among}
 use Rattle.refcounts.specs.Counts.{count_at}
@@ -16,6 +17,7 @@ links_finding i links entries =
 abbrev pub IsFoundOfLinks : View → ℕ → ℕ → Finding → Type 0
 IsFoundOfLinks view i entries f = links_finding i (view.inode i).links entries ≡ Some f
 
--- what is found of the reached inodes below n
-abbrev pub IsFoundBelow : View → List ℕ → List ℕ → ℕ → Finding → Type 0
-IsFoundBelow view reached counts n f = (i : ℕ) × (2 ≤ i) × (i < n) × (is_among reached i ≡ true) × IsFoundOfLinks view i (count_at counts i) f
+-- what is found of those of these inodes that are reached
+abbrev pub IsFoundAmong : Geometry → View → List ℕ → List ℕ → (ℕ → Bool) → Finding → Type 0
+IsFoundAmong geo view reached counts inodes f =
+    (i : ℕ) × IsTrue (is_number geo i) × IsTrue (inodes i) × (is_among reached i ≡ true) × IsFoundOfLinks view i (count_at counts (i % geo.inodes)) f

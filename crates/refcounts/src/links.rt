@@ -1,59 +1,49 @@
-ghost use Rattle.std.specs.Prelude.{◌≡◌, [], IfOk, OnOk, IsOkUnless, IsTrue};
-ghost use Rattle.model.specs.Units.{Units, IsEveryGroup};
-ghost use Rattle.model.specs.Reached.{AreReached};
-ghost use Rattle.findings.specs.Findings.{AreFindingsOf, is_of_counts};
-ghost use Rattle.frozen.specs.Kept.{KeepsFrame, frozen_view};
-ghost use Rattle.directories.specs.Named.{IsNamed};
-ghost use Rattle.refcounts.specs.Links.{IsFoundBelow, IsFoundOfLinks, links_finding};
+//! What is found of the links of a group's inodes.
+ghost use Rattle.std.specs.Prelude.{◌≡◌, ◌<◌, ◌≤◌, [], IfOk, OnOk, IsOkUnless, IsTrue};
+ghost use Rattle.by_group.specs.Groups.{AreFoundIn};
+ghost use Rattle.findings.specs.Findings.{is_of_counts};
+ghost use Rattle.frozen.specs.Kept.{frozen_view};
 ghost use Rattle.model.specs.Growth.{Adds};
-ghost use Rattle.model.specs.Layout.{inode_count, is_number};
+ghost use Rattle.model.specs.Layout.{is_number};
+ghost use Rattle.model.specs.Reached.{AreReached};
+ghost use Rattle.refcounts.specs.Counts.{AreEntries};
+ghost use Rattle.refcounts.specs.Links.{IsFoundOfLinks, links_finding};
 
-use crate::counts::{Counts, count};
-use directories::Named;
-use findings::{Finding, in_order};
+use crate::counting::EntryCounts;
+use findings::Finding;
 use frozen::Frozen;
-use layout::{ROOT, Refusal};
+use layout::Refusal;
 use sets::Members;
 use std::alloc::{AllocError, Global};
-use std::collections::BTreeSet;
 
-/// The reachable inodes that have more links than entries, and then those that have fewer. Only `NoMemory` is refused.
-pub fn finish(
+/// The reachable inodes of this group that have more links than entries, and those that have fewer, where these are the
+/// group's entries. A unit that is no group has no inodes. Only `NoMemory` is refused.
+pub fn findings(
     alloc: Global,
     frozen: &Frozen,
-    whole: &Named,
-    reached: &BTreeSet<u32>,
+    unit: u32,
+    counts: &EntryCounts,
+    reached: &Members,
 ) -> Result<Vec<Finding>, Refusal>
-    ensures found { IfOk result (λ found. (units : Units) → IsNamed frozen.now.geometry (frozen_view frozen.now) 0 units whole.now → IsEveryGroup frozen.now.geometry units
-        → AreReached frozen.now.geometry (frozen_view frozen.now) reached.now.keys
-        → AreFindingsOf is_of_counts frozen.now.geometry (frozen_view frozen.now) found.items) }
+    ensures found { IfOk result (λ found. AreReached frozen.now.geometry (frozen_view frozen.now) reached.now
+        → AreEntries frozen.now.geometry (frozen_view frozen.now) unit counts.now → unit < frozen.now.geometry.groups
+        → AreFoundIn is_of_counts frozen.now.geometry (frozen_view frozen.now) unit found.items) }
+    ensures no_group { IfOk result (λ found. frozen.now.geometry.groups ≤ unit → found.items ≡ []) }
     ensures error { IsOkUnless result Refusal.NoMemory }
 {
-    let counts = count(alloc, frozen, whole, reached)?;
-    in_order(compare(alloc, frozen, &counts, reached)?)
-}
-
-/// What is found of the reached inodes, where these are their entries.
-fn compare(
-    alloc: Global,
-    frozen: &Frozen,
-    counts: &Counts,
-    reached: &BTreeSet<u32>,
-) -> Result<Vec<Finding>, AllocError>
-    ensures found { IfOk result (λ found. Adds (IsFoundBelow (frozen_view frozen.now) reached.now.keys counts.now (inode_count frozen.now.geometry)) [] found.items) }
-    ensures frame { KeepsFrame frozen.now }
-{
-    let inodes = frozen.geometry().inodes();
-    let members = Members::of_set(alloc, reached)?;
+    let geometry = frozen.geometry();
     let mut found = Vec::new(alloc);
-    for number in ROOT..inodes {
-        if members.has(number) {
-            add_links(frozen, number, counts.of(number), &mut found)?;
+    if unit >= geometry.groups() {
+        return Ok(found);
+    }
+    for number in geometry.numbers_of(unit) {
+        if reached.has(number) {
+            let entries = counts.of(number % geometry.inodes_a_group());
+            add_links(frozen, number, entries, &mut found)?;
         }
     }
     Ok(found)
 }
-
 /// Adds what is found of an inode that so many entries name.
 fn add_links(
     frozen: &Frozen,

@@ -1,14 +1,15 @@
-use crate::{count, finish, merge, part};
+use crate::{Part, counts, findings, part};
 use device::{Before, Device, MemDevice, format};
 use findings::Finding;
 use frozen::{Frozen, load};
 use layout::{BLOCK_BYTES, Geometry, Refusal};
+use sets::Members;
 use std::alloc::Global;
-use std::collections::BTreeSet;
 
 /// The bytes that differ from a fresh image of two groups of 16 blocks and 16 inodes: the block, the byte, the value.
-/// The root has 3 links, and its slots 2 and 3 name file 5, which has 1 link, "a" and "b".
-const CHANGES: [(u32, usize, u8); 9] = [
+/// The root has 3 links; its slots 2 and 3 name file 5, which has 1 link, "a" and "b", and its slot 4 names file 20 of
+/// the second group, which has no link, "c".
+const CHANGES: [(u32, usize, u8); 12] = [
     (2, 258, 3),
     (2, 640, 1),
     (2, 642, 1),
@@ -18,6 +19,9 @@ const CHANGES: [(u32, usize, u8); 9] = [
     (4, 192, 5),
     (4, 196, 1),
     (4, 200, b'b'),
+    (4, 256, 20),
+    (4, 260, 1),
+    (4, 264, b'c'),
 ];
 
 /// The metadata of that image.
@@ -47,20 +51,44 @@ fn set_byte(device: &mut MemDevice, address: u32, byte: usize, value: u8) -> Res
     Ok(())
 }
 
+/// What the directories of both groups name.
+fn parts(alloc: Global, frozen: &Frozen, reached: &Members) -> Result<Vec<Part>, Refusal> {
+    let mut parts = Vec::new(alloc);
+    for unit in 0..2 {
+        parts.push(part(alloc, frozen, unit, reached)?)?;
+    }
+    Ok(parts)
+}
+
 #[test]
 fn links_are_compared_with_entries(rt: HostRuntime) -> Result<(), Refusal> {
     let alloc = rt.alloc();
     let frozen = changed_image(alloc)?;
-    let whole = merge(part(alloc, &frozen, 1)?, part(alloc, &frozen, 0)?)?;
-    let mut reached = BTreeSet::new(alloc);
-    reached.insert(2)?;
-    reached.insert(5)?;
-    let counts = count(alloc, &frozen, &whole, &reached)?;
-    assert_eq!(rt; (counts.of(2), counts.of(5), counts.of(6)), (2, 2, 0));
-    let found = finish(alloc, &frozen, &whole, &reached)?;
+    let reached = Members::new(alloc, vec![in alloc; 2, 5, 20]?)?;
+    let parts = parts(alloc, &frozen, &reached)?;
+    let first = counts(alloc, &frozen, parts.as_slice(), 0)?;
+    assert_eq!(rt; (first.of(2), first.of(5), first.of(6)), (2, 2, 0));
     assert_eq!(rt;
-        found.as_slice(),
+        findings(alloc, &frozen, 0, &first, &reached)?.as_slice(),
         &[Finding::CountHigh(2, 3, 2), Finding::CountLow(5, 1, 2)][..]
     );
+    let second = counts(alloc, &frozen, parts.as_slice(), 1)?;
+    assert_eq!(rt; (second.of(4), second.of(5)), (1, 0));
+    assert_eq!(rt;
+        findings(alloc, &frozen, 1, &second, &reached)?.as_slice(),
+        &[Finding::CountLow(20, 0, 1)][..]
+    );
+    Ok(())
+}
+
+#[test]
+fn a_unit_that_is_no_group_has_nothing(rt: HostRuntime) -> Result<(), Refusal> {
+    let alloc = rt.alloc();
+    let frozen = changed_image(alloc)?;
+    let reached = Members::new(alloc, vec![in alloc; 2, 5, 20]?)?;
+    let parts = parts(alloc, &frozen, &reached)?;
+    let none = counts(alloc, &frozen, parts.as_slice(), 2)?;
+    assert_eq!(rt; (none.of(0), none.of(2)), (0, 0));
+    assert!(rt; findings(alloc, &frozen, 2, &none, &reached)?.is_empty());
     Ok(())
 }

@@ -7,4 +7,4 @@ mod ordered;
 mod tests;
 
 pub use members::Members;
-pub use ordered::{in_order, union};
+pub use ordered::in_order;

@@ -2,7 +2,7 @@
 use device::{Before, MemDevice, format};
 use dirent::SLOT_BYTES;
 use findings::Finding;
-use frozen::load;
+use frozen::{Frozen, load};
 use fsck::{Checked, check_one};
 use inode::{DIRECT_POINTERS, DIRECTORY, FILE, RECORD_BYTES, Record};
 use layout::{BLOCK_BYTES, Block, Geometry, Refusal, fresh_block};
@@ -72,13 +72,21 @@ pub(crate) fn checked<R: Threads + AllocGlobal + Sync>(
     changes: &[Change],
 ) -> Result<Checked, Refusal> {
     let alloc = rt.alloc();
+    check_one(rt, alloc, &changed(alloc, geometry, changes)?)
+}
+
+/// What is kept of a fresh image with these changes.
+pub(crate) fn changed(
+    alloc: Global,
+    geometry: &Geometry,
+    changes: &[Change],
+) -> Result<Arc<Frozen>, Refusal> {
     let mut bytes = fresh_bytes(alloc, geometry)?;
     for change in changes {
         apply(&mut bytes, geometry, change)?;
     }
     let mut device = MemDevice::from_bytes(alloc, bytes.as_slice())?;
-    let frozen = Arc::new(alloc, load(alloc, &mut device)?)?;
-    check_one(rt, alloc, &frozen)
+    Ok(Arc::new(alloc, load(alloc, &mut device)?)?)
 }
 
 /// What a check finds on a fresh image with these changes: a line for each finding that is wanted.

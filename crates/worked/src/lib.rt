@@ -7,6 +7,8 @@ mod image;
 #[cfg(test)]
 mod names;
 #[cfg(test)]
+mod shared;
+#[cfg(test)]
 mod used_blocks;
 #[cfg(test)]
 mod whole;

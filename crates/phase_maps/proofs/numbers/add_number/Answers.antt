@@ -1,32 +1,23 @@
--- The finding of the number goes in where there is one.
-use Rattle.std.proofs.Common.{◌≡◌, ◌∙◌, eqb, true, Some, sym, ap, subst}
-use Rattle.std.proofs.lemmas.Option.{same_Some}
-use Rattle.std.specs.BTreeSet.{Updates}
-use Rattle.model.specs.View.{Inode}
+-- The finding of the number is pushed where there is one.
+use Rattle.std.proofs.Common.{◌≡◌, ◌∙◌, eqb, Some, sym}
 use Rattle.frozen.specs.Kept.{frozen_view, kept_bytes}
-use Rattle.phase_maps.specs.Parts.{IsFoundOfNumbers}
-use Rattle.model.proofs.Adding.{adds_insert, adds_nothing, adds_same}
-use Rattle.findings.proofs.FindingOrder.{same_order, finding_exact, finding_total, sorted_findings}
+use Rattle.phase_maps.specs.NumberFindings.{IsFoundOfNumbers}
+use Rattle.model.proofs.Adding.{adds_element, adds_no_element, adds_same}
 use Rattle.phase_maps.proofs.NumberCases.{number_found, number_marked_at}
 use Rattle.phase_maps.proofs.numbers.add_number.Goals as goal
 
-pub returns-in_ok-insert-clause-finding : goal.returns-in_ok-insert-clause-finding
-returns-in_ok-insert-clause-finding c =
+pub returns-in_ok-push : goal.returns-in_ok-push
+returns-in_ok-push c =
     let kept = c.args.frozen.now in
-    let same = number_found kept.geometry (frozen_view kept) c.args.number c.requires.number c.is_marked.result (eqb c.inode.inside.mode 0) c.number_finding.result c.number_finding.ensures
-    (c.is_marked.ensures ∙ sym (number_marked_at kept.geometry (kept_bytes kept.blocks) c.args.number c.requires.number))
-    (ap (λ (r : Inode). eqb r.mode 0) (c.inode.view_is ∙ c.requires.inode)) in
-    adds_same (λ f. c.in-Some.finding ≡ f) (IsFoundOfNumbers kept.geometry (frozen_view kept) (λ i. eqb i c.args.number)) c.args.numbers.now.keys c.insert.new.self.keys
-    (λ f. ((λ e. (same f).0 (c.in-Some.is ∙ ap Some e)), (λ h. same_Some c.in-Some.finding f (sym c.in-Some.is ∙ (same f).1 h))))
-    (adds_insert finding_total finding_exact c.args.numbers.now c.insert.new.self c.in-Some.finding (subst (λ cmp. Updates cmp c.args.numbers.now c.insert.new.self c.in-Some.finding true) same_order c.in_ok-insert.ensures.updates))
+    let same = number_found kept.geometry (frozen_view kept) c.args.number c.requires c.is_marked.result c.is_free.result c.number_finding.result c.number_finding.ensures
+    (c.is_marked.ensures ∙ sym (number_marked_at kept.geometry (kept_bytes kept.blocks) c.args.number c.requires)) c.is_free.ensures in
+    adds_same (λ f. c.number_finding.result ≡ Some f) (IsFoundOfNumbers kept.geometry (frozen_view kept) (λ i. eqb i c.args.number)) c.args.found.now.items c.push.new.self.items same
+    (adds_element c.number_finding.result c.args.found.now.items c.push.new.self.items c.in-Some.finding c.in-Some.is c.in_ok-push.ensures.items)
 
-pub returns-in_ok-insert-clause-ordered : goal.returns-in_ok-insert-clause-ordered
-returns-in_ok-insert-clause-ordered c = λ _. sorted_findings c.insert.new.self.keys c.in_ok-insert.ensures.ordered
-
-pub returns-in_default-clause-finding : goal.returns-in_default-clause-finding
-returns-in_default-clause-finding c =
+pub returns-in_default : goal.returns-in_default
+returns-in_default c =
     let kept = c.args.frozen.now in
-    adds_nothing (IsFoundOfNumbers kept.geometry (frozen_view kept) (λ i. eqb i c.args.number)) c.args.numbers.now.keys
-    (λ f h. c.in_default.not-Some f ((number_found kept.geometry (frozen_view kept) c.args.number c.requires.number c.is_marked.result (eqb c.inode.inside.mode 0) c.number_finding.result c.number_finding.ensures
-    (c.is_marked.ensures ∙ sym (number_marked_at kept.geometry (kept_bytes kept.blocks) c.args.number c.requires.number))
-    (ap (λ (r : Inode). eqb r.mode 0) (c.inode.view_is ∙ c.requires.inode)) f).1 h))
+    let same = number_found kept.geometry (frozen_view kept) c.args.number c.requires c.is_marked.result c.is_free.result c.number_finding.result c.number_finding.ensures
+    (c.is_marked.ensures ∙ sym (number_marked_at kept.geometry (kept_bytes kept.blocks) c.args.number c.requires)) c.is_free.ensures in
+    adds_same (λ f. c.number_finding.result ≡ Some f) (IsFoundOfNumbers kept.geometry (frozen_view kept) (λ i. eqb i c.args.number)) c.args.found.now.items c.args.found.now.items same
+    (adds_no_element c.number_finding.result c.args.found.now.items c.args.found.now.items c.in_default.not-Some cc)

@@ -1,0 +1,96 @@
+//! The phases that go over the groups by one worker, on the calling thread.
+ghost use Rattle.std.specs.Prelude.{◌≡◌};
+ghost use Rattle.frozen.specs.Kept.{KeepsFrame};
+ghost use Rattle.fsck.specs.Parts.{MakesParts, Reaches, are_links_if, are_maps_of, is_owned};
+
+use crate::hands::parts_of_one;
+use crate::phases::walk_of;
+use crate::works::{Blocks, Counts, Entries, Links, Maps, Owners};
+use by_group::OfGroup;
+use findings::Finding;
+use frozen::Frozen;
+use layout::Refusal;
+use phase_blocks::BlockOwners;
+use sets::Members;
+use std::alloc::Global;
+use std::collections::BTreeSet;
+
+/// Who owns the blocks of each group, and what phase 1 finds of it.
+pub(crate) fn owners_by_one(
+    alloc: Global,
+    frozen: &Frozen,
+) -> Result<Vec<OfGroup<BlockOwners>>, Refusal>
+    ensures frame { KeepsFrame frozen.now }
+    ensures made { MakesParts (λ unit made. is_owned frozen.now unit made.kept made.found.items) frozen.now.geometry.groups result }
+{
+    let parts = parts_of_one(alloc, frozen, Blocks { alloc, frozen })?;
+    let parts = parts.as_slice();
+    parts_of_one(
+        alloc,
+        frozen,
+        Owners {
+            alloc,
+            frozen,
+            parts,
+        },
+    )
+}
+
+/// The reachable inodes.
+pub(crate) fn reach(alloc: Global, frozen: &Frozen) -> Result<BTreeSet<u32>, Refusal>
+    ensures { Reaches frozen.now result }
+{
+    let parts = parts_of_one(alloc, frozen, Entries { alloc, frozen })?;
+    walk_of(alloc, frozen, parts)
+}
+
+/// What phase 4 finds of each group, where these are the reachable inodes.
+pub(crate) fn links_by_one(
+    alloc: Global,
+    frozen: &Frozen,
+    reached: &BTreeSet<u32>,
+) -> Result<Vec<Vec<Finding>>, Refusal>
+    ensures { MakesParts (λ unit found. are_links_if frozen.now reached.now.keys unit found.items) frozen.now.geometry.groups result }
+{
+    let members = Members::of_set(alloc, reached)?;
+    let reached = &members;
+    let parts = parts_of_one(
+        alloc,
+        frozen,
+        Counts {
+            alloc,
+            frozen,
+            reached,
+        },
+    )?;
+    let parts = parts.as_slice();
+    parts_of_one(
+        alloc,
+        frozen,
+        Links {
+            alloc,
+            frozen,
+            reached,
+            parts,
+        },
+    )
+}
+
+/// What phase 5 finds of each group, where these are the owners of its blocks.
+pub(crate) fn maps_by_one(
+    alloc: Global,
+    frozen: &Frozen,
+    owners: &[BlockOwners],
+) -> Result<Vec<Vec<Finding>>, Refusal>
+    ensures { MakesParts (λ unit found. are_maps_of frozen.now owners.now unit found.items) frozen.now.geometry.groups result }
+{
+    parts_of_one(
+        alloc,
+        frozen,
+        Maps {
+            alloc,
+            frozen,
+            owners,
+        },
+    )
+}
