@@ -10,6 +10,10 @@ pub enum Tool<'a> {
     Info {
         image: &'a str,
     },
+    /// A picture of what each block of an image is used for.
+    Map {
+        image: &'a str,
+    },
     /// The names in a directory, in this style.
     Ls {
         image: &'a str,
@@ -61,6 +65,7 @@ fn look_of<'a>(name: &str, options: &ArgMatches<'a>) -> Option<Tool<'a>> {
     let image = options.get_str("image")?;
     match name {
         "info" => Some(Tool::Info { image }),
+        "map" => Some(Tool::Map { image }),
         "ls" => Some(Tool::Ls {
             image,
             path: options.get_str("path")?,
@@ -118,6 +123,7 @@ pub(crate) fn with_tools<'a>(
 ) -> Result<Command<'a>, AllocError> {
     program
         .subcommand(info(alloc)?)?
+        .subcommand(map(alloc)?)?
         .subcommand(ls(alloc)?)?
         .subcommand(stat(alloc)?)?
         .subcommand(cat(alloc)?)?
@@ -131,6 +137,14 @@ pub(crate) fn with_tools<'a>(
 fn info<'a>(alloc: Global) -> Result<Command<'a>, AllocError> {
     Command::new(alloc, "info")
         .about("Prints the numbers of an image")
+        .arg(image(alloc))
+}
+
+fn map<'a>(alloc: Global) -> Result<Command<'a>, AllocError> {
+    Command::new(alloc, "map")
+        .about(
+            "Writes a picture of an image to standard output, in SVG: what each block is used for",
+        )
         .arg(image(alloc))
 }
 

@@ -8,6 +8,7 @@ use changing::{Outcome, change_device, outcome_of};
 use device::FileDevice;
 use frozen::load;
 use layout::Refusal;
+use pictures::{draw, look};
 use snapshot::Command;
 use std::alloc::Global;
 use std::marker::Brand;
@@ -45,6 +46,10 @@ where
         Tool::Info { image } => {
             let mut device: FileDevice<R::File, Brand> = FileDevice::open(rt, image)?;
             info(alloc, &mut device)
+        }
+        Tool::Map { image } => {
+            let mut device: FileDevice<R::File, Brand> = FileDevice::open(rt, image)?;
+            Ok(draw(alloc, &look(alloc, &mut device)?)?.into_bytes())
         }
         Tool::Ls { image, path, style } => {
             let path = path_of(alloc, path)?;

@@ -236,3 +236,41 @@ fn a_damaged_image_is_looked_into_and_not_written(rt: HostRuntime) -> Result<(),
 /// What the numbers of a fresh image are whose block 9 is marked.
 const SOFT_NUMBERS: &str =
     "groups 1\nblocks-a-group 16\ninodes-a-group 16\nblocks 17\nblock-bytes 1024\nnumbers-used 1\nnumbers-free 13\ndata-blocks-used 2\ndata-blocks-free 11\nfiles 0\ndirectories 1\nlongest-free-run 7\n";
+
+/// The picture of a fresh image of 8 blocks.
+const PICTURE: &str =
+    "<svg xmlns=\"http://www.w3.org/2000/svg\" width=\"792\" height=\"184\" viewBox=\"0 0 792 184\" font-family=\"sans-serif\" font-size=\"12\" stroke-width=\".9\" stroke-dasharray=\".9 .1\">\n\
+     <title>What the blocks of a volume are used for</title>\n\
+     <rect width=\"792\" height=\"184\" fill=\"#FFFFFF\"/>\n\
+     <text x=\"16\" y=\"30\" font-size=\"16\">9 blocks: the superblock, and 1 group of 8</text>\n\
+     <text x=\"152\" y=\"120\" text-anchor=\"end\">from block</text><text x=\"160\" y=\"120\">64 blocks a row</text>\n\
+     <g transform=\"translate(16 46)\"><rect width=\"14\" height=\"14\" fill=\"#000000\"/><text x=\"20\" y=\"12\">superblock and maps 2</text></g>\n\
+     <g transform=\"translate(206 46)\"><rect width=\"14\" height=\"14\" fill=\"#0072B2\"/><text x=\"20\" y=\"12\">inodes 1</text></g>\n\
+     <g transform=\"translate(396 46)\"><rect width=\"14\" height=\"14\" fill=\"#009E73\"/><text x=\"20\" y=\"12\">directory 1</text></g>\n\
+     <g transform=\"translate(586 46)\"><rect width=\"14\" height=\"14\" fill=\"#CC79A7\"/><text x=\"20\" y=\"12\">indirect 0</text></g>\n\
+     <g transform=\"translate(16 68)\"><rect width=\"14\" height=\"14\" fill=\"#56B4E9\"/><text x=\"20\" y=\"12\">file 0</text></g>\n\
+     <g transform=\"translate(206 68)\"><rect width=\"14\" height=\"14\" fill=\"#E6E6E6\"/><text x=\"20\" y=\"12\">free 5</text></g>\n\
+     <g transform=\"translate(396 68)\"><rect width=\"14\" height=\"14\" fill=\"#E69F00\"/><text x=\"20\" y=\"12\">lost 0</text></g>\n\
+     <g transform=\"translate(586 68)\"><rect width=\"14\" height=\"14\" fill=\"#D55E00\"/><text x=\"20\" y=\"12\">duplicate 0</text></g>\n\
+     <text x=\"16\" y=\"140\">superblock</text><text x=\"152\" y=\"140\" text-anchor=\"end\">0</text>\n\
+     <g transform=\"translate(160 136) scale(16)\">\n\
+     <path stroke=\"#000000\" d=\"M0 0h1\"/>\n\
+     </g>\n\
+     <text x=\"16\" y=\"164\">group 0</text><text x=\"152\" y=\"164\" text-anchor=\"end\">1</text>\n\
+     <g transform=\"translate(160 160) scale(16)\">\n\
+     <path stroke=\"#000000\" d=\"M0 0h1\"/>\n\
+     <path stroke=\"#0072B2\" d=\"M1 0h1\"/>\n\
+     <path stroke=\"#009E73\" d=\"M2 0h1\"/>\n\
+     <path stroke=\"#E6E6E6\" d=\"M3 0h5\"/>\n\
+     </g>\n\
+     </svg>\n";
+
+#[test]
+fn a_picture_is_printed(rt: HostRuntime) -> Result<(), Fail> {
+    let image = "rows_everyday_picture.img";
+    made(&rt, "--groups 1 --blocks 8 --inodes 8", image)?;
+    gives(&rt, "map", image, printed(PICTURE, 0))?;
+    fs::remove_file(&rt, image)?;
+    gives(&rt, "map", image, refused("refused 2 Device\n", 4))?;
+    Ok(())
+}

@@ -1,0 +1,4 @@
+pub mod SetLemmas
+pub mod WalkLemmas
+pub mod ViewLemmas
+pub mod OneUse

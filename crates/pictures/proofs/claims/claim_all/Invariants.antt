@@ -1,0 +1,6 @@
+use Rattle.frozen.specs.Kept.{frozen_view}
+use Rattle.pictures.specs.Walk.{ShowBefore}
+use Rattle.pictures.proofs.claims.claim_all.Given as goal
+
+abbrev pub invariant-loop-position : goal.invariant-loop-position
+invariant-loop-position l = ShowBefore l.frozen.geometry (frozen_view l.frozen) l.number l.position l.cells.items

@@ -1,0 +1,4 @@
+pub mod Pictured
+pub mod Uses
+pub mod Walk
+pub mod Found
