@@ -1,4 +1,4 @@
-"""Runs a program of which one call of the C library fails: the one of a given number. bench/cuts uses it.
+"""Runs a program of which one call of the C library fails: the one of a given number. bench/cuts and bench/refused use it.
 
 A small library in C, which gcc builds in a folder of its own, stands before the C library (LD_PRELOAD). It counts calls in a file
 that it shares with this program, since a program may end without a word."""

@@ -1,0 +1,22 @@
+//! What volumes are tried with that break at every place: images, lists of commands with their answers, a device that counts
+//! its calls, and a look at what a stop leaves.
+#![tactic(auto)]
+
+mod carrying;
+mod images;
+mod rows;
+mod seen;
+mod stops;
+mod trial;
+mod watched;
+
+pub use carrying::{Told, carry_out, write_told};
+pub use images::{Put, bytes_of, mount};
+pub use rows::{
+    COUNT_TOO_HIGH, FULL, INTO_NEW_DIRECTORY, LOST_FILE, NUMBER_OF_ANOTHER, SECOND_BLOCK,
+    TWO_USERS, UNLINKED_AND_OPEN,
+};
+pub use seen::Seen;
+pub use stops::{Fault, fault_of};
+pub use trial::{Action, Step, Trial, steps_of};
+pub use watched::Watched;

@@ -1,0 +1,204 @@
+//! The trials: what leaks is found and given back while users go on, an image that is full, and names that are given and taken
+//! with the device flushed block by block.
+use crate::trial::Trial;
+
+/// A group of 16 blocks and 16 inodes: blocks 4 to 16 are data blocks, the root is inode 2 and has block 4.
+const SMALL: [u32; 3] = [1, 16, 16];
+
+/// File 5 has block 6 and no name. It is dropped while a snapshot holds the block.
+pub const LOST_FILE: Trial = Trial {
+    name: "lost file",
+    numbers: SMALL,
+    puts: &[
+        (1_056, b"\x24"),
+        (1_184, b"\x05"),
+        (2_688, b"\x01\0\x01\0\0\x04\0\0\x06"),
+    ],
+    lines: &[
+        ("freeze", "ok"),
+        ("check", "lost inode 5"),
+        ("unmarked", "11"),
+        ("repair 0", "ok"),
+        ("unmarked", "11"),
+        ("release", "ok"),
+        ("unmarked", "12"),
+        ("sync", "ok"),
+        ("freeze", "ok"),
+        ("check", "clean"),
+        ("release", "ok"),
+    ],
+};
+
+/// File 5 has the name /a and two links. It loses its name after the check and before the repair.
+pub const COUNT_TOO_HIGH: Trial = Trial {
+    name: "count too high",
+    numbers: SMALL,
+    puts: &[
+        (1_056, b"\x24"),
+        (2_688, b"\x01\0\x02\0"),
+        (4_224, b"\x05\0\0\0\x01\0\0\0a"),
+    ],
+    lines: &[
+        ("freeze", "ok"),
+        ("check", "count high 5 links 2 entries 1"),
+        ("stat /a", "ok number 5 file links 2 size 0"),
+        ("unlink /a", "ok"),
+        ("stat /a", "refused 7 NotFound"),
+        ("repair 0", "ok"),
+        ("repair 0", "refused 23 AlreadyDone"),
+        ("release", "ok"),
+        ("sync", "ok"),
+        ("freeze", "ok"),
+        ("check", "clean"),
+        ("release", "ok"),
+    ],
+};
+
+/// A file without a name is open while the volume is checked, and closed before the repairs.
+pub const UNLINKED_AND_OPEN: Trial = Trial {
+    name: "unlinked and open",
+    numbers: SMALL,
+    puts: &[],
+    lines: &[
+        ("create /t", "ok 3"),
+        ("open /t", "ok 0"),
+        ("write 0 0 abc", "ok"),
+        ("unmarked", "11"),
+        ("unlink /t", "ok"),
+        ("freeze", "ok"),
+        ("check", "clean"),
+        ("read 0 0", "ok 616263"),
+        ("close 0", "ok"),
+        ("unmarked", "12"),
+        ("create /n", "ok 3"),
+        ("repair 0", "refused 18 BadIndex"),
+        ("stat /n", "ok number 3 file links 1 size 0"),
+        ("release", "ok"),
+        ("sync", "ok"),
+    ],
+};
+
+/// A file of 268 blocks is cut while a snapshot holds them, and another one takes all that is left. There are 508 data blocks
+/// beside the root's.
+pub const FULL: Trial = Trial {
+    name: "full",
+    numbers: [1, 512, 16],
+    puts: &[],
+    lines: &[
+        ("create /a", "ok 3"),
+        ("open /a", "ok 0"),
+        ("fill 0 0 268", "ok"),
+        ("write 0 268 x", "refused 16 TooBig"),
+        ("create /b", "ok 4"),
+        ("open /b", "ok 1"),
+        ("write 1 1 x", "refused 18 BadIndex"),
+        ("freeze", "ok"),
+        ("unmarked", "239"),
+        ("truncate 0 0", "ok"),
+        ("unmarked", "239"),
+        ("fill 1 0 238", "ok"),
+        ("unmarked", "0"),
+        ("write 1 238 x", "refused 14 NoBlock"),
+        ("release", "ok"),
+        ("unmarked", "269"),
+        ("write 1 238 x", "ok"),
+        ("sync", "ok"),
+    ],
+};
+
+/// The root has fifteen names, the last of them in a second block, which goes and is given again in the first one.
+pub const SECOND_BLOCK: Trial = Trial {
+    name: "second block",
+    numbers: SMALL,
+    puts: &[],
+    lines: &[
+        ("create /n01", "ok 3"),
+        ("link /n01 /n02", "ok"),
+        ("link /n01 /n03", "ok"),
+        ("link /n01 /n04", "ok"),
+        ("link /n01 /n05", "ok"),
+        ("link /n01 /n06", "ok"),
+        ("link /n01 /n07", "ok"),
+        ("link /n01 /n08", "ok"),
+        ("link /n01 /n09", "ok"),
+        ("link /n01 /n10", "ok"),
+        ("link /n01 /n11", "ok"),
+        ("link /n01 /n12", "ok"),
+        ("link /n01 /n13", "ok"),
+        ("link /n01 /n14", "ok"),
+        ("link /n01 /n15", "ok"),
+        ("sync", "ok"),
+        ("unlink /n15", "ok"),
+        ("unlink /n01", "ok"),
+        ("create /n15", "ok 4"),
+        ("flush 1", "ok 1"),
+        ("flush 2", "ok 1"),
+        ("flush 4", "ok 1"),
+        ("flush 5", "ok 1"),
+        ("flush 4", "ok 1"),
+        ("flush 2", "ok 2"),
+        ("stat /n02", "ok number 3 file links 13 size 0"),
+        ("sync", "ok"),
+    ],
+};
+
+/// A file is renamed into a directory that is not on the device yet.
+pub const INTO_NEW_DIRECTORY: Trial = Trial {
+    name: "into a new directory",
+    numbers: SMALL,
+    puts: &[],
+    lines: &[
+        ("create /b", "ok 3"),
+        ("sync", "ok"),
+        ("mkdir /d", "ok 4"),
+        ("rename /b /d/c", "ok"),
+        ("flush 4", "ok 0"),
+        ("flush 1", "ok 2"),
+        ("flush 2", "ok 2"),
+        ("flush 5", "ok 2"),
+        ("flush 4", "ok 0"),
+        ("flush 2", "ok 1"),
+        ("flush 4", "ok 2"),
+        ("flush 2", "ok 1"),
+        ("list /d", "ok c=3"),
+        ("sync", "ok"),
+    ],
+};
+
+/// A file is made while another one goes.
+pub const NUMBER_OF_ANOTHER: Trial = Trial {
+    name: "one comes and one goes",
+    numbers: SMALL,
+    puts: &[],
+    lines: &[
+        ("create /b", "ok 3"),
+        ("sync", "ok"),
+        ("create /a", "ok 4"),
+        ("unlink /b", "ok"),
+        ("flush 4", "ok 0"),
+        ("flush 2", "ok 0"),
+        ("flush 1", "ok 1"),
+        ("flush 2", "ok 1"),
+        ("flush 4", "ok 2"),
+        ("flush 2", "ok 1"),
+        ("flush 1", "ok 1"),
+        ("list /", "ok a=4"),
+        ("sync", "ok"),
+    ],
+};
+
+/// Two users: one writes a file, the other makes one and takes it away.
+pub const TWO_USERS: Trial = Trial {
+    name: "two users",
+    numbers: SMALL,
+    puts: &[],
+    lines: &[
+        ("create /x", "ok 3"),
+        ("create /y", "ok 4"),
+        ("open /x", "ok 0"),
+        ("write 0 0 abc", "ok"),
+        ("unlink /y", "ok"),
+        ("read 0 0", "ok 616263"),
+        ("sync", "ok"),
+    ],
+};

@@ -1,0 +1,88 @@
+//! Lists of steps with their answers.
+use crate::images::Put;
+use command_text::{first_word, parse_command, three_numbers};
+use layout::{BLOCK_BYTES, Refusal};
+use snapshot::Command;
+use std::alloc::Global;
+
+/// A volume, and what is done with it.
+#[derive(Clone, Copy)]
+pub struct Trial {
+    /// What it is called.
+    pub name: &'static str,
+    /// How many groups it has, and how many blocks and inodes each has.
+    pub numbers: [u32; 3],
+    /// What its image has in place of a fresh one's bytes.
+    pub puts: &'static [Put],
+    /// What is asked of it, each with its answer:
+    ///
+    /// - a command in text, and its answer or `refused` with the number of the cause and its name
+    /// - `fill HANDLE INDEX COUNT`: as many writes, each of a whole block, from this index on; the answer is that of each
+    /// - `check`: the snapshot that stands is checked, and the check is installed; the answer has what it finds
+    /// - `unmarked`: how many data blocks are not marked
+    pub lines: &'static [(&'static str, &'static str)],
+}
+
+/// What is asked of a mounted volume.
+#[derive(Drop)]
+pub enum Action {
+    /// A command is carried out.
+    Command(Command),
+    /// The snapshot that stands is checked, and the check is installed.
+    Check,
+    /// The data blocks are counted that are not marked.
+    Unmarked,
+}
+
+/// What is asked of a mounted volume, and the answer that it is to give.
+#[derive(Drop)]
+pub struct Step {
+    pub action: Action,
+    pub wanted: &'static str,
+}
+
+/// The steps of a trial. Refused with `NoMemory`, and with `BadName` where a line is of another form.
+pub fn steps_of(alloc: Global, trial: &Trial) -> Result<Vec<Step>, Refusal> {
+    let mut steps = Vec::new(alloc);
+    for (line, wanted) in trial.lines {
+        add_steps(alloc, &mut steps, line.as_bytes(), *wanted)?;
+    }
+    Ok(steps)
+}
+
+/// Adds the steps of a line.
+fn add_steps(
+    alloc: Global,
+    steps: &mut Vec<Step>,
+    line: &[u8],
+    wanted: &'static str,
+) -> Result<(), Refusal> {
+    let action = match first_word(line) {
+        (b"check", None) => Action::Check,
+        (b"unmarked", None) => Action::Unmarked,
+        (b"fill", Some(words)) => return add_writes(alloc, steps, words, wanted),
+        _ => Action::Command(parse_command(alloc, line)?.ok_or(Refusal::BadName)?),
+    };
+    steps.push(Step { action, wanted })?;
+    Ok(())
+}
+
+/// Adds the writes of a line with these words.
+fn add_writes(
+    alloc: Global,
+    steps: &mut Vec<Step>,
+    words: &[u8],
+    wanted: &'static str,
+) -> Result<(), Refusal> {
+    let (handle, first, count) = three_numbers(words).ok_or(Refusal::BadName)?;
+    for index in first..first.saturating_add(count) {
+        let [byte, ..] = index.to_le_bytes();
+        let action = Action::Command(Command::Write {
+            handle,
+            index,
+            piece: vec![in alloc; byte; BLOCK_BYTES]?,
+        });
+        steps.push(Step { action, wanted })?;
+    }
+    Ok(())
+}
