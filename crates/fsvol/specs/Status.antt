@@ -18,6 +18,7 @@ status_of_refusal _ = 3
 abbrev pub status_of : Failure → ℕ
 status_of (failure.Line text) = 3
 status_of (failure.Refused refusal) = status_of_refusal refusal
+status_of (failure.Ended cause told) = status_of_refusal cause
 status_of (failure.Stopped cause done count) = status_of_refusal cause
 
 -- where an image was checked

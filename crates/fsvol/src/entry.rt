@@ -9,9 +9,11 @@ use crate::line::{Job, parse};
 use crate::repairs::repair;
 use crate::runs::run;
 use crate::stops::stops;
-use crate::tooling::answer_tool;
+use crate::tooling::{answer_tool, silent};
 use device::{Before, FileDevice};
+use hosts::Ended;
 use layout::{Geometry, Refusal};
+use putting::{items_of_folder, put_items};
 use std::convert::AsStr;
 use std::io::Write;
 use std::marker::Brand;
@@ -25,12 +27,12 @@ use user_scripts::{Commands, UserLine};
 /// Carries out the line of these words, which are those after the program's name. Its output is written to `out` once
 /// all else is done; a refusal is written to `err`, and then nothing to `out`. Gives the status that the program ends
 /// with.
-pub fn perform<R: Files + AllocGlobal + Threads + Wait + Sync, S: AsStr, W: Write, E: Write>(
-    rt: &R,
-    words: &[S],
-    out: &mut W,
-    err: &mut E,
-) -> u8
+pub fn perform<
+    R: Files + AllocGlobal + Threads + Wait + Sync + Clone + Drop,
+    S: AsStr,
+    W: Write,
+    E: Write,
+>(rt: &R, words: &[S], out: &mut W, err: &mut E) -> u8
 where
     R::File: FileExt + Send,
     ensures few { result ≤ 4 }
@@ -47,7 +49,7 @@ where
 }
 
 /// Does what the words ask for.
-fn answer<R: Files + AllocGlobal + Threads + Wait + Sync, S: AsStr>(
+fn answer<R: Files + AllocGlobal + Threads + Wait + Sync + Clone + Drop, S: AsStr>(
     rt: &R,
     words: &[S],
 ) -> Result<Answer, Failure>
@@ -65,7 +67,8 @@ where
             groups,
             blocks,
             inodes,
-        } => make_file(rt, image, &Geometry::new(groups, blocks, inodes)?),
+            from,
+        } => make_image(rt, image, &Geometry::new(groups, blocks, inodes)?, from),
         Job::Check { image, workers } => check_file(rt, image, workers),
         Job::Repair { image, workers } => repair_file(rt, image, workers),
         Job::Run {
@@ -81,6 +84,44 @@ where
             Ok(bits(rt.alloc(), findings.as_slice())?)
         }
     }
+}
+
+/// Makes a file with a fresh image, in place of what was there, and of what a folder of the host holds, if one is named.
+fn make_image<R: Files + AllocGlobal + Clone + Drop>(
+    rt: &R,
+    image: &str,
+    geometry: &Geometry,
+    from: Option<&str>,
+) -> Result<Answer, Failure>
+where
+    R::File: FileExt,
+    ensures status { IfOk result (λ answer. answer.status ≡ 0) }
+    ensures silent { IfOk result (λ answer. answer.text.items ≡ []) }
+{
+    match from {
+        Some(folder) => make_from_folder(rt, image, geometry, folder),
+        None => make_file(rt, image, geometry),
+    }
+}
+
+/// Makes a file with an image of what a folder of the host holds. All names in the folder are looked at before the file is made.
+fn make_from_folder<R: Files + AllocGlobal + Clone + Drop>(
+    rt: &R,
+    image: &str,
+    geometry: &Geometry,
+    folder: &str,
+) -> Result<Answer, Failure>
+where
+    R::File: FileExt,
+    ensures status { IfOk result (λ answer. answer.status ≡ 0) }
+    ensures silent { IfOk result (λ answer. answer.text.items ≡ []) }
+{
+    let items = match items_of_folder(rt, folder) {
+        Ok(items) => items,
+        Err(Ended { cause, told }) => return Err(Failure::Ended { cause, told }),
+    };
+    make_file(rt, image, geometry)?;
+    silent(rt.alloc(), put_items(rt, image, items.as_slice()))
 }
 
 /// Makes a file with a fresh image, in place of what was there.

@@ -32,6 +32,11 @@ pub enum Failure {
     Line(String),
     /// What the line asks for was refused.
     Refused(Refusal),
+    /// The line was refused for this, of which more is told.
+    Ended {
+        cause: Refusal,
+        told: String,
+    },
     /// The first commands of the line, so many of so many, were carried out and written, and the next one was refused.
     Stopped {
         cause: Refusal,
@@ -90,7 +95,9 @@ impl Failure {
         match self {
             Failure::Line(_) => REFUSED,
             Failure::Refused(refusal) => status_of_refusal(*refusal),
-            Failure::Stopped { cause, .. } => status_of_refusal(*cause),
+            Failure::Ended { cause, .. } | Failure::Stopped { cause, .. } => {
+                status_of_refusal(*cause)
+            }
         }
     }
 
@@ -101,6 +108,7 @@ impl Failure {
         let _ = match self {
             Failure::Line(text) => err.write_all(text.as_bytes()),
             Failure::Refused(refusal) => writeln!(err, "refused {refusal}"),
+            Failure::Ended { cause, told } => write!(err, "refused {cause}\n{told}"),
             Failure::Stopped { cause, done, count } => {
                 writeln!(err, "refused {cause}\ndone {done} of {count}")
             }

@@ -14,12 +14,13 @@ use std::{env, io};
 /// What a line asks for.
 #[derive(Debug, PartialEq, Eq, Drop)]
 pub enum Job<'a> {
-    /// A fresh image of this geometry.
+    /// A fresh image of this geometry, with what a folder of the host holds, if one is named.
     Mkfs {
         image: &'a str,
         groups: u32,
         blocks: u32,
         inodes: u32,
+        from: Option<&'a str>,
     },
     /// The findings of an image, by this many workers.
     Check {
@@ -122,6 +123,7 @@ fn image_job_of<'a>(name: &str, options: &ArgMatches<'a>) -> Option<Job<'a>>
             groups: options.get_one("groups")?,
             blocks: options.get_one("blocks")?,
             inodes: options.get_one("inodes")?,
+            from: options.get_str("from"),
         }),
         "check" => Some(Job::Check {
             image: options.get_str("image")?,
@@ -168,7 +170,8 @@ fn mkfs<'a>(alloc: Global) -> Result<Command<'a>, AllocError> {
         .arg(image(alloc))?
         .arg(number(alloc, "groups").help("How many cylinder groups"))?
         .arg(number(alloc, "blocks").help("How many blocks a group"))?
-        .arg(number(alloc, "inodes").help("How many inodes a group"))
+        .arg(number(alloc, "inodes").help("How many inodes a group"))?
+        .arg(from(alloc))
 }
 
 fn check<'a>(alloc: Global) -> Result<Command<'a>, AllocError> {
@@ -224,6 +227,14 @@ fn script<'a>(alloc: Global) -> Arg<'a> {
         .value_name("SCRIPT")
         .required(true)
         .help("The file of the script")
+}
+
+/// The folder of which an image is made.
+fn from<'a>(alloc: Global) -> Arg<'a> {
+    Arg::new(alloc, "from")
+        .long("from")
+        .value_name("FOLDER")
+        .help("A folder of the host, of which all goes into the image")
 }
 
 /// How many workers check the image.

@@ -124,7 +124,7 @@ fn printed(out: &str, status: u8) -> Wanted<'_> {
 }
 
 /// Carries out a line that starts with these words, and ends with the image's name.
-fn gives<R: Files + AllocGlobal + Threads + Wait + Sync + Abort>(
+fn gives<R: Files + AllocGlobal + Threads + Wait + Sync + Abort + Clone + Drop>(
     rt: &R,
     start: &str,
     image: &str,
@@ -145,7 +145,7 @@ where
 }
 
 /// Makes a fresh image in this file, and gives its bytes.
-fn made<R: Files + AllocGlobal + Threads + Wait + Sync + Abort>(
+fn made<R: Files + AllocGlobal + Threads + Wait + Sync + Abort + Clone + Drop>(
     rt: &R,
     geometry: &str,
     image: &str,
@@ -159,7 +159,7 @@ where
 }
 
 /// A fresh image of 1 group, 16 blocks and 16 inodes, in this file.
-fn made_small<R: Files + AllocGlobal + Threads + Wait + Sync + Abort>(
+fn made_small<R: Files + AllocGlobal + Threads + Wait + Sync + Abort + Clone + Drop>(
     rt: &R,
     image: &str,
 ) -> Result<Vec<u8>, Fail>
@@ -170,7 +170,7 @@ where
 }
 
 /// Carries out a line of these words on an image of these bytes, which stand in this file, and then stand there still.
-fn gives_of_bytes<R: Files + AllocGlobal + Threads + Wait + Sync + Abort>(
+fn gives_of_bytes<R: Files + AllocGlobal + Threads + Wait + Sync + Abort + Clone + Drop>(
     rt: &R,
     start: &str,
     image: &str,
@@ -187,7 +187,7 @@ where
 }
 
 /// Checks the number maps of an image of these bytes, which stand in this file.
-fn bits_gives<R: Files + AllocGlobal + Threads + Wait + Sync + Abort>(
+fn bits_gives<R: Files + AllocGlobal + Threads + Wait + Sync + Abort + Clone + Drop>(
     rt: &R,
     image: &str,
     bytes: &[u8],
@@ -612,7 +612,7 @@ const TIMES: u32 = 20;
 
 /// Carries out a line that starts with these words, and ends with the names of an image of these bytes, which are written to
 /// its file first, and of a file with this script.
-fn gives_of_script<R: Files + AllocGlobal + Threads + Wait + Sync + Abort>(
+fn gives_of_script<R: Files + AllocGlobal + Threads + Wait + Sync + Abort + Clone + Drop>(
     rt: &R,
     start: &str,
     (image, bytes): (&str, &[u8]),

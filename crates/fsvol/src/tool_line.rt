@@ -30,6 +30,18 @@ pub enum Tool<'a> {
         image: &'a str,
         path: &'a str,
     },
+    /// What a path leads to, and all below it, at a path of the host.
+    Get {
+        image: &'a str,
+        path: &'a str,
+        host: &'a str,
+    },
+    /// What stands at a path of the host, and all below it, at a path in the image.
+    Put {
+        image: &'a str,
+        path: &'a str,
+        host: &'a str,
+    },
     /// What is to be done with each of these paths.
     Do {
         image: &'a str,
@@ -56,12 +68,12 @@ pub(crate) fn tool_of<'a>(
         "rmdir" => deed_of(alloc, Deed::RemoveDirectory, options),
         "mv" => naming_of(alloc, Naming::Move, options),
         "ln" => naming_of(alloc, Naming::Link, options),
-        _ => Ok(look_of(name, options)),
+        _ => Ok(one_path_of(name, options)),
     }
 }
 
-/// What the matches of a command that only looks ask for.
-fn look_of<'a>(name: &str, options: &ArgMatches<'a>) -> Option<Tool<'a>> {
+/// What the matches of a command with one path ask for.
+fn one_path_of<'a>(name: &str, options: &ArgMatches<'a>) -> Option<Tool<'a>> {
     let image = options.get_str("image")?;
     match name {
         "info" => Some(Tool::Info { image }),
@@ -81,6 +93,16 @@ fn look_of<'a>(name: &str, options: &ArgMatches<'a>) -> Option<Tool<'a>> {
         "cat" => Some(Tool::Cat {
             image,
             path: options.get_str("path")?,
+        }),
+        "get" => Some(Tool::Get {
+            image,
+            path: options.get_str("path")?,
+            host: options.get_str("host")?,
+        }),
+        "put" => Some(Tool::Put {
+            image,
+            path: options.get_str("path")?,
+            host: options.get_str("host")?,
         }),
         _ => None,
     }
@@ -127,6 +149,8 @@ pub(crate) fn with_tools<'a>(
         .subcommand(ls(alloc)?)?
         .subcommand(stat(alloc)?)?
         .subcommand(cat(alloc)?)?
+        .subcommand(get(alloc)?)?
+        .subcommand(put(alloc)?)?
         .subcommand(mkdir(alloc)?)?
         .subcommand(rm(alloc)?)?
         .subcommand(rmdir(alloc)?)?
@@ -169,6 +193,22 @@ fn cat<'a>(alloc: Global) -> Result<Command<'a>, AllocError> {
         .about("Writes the bytes of a file in an image to standard output")
         .arg(image(alloc))?
         .arg(path(alloc))
+}
+
+fn get<'a>(alloc: Global) -> Result<Command<'a>, AllocError> {
+    Command::new(alloc, "get")
+        .about("Makes a file or a whole tree of an image on the host, where nothing stands")
+        .arg(image(alloc))?
+        .arg(path(alloc))?
+        .arg(host(alloc))
+}
+
+fn put<'a>(alloc: Global) -> Result<Command<'a>, AllocError> {
+    Command::new(alloc, "put")
+        .about("Puts a file or a whole tree of the host into an image, where nothing stands")
+        .arg(image(alloc))?
+        .arg(path(alloc))?
+        .arg(host(alloc))
 }
 
 fn mkdir<'a>(alloc: Global) -> Result<Command<'a>, AllocError> {
@@ -224,6 +264,14 @@ fn path<'a>(alloc: Global) -> Arg<'a> {
         .value_name("PATH")
         .required(true)
         .help("The path in the image; % and two digits stand for a byte")
+}
+
+/// A file or folder of the host.
+fn host<'a>(alloc: Global) -> Arg<'a> {
+    Arg::new(alloc, "host")
+        .value_name("FOLDER")
+        .required(true)
+        .help("The file or folder of the host")
 }
 
 /// Paths in an image.

@@ -1,5 +1,5 @@
 //! A line of the everyday tools, from what it asks for to what it prints.
-ghost use Rattle.std.specs.Prelude.{◌≡◌, IfOk};
+ghost use Rattle.std.specs.Prelude.{◌≡◌, [], IfErr, IfOk};
 
 use crate::failure::Failure;
 use crate::jobs::Answer;
@@ -7,8 +7,10 @@ use crate::tool_line::Tool;
 use changing::{Outcome, change_device, outcome_of};
 use device::FileDevice;
 use frozen::load;
+use hosts::{Ended, get_from_file};
 use layout::Refusal;
 use pictures::{draw, look};
+use putting::put_into_file;
 use snapshot::Command;
 use std::alloc::Global;
 use std::marker::Brand;
@@ -17,12 +19,17 @@ use std::rt::Files;
 use tools::{Deed, Naming, aim_at, cat, deeds, info, ls, namings, path_of, stat};
 
 /// Does what a line of the everyday tools asks for. Those that only look open the image to be read alone.
-pub fn answer_tool<R: Files + AllocGlobal>(rt: &R, tool: &Tool<'_>) -> Result<Answer, Failure>
+pub fn answer_tool<R: Files + AllocGlobal + Clone + Drop>(
+    rt: &R,
+    tool: &Tool<'_>,
+) -> Result<Answer, Failure>
 where
     R::File: FileExt,
     ensures { IfOk result (λ answer. answer.status ≡ 0) }
 {
     match tool {
+        Tool::Get { image, path, host } => silent(rt.alloc(), get_from_file(rt, image, path, host)),
+        Tool::Put { image, path, host } => silent(rt.alloc(), put_into_file(rt, image, path, host)),
         Tool::Do { image, deed, paths } => do_in_file(rt, image, *deed, paths.as_slice()),
         Tool::Name {
             image,
@@ -66,7 +73,24 @@ where
             let mut device: FileDevice<R::File, Brand> = FileDevice::open(rt, image)?;
             cat(alloc, &mut device, &path)
         }
-        Tool::Do { .. } | Tool::Name { .. } => Ok(Vec::new(alloc)),
+        Tool::Get { .. } | Tool::Put { .. } | Tool::Do { .. } | Tool::Name { .. } => {
+            Ok(Vec::new(alloc))
+        }
+    }
+}
+
+/// What a line comes to that prints nothing.
+pub fn silent(alloc: Global, done: Result<(), Ended>) -> Result<Answer, Failure>
+    ensures status { IfOk result (λ answer. answer.status ≡ 0) }
+    ensures silent { IfOk result (λ answer. answer.text.items ≡ []) }
+    ensures refused { IfErr done (λ ended. IfErr result (λ failure. failure ≡ Failure.Ended ended.cause ended.told)) }
+{
+    match done {
+        Ok(()) => Ok(Answer {
+            text: Vec::new(alloc),
+            status: 0,
+        }),
+        Err(Ended { cause, told }) => Err(Failure::Ended { cause, told }),
     }
 }
 

@@ -14,7 +14,9 @@ fn refusal_of(alloc: Global, line: &str) -> Result<String, Fail> {
     match parse(alloc, words.as_slice()) {
         Ok(_) => Err(Fail::from("the line was read")),
         Err(Failure::Line(text)) => Ok(text),
-        Err(Failure::Refused(_) | Failure::Stopped { .. }) => Err(Fail::from("no memory")),
+        Err(Failure::Refused(_) | Failure::Ended { .. } | Failure::Stopped { .. }) => Err(
+            Fail::from("no memory"),
+        ),
     }
 }
 
@@ -36,6 +38,7 @@ fn reads_mkfs_in_any_order(rt: HostRuntime) -> Result<(), Fail> {
             groups: 2,
             blocks: 32,
             inodes: 16,
+            from: None,
         };
         assert!(rt; job == asked, "{line}");
     }
@@ -54,6 +57,7 @@ fn reads_the_ends_of_the_numbers(rt: HostRuntime) -> Result<(), Fail> {
         groups: 0,
         blocks: u32::MAX,
         inodes: 0,
+        from: None,
     };
     assert!(rt; job == asked);
     Ok(())
@@ -271,11 +275,11 @@ fn refuses_a_line_that_asks_for_help(rt: HostRuntime) -> Result<(), Fail> {
         ("help", "Usage: fsvol <COMMAND>\n"),
         (
             "mkfs --help",
-            "Usage: fsvol mkfs --groups <NUMBER> --blocks <NUMBER> --inodes <NUMBER> <IMAGE>\n",
+            "Usage: fsvol mkfs [OPTIONS] --groups <NUMBER> --blocks <NUMBER> --inodes <NUMBER> <IMAGE>\n",
         ),
         (
             "help mkfs",
-            "Usage: fsvol mkfs --groups <NUMBER> --blocks <NUMBER> --inodes <NUMBER> <IMAGE>\n",
+            "Usage: fsvol mkfs [OPTIONS] --groups <NUMBER> --blocks <NUMBER> --inodes <NUMBER> <IMAGE>\n",
         ),
         (
             "check --help",

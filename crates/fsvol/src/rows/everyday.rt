@@ -13,7 +13,7 @@ use std::thread::Threads;
 
 /// Carries out lines on an image, one after another: what stands before the image's name in each, what stands behind it but
 /// for its last word, and that word, and what it is to give.
-fn give<R: Files + AllocGlobal + Threads + Wait + Sync + Abort>(
+fn give<R: Files + AllocGlobal + Threads + Wait + Sync + Abort + Clone + Drop>(
     rt: &R,
     image: &str,
     lines: &[(&str, &str, &str, Wanted<'_>)],
@@ -273,4 +273,106 @@ fn a_picture_is_printed(rt: HostRuntime) -> Result<(), Fail> {
     fs::remove_file(&rt, image)?;
     gives(&rt, "map", image, refused("refused 2 Device\n", 4))?;
     Ok(())
+}
+
+/// Makes a folder of the host with a file of three bytes in it.
+fn made_folder<R: Files + AllocGlobal>(rt: &R, folder: &str, file: &str) -> Result<(), Fail> {
+    let _ = fs::remove_dir_all(rt, folder);
+    fs::create_dir(rt, folder)?;
+    fs::write(rt, file, "abc")?;
+    Ok(())
+}
+
+#[test]
+fn a_folder_goes_in_and_is_not_put_over_another(rt: HostRuntime) -> Result<(), Fail> {
+    let image = "rows_hosts_put.img";
+    let folder = "rows_hosts_put";
+    made_small(&rt, image)?;
+    made_folder(&rt, folder, "rows_hosts_put/a")?;
+    give(
+        &rt,
+        image,
+        &[
+            ("put", " /d", folder, NOTHING_PRINTED),
+            ("cat", "", "/d/a", printed("abc", 0)),
+            (
+                "put",
+                " /d",
+                folder,
+                refused("refused 8 Exists\nat /d\n", 3),
+            ),
+        ],
+    )
+}
+
+#[test]
+fn a_tree_comes_out_and_is_not_got_over_another(rt: HostRuntime) -> Result<(), Fail> {
+    let image = "rows_hosts_get.img";
+    let folder = "rows_hosts_get";
+    let out = "rows_hosts_got";
+    made_small(&rt, image)?;
+    made_folder(&rt, folder, "rows_hosts_get/a")?;
+    let _ = fs::remove_dir_all(&rt, out);
+    give(
+        &rt,
+        image,
+        &[
+            ("put", " /d", folder, NOTHING_PRINTED),
+            ("get", " /", out, NOTHING_PRINTED),
+            (
+                "get",
+                " /",
+                out,
+                refused("refused 8 Exists\nat rows_hosts_got\n", 3),
+            ),
+            (
+                "get",
+                " /x",
+                "rows_hosts_none",
+                refused("refused 7 NotFound\nat /x\n", 3),
+            ),
+        ],
+    )?;
+    let bytes = fs::read(&rt, "rows_hosts_got/d/a")?;
+    assert_eq!(rt; bytes.as_slice(), b"abc".as_slice());
+    Ok(())
+}
+
+#[test]
+fn an_image_is_made_of_a_folder(rt: HostRuntime) -> Result<(), Fail> {
+    let folder = "rows_hosts_from";
+    made_folder(&rt, folder, "rows_hosts_from/a")?;
+    let made = " --groups 1 --blocks 16 --inodes 16 --from";
+    give(
+        &rt,
+        "rows_hosts_from.img",
+        &[
+            ("mkfs", made, folder, NOTHING_PRINTED),
+            ("cat", "", "/a", printed("abc", 0)),
+        ],
+    )
+}
+
+#[test]
+fn what_is_too_large_is_not_left_in_part(rt: HostRuntime) -> Result<(), Fail> {
+    let image = "rows_hosts_full.img";
+    let folder = "rows_hosts_full";
+    made_small(&rt, image)?;
+    made_folder(&rt, folder, "rows_hosts_full/a")?;
+    let bytes = vec![in rt.alloc(); b'b'; 12_000]?;
+    fs::write(&rt, "rows_hosts_full/b", bytes.as_slice())?;
+    give(
+        &rt,
+        image,
+        &[
+            (
+                "put",
+                " /e",
+                folder,
+                refused("refused 14 NoBlock\nat /e/b\ndone 2 of 3\n", 3),
+            ),
+            ("ls", "", "/e", printed("a\n", 0)),
+        ],
+    )?;
+    gives(&rt, "check --workers 1", image, printed(CLEAN_REPORT, 0))
 }

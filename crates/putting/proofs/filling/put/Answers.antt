@@ -1,0 +1,58 @@
+use Rattle.std.proofs.Common.{◌<◌, ◌≤◌, ◌∙◌, length, refl, arith}
+use Rattle.std.proofs.lemmas.List.{take_all}
+use Rattle.putting.proofs.PutLemmas.{nothing_put, put_all, put_next, read_next, read_none}
+use Rattle.putting.proofs.filling.put.Goals as goal
+
+pub loop-item-init : goal.loop-item-init
+loop-item-init g c =
+    let old = c.args.volume.now in
+    let none = c.new.ensures in
+    record {
+      done = refl;
+      honest = λ h. h;
+      read = read_none c.args.items.now c.new.result.items none;
+      put = λ h. nothing_put (g.D.Device.held old.device) (g.D.Device.image old.device) old c.new.result.items none;
+    }
+
+pub loop-item-preserved : goal.loop-item-preserved
+loop-item-preserved g c =
+    let inv = c.loop-item.invariant in
+    let held = g.D.Device.held in
+    let image = g.D.Device.image in
+    let old = c.args.volume.now in
+    let here = c.loop-item.volume in
+    let mid = c.put_item.new.volume in
+    let new = c.write_some.new.volume in
+    let items = c.args.items.now in
+    let item = c.item-item.result in
+    let i = c.loop-item.item-index in
+    let readings = c.loop-item.readings.items.items in
+    let next = c.put_item.new.readings.items.items in
+    let added = c.in-Ok.ensures.item in
+    let within : i < length items = omega (arith, c.loop-item-test.true) in
+    record {
+      done = omega (arith, inv.done);
+      honest = λ h. inv.honest (c.put_item.ensures.honest (c.write_some.ensures.honest h));
+      read = read_next items i item added.0 readings next within c.item-item.is added.1 inv.read;
+      put = λ h. let then = c.write_some.ensures.honest h in
+          put_next (held old.device) (held here.device) (held mid.device) (held new.device) (image old.device) (image here.device) (image mid.device) (image new.device) old here mid new
+          readings next (item, added.0) added.1 (inv.put (c.put_item.ensures.honest then)) (added.2 then) (c.in_ok-pending.ensures.written h);
+    }
+
+pub returns-clause-read : goal.returns-clause-read
+returns-clause-read g c = λ none.
+    let items = c.args.items.now in
+    let i = c.loop-item.item-index in
+    let all : length items ≤ i = omega (arith, c.loop-item-test.false) in
+    c.loop-item.invariant.read ∙ take_all i items all
+
+pub returns-clause-took_in : goal.returns-clause-took_in
+returns-clause-took_in g c = λ none honest.
+    let inv = c.loop-item.invariant in
+    let held = g.D.Device.held in
+    let image = g.D.Device.image in
+    let old = c.args.volume.now in
+    let here = c.loop-item.volume in
+    let new = c.write_rest.new.volume in
+    put_all (held old.device) (held here.device) (held new.device) (image old.device) (image here.device) (image new.device) old here new c.loop-item.readings.items.items
+    (inv.put (c.write_rest.ensures.honest honest)) (c.in_ok-write_rest.ensures.written honest)

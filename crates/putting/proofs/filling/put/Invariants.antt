@@ -1,0 +1,12 @@
+use Rattle.std.proofs.Common.{◌≡◌, map, take}
+use Rattle.putting.specs.Putting.{WerePut, item_of}
+use Rattle.putting.proofs.filling.put.Given as goal
+
+abbrev pub invariant-loop-item : goal.invariant-loop-item
+invariant-loop-item g l = record {
+  done : l.done ≡ l.item-index;
+  honest : g.D.Device.honest l.volume.device → g.D.Device.honest l.fn.volume.device;
+  read : map item_of l.readings.items.items ≡ take l.item-index l.items;
+  put : g.D.Device.honest l.volume.device
+      → WerePut l.readings.items.items (g.D.Device.held l.fn.volume.device) (g.D.Device.image l.fn.volume.device) l.fn.volume (g.D.Device.held l.volume.device) (g.D.Device.image l.volume.device) l.volume;
+}

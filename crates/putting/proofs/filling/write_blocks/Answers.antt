@@ -1,0 +1,52 @@
+use Rattle.std.proofs.Common.{ℕ, ap, ◌∙◌, subst, arith, rules}
+use Rattle.std.specs.Slice.Iter.{chunks_rest, chunks_size}
+use Rattle.std.specs.declared.slice.Chunks.{Chunks}
+use Rattle.putting.specs.Putting.{Adds, block_writes}
+use Rattle.putting.proofs.CutLemmas.{cut_end, cut_step}
+use Rattle.putting.proofs.PutLemmas.{adds_none, wrote_more}
+use Rattle.putting.proofs.filling.write_blocks.Goals as goal
+
+pub loop-piece-preserved : goal.loop-piece-preserved
+loop-piece-preserved g c =
+    let inv = c.loop-piece.invariant in
+    let held = g.D.Device.held in
+    let image = g.D.Device.image in
+    let old = c.args.volume.now in
+    let mid = c.loop-piece.volume in
+    let new = c.write_piece.new.volume in
+    let bytes = c.args.bytes.now in
+    let n = c.loop-piece.index in
+    let next = c.in_ok-index.index in
+    let cut = cut_step bytes n next _ _ _ c.in-Some.piece c.in-Some.is c.next.ensures.steps inv.2 inv.3 c.in_ok-index.ensures.next in (
+      search rules,
+      search rules,
+      cut.size,
+      cut.rest,
+      cut.within,
+      λ h. inv.5 (c.write_piece.ensures.honest h),
+      λ h. wrote_more (held old.device) (held mid.device) (held new.device) (image old.device) (image mid.device) (image new.device) old mid new c.args.handle n next bytes c.in-Some.piece.now
+          c.in_ok-index.ensures.next cut.piece_is (inv.6 (c.write_piece.ensures.honest h)) (c.in_ok-index.ensures.written h),
+    )
+
+pub loop-piece-init : goal.loop-piece-init
+loop-piece-init g c =
+    let old = c.args.volume.now in
+    let first = c.into_iter-piece-iterator.ensures.into_iter_gives in (
+      search rules,
+      search rules,
+      ap (λ (s : Chunks ℕ). chunks_size s) first ∙ c.chunks-piece-items.ensures.size,
+      ap (λ (s : Chunks ℕ). chunks_rest s) first ∙ c.chunks-piece-items.ensures.rest,
+      omega arith,
+      λ h. h,
+      λ h. adds_none (g.D.Device.held old.device) (g.D.Device.image old.device) old,
+    )
+
+pub returns-clause-written : goal.returns-clause-written
+returns-clause-written g c = λ honest.
+    let inv = c.loop-piece.invariant in
+    let held = g.D.Device.held in
+    let image = g.D.Device.image in
+    let old = c.args.volume.now in
+    let new = c.loop-piece.volume in
+    subst (λ n. Adds (held old.device) (image old.device) old (block_writes c.args.handle c.args.bytes.now n) (held new.device) (image new.device) new)
+    (cut_end c.args.bytes.now c.loop-piece.index _ _ _ c.in-None.is c.next.ensures.steps inv.3 inv.4) (inv.6 honest)

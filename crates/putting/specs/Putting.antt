@@ -1,0 +1,90 @@
+-- What a volume went through into which files and folders of the host were put.
+use Rattle.std.specs.Prelude.{◌≡◌, ℕ, zero, suc, List, [], ◌∷◌, ◌++◌, length, map, Ok, Err, Result}
+use Rattle.std.specs.Fork.{slice_chunk}
+use Rattle.std.proofs.Common.{Vec, Global}
+use Rattle.layout.specs.declared.refusal.Refusal.{Refusal}
+use Rattle.live.specs.Alive.{Alive}
+use Rattle.live.specs.Mounting.{IsMountable}
+use Rattle.live_states.specs.Holdings.{IsIdle}
+use Rattle.machine.specs.Command.{Command as Request, Create, Mkdir, Open, Write, Close, Sync}
+use Rattle.model.specs.Uses.{blocks_of}
+use Rattle.softdep.specs.Queued.{pending_of}
+use Rattle.snapshot.specs.declared.answer.Answer.{Answer}
+use Rattle.snapshot.specs.declared.command.Command.{Command}
+use Rattle.snapshot.specs.Asked.{asked}
+use Rattle.snapshot.specs.Goes.{Runs}
+use Rattle.putting.specs.declared.items.Item.{Item}
+use Rattle.putting.specs.declared.items.Kind.TheVariants as kind
+
+-- none of these replies is a refusal
+abbrev pub AllAnswer : List (Result Answer Refusal) → Type 0
+AllAnswer [] = Unit {0}
+AllAnswer (Ok answer ∷ replies) = AllAnswer replies
+AllAnswer (Err r ∷ replies) = ⊥
+
+-- From one volume to another this was asked, and each of it was answered.
+pub record Went {D : Type 0} (held : List (List (List ℕ))) (image : List (List ℕ)) (old : Alive D) (requests : List Request) (held' : List (List (List ℕ))) (image' : List (List ℕ)) (new : Alive D) : Type 0 where
+  pub commands : List Command
+  pub ask : map (asked old.kept.geometry) commands ≡ requests
+  pub replies : List (Result Answer Refusal)
+  pub answered : AllAnswer replies
+  pub runs : Runs held image old (map (asked old.kept.geometry) commands) replies held' image' new
+
+-- This comes next, after whatever was asked from whichever volume on.
+abbrev pub Adds : {D : Type 0} → List (List (List ℕ)) → List (List ℕ) → Alive D → List Request → List (List (List ℕ)) → List (List ℕ) → Alive D → Type 0
+Adds {D} held image old requests held' image' new = (held₀ : List (List (List ℕ))) (image₀ : List (List ℕ)) (start : Alive D) (before : List Request)
+    → Went held₀ image₀ start before held image old → Went held₀ image₀ start (before ++ requests) held' image' new
+
+-- the writes, by a handle, of the first n blocks of a file of these bytes
+abbrev pub block_writes : ℕ → List ℕ → ℕ → List Request
+block_writes handle bytes zero = []
+block_writes handle bytes (suc k) = block_writes handle bytes k ++ Write handle k (slice_chunk bytes 1024 k) ∷ []
+
+-- what makes a file of these bytes: it is created, and if it has any it is opened, each block is written, and it is closed
+pub data MakesFile (path bytes : List ℕ) (requests : List Request) : Type 0 where
+  Empty : bytes ≡ [] → requests ≡ Create path ∷ [] → MakesFile path bytes requests
+  Full : (handle : ℕ) → requests ≡ Create path ∷ Open path ∷ (block_writes handle bytes (blocks_of (length bytes)) ++ Close handle ∷ []) → MakesFile path bytes requests
+
+-- bytes that the host gave
+abbrev pub Read : Type 0
+Read = Vec ℕ Global
+
+-- an item, and the bytes that the host gave for it
+abbrev pub Reading : Type 0
+Reading = Item × Read
+
+abbrev pub item_of : Reading → Item
+item_of reading = reading.0
+
+-- These requests put these items, one after another; between them all that waits may be written.
+pub data ArePut : List Reading → List Request → Type 0 where
+  Nothing : ArePut [] []
+  Folder : (readings : List Reading) (requests : List Request) (item : Item) (read : Read) → ArePut readings requests → item.kind ≡ kind.Folder → ArePut (readings ++ (item, read) ∷ []) (requests ++ Mkdir item.path.items ∷ [])
+  File : (readings : List Reading) (requests more : List Request) (item : Item) (read : Read) → ArePut readings requests → item.kind ≡ kind.File → MakesFile item.path.items read.items more → ArePut (readings ++ (item, read) ∷ []) (requests ++ more)
+  Written : (readings : List Reading) (requests : List Request) → ArePut readings requests → ArePut readings (requests ++ Sync ∷ [])
+
+-- The requests put these items into a volume, and each was answered.
+pub record WerePut {D : Type 0} (readings : List Reading) (held : List (List (List ℕ))) (image : List (List ℕ)) (old : Alive D) (held' : List (List (List ℕ))) (image' : List (List ℕ)) (new : Alive D) : Type 0 where
+  pub requests : List Request
+  pub put : ArePut readings requests
+  pub went : Went held image old requests held' image' new
+
+-- These items were put next, after whatever was put into whichever volume.
+abbrev pub AddsItems : {D : Type 0} → List Reading → List (List (List ℕ)) → List (List ℕ) → Alive D → List (List (List ℕ)) → List (List ℕ) → Alive D → Type 0
+AddsItems readings held image old held' image' new = (before : List Reading) (held₀ : List (List (List ℕ))) (image₀ : List (List ℕ)) (start : Alive _)
+    → WerePut before held₀ image₀ start held image old → WerePut (before ++ readings) held₀ image₀ start held' image' new
+
+-- The requests put these items into a volume, and a sync followed; each was answered.
+pub record TookIn {D : Type 0} (readings : List Reading) (held : List (List (List ℕ))) (image : List (List ℕ)) (old : Alive D) (held' : List (List (List ℕ))) (image' : List (List ℕ)) (new : Alive D) : Type 0 where
+  pub requests : List Request
+  pub put : ArePut readings requests
+  pub went : Went held image old (requests ++ Sync ∷ []) held' image' new
+
+-- The volume of an image was just mounted, and then it took these items in.
+pub record PutMounted {D : Type 0} (image : List (List ℕ)) (readings : List Reading) (held' : List (List (List ℕ))) (image' : List (List ℕ)) (new : Alive D) : Type 0 where
+  pub mounted : Alive D
+  pub mountable : IsMountable mounted.kept.geometry image
+  pub pending : pending_of mounted.queue ≡ []
+  pub idle : IsIdle mounted.holdings
+  pub held : List (List (List ℕ))
+  pub took : TookIn readings held image mounted held' image' new

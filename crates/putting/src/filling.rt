@@ -1,0 +1,337 @@
+//! How items of the host go into a mounted volume.
+ghost use Rattle.std.specs.Prelude.{◌≡◌, ◌+◌, ◌++◌, List, [], ◌∷◌, IfOk, None, OnOk, length, map};
+ghost use Rattle.machine.specs.Command.{Command as Request, Close as AsksClose, Create as AsksCreate, Mkdir as AsksMkdir, Open as AsksOpen, Sync as AsksSync, Write as AsksWrite};
+ghost use Rattle.model.specs.Layout.{Geometry};
+ghost use Rattle.model.specs.Uses.{blocks_of};
+ghost use Rattle.putting.specs.Putting.{Adds, AddsItems, MakesFile, PutMounted, Read, TookIn, block_writes, item_of};
+ghost use Rattle.snapshot.specs.Asked.{asked};
+
+use crate::items::{Item, Kind};
+use changing::{mount, write_all};
+use device::Device;
+use hosts::HostError;
+use http_server::Log;
+use layout::{BLOCK_BYTES, Refusal};
+use snapshot::{Answer, Command, Volume};
+use std::alloc::Global;
+use std::fs;
+use std::rt::Files;
+
+/// After how many bytes all is written, so that the queue of updates stays short.
+const BYTES_AT_ONCE: usize = 1 << 20;
+
+/// What a file or folder adds to that by itself.
+const BYTES_OF_ITEM: usize = 1 << 12;
+
+/// How many items went into an image, and why the next one did not, if it did not.
+#[derive(Drop)]
+pub struct Filled {
+    pub done: usize,
+    pub stopped: Option<HostError>,
+    pub readings: Readings,
+}
+
+/// What the host gave for items. It is a history that only clauses read, since no contract can say what a file of the host gives.
+#[derive(Drop)]
+pub struct Readings {
+    /// Of each item that was read, its bytes; none of a folder.
+    pub items: Log<Item, Vec<u8>>,
+}
+
+/// A volume into which items were put, and how many went into it.
+#[derive(Drop)]
+pub struct Holding<D: Device> {
+    pub filled: Filled,
+    pub volume: Volume<D>,
+}
+
+/// Mounts the volume of a device, and puts items into it. A volume that cannot be mounted is not written: one whose image breaks a
+/// rule is refused with `Damaged`.
+pub fn put_on_device<R: Files + AllocGlobal, D: Device + Drop>(
+    rt: &R,
+    device: D,
+    items: &[Item],
+) -> Result<Holding<D>, Refusal>
+    // Where none is refused and the device was honest, the volume of its image took them, with the bytes that the host gave.
+    ensures read { IfOk result (λ holding. holding.filled.stopped ≡ None → map item_of holding.filled.readings.items.items ≡ items.now) }
+    ensures took_in { IfOk result (λ holding. holding.filled.stopped ≡ None → D.honest holding.volume.device
+        → PutMounted (D.image device) holding.filled.readings.items.items (D.held holding.volume.device) (D.image holding.volume.device) holding.volume) }
+{
+    let mut volume = mount(rt.alloc(), device)?;
+    let filled = put(rt, &mut volume, items)?;
+    Ok(Holding { filled, volume })
+}
+
+/// Makes items in a volume, one after another, up to the first one that is refused, and writes all. A file that is refused is
+/// not left behind in part. Refused with `Device` and `NoMemory` where not all could be written.
+pub fn put<R: Files + AllocGlobal, D: Device>(
+    rt: &R,
+    volume: &mut Volume<D>,
+    items: &[Item],
+) -> Result<Filled, Refusal>
+    // Where none is refused they were put, with the bytes that the host gave, by commands of which each was answered.
+    ensures read { IfOk result (λ filled. filled.stopped ≡ None → map item_of filled.readings.items.items ≡ items.now) }
+    ensures all { IfOk result (λ filled. filled.stopped ≡ None → filled.done ≡ length items.now) }
+    ensures took_in { IfOk result (λ filled. filled.stopped ≡ None → D.honest volume.new.device
+        → TookIn filled.readings.items.items (D.held volume.old.device) (D.image volume.old.device) volume.old (D.held volume.new.device) (D.image volume.new.device) volume.new) }
+    ensures honest { D.honest volume.new.device → D.honest volume.old.device }
+{
+    let mut pending = 0;
+    let mut done = 0;
+    let mut readings = Readings { items: Log::new() };
+    for item in items {
+        let bytes = match put_item(rt, volume, item, &mut readings) {
+            Ok(bytes) => bytes,
+            Err(error) => {
+                write_all(rt.alloc(), volume)?;
+                return Ok(Filled {
+                    done,
+                    stopped: Some(error),
+                    readings,
+                });
+            }
+        };
+        pending = write_some(rt.alloc(), volume, bytes.saturating_add(pending))?;
+        done += 1;
+    }
+    write_rest(rt.alloc(), volume)?;
+    Ok(Filled {
+        done,
+        stopped: None,
+        readings,
+    })
+}
+
+/// Makes an item, and tells how much it adds to what waits to be written, in bytes.
+fn put_item<R: Files + AllocGlobal, D: Device>(
+    rt: &R,
+    volume: &mut Volume<D>,
+    item: &Item,
+    readings: &mut Readings,
+) -> Result<usize, HostError>
+    ensures item { IfOk result (λ _. (bytes : Read) × (readings.new.items.items ≡ readings.old.items.items ++ (item.now, bytes) ∷ [])
+        × (D.honest volume.new.device → AddsItems ((item.now, bytes) ∷ []) (D.held volume.old.device) (D.image volume.old.device) volume.old (D.held volume.new.device) (D.image volume.new.device) volume.new)) }
+    ensures honest { D.honest volume.new.device → D.honest volume.old.device }
+{
+    let bytes = bytes_of(rt, item, readings)?;
+    match make_item(rt.alloc(), volume, item, bytes.as_slice()) {
+        Ok(()) => Ok(bytes.len().saturating_add(BYTES_OF_ITEM)),
+        Err(cause) => Err(HostError::in_image(rt.alloc(), cause, item.path.as_slice())),
+    }
+}
+
+/// The bytes of a file of the host; none of a folder.
+fn bytes_of<R: Files + AllocGlobal>(
+    rt: &R,
+    item: &Item,
+    readings: &mut Readings,
+) -> Result<Vec<u8>, HostError>
+    ensures { IfOk result (λ bytes. readings.new.items.items ≡ readings.old.items.items ++ (item.now, bytes) ∷ []) }
+{
+    let bytes = read_item(rt, item)?;
+    readings.items = readings.items.and(item, &bytes);
+    Ok(bytes)
+}
+
+fn read_item<R: Files + AllocGlobal>(rt: &R, item: &Item) -> Result<Vec<u8>, HostError> {
+    if item.kind == Kind::Folder {
+        return Ok(Vec::new(rt.alloc()));
+    }
+    match fs::read(rt, item.host.as_str()) {
+        Ok(bytes) => Ok(bytes),
+        Err(error) => Err(HostError::of_call(rt.alloc(), &error, item.host.as_str())),
+    }
+}
+
+/// Writes all that waits, if it is this many bytes or more, and tells how many wait then.
+fn write_some<D: Device>(
+    alloc: Global,
+    volume: &mut Volume<D>,
+    pending: usize,
+) -> Result<usize, Refusal>
+    ensures written { IfOk result (λ _. D.honest volume.new.device
+        → AddsItems [] (D.held volume.old.device) (D.image volume.old.device) volume.old (D.held volume.new.device) (D.image volume.new.device) volume.new) }
+    ensures honest { D.honest volume.new.device → D.honest volume.old.device }
+{
+    if pending < BYTES_AT_ONCE {
+        return Ok(pending);
+    }
+    write_rest(alloc, volume)?;
+    Ok(0)
+}
+
+/// Writes all that waits.
+fn write_rest<D: Device>(alloc: Global, volume: &mut Volume<D>) -> Result<(), Refusal>
+    ensures written { OnOk result (D.honest volume.new.device
+        → Adds (D.held volume.old.device) (D.image volume.old.device) volume.old (AsksSync ∷ []) (D.held volume.new.device) (D.image volume.new.device) volume.new) }
+    ensures honest { D.honest volume.new.device → D.honest volume.old.device }
+{
+    write_all(alloc, volume)
+}
+
+/// Makes an item with these bytes.
+fn make_item<D: Device>(
+    alloc: Global,
+    volume: &mut Volume<D>,
+    item: &Item,
+    bytes: &[u8],
+) -> Result<(), Refusal>
+    ensures item { OnOk result (D.honest volume.new.device → (read : Read) → read.items ≡ bytes.now
+        → AddsItems ((item.now, read) ∷ []) (D.held volume.old.device) (D.image volume.old.device) volume.old (D.held volume.new.device) (D.image volume.new.device) volume.new) }
+    ensures honest { D.honest volume.new.device → D.honest volume.old.device }
+{
+    match item.kind {
+        Kind::Folder => make_folder(alloc, volume, item.path.as_slice()),
+        Kind::File => make_file(alloc, volume, item.path.as_slice(), bytes),
+    }
+}
+
+/// Makes a directory.
+fn make_folder<D: Device>(alloc: Global, volume: &mut Volume<D>, path: &[u8]) -> Result<(), Refusal>
+    ensures made { OnOk result (D.honest volume.new.device
+        → Adds (D.held volume.old.device) (D.image volume.old.device) volume.old (AsksMkdir path.now ∷ []) (D.held volume.new.device) (D.image volume.new.device) volume.new) }
+    ensures honest { D.honest volume.new.device → D.honest volume.old.device }
+{
+    ask(alloc, volume, &Command::Mkdir(path.to_vec(alloc)?))
+}
+
+/// Makes a file with these bytes. It is taken away again where they are refused.
+fn make_file<D: Device>(
+    alloc: Global,
+    volume: &mut Volume<D>,
+    path: &[u8],
+    bytes: &[u8],
+) -> Result<(), Refusal>
+    ensures made { OnOk result (D.honest volume.new.device → (more : List Request) × MakesFile path.now bytes.now more
+        × Adds (D.held volume.old.device) (D.image volume.old.device) volume.old more (D.held volume.new.device) (D.image volume.new.device) volume.new) }
+    ensures honest { D.honest volume.new.device → D.honest volume.old.device }
+{
+    create(alloc, volume, path)?;
+    match fill(alloc, volume, path, bytes) {
+        Ok(()) => Ok(()),
+        Err(refusal) => {
+            ask(alloc, volume, &Command::Unlink(path.to_vec(alloc)?))?;
+            Err(refusal)
+        }
+    }
+}
+
+/// Makes a file without bytes.
+fn create<D: Device>(alloc: Global, volume: &mut Volume<D>, path: &[u8]) -> Result<(), Refusal>
+    ensures made { OnOk result (D.honest volume.new.device
+        → Adds (D.held volume.old.device) (D.image volume.old.device) volume.old (AsksCreate path.now ∷ []) (D.held volume.new.device) (D.image volume.new.device) volume.new) }
+    ensures honest { D.honest volume.new.device → D.honest volume.old.device }
+{
+    ask(alloc, volume, &Command::Create(path.to_vec(alloc)?))
+}
+
+/// Gives an empty file its bytes.
+fn fill<D: Device>(
+    alloc: Global,
+    volume: &mut Volume<D>,
+    path: &[u8],
+    bytes: &[u8],
+) -> Result<(), Refusal>
+    ensures filled { OnOk result (D.honest volume.new.device → (more : List Request) × MakesFile path.now bytes.now (AsksCreate path.now ∷ more)
+        × Adds (D.held volume.old.device) (D.image volume.old.device) volume.old more (D.held volume.new.device) (D.image volume.new.device) volume.new) }
+    ensures honest { D.honest volume.new.device → D.honest volume.old.device }
+{
+    if bytes.is_empty() {
+        return Ok(());
+    }
+    let handle = open(alloc, volume, path)?;
+    let written = write_blocks(alloc, volume, handle, bytes);
+    close(alloc, volume, handle)?;
+    written
+}
+
+/// Opens a file.
+fn open<D: Device>(alloc: Global, volume: &mut Volume<D>, path: &[u8]) -> Result<u32, Refusal>
+    ensures opened { IfOk result (λ _. D.honest volume.new.device
+        → Adds (D.held volume.old.device) (D.image volume.old.device) volume.old (AsksOpen path.now ∷ []) (D.held volume.new.device) (D.image volume.new.device) volume.new) }
+    ensures honest { D.honest volume.new.device → D.honest volume.old.device }
+{
+    let answer = answer_to(alloc, volume, &Command::Open(path.to_vec(alloc)?))?;
+    let Answer::Number(number) = answer else {
+        return Err(Refusal::BadHandle);
+    };
+    match u32::try_from(number) {
+        Ok(handle) => Ok(handle),
+        Err(_) => Err(Refusal::BadHandle),
+    }
+}
+
+/// Writes these bytes to the empty file of a handle, block by block.
+fn write_blocks<D: Device>(
+    alloc: Global,
+    volume: &mut Volume<D>,
+    handle: u32,
+    bytes: &[u8],
+) -> Result<(), Refusal>
+    ensures written { OnOk result (D.honest volume.new.device
+        → Adds (D.held volume.old.device) (D.image volume.old.device) volume.old (block_writes handle bytes.now (blocks_of (length bytes.now))) (D.held volume.new.device) (D.image volume.new.device) volume.new) }
+    ensures honest { D.honest volume.new.device → D.honest volume.old.device }
+{
+    let mut index = 0;
+    for piece in bytes.chunks(BLOCK_BYTES) {
+        index = write_piece(alloc, volume, handle, index, piece)?;
+    }
+    Ok(())
+}
+
+/// Writes the bytes of a block, and gives the index of the next one.
+fn write_piece<D: Device>(
+    alloc: Global,
+    volume: &mut Volume<D>,
+    handle: u32,
+    index: u32,
+    piece: &[u8],
+) -> Result<u32, Refusal>
+    ensures next { IfOk result (λ next. next ≡ index + 1) }
+    ensures written { IfOk result (λ _. D.honest volume.new.device
+        → Adds (D.held volume.old.device) (D.image volume.old.device) volume.old (AsksWrite handle index piece.now ∷ []) (D.held volume.new.device) (D.image volume.new.device) volume.new) }
+    ensures honest { D.honest volume.new.device → D.honest volume.old.device }
+{
+    let Some(next) = index.checked_add(1) else {
+        return Err(Refusal::TooBig);
+    };
+    let command = Command::Write {
+        handle,
+        index,
+        piece: piece.to_vec(alloc)?,
+    };
+    ask(alloc, volume, &command)?;
+    Ok(next)
+}
+
+/// Closes a handle.
+fn close<D: Device>(alloc: Global, volume: &mut Volume<D>, handle: u32) -> Result<(), Refusal>
+    ensures closed { OnOk result (D.honest volume.new.device
+        → Adds (D.held volume.old.device) (D.image volume.old.device) volume.old (AsksClose handle ∷ []) (D.held volume.new.device) (D.image volume.new.device) volume.new) }
+    ensures honest { D.honest volume.new.device → D.honest volume.old.device }
+{
+    ask(alloc, volume, &Command::Close(handle))
+}
+
+/// Carries out a command.
+fn ask<D: Device>(alloc: Global, volume: &mut Volume<D>, command: &Command) -> Result<(), Refusal>
+    ensures asked { OnOk result (D.honest volume.new.device → (request : Request) → ((geo : Geometry) → asked geo command.now ≡ request)
+        → Adds (D.held volume.old.device) (D.image volume.old.device) volume.old (request ∷ []) (D.held volume.new.device) (D.image volume.new.device) volume.new) }
+    ensures honest { D.honest volume.new.device → D.honest volume.old.device }
+{
+    answer_to(alloc, volume, command)?;
+    Ok(())
+}
+
+/// Carries out a command, and gives the answer.
+fn answer_to<D: Device>(
+    alloc: Global,
+    volume: &mut Volume<D>,
+    command: &Command,
+) -> Result<Answer, Refusal>
+    ensures asked { IfOk result (λ _. D.honest volume.new.device → (request : Request) → ((geo : Geometry) → asked geo command.now ≡ request)
+        → Adds (D.held volume.old.device) (D.image volume.old.device) volume.old (request ∷ []) (D.held volume.new.device) (D.image volume.new.device) volume.new) }
+    ensures honest { D.honest volume.new.device → D.honest volume.old.device }
+{
+    volume.apply(alloc, command)
+}

@@ -1,0 +1,180 @@
+//! What stands on the host, and where it goes in an image.
+ghost use Rattle.std.specs.Prelude.{OnOk};
+ghost use Rattle.std.specs.List.{All};
+ghost use Rattle.putting.specs.Placing.{IsNew};
+
+use frozen::Frozen;
+use hosts::HostError;
+use inode::INDIRECT_POSITION;
+use layout::{BLOCK_BYTES, Refusal};
+use reading::{joined, stat};
+use std::alloc::Global;
+use std::fs;
+use std::fs::Metadata;
+use std::rt::Files;
+
+/// How many bytes a name in an image may have.
+const NAME_BYTES: usize = 56;
+
+/// How many bytes a path in an image may have.
+const PATH_BYTES: usize = 4_096;
+
+/// How many bytes a file in an image may have.
+const FILE_BYTES: u64 = INDIRECT_POSITION as u64 * BLOCK_BYTES as u64;
+
+/// What stands at a path of the host.
+#[derive(Clone, Copy, Debug, PartialEq, Eq)]
+pub enum Kind {
+    File,
+    Folder,
+}
+
+/// A file or folder of the host, and the path in the image that it is to have.
+#[derive(Debug, Drop)]
+pub struct Item {
+    pub host: String,
+    pub path: Vec<u8>,
+    pub kind: Kind,
+}
+
+/// What stands at a path of the host, and all below it, each folder before what it holds, and the names in a folder in the
+/// order of their bytes. The first one gets this path in the image, and is left out where that is `/`. Links are not
+/// followed, but for the first one. Refused is a name, a path or a file that no image can have, and what is neither file nor
+/// folder.
+pub fn items_of<R: Files + AllocGlobal + Clone + Drop>(
+    rt: &R,
+    host: &str,
+    path: &[u8],
+) -> Result<Vec<Item>, HostError> {
+    let alloc = rt.alloc();
+    let kind = match fs::metadata(rt, host) {
+        Ok(metadata) => kind_of(alloc, &metadata, host)?,
+        Err(error) => return Err(HostError::of_call(alloc, &error, host)),
+    };
+    let first = Item {
+        host: String::from_str(alloc, host)?,
+        path: path.to_vec(alloc)?,
+        kind,
+    };
+    if path != b"/".as_slice() {
+        return with_all_below(rt, first);
+    }
+    if kind == Kind::File {
+        return Err(HostError::in_image(alloc, Refusal::IsRoot, path));
+    }
+    let mut items = with_all_below(rt, first)?;
+    if !items.is_empty() {
+        items.remove(0);
+    }
+    Ok(items)
+}
+
+/// An item and all below it, in their order.
+fn with_all_below<R: Files + AllocGlobal + Clone + Drop>(
+    rt: &R,
+    first: Item,
+) -> Result<Vec<Item>, HostError> {
+    let mut waiting = Vec::new(rt.alloc());
+    waiting.push(first)?;
+    let mut items = Vec::new(rt.alloc());
+    for _turn in 0..u64::MAX {
+        let Some(item) = waiting.pop() else {
+            break;
+        };
+        if item.kind == Kind::Folder {
+            add_below(rt, &item, &mut waiting)?;
+        }
+        items.push(item)?;
+    }
+    Ok(items)
+}
+
+/// Adds what a folder holds, the last name first.
+fn add_below<R: Files + AllocGlobal + Clone + Drop>(
+    rt: &R,
+    folder: &Item,
+    waiting: &mut Vec<Item>,
+) -> Result<(), HostError> {
+    let mut names = names_in(rt, folder.host.as_str())?;
+    names.sort()?;
+    for name in names.iter().rev() {
+        waiting.push(item_in(rt, folder, name.as_str())?)?;
+    }
+    Ok(())
+}
+
+/// The item of a name in a folder.
+fn item_in<R: Files + AllocGlobal + Clone + Drop>(
+    rt: &R,
+    folder: &Item,
+    name: &str,
+) -> Result<Item, HostError> {
+    let alloc = rt.alloc();
+    let host = format!(in alloc; "{}/{name}", folder.host)?;
+    let path = joined(alloc, folder.path.as_slice(), name.as_bytes())?;
+    if name.len() > NAME_BYTES || path.len() > PATH_BYTES {
+        return Err(HostError::on_host(alloc, Refusal::BadName, host.as_str()));
+    }
+    let kind = match fs::symlink_metadata(rt, host.as_str()) {
+        Ok(metadata) => kind_of(alloc, &metadata, host.as_str())?,
+        Err(error) => return Err(HostError::of_call(alloc, &error, host.as_str())),
+    };
+    Ok(Item { host, path, kind })
+}
+
+/// The kind of what stands at a path of the host.
+fn kind_of(alloc: Global, metadata: &Metadata, host: &str) -> Result<Kind, HostError> {
+    if metadata.is_dir() {
+        return Ok(Kind::Folder);
+    }
+    if !metadata.is_file() {
+        return Err(HostError::on_host(alloc, Refusal::BadName, host));
+    }
+    if metadata.len() > FILE_BYTES {
+        return Err(HostError::on_host(alloc, Refusal::TooBig, host));
+    }
+    Ok(Kind::File)
+}
+
+/// The names in a folder of the host. One that is no text is refused by the folder's path.
+fn names_in<R: Files + AllocGlobal + Clone + Drop>(
+    rt: &R,
+    folder: &str,
+) -> Result<Vec<String>, HostError> {
+    let alloc = rt.alloc();
+    let entries = match fs::read_dir(rt, folder) {
+        Ok(entries) => entries,
+        Err(error) => return Err(HostError::of_call(alloc, &error, folder)),
+    };
+    let mut names = Vec::new(alloc);
+    for entry in entries {
+        match entry {
+            Ok(entry) => names.push(String::from_str(alloc, entry.file_name())?)?,
+            Err(error) => return Err(HostError::of_call(alloc, &error, folder)),
+        }
+    }
+    Ok(names)
+}
+
+/// Refuses the first item of which the path leads somewhere in an image already, or can lead nowhere.
+pub fn allow_items(alloc: Global, frozen: &Frozen, items: &[Item]) -> Result<(), HostError>
+    // Where none is refused, a user of the image is told of each that nothing stands there.
+    ensures { OnOk result (All (IsNew frozen.now) items.now) }
+{
+    for item in items {
+        allow_item(alloc, frozen, item)?;
+    }
+    Ok(())
+}
+
+/// Refuses an item of which the path leads somewhere in an image already, or can lead nowhere.
+fn allow_item(alloc: Global, frozen: &Frozen, item: &Item) -> Result<(), HostError>
+    ensures { OnOk result (IsNew frozen.now item.now) }
+{
+    let path = item.path.as_slice();
+    match stat(frozen, path) {
+        Err(Refusal::NotFound) => Ok(()),
+        Err(cause) => Err(HostError::in_image(alloc, cause, path)),
+        Ok(_) => Err(HostError::in_image(alloc, Refusal::Exists, path)),
+    }
+}

@@ -1,0 +1,86 @@
+//! What the lines of `fsvol` do that put files of the host into an image in a file.
+use crate::filling::{Filled, put_on_device};
+use crate::items::{Item, allow_items, items_of};
+use device::FileDevice;
+use frozen::load;
+use hosts::{Ended, HostError};
+use layout::Refusal;
+use std::marker::Brand;
+use std::os::unix::fs::FileExt;
+use std::rt::Files;
+use tools::path_of;
+
+/// Puts what stands at a path of the host, and all below it, at a path in a file's image. All names are looked at before the image
+/// is opened to be written.
+pub fn put_into_file<R: Files + AllocGlobal + Clone + Drop>(
+    rt: &R,
+    image: &str,
+    path: &str,
+    host: &str,
+) -> Result<(), Ended>
+where
+    R::File: FileExt,
+{
+    match allowed_items(rt, image, path, host) {
+        Ok(items) => put_items(rt, image, items.as_slice()),
+        Err(error) => Err(Ended::before(rt.alloc(), &error)),
+    }
+}
+
+/// The items of a line that puts something into an image. None of them stands there yet.
+fn allowed_items<R: Files + AllocGlobal + Clone + Drop>(
+    rt: &R,
+    image: &str,
+    path: &str,
+    host: &str,
+) -> Result<Vec<Item>, HostError>
+where
+    R::File: FileExt,
+{
+    let path = path_of(rt.alloc(), path)?;
+    let items = items_of(rt, host, path.as_slice())?;
+    let mut device: FileDevice<R::File, Brand> = FileDevice::open(rt, image)?;
+    let frozen = load(rt.alloc(), &mut device)?;
+    allow_items(rt.alloc(), &frozen, items.as_slice())?;
+    Ok(items)
+}
+
+/// The items of a line that puts what a folder of the host holds into the root of a fresh image.
+pub fn items_of_folder<R: Files + AllocGlobal + Clone + Drop>(
+    rt: &R,
+    host: &str,
+) -> Result<Vec<Item>, Ended> {
+    match items_of(rt, host, b"/") {
+        Ok(items) => Ok(items),
+        Err(error) => Err(Ended::before(rt.alloc(), &error)),
+    }
+}
+
+/// Puts items into the volume of a file's image. Where one is refused, what went before it is written.
+pub fn put_items<R: Files + AllocGlobal>(rt: &R, image: &str, items: &[Item]) -> Result<(), Ended>
+where
+    R::File: FileExt,
+{
+    let Filled { done, stopped, .. } = match put_in_file(rt, image, items) {
+        Ok(filled) => filled,
+        Err(cause) => return Err(Ended::before(rt.alloc(), &HostError::from(cause))),
+    };
+    match stopped {
+        Some(error) => Err(Ended::after(rt.alloc(), &error, done, items.len())),
+        None => Ok(()),
+    }
+}
+
+/// Puts items into the volume of a file's image, and tells how many went into it.
+fn put_in_file<R: Files + AllocGlobal>(
+    rt: &R,
+    image: &str,
+    items: &[Item],
+) -> Result<Filled, Refusal>
+where
+    R::File: FileExt,
+{
+    let device: FileDevice<R::File, Brand> = FileDevice::open_to_write(rt, image)?;
+    let holding = put_on_device(rt, device, items)?;
+    Ok(holding.filled)
+}
