@@ -52,7 +52,7 @@ use works::Names;
 /// otherwise `NoMemory` alone. What is found is the same for every number of workers.
 ///
 /// The workers pass the gate before each group in each phase, with the phase's number from 1 to 5: first all groups in
-/// phase 1, and so on. In phase 3 they do so in each round of the walk.
+/// phase 1, and so on. In phases 1 and 4 they do so in each of two passes, and in phase 3 in each round of the walk.
 pub fn check<G: Gate>(
     rt: &(impl Threads + Sync),
     alloc: Global,
