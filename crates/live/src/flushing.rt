@@ -10,6 +10,7 @@ ghost use Rattle.queue_model.specs.Blocks.{home_of};
 ghost use Rattle.queue_model.specs.Sync.{IsLeastReady};
 ghost use Rattle.softdep.specs.Queued.{pending_of};
 ghost use Rattle.softdep.specs.Syncing.{AreFlushes};
+ghost use Rattle.softdep_queue.specs.Next.{IsNextReady, NothingReadyFrom};
 ghost use Rattle.live.specs.Alive.{Answers, MayRefuse, disk_of};
 ghost use Rattle.live.specs.Held.{HeldMore};
 
@@ -30,6 +31,13 @@ impl<D: Device> Live<D> {
         ensures { MatchOption result (pending_of self.now.queue ≡ []) (λ address. IsLeastReady (home_of self.now.kept.geometry) (pending_of self.now.queue) address) }
     {
         self.queue.least_ready()
+    }
+
+    /// The least block with an update that may go to the device, of this one and those above it; `None` where there is none.
+    pub fn next_ready(&self, from: u32) -> Option<u32>
+        ensures { MatchOption result (NothingReadyFrom (home_of self.now.kept.geometry) (pending_of self.now.queue) from) (λ address. IsNextReady (home_of self.now.kept.geometry) (pending_of self.now.queue) from address) }
+    {
+        self.queue.next_ready(from)
     }
 
     /// Writes a block with those of its pending updates that may go to the device, and counts them. Refused with `BadIndex`

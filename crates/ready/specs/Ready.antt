@@ -1,5 +1,5 @@
 -- Which blocks have something ready.
-use Rattle.std.specs.Prelude.{◌≡◌, ℕ, ◌<◌, Bool, false, not, List, [], length, slice_index_or}
+use Rattle.std.specs.Prelude.{◌≡◌, ℕ, ◌<◌, ◌≤◌, Bool, false, not, List, [], length, slice_index_or}
 use Rattle.stacks.specs.Stacks.{Links, stack_at, count_of, is_empty}
 
 -- the marked blocks are those whose stacks are not empty
@@ -12,6 +12,17 @@ pub record IsLeast (stacks : Links) (block : ℕ) : Type 0 where
   pub within : block < count_of stacks
   pub has : stack_at stacks block ≡ [] → ⊥
   pub least : (b : ℕ) → b < block → stack_at stacks b ≡ []
+
+-- the block has a number, and no block from this one on and below it has one
+pub record IsNext (stacks : Links) (from block : ℕ) : Type 0 where
+  pub above : from ≤ block
+  pub within : block < count_of stacks
+  pub has : stack_at stacks block ≡ [] → ⊥
+  pub least : (b : ℕ) → from ≤ b → b < block → stack_at stacks b ≡ []
+
+-- no block from this one on has a number
+abbrev pub NothingStandsFrom : Links → ℕ → Type 0
+NothingStandsFrom stacks from = (b : ℕ) → from ≤ b → stack_at stacks b ≡ []
 
 -- no block has a number
 abbrev pub NothingStands : Links → Type 0

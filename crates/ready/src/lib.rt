@@ -4,7 +4,7 @@
 ghost use Rattle.std.specs.Prelude.{◌≡◌, ℕ, ◌+◌, ◌<◌, ◌≤◌, List, [], ◌∷◌, OnOk, IfOk, MatchOption};
 ghost use Rattle.std.specs.List.{Contains};
 ghost use Rattle.stacks.specs.Stacks.{stack_at, count_of, room_of, is_empty};
-ghost use Rattle.ready.specs.Ready.{IsLeast, NothingStands};
+ghost use Rattle.ready.specs.Ready.{IsLeast, IsNext, NothingStands, NothingStandsFrom};
 
 use marks::Marks;
 use stacks::Stacks;
@@ -98,6 +98,13 @@ impl Ready {
     {
         self.marks.least()
     }
+
+    /// The least block that has a number, of this one and those above it.
+    pub fn next(&self, from: u32) -> Option<u32>
+        ensures { MatchOption result (NothingStandsFrom self.now from) (λ block. IsNext self.now from block) }
+    {
+        self.marks.next(from)
+    }
 }
 
 #[cfg(test)]
@@ -114,6 +121,10 @@ mod tests {
         ready.push(5, 0);
         ready.push(70, 1);
         assert_eq!(rt; ready.least(), Some(5));
+        assert_eq!(rt;
+            (ready.next(6), ready.next(70), ready.next(71)),
+            (Some(70), Some(70), None)
+        );
         assert_eq!(rt; ready.pop(5), Some(0));
         assert_eq!(rt; ready.least(), Some(70));
         assert_eq!(rt;

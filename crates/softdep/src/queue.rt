@@ -9,6 +9,7 @@ ghost use Rattle.std.specs.Prelude.{IsTrue};
 ghost use Rattle.std.specs.Option.{option_copied};
 ghost use Rattle.model.specs.Layout.{is_data_address};
 ghost use Rattle.softdep_queue.specs.Contents.{last_bytes};
+ghost use Rattle.softdep_queue.specs.Next.{IsNextReady, NothingReadyFrom};
 ghost use Rattle.softdep.specs.Queued.{fresh_queue, pending_of};
 
 use http_server::Log;
@@ -75,6 +76,14 @@ impl Queue {
         ensures closed { IsClosed (updates self.now.written) self.now.cut }
     {
         self.table.least_ready()
+    }
+
+    /// The least block with an update that may go to the device, of this one and those above it.
+    pub fn next_ready(&self, from: u32) -> Option<u32>
+        ensures next { MatchOption result (NothingReadyFrom (home_of self.now.geometry) (pending_of self.now) from) (λ address. IsNextReady (home_of self.now.geometry) (pending_of self.now) from address) }
+        ensures on_volume { IfSome result (λ address. address < block_count self.now.geometry) }
+    {
+        self.table.next_ready(from)
     }
 
     /// The bytes that the last pending update of a data block gives it; `None` where no update of it is pending.

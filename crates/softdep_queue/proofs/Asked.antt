@@ -10,9 +10,10 @@ use Rattle.queue_model.specs.Sync.{HasReady, IsLeastReady}
 use Rattle.queue_model.specs.Entries.{Entry, Queue, has_start}
 use Rattle.queue_model.proofs.Lists.{contains_head, contains_tail, contains_cases, contains_none, all_at, all_from}
 use Rattle.queue_model.proofs.Represented.{start_tells, none_starts}
-use Rattle.ready.specs.Ready.{IsLeast, NothingStands}
+use Rattle.ready.specs.Ready.{IsLeast, IsNext, NothingStands, NothingStandsFrom}
 use Rattle.stacks.specs.Stacks.{stack_at, is_empty}
 use Rattle.softdep_queue.specs.declared.table.Table.{Table}
+use Rattle.softdep_queue.specs.Next.{IsNextReady, NothingReadyFrom}
 use Rattle.softdep_queue.specs.Ties.{Holds}
 use Rattle.softdep_queue.proofs.Counting.{count_none, none_counted}
 
@@ -64,6 +65,12 @@ module _ (geo : Geometry) (t : Table) (queue : Queue) (q : List Pending) (holds 
 
   pub least_is : (a : ℕ) → IsLeast t.ready a → IsLeastReady (home_of geo) q a
   least_is a is = record { has = some_ready a is.has; least = λ b low. none_ready_at b (is.least b low) }
+
+  pub next_is : (from a : ℕ) → IsNext t.ready from a → IsNextReady (home_of geo) q from a
+  next_is from a is = record { above = is.above; has = some_ready a is.has; least = λ b high low. none_ready_at b (is.least b high low) }
+
+  pub nothing_next : (from : ℕ) → NothingStandsFrom t.ready from → NothingReadyFrom (home_of geo) q from
+  nothing_next from none = λ b high. none_ready_at b (none b high)
 
   pub nothing_is : NothingStands t.ready → q ≡ []
   nothing_is none = none_starts (home_of geo) queue q holds.ties.represents (λ a. has_none a (none a))

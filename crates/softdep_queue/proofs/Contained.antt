@@ -1,5 +1,5 @@
 -- The bytes that the table has for a block are those of its last pending update.
-use Rattle.std.proofs.Common.{◌≡◌, ℕ, suc, ◌+◌, ◌-◌, ◌<◌, Bool, true, false, if◌then◌else◌, List, [], ◌∷◌, ◌⊎◌, inl, inr, Option, Some, None, refl, sym, ap, ◌∙◌, subst, IsTrue, Contains, length, arith, slice_index_or}
+use Rattle.std.proofs.Common.{◌≡◌, ℕ, ◌-◌, ◌<◌, List, [], ◌∷◌, inl, inr, Option, Some, None, refl, sym, ap, ◌∙◌, subst, Contains, length, arith, slice_index_or}
 use Rattle.std.proofs.lemmas.Bool.{cases_Bool, cond-true, cond-false}
 use Rattle.std.proofs.lemmas.Option.{none-some, same_Some}
 use Rattle.model.specs.Layout.{Geometry}
@@ -7,7 +7,7 @@ use Rattle.model.specs.Cells.{Update, SetInode, SetNumber, SetBlock, SetBytes}
 use Rattle.ordering.specs.Cuts.{Cell, Record, NumberBit, BlockBit, Block, Pending, same_cell, cell_of}
 use Rattle.ordering.proofs.CutLemmas.{same_cell_eq}
 use Rattle.queue_model.specs.Blocks.{home_of}
-use Rattle.queue_model.specs.Entries.{Entry, Queue, Represents, Stand, last_of}
+use Rattle.queue_model.specs.Entries.{Entry, Queue, Stand, last_of}
 use Rattle.queue_model.proofs.Lists.{contains_head, contains_tail}
 use Rattle.queue_model.proofs.Standing.{listed, id_low}
 use Rattle.updates.specs.Places.{IsCell, place_of}

@@ -1,5 +1,5 @@
 -- The bytes that pending updates give a block.
-use Rattle.std.specs.Prelude.{ℕ, Bool, if◌then◌else◌, List, [], ◌∷◌, Option, Some, None}
+use Rattle.std.specs.Prelude.{ℕ, if◌then◌else◌, List, [], ◌∷◌, Option, Some, None}
 use Rattle.model.specs.Cells.{Update, SetInode, SetNumber, SetBlock, SetBytes}
 use Rattle.ordering.specs.Cuts.{Block, Pending, same_cell, cell_of}
 

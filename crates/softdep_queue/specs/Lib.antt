@@ -7,3 +7,4 @@ pub mod Taking
 pub mod Retiring
 pub mod Returning
 pub mod Contents
+pub mod Next

@@ -14,6 +14,7 @@ ghost use Rattle.std.specs.Option.{option_copied};
 ghost use Rattle.model.specs.Layout.{is_data_address};
 ghost use Rattle.softdep_queue.specs.Rooms.{IsTable};
 ghost use Rattle.softdep_queue.specs.Contents.{last_bytes};
+ghost use Rattle.softdep_queue.specs.Next.{IsNextReady, NothingReadyFrom};
 
 use crate::Table;
 use layout::{Block, Geometry};
@@ -42,6 +43,14 @@ impl Table {
         ensures on_volume { IfSome result (λ address. address < count_of self.now.ready) }
     {
         self.ready.least()
+    }
+
+    /// The least block with an update that waits for nothing, of this one and those above it.
+    pub fn next_ready(&self, from: u32) -> Option<u32>
+        ensures next { (geo : Numbers) (queue : Queue) (q : List Pending) → Holds geo self.now queue q → MatchOption result (NothingReadyFrom (home_of geo) q from) (λ address. IsNextReady (home_of geo) q from address) }
+        ensures on_volume { IfSome result (λ address. address < count_of self.now.ready) }
+    {
+        self.ready.next(from)
     }
 
     /// The bytes that the last pending update of a data block gives it; `None` where no update of it is pending.

@@ -1,10 +1,8 @@
-use Rattle.std.proofs.Common.{◌≡◌, ◌-◌, ◌<◌, ℕ, refl, sym, ap, ◌∙◌, subst, length, arith, slice_index_or}
+use Rattle.std.proofs.Common.{◌-◌, ◌<◌, sym, ap, ◌∙◌, subst, length, arith, slice_index_or}
 use Rattle.std.proofs.lemmas.List.{get_or_default}
 use Rattle.model.specs.Cells.{SetBytes}
-use Rattle.ordering.specs.Cuts.{Block}
-use Rattle.updates.specs.Places.{place_of}
 use Rattle.softdep_queue.specs.declared.table.Node.{Node}
-use Rattle.softdep_queue.specs.Ties.{Shows, node_at}
+use Rattle.softdep_queue.specs.Ties.{Shows}
 use Rattle.softdep_queue.proofs.Contained.{no_contents, last_low, last_shows}
 use Rattle.softdep_queue.proofs.Steps.{read}
 use Rattle.softdep_queue.proofs.table.Table.contents.Goals as goal
