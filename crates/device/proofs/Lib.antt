@@ -1,3 +1,5 @@
 pub mod WriteLemmas
 pub mod MemoryLemmas
 pub mod FormatLemmas
+pub mod RunLemmas
+pub mod OrderLemmas

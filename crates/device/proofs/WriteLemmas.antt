@@ -86,17 +86,17 @@ whole_start block each count k d b =
 
 -- ---- a device over a file that noted one more call
 
-module _ (first : ℕ → List ℕ) (old new : Calls) (call : Call) (block : List ℕ) (noted : new ≡ record old { answered = old.answered ++ (call, block) ∷ [] }) where
+module _ (first : ℕ → List ℕ) (old new : Calls) (call : Call) (block : List ℕ) (count : new.count ≡ old.count) (noted : new.answered ≡ old.answered ++ (call, block) ∷ []) where
   pub noted_honest : AreHonest (image_of first new.count) new.answered
       → AreHonest (image_of first old.count) old.answered × IsTrueAnswer (image_after (image_of first old.count) (writes_of old.answered)) call block
   noted_honest h =
-      honest-push (image_of first old.count) old.answered call block (subst (λ (v : Calls). AreHonest (image_of first v.count) v.answered) noted h)
+      honest-push (image_of first old.count) old.answered call block (subst (λ es. AreHonest (image_of first old.count) es) noted (subst (λ n. AreHonest (image_of first n) new.answered) count h))
 
   writes : writes_of new.answered ≡ writes_of old.answered ++ write_of call block
-  writes = ap (λ (v : Calls). writes_of v.answered) noted ∙ writes_of-push old.answered call block
+  writes = ap writes_of noted ∙ writes_of-push old.answered call block
 
   pub noted_image : image_after (image_of first new.count) (writes_of new.answered) ≡ image_after (image_of first old.count) (writes_of old.answered ++ write_of call block)
-  noted_image = ap₂ (λ n ws. image_after (image_of first n) ws) (ap (λ (v : Calls). v.count) noted) writes
+  noted_image = ap₂ (λ n ws. image_after (image_of first n) ws) count writes
 
   pub noted_held : images_held (image_of first new.count) (writes_of new.answered) ≡ images_held (image_of first old.count) (writes_of old.answered ++ write_of call block)
-  noted_held = ap₂ (λ n ws. images_held (image_of first n) ws) (ap (λ (v : Calls). v.count) noted) writes
+  noted_held = ap₂ (λ n ws. images_held (image_of first n) ws) count writes

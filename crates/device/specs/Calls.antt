@@ -39,8 +39,9 @@ abbrev pub image_of : (ℕ → List ℕ) → ℕ → List (List ℕ)
 image_of block count = map block (range_with_len 0 count)
 
 -- what a device over a file keeps beside the file: how many blocks it has, the calls that it answered, the first first,
--- and how many calls failed
+-- the writes that the file was given, and how many calls failed
 pub record Calls : Type 0 where
   pub count : ℕ
   pub answered : List Answered
+  pub given : List Write
   pub failures : ℕ

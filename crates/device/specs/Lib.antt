@@ -1,5 +1,6 @@
 pub mod Writes
 pub mod Calls
+pub mod Runs
 pub mod Memory
 pub mod Zeroes
 pub mod Fused

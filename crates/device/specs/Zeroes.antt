@@ -20,7 +20,7 @@ zeroes_are_whole = record { length = refl; bytes = All-replicate (λ b. b < 256)
 abbrev image : Calls → List (List ℕ)
 image calls = image_after (image_of (λ _. zero_block) calls.count) (writes_of calls.answered)
 
-module _ (calls : Calls) (count : ℕ) (new : calls ≡ record { count = count; answered = []; failures = 0 }) where
+module _ (calls : Calls) (count : ℕ) (new : calls ≡ record { count = count; answered = []; given = []; failures = 0 }) where
   pub new_file_count : length (image_after (image_of (λ _. zero_block) calls.count) (writes_of calls.answered)) ≡ count
   new_file_count = ap (λ c. length (image c)) new ∙ length-map-range_with_len (λ _. zero_block) 0 count
 

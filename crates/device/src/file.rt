@@ -1,19 +1,22 @@
-ghost use Rattle.std.specs.Prelude.{◌≡◌, ◌⊎◌, ℕ, ◌<◌, ◌*◌, ◌+◌, ◌-◌, ◌^◌, min, List, [], ◌∷◌, ◌++◌, All, IfOk, IfErr, IsOkUnless, replicate};
+ghost use Rattle.std.specs.Prelude.{◌≡◌, ◌⊎◌, ℕ, ◌<◌, ◌*◌, ◌+◌, ◌-◌, ◌^◌, min, List, [], ◌∷◌, ◌++◌, IfOk, IfErr, IsOkUnless, OnErr, OnOk, replicate};
 ghost use Rattle.layout.specs.declared.refusal.Refusal.TheVariants.{BadLength, Device as DeviceRefusal};
 ghost use Rattle.model.specs.Image.{IsBlock};
 ghost use Rattle.device.specs.Writes.{image_after, images_held};
 ghost use Rattle.device.specs.Calls.{AreHonest, writes_of, image_of};
+ghost use Rattle.device.specs.declared.file.Call.TheVariants.{ReadBlock, WriteBlock};
 ghost use Rattle.device.specs.Memory.{IsWholeBlocks};
+ghost use Rattle.device.specs.Runs.{writes_of_run};
 ghost use Rattle.device.specs.Zeroes.{zeroes_are_whole};
 
+use crate::run::{RUN_BLOCKS, Run};
 use crate::{Device, DeviceFault};
 use http_server::Log;
 use layout::{BLOCK_BYTES, Block, Refusal};
-use std::fs;
 use std::fs::{OpenFile, OpenOptions};
 use std::marker::{Brand, Model, PhantomData};
 use std::os::unix::fs::FileExt;
 use std::rt::Files;
+use std::{fs, io};
 
 /// What a file held before its first call, block by block. Only clauses read it.
 pub trait Start {
@@ -38,46 +41,72 @@ pub enum Call {
 /// A file as a device. It keeps a history of the calls that were answered, which only clauses read: no contract can say
 /// what a file gives back, so what is proved of the blocks of a file has as its premise that each read gave what the
 /// file held at first or what was written there since.
+///
+/// Blocks that are read one after another come from the file in runs. A device that gathers gives the file blocks that are
+/// written one after another in runs, too: the last ones wait in memory until another block is written, or `sync` or `give`
+/// is called. The file is given all writes in their order, so that after each call of the system it holds what some of the
+/// writes left, the first first.
 #[derive(Drop)]
 pub struct FileDevice<F, S: Start> {
     file: F,
     count: u32,
     failures: u64,
     answered: Log<Call, Block>,
+    /// The writes that the file was given, for clauses too.
+    given: Log<u32, Block>,
+    /// The blocks that were read or written last.
+    kept: Run,
+    /// Whether what is kept was written, and the file was not given it yet.
+    waits: bool,
+    /// Whether writes may wait.
+    gathers: bool,
     start: PhantomData<S>,
 }
 
 impl<F, S: Start> Model for FileDevice<F, S> {
-    ghost use Rattle.std.specs.Prelude.{All};
-    ghost use Rattle.model.specs.Image.{IsBlock};
     ghost use Rattle.device.specs.Calls.{Calls};
+    ghost use Rattle.device.specs.Runs.{IsInOrder};
 
     ghost Value = { Calls };
 
-    ghost view = { λ device. record { count = device.count; answered = device.answered.items; failures = device.failures } };
+    ghost view = { λ device. record { count = device.count; answered = device.answered.items; given = device.given.items; failures = device.failures } };
 
-    ghost invariant = { λ device. All (λ e. IsBlock e.1) device.answered.items };
+    ghost invariant = { λ device. IsInOrder device.answered.items device.given.items device.waits device.kept };
 }
 
 impl<F, S: Start> FileDevice<F, S> {
     /// The device over a file of this many blocks, with no call made yet.
     fn over(file: F, count: u32) -> FileDevice<F, S>
-        ensures { result ≡ record { count = count; answered = []; failures = 0 } }
+        ensures { result ≡ record { count = count; answered = []; given = []; failures = 0 } }
     {
         FileDevice {
             file,
             count,
             failures: 0,
             answered: Log::new(),
+            given: Log::new(),
+            kept: Run::before(0),
+            waits: false,
+            gathers: false,
             start: PhantomData,
         }
     }
 
-    /// Adds a call that was answered to the history.
-    fn note(&mut self, call: Call, block: &Block)
-        ensures { self.new ≡ record self.old { answered = self.old.answered ++ (call, block.now) ∷ [] } }
+    /// The same device, which gathers what is written.
+    pub fn gathering(self) -> FileDevice<F, S>
+        ensures { result ≡ self }
     {
-        self.answered = self.answered.and(&call, block);
+        FileDevice {
+            gathers: true,
+            ..self
+        }
+    }
+
+    /// Adds a block that was read to the history.
+    fn note_read(&mut self, address: u32, block: &Block)
+        ensures { self.new ≡ record self.old { answered = self.old.answered ++ (ReadBlock address, block.now) ∷ [] } }
+    {
+        self.answered = self.answered.and(&Call::ReadBlock(address), block);
     }
 
     /// A fault, which is counted.
@@ -86,6 +115,114 @@ impl<F, S: Start> FileDevice<F, S> {
     {
         self.failures = self.failures.saturating_add(1);
         DeviceFault
+    }
+}
+
+impl<F: FileExt, S: Start> FileDevice<F, S> {
+    /// Gives the file what waits; then it was given each write that was answered. After a fault it still waits.
+    pub fn give(&mut self) -> Result<(), DeviceFault>
+        ensures given { OnOk result (self.new ≡ record self.old { given = writes_of self.old.answered }) }
+        ensures fault { OnErr result (self.new ≡ record self.old { failures = min (self.old.failures + 1) (2 ^ 64 - 1) }) }
+    {
+        match self.give_waiting() {
+            Ok(()) => Ok(()),
+            Err(_) => Err(self.fault()),
+        }
+    }
+
+    /// Gives the file what waits, and counts no fault.
+    fn give_waiting(&mut self) -> io::Result<()>
+        ensures given { OnOk result (self.new ≡ record self.old { given = writes_of self.old.answered }) }
+        ensures all { OnOk result (self.new.given ≡ writes_of self.new.answered) }
+        ensures refused { OnErr result (self.new ≡ self.old) }
+    {
+        if !self.waits {
+            return Ok(());
+        }
+        self.file.write_all_at(self.kept.blocks().as_flattened(), offset(self.kept.first()))?;
+        add_run(&mut self.given, &self.kept);
+        self.waits = false;
+        Ok(())
+    }
+
+    /// Gets a block from what is kept, or else from the file.
+    fn get(&mut self, address: u32, to: &mut Block) -> io::Result<()>
+        ensures { self.new ≡ self.old }
+    {
+        self.read_ahead(address);
+        if let Some(block) = self.kept.block(address) {
+            *to = *block;
+            return Ok(());
+        }
+        if !self.waits {
+            self.kept.clear(address.saturating_add(1));
+        }
+        self.file.read_exact_at(to, offset(address))
+    }
+
+    /// Reads a run of blocks from this one on, where nothing waits and the one before it was read last; none is kept where the
+    /// file does not give them all.
+    fn read_ahead(&mut self, address: u32)
+        ensures { self.new ≡ self.old }
+    {
+        if self.waits || !self.kept.ends_before(address) {
+            return;
+        }
+        let left = self.count.saturating_sub(address) as usize;
+        let count = left.min(RUN_BLOCKS);
+        self.kept.read(&self.file, address, count);
+    }
+
+    /// Writes a block, and counts no fault.
+    fn take(&mut self, address: u32, from: &Block) -> io::Result<()>
+        ensures taken { OnOk result (self.new ≡ record self.old { answered = self.old.answered ++ (WriteBlock address, from.now) ∷ []; given = self.new.given }) }
+        ensures refused { OnErr result (self.new ≡ record self.old { given = self.new.given }) }
+    {
+        if self.gathers {
+            return self.gather(address, from);
+        }
+        self.put(address, from)
+    }
+
+    /// Keeps a block that is written, and gives the file those before it, if they are no run with it.
+    fn gather(&mut self, address: u32, from: &Block) -> io::Result<()>
+        ensures kept { OnOk result (self.new ≡ record self.old { answered = self.old.answered ++ (WriteBlock address, from.now) ∷ []; given = self.new.given }) }
+        ensures refused { OnErr result (self.new ≡ record self.old { given = self.new.given }) }
+    {
+        if self.waits && self.kept.goes_on(address) {
+            self.kept.push(from);
+            self.answered = self.answered.and(&Call::WriteBlock(address), from);
+            return Ok(());
+        }
+        self.give_waiting()?;
+        self.kept.start(address, from);
+        self.waits = true;
+        self.answered = self.answered.and(&Call::WriteBlock(address), from);
+        Ok(())
+    }
+
+    /// Gives the file a block that is written, and what waited before it.
+    fn put(&mut self, address: u32, from: &Block) -> io::Result<()>
+        ensures kept { OnOk result (self.new ≡ record self.old { answered = self.old.answered ++ (WriteBlock address, from.now) ∷ []; given = self.new.given }) }
+        ensures refused { OnErr result (self.new ≡ record self.old { given = self.new.given }) }
+    {
+        self.give_waiting()?;
+        self.file.write_all_at(from, offset(address))?;
+        // What waited was given.
+        self.waits = false;
+        self.kept.replace(address, from);
+        self.given = self.given.and(&address, from);
+        self.answered = self.answered.and(&Call::WriteBlock(address), from);
+        Ok(())
+    }
+}
+
+/// Adds the blocks of a run to what a file was given.
+fn add_run(given: &mut Log<u32, Block>, run: &Run)
+    ensures { given.new.items ≡ given.old.items ++ writes_of_run run.now }
+{
+    for (at, block) in run.blocks().iter().enumerate() {
+        *given = given.and(&(run.first() + at as u32), block);
     }
 }
 
@@ -125,7 +262,7 @@ impl<F: OpenFile, S: Start> FileDevice<F, S> {
         path: &str,
         blocks: u32,
     ) -> Result<FileDevice<F, S>, Refusal>
-        ensures new { IfOk result (λ device. device ≡ record { count = blocks; answered = []; failures = 0 }) }
+        ensures new { IfOk result (λ device. device ≡ record { count = blocks; answered = []; given = []; failures = 0 }) }
         ensures error { IsOkUnless result Refusal.Device }
     {
         let file = fs::create(rt, path).map_err(|_| Refusal::Device)?;
@@ -156,7 +293,7 @@ fn count_of(bytes: u64) -> Result<u32, Refusal>
 }
 
 /// The byte where the block of this address begins, and so the length of the blocks before it.
-fn offset(address: u32) -> u64
+pub(crate) fn offset(address: u32) -> u64
     ensures { result ≡ 1024 * address }
 {
     u64::from(address) * BLOCK_BYTES as u64
@@ -176,9 +313,9 @@ impl<F: FileExt + OpenFile, S: Start> Device for FileDevice<F, S> {
     }
 
     fn read(&mut self, address: u32, to: &mut Block) -> Result<(), DeviceFault> {
-        match self.file.read_exact_at(to, offset(address)) {
+        match self.get(address, to) {
             Ok(()) => {
-                self.note(Call::ReadBlock(address), to);
+                self.note_read(address, to);
                 Ok(())
             }
             Err(_) => Err(self.fault()),
@@ -186,16 +323,14 @@ impl<F: FileExt + OpenFile, S: Start> Device for FileDevice<F, S> {
     }
 
     fn write(&mut self, address: u32, from: &Block) -> Result<(), DeviceFault> {
-        match self.file.write_all_at(from, offset(address)) {
-            Ok(()) => {
-                self.note(Call::WriteBlock(address), from);
-                Ok(())
-            }
+        match self.take(address, from) {
+            Ok(()) => Ok(()),
             Err(_) => Err(self.fault()),
         }
     }
 
     fn sync(&mut self) -> Result<(), DeviceFault> {
+        self.give()?;
         match self.file.sync_data() {
             Ok(()) => Ok(()),
             Err(_) => Err(self.fault()),

@@ -6,6 +6,7 @@ mod formatting;
 mod fuse;
 mod interface;
 mod memory;
+mod run;
 #[cfg(test)]
 mod tests;
 

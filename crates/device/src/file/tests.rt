@@ -158,6 +158,77 @@ fn a_short_file_is_a_fault(rt: HostRuntime) -> Result<(), Fail> {
     Ok(())
 }
 
+/// Writes a block of this byte.
+fn write_byte(device: &mut FakeDevice, address: u32, byte: u8) -> Result<(), DeviceFault> {
+    if address >= device.blocks() {
+        return Err(DeviceFault);
+    }
+    device.write(address, &[byte; BLOCK_BYTES])
+}
+
+/// A device over blocks of the byte 0xAA, which gathers what is written.
+fn gathering(rt: HostRuntime, blocks: u32) -> Result<FakeDevice, Fail> {
+    let bytes = vec![in rt.alloc(); 0xAA; blocks as usize * BLOCK_BYTES]?;
+    Ok(FileDevice::over(FakeFile::new(bytes), blocks).gathering())
+}
+
+#[test]
+fn blocks_that_follow_are_written_together(rt: HostRuntime) -> Result<(), Fail> {
+    let mut device = gathering(rt, 50)?;
+    for address in 3..40 {
+        write_byte(&mut device, address, 7)?;
+    }
+    // A run has 32 blocks.
+    assert_eq!(rt; device.file.calls.get(), 1);
+    assert_eq!(rt; read_block(&mut device, 39), Some([7; BLOCK_BYTES]));
+    assert_eq!(rt; read_block(&mut device, 40), Some([0xAA; BLOCK_BYTES]));
+    assert_eq!(rt; device.file.calls.get(), 2);
+    assert_eq!(rt; device.file.byte(39 * BLOCK_BYTES), Some(0xAA));
+    write_byte(&mut device, 2, 8)?;
+    assert_eq!(rt; device.file.calls.get(), 3);
+    assert_eq!(rt; device.file.byte(40 * BLOCK_BYTES - 1), Some(7));
+    assert_eq!(rt; device.file.byte(2 * BLOCK_BYTES), Some(0xAA));
+    assert_eq!(rt; device.sync(), Ok(()));
+    assert_eq!(rt; device.file.byte(2 * BLOCK_BYTES), Some(8));
+    assert_eq!(rt; device.give(), Ok(()));
+    assert_eq!(rt; device.file.calls.get(), 5);
+    Ok(())
+}
+
+#[test]
+fn what_waits_outlives_a_fault(rt: HostRuntime) -> Result<(), Fail> {
+    let mut device = gathering(rt, 9)?;
+    write_byte(&mut device, 4, 7)?;
+    device.file.fail(0, 1);
+    assert_eq!(rt; write_byte(&mut device, 6, 8), Err(DeviceFault));
+    assert_eq!(rt; device.sync(), Err(DeviceFault));
+    assert_eq!(rt; device.failures, 2);
+    assert_eq!(rt; read_block(&mut device, 4), Some([7; BLOCK_BYTES]));
+    assert_eq!(rt; device.file.byte(4 * BLOCK_BYTES), Some(0xAA));
+    assert_eq!(rt; write_byte(&mut device, 6, 8), Ok(()));
+    assert_eq!(rt; device.give(), Ok(()));
+    for (address, byte) in [(4, 7), (5, 0xAA), (6, 8)] {
+        assert_eq!(rt; device.file.byte(address * BLOCK_BYTES), Some(byte));
+    }
+    Ok(())
+}
+
+#[test]
+fn blocks_that_follow_are_read_together(rt: HostRuntime) -> Result<(), Fail> {
+    let bytes = vec![in rt.alloc(); 0xAA; 50 * BLOCK_BYTES]?;
+    let mut device: FakeDevice = FileDevice::over(FakeFile::new(bytes), 50);
+    for address in 10..50 {
+        assert_eq!(rt; read_block(&mut device, address), Some([0xAA; BLOCK_BYTES]));
+    }
+    // The first, a run of 32 behind it, and what is left.
+    assert_eq!(rt; device.file.calls.get(), 3);
+    write_byte(&mut device, 48, 7)?;
+    assert_eq!(rt; read_block(&mut device, 48), Some([7; BLOCK_BYTES]));
+    assert_eq!(rt; read_block(&mut device, 49), Some([0xAA; BLOCK_BYTES]));
+    assert_eq!(rt; device.file.calls.get(), 4);
+    Ok(())
+}
+
 #[test]
 fn a_format_with_a_fault_stops_there(rt: HostRuntime) -> Result<(), Fail> {
     let alloc = rt.alloc();

@@ -15,4 +15,4 @@ returns-clause-count g c =
 pub returns-clause-whole : goal.returns-clause-whole
 returns-clause-whole g c =
     subst (λ (v : Calls). All IsBlock (image_after (image_of g.S.Start.first v.count) (writes_of v.answered))) c.self.view_is
-    (whole_after (image_of g.S.Start.first c.self.inside.count) c.self.inside.answered.items (whole_start g.S.Start.first g.S.Start.whole c.self.inside.count) c.self.invariant)
+    (whole_after (image_of g.S.Start.first c.self.inside.count) c.self.inside.answered.items (whole_start g.S.Start.first g.S.Start.whole c.self.inside.count) c.self.invariant.whole)
