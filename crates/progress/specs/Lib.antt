@@ -1,0 +1,3 @@
+-- How far long work has come.
+pub mod Texts
+pub mod Times
