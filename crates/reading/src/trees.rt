@@ -1,8 +1,8 @@
-ghost use Rattle.std.specs.Prelude.{ℕ, IfOk, List};
+ghost use Rattle.std.specs.Prelude.{◌≡◌, ℕ, IfOk, List};
 ghost use Rattle.std.specs.List.{All};
 ghost use Rattle.frozen.specs.Kept.{IsKeptOf};
 ghost use Rattle.model.specs.Image.{image_view};
-ghost use Rattle.reading.specs.Trees.{IsListing};
+ghost use Rattle.reading.specs.Trees.{IsListing, joined_path};
 
 use crate::looking::find;
 use frozen::Frozen;
@@ -89,7 +89,9 @@ fn add_directories(
 }
 
 /// The path of a name in the directory of a path.
-pub fn joined(alloc: Global, path: &[u8], name: &[u8]) -> Result<Vec<u8>, AllocError> {
+pub fn joined(alloc: Global, path: &[u8], name: &[u8]) -> Result<Vec<u8>, AllocError>
+    ensures { IfOk result (λ joined. joined.items ≡ joined_path path.now name.now) }
+{
     let mut joined = Vec::new(alloc);
     if path != b"/".as_slice() {
         joined.extend_from_slice(path)?;
