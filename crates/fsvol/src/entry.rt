@@ -9,37 +9,45 @@ use crate::line::{Job, parse};
 use crate::repairs::repair;
 use crate::runs::run;
 use crate::stops::stops;
-use crate::tooling::{answer_tool, silent};
+use crate::tooling::{ARCHIVE, STANDARD_INPUT, answer_tool, bytes_of_file, silent};
+use crate::watching::{Screen, Watched};
 use device::{Before, FileDevice};
 use hosts::Ended;
 use layout::{Geometry, Refusal};
-use putting::{items_of_folder, put_items};
+use progress::Watcher;
+use putting::{Item, items_of_archive, items_of_folder, put_items};
 use std::convert::AsStr;
+use std::io;
 use std::io::Write;
 use std::marker::Brand;
 use std::os::unix::fs::FileExt;
 use std::rt::Files;
 use std::sync::Wait;
 use std::thread::Threads;
-use std::{fs, io};
+use std::time::Clock;
 use user_scripts::{Commands, UserLine};
+use workers::Gate;
 
 /// Carries out the line of these words, which are those after the program's name. Its output is written to `out` once
 /// all else is done; a refusal is written to `err`, and then nothing to `out`. Gives the status that the program ends
 /// with.
+///
+/// How far the line has come is shown on the screen while it is carried out. That is no part of what is written to `err`, and no
+/// clause speaks of it.
 pub fn perform<
-    R: Files + AllocGlobal + Threads + Wait + Sync + Clone + Drop,
+    R: Files + AllocGlobal + Clock + Threads + Wait + Sync + Clone + Drop,
     S: AsStr,
     W: Write,
     E: Write,
->(rt: &R, words: &[S], out: &mut W, err: &mut E) -> u8
+    P: Write + Send + Drop,
+>(rt: &R, words: &[S], out: &mut W, err: &mut E, screen: Screen<P>) -> u8
 where
     R::File: FileExt + Send,
     ensures few { result ≤ 4 }
     ensures refused { result ≡ 3 → out.new ≡ out.old }
     ensures done { result < 2 → err.new ≡ err.old }
 {
-    match answer(rt, words) {
+    match answer(rt, words, screen) {
         Ok(answer) => match print(out, &answer) {
             Ok(()) => answer.status,
             Err(_) => GAVE_OUT,
@@ -48,11 +56,12 @@ where
     }
 }
 
-/// Does what the words ask for.
-fn answer<R: Files + AllocGlobal + Threads + Wait + Sync + Clone + Drop, S: AsStr>(
-    rt: &R,
-    words: &[S],
-) -> Result<Answer, Failure>
+/// Does what the words ask for, and shows how far that has come.
+fn answer<
+    R: Files + AllocGlobal + Clock + Threads + Wait + Sync + Clone + Drop,
+    S: AsStr,
+    P: Write + Send + Drop,
+>(rt: &R, words: &[S], screen: Screen<P>) -> Result<Answer, Failure>
 where
     R::File: FileExt + Send,
     ensures { IfOk result (λ answer. answer.status < 3) }
@@ -61,6 +70,23 @@ where
         Ok(job) => job,
         Err(failure) => return Err(failure),
     };
+    let line = screen.line(rt, rt.alloc(), job.asks_progress());
+    let answer = carry_out(rt, job, &line);
+    if let Some(line) = line {
+        line.end();
+    }
+    answer
+}
+
+/// Does what a line asks for, and tells the watcher how far that has come.
+pub(crate) fn carry_out<
+    R: Files + AllocGlobal + Threads + Wait + Sync + Clone + Drop,
+    T: Watcher + Sync,
+>(rt: &R, job: Job<'_>, watcher: &T) -> Result<Answer, Failure>
+where
+    R::File: FileExt + Send,
+    ensures { IfOk result (λ answer. answer.status < 3) }
+{
     match job {
         Job::Mkfs {
             image,
@@ -68,9 +94,16 @@ where
             blocks,
             inodes,
             from,
-        } => make_image(rt, image, &Geometry::new(groups, blocks, inodes)?, from),
-        Job::Check { image, workers } => check_file(rt, image, workers),
-        Job::Repair { image, workers } => repair_file(rt, image, workers),
+            ..
+        } => make_image(
+            rt,
+            image,
+            &Geometry::new(groups, blocks, inodes)?,
+            from,
+            watcher,
+        ),
+        Job::Check { image, workers, .. } => check_file(rt, image, workers, &Watched { watcher }),
+        Job::Repair { image, workers, .. } => repair_file(rt, image, workers, &Watched { watcher }),
         Job::Run {
             image,
             script,
@@ -78,7 +111,7 @@ where
         } => run_on_file(rt, image, script, workers),
         Job::Stops { image, script } => stops_of_file(rt, image, script),
         Job::Bits { image } => bits_of_file(rt, image),
-        Job::Tool(tool) => answer_tool(rt, &tool),
+        Job::Tool(tool) => answer_tool(rt, &tool, watcher),
         Job::Sample => {
             let findings = check_sample(rt.alloc())?;
             Ok(bits(rt.alloc(), findings.as_slice())?)
@@ -92,6 +125,7 @@ fn make_image<R: Files + AllocGlobal + Clone + Drop>(
     image: &str,
     geometry: &Geometry,
     from: Option<&str>,
+    watcher: &impl Watcher,
 ) -> Result<Answer, Failure>
 where
     R::File: FileExt,
@@ -99,7 +133,7 @@ where
     ensures silent { IfOk result (λ answer. answer.text.items ≡ []) }
 {
     match from {
-        Some(folder) => make_from_folder(rt, image, geometry, folder),
+        Some(folder) => make_from_folder(rt, image, geometry, folder, watcher),
         None => make_file(rt, image, geometry),
     }
 }
@@ -110,18 +144,32 @@ fn make_from_folder<R: Files + AllocGlobal + Clone + Drop>(
     image: &str,
     geometry: &Geometry,
     folder: &str,
+    watcher: &impl Watcher,
 ) -> Result<Answer, Failure>
 where
     R::File: FileExt,
     ensures status { IfOk result (λ answer. answer.status ≡ 0) }
     ensures silent { IfOk result (λ answer. answer.text.items ≡ []) }
 {
-    let items = match items_of_folder(rt, folder) {
-        Ok(items) => items,
-        Err(Ended { cause, told }) => return Err(Failure::Ended { cause, told }),
-    };
+    let items = items_of(rt, folder)?;
     make_file(rt, image, geometry)?;
-    silent(rt.alloc(), put_items(rt, image, items.as_slice()))
+    silent(rt.alloc(), put_items(rt, image, items.as_slice(), watcher))
+}
+
+/// The items of a folder of the host, or of an archive on standard input.
+fn items_of<R: Files + AllocGlobal + Clone + Drop>(
+    rt: &R,
+    folder: &str,
+) -> Result<Vec<Item>, Failure> {
+    let items = if folder == ARCHIVE {
+        items_of_archive(rt.alloc(), bytes_of_file(rt, STANDARD_INPUT)?.as_slice())
+    } else {
+        items_of_folder(rt, folder)
+    };
+    match items {
+        Ok(items) => Ok(items),
+        Err(Ended { cause, told }) => Err(Failure::Ended { cause, told }),
+    }
 }
 
 /// Makes a file with a fresh image, in place of what was there.
@@ -144,10 +192,11 @@ where
 }
 
 /// Checks a file's image. The number of workers is looked at before the file.
-fn check_file<R: Files + AllocGlobal + Threads + Sync>(
+fn check_file<R: Files + AllocGlobal + Threads + Sync, G: Gate>(
     rt: &R,
     image: &str,
     workers: u32,
+    gate: &G,
 ) -> Result<Answer, Failure>
 where
     R::File: FileExt,
@@ -156,28 +205,29 @@ where
 {
     allow_workers(workers)?;
     let mut device: FileDevice<R::File, Brand> = FileDevice::open(rt, image)?;
-    let checked = check(rt, rt.alloc(), &mut device, workers)?;
+    let checked = check(rt, rt.alloc(), &mut device, workers, gate)?;
     Ok(told(rt.alloc(), &checked)?)
 }
 
 /// Checks a file's image, and mends it where it is soft: only then is the file opened to be written. The number of workers
 /// is looked at before the file.
-fn repair_file<R: Files + AllocGlobal + Threads + Sync>(
+fn repair_file<R: Files + AllocGlobal + Threads + Sync, G: Gate>(
     rt: &R,
     image: &str,
     workers: u32,
+    gate: &G,
 ) -> Result<Answer, Failure>
 where
     R::File: FileExt,
     ensures status { IfOk result (λ answer. answer.status < 3) }
     ensures workers { IsFalse (may_work workers) → result ≡ Err (Failure.Refused BadWorkers) }
 {
-    let answer = check_file(rt, image, workers)?;
+    let answer = check_file(rt, image, workers, gate)?;
     if answer.status != SOFT {
         return Ok(answer);
     }
     let device: FileDevice<R::File, Brand> = FileDevice::open_to_write(rt, image)?;
-    let repaired = repair(rt, rt.alloc(), device, workers)?;
+    let repaired = repair(rt, rt.alloc(), device, workers, gate)?;
     Ok(repaired.answer)
 }
 
@@ -224,14 +274,6 @@ fn lines_of_file<R: Files + AllocGlobal>(
         rt.alloc(),
         refused,
     ))
-}
-
-/// The bytes of a file; refused with `NoMemory`, and with `Device` where it cannot be read.
-fn bytes_of_file<R: Files + AllocGlobal>(rt: &R, path: &str) -> Result<Vec<u8>, Refusal> {
-    fs::read(rt, path).map_err(|error| match error.kind() {
-        io::ErrorKind::OutOfMemory => Refusal::NoMemory,
-        _ => Refusal::Device,
-    })
 }
 
 /// Checks the number maps of a file's image.

@@ -24,7 +24,7 @@ use phase_maps::number_findings;
 use std::alloc::{AllocError, Global};
 use std::sync::Arc;
 use std::thread::Threads;
-use workers::{MOST_WORKERS, OpenGate};
+use workers::{Gate, MOST_WORKERS};
 
 /// What a line prints, and the status that the program then ends with.
 #[derive(Debug, Drop)]
@@ -76,12 +76,13 @@ pub fn allow_workers(workers: u32) -> Result<(), Refusal>
     Ok(())
 }
 
-/// Checks a device's image with this many workers. It writes nothing.
-pub fn check<D: Device>(
+/// Checks a device's image with this many workers, which pass the gate as in `fsck::check`. It writes nothing.
+pub fn check<D: Device, G: Gate>(
     rt: &(impl Threads + Sync),
     alloc: Global,
     device: &mut D,
     workers: u32,
+    gate: &G,
 ) -> Result<Checked, Refusal>
     // Where each read gave what stood there, the blocks are an image, and the findings, the report, the verdict and the
     // repairs are those of this image.
@@ -96,7 +97,7 @@ pub fn check<D: Device>(
 {
     allow_workers(workers)?;
     let frozen = Arc::new(alloc, load(alloc, device)?)?;
-    fsck::check(rt, alloc, &frozen, workers, &OpenGate)
+    fsck::check(rt, alloc, &frozen, workers, gate)
 }
 
 /// What is printed of a checked image: its report.

@@ -2,7 +2,7 @@
 ghost use Rattle.std.specs.Prelude.{◌≡◌, ◌≢◌, ◌↔◌, [], Ok, IfOk, IfSome};
 
 use crate::failure::Failure;
-use crate::tool_line::{Tool, tool_of, with_tools};
+use crate::tool_line::{Tool, progress, tool_of, with_tools};
 use clap::error::ErrorKind;
 use clap::{Arg, ArgMatches, Command, value_parser};
 use layout::Refusal;
@@ -21,16 +21,19 @@ pub enum Job<'a> {
         blocks: u32,
         inodes: u32,
         from: Option<&'a str>,
+        progress: bool,
     },
     /// The findings of an image, by this many workers.
     Check {
         image: &'a str,
         workers: u32,
+        progress: bool,
     },
     /// An image without what soft updates may leave, by this many workers.
     Repair {
         image: &'a str,
         workers: u32,
+        progress: bool,
     },
     /// What the users of a script are answered, while the image is checked by this many workers and mended.
     Run {
@@ -51,6 +54,19 @@ pub enum Job<'a> {
     Tool(Tool<'a>),
     /// No words at all: the findings of a small fresh image in memory.
     Sample,
+}
+
+impl Job<'_> {
+    /// Whether the line is to show how far it has come.
+    pub fn asks_progress(&self) -> bool {
+        match self {
+            Job::Mkfs { progress, .. }
+            | Job::Check { progress, .. }
+            | Job::Repair { progress, .. } => *progress,
+            Job::Tool(tool) => tool.asks_progress(),
+            Job::Run { .. } | Job::Stops { .. } | Job::Bits { .. } | Job::Sample => false,
+        }
+    }
 }
 
 /// The words that the program was started with, without its name.
@@ -124,14 +140,17 @@ fn image_job_of<'a>(name: &str, options: &ArgMatches<'a>) -> Option<Job<'a>>
             blocks: options.get_one("blocks")?,
             inodes: options.get_one("inodes")?,
             from: options.get_str("from"),
+            progress: options.get_flag("progress"),
         }),
         "check" => Some(Job::Check {
             image: options.get_str("image")?,
             workers: options.get_one("workers")?,
+            progress: options.get_flag("progress"),
         }),
         "repair" => Some(Job::Repair {
             image: options.get_str("image")?,
             workers: options.get_one("workers")?,
+            progress: options.get_flag("progress"),
         }),
         "run" => Some(Job::Run {
             image: options.get_str("image")?,
@@ -171,21 +190,24 @@ fn mkfs<'a>(alloc: Global) -> Result<Command<'a>, AllocError> {
         .arg(number(alloc, "groups").help("How many cylinder groups"))?
         .arg(number(alloc, "blocks").help("How many blocks a group"))?
         .arg(number(alloc, "inodes").help("How many inodes a group"))?
-        .arg(from(alloc))
+        .arg(from(alloc))?
+        .arg(progress(alloc))
 }
 
 fn check<'a>(alloc: Global) -> Result<Command<'a>, AllocError> {
     Command::new(alloc, "check")
         .about("Prints the report of an image")
         .arg(image(alloc))?
-        .arg(workers(alloc))
+        .arg(workers(alloc))?
+        .arg(progress(alloc))
 }
 
 fn repair<'a>(alloc: Global) -> Result<Command<'a>, AllocError> {
     Command::new(alloc, "repair")
         .about("Prints the report of an image, and mends what soft updates may leave")
         .arg(image(alloc))?
-        .arg(workers(alloc))
+        .arg(workers(alloc))?
+        .arg(progress(alloc))
 }
 
 fn run<'a>(alloc: Global) -> Result<Command<'a>, AllocError> {
@@ -234,7 +256,9 @@ fn from<'a>(alloc: Global) -> Arg<'a> {
     Arg::new(alloc, "from")
         .long("from")
         .value_name("FOLDER")
-        .help("A folder of the host, of which all goes into the image")
+        .help(
+            "A folder of the host, of which all goes into the image; - stands for a tar archive on standard input",
+        )
 }
 
 /// How many workers check the image.

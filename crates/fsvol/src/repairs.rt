@@ -19,6 +19,7 @@ use mending::mend;
 use snapshot::Volume;
 use std::alloc::{AllocError, Global};
 use std::thread::Threads;
+use workers::Gate;
 
 /// What came of a device whose image was to be mended.
 #[derive(Drop)]
@@ -36,12 +37,14 @@ pub struct Repaired<D: Device> {
     pub outcome: Outcome<D>,
 }
 
-/// Checks a device's image with this many workers. Where it is soft, the volume is mounted and mended.
-pub fn repair<D: Device + Drop>(
+/// Checks a device's image with this many workers, which pass the gate as in `fsck::check`. Where it is soft, the volume is
+/// mounted and mended.
+pub fn repair<D: Device + Drop, G: Gate>(
     rt: &(impl Threads + Sync),
     alloc: Global,
     mut device: D,
     workers: u32,
+    gate: &G,
 ) -> Result<Repaired<D>, Refusal>
     // Where the device was honest, it held an image, and what is printed is this image's. Where it is soft, a check finds
     // nothing on what the device holds now; else it was not written.
@@ -51,9 +54,9 @@ pub fn repair<D: Device + Drop>(
     ensures workers { IsFalse (may_work workers) → result ≡ Err BadWorkers }
 {
     allow_workers(workers)?;
-    let checked = check(rt, alloc, &mut device, workers)?;
+    let checked = check(rt, alloc, &mut device, workers, gate)?;
     match checked.verdict() {
-        Verdict::Soft => mend_device(rt, alloc, device, workers),
+        Verdict::Soft => mend_device(rt, alloc, device, workers, gate),
         Verdict::Clean | Verdict::Damaged => Ok(Repaired {
             answer: told(alloc, &checked)?,
             outcome: Outcome::Left(device),
@@ -62,11 +65,12 @@ pub fn repair<D: Device + Drop>(
 }
 
 /// Mounts the volume of a device, and mends it.
-fn mend_device<D: Device + Drop>(
+fn mend_device<D: Device + Drop, G: Gate>(
     rt: &(impl Threads + Sync),
     alloc: Global,
     device: D,
     workers: u32,
+    gate: &G,
 ) -> Result<Repaired<D>, Refusal>
     requires { IsTrue (may_work workers) }
     ensures repaired { IfOk result (λ repaired. D.honest (device_of repaired.outcome)
@@ -75,7 +79,7 @@ fn mend_device<D: Device + Drop>(
 {
     fsck::damaged_where_a_rule_is_broken();
     let mut volume = Volume::new(mount(alloc, device)?);
-    let checked = mend(rt, alloc, &mut volume, workers)?;
+    let checked = mend(rt, alloc, &mut volume, workers, gate)?;
     Ok(Repaired {
         answer: told_of_repairs(alloc, &checked)?,
         outcome: Outcome::Mended(volume),

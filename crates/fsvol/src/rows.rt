@@ -1,14 +1,17 @@
 //! What the lines print and give, on files of the tests' own.
 mod everyday;
+mod progressing;
 
 use crate::entry::perform;
-use std::io::Write;
+use crate::watching::Screen;
+use std::io::{Sink, Write};
 use std::os::unix::fs::FileExt;
 use std::process::Abort;
 use std::rt::Files;
 use std::sync::Wait;
 use std::test::Fail;
 use std::thread::Threads;
+use std::time::Clock;
 use std::{fs, io};
 
 /// How many bytes an image of 1 group, 16 blocks and 16 inodes has.
@@ -123,8 +126,16 @@ fn printed(out: &str, status: u8) -> Wanted<'_> {
     }
 }
 
+/// A screen that nobody sees.
+fn unwatched() -> Screen<Sink> {
+    Screen {
+        to: io::sink(),
+        is_terminal: false,
+    }
+}
+
 /// Carries out a line that starts with these words, and ends with the image's name.
-fn gives<R: Files + AllocGlobal + Threads + Wait + Sync + Abort + Clone + Drop>(
+fn gives<R: Files + AllocGlobal + Clock + Threads + Wait + Sync + Abort + Clone + Drop>(
     rt: &R,
     start: &str,
     image: &str,
@@ -137,7 +148,7 @@ where
     words.push(image)?;
     let mut out = Vec::new(rt.alloc());
     let mut err = Vec::new(rt.alloc());
-    let status = perform(rt, words.as_slice(), &mut out, &mut err);
+    let status = perform(rt, words.as_slice(), &mut out, &mut err, unwatched());
     assert_eq!(rt; out.as_slice(), wanted.out.as_bytes(), "{start} {image}");
     assert_eq!(rt; err.as_slice(), wanted.err.as_bytes(), "{start} {image}");
     assert_eq!(rt; status, wanted.status, "{start} {image}");
@@ -145,7 +156,7 @@ where
 }
 
 /// Makes a fresh image in this file, and gives its bytes.
-fn made<R: Files + AllocGlobal + Threads + Wait + Sync + Abort + Clone + Drop>(
+fn made<R: Files + AllocGlobal + Clock + Threads + Wait + Sync + Abort + Clone + Drop>(
     rt: &R,
     geometry: &str,
     image: &str,
@@ -159,7 +170,7 @@ where
 }
 
 /// A fresh image of 1 group, 16 blocks and 16 inodes, in this file.
-fn made_small<R: Files + AllocGlobal + Threads + Wait + Sync + Abort + Clone + Drop>(
+fn made_small<R: Files + AllocGlobal + Clock + Threads + Wait + Sync + Abort + Clone + Drop>(
     rt: &R,
     image: &str,
 ) -> Result<Vec<u8>, Fail>
@@ -170,7 +181,7 @@ where
 }
 
 /// Carries out a line of these words on an image of these bytes, which stand in this file, and then stand there still.
-fn gives_of_bytes<R: Files + AllocGlobal + Threads + Wait + Sync + Abort + Clone + Drop>(
+fn gives_of_bytes<R: Files + AllocGlobal + Clock + Threads + Wait + Sync + Abort + Clone + Drop>(
     rt: &R,
     start: &str,
     image: &str,
@@ -187,7 +198,7 @@ where
 }
 
 /// Checks the number maps of an image of these bytes, which stand in this file.
-fn bits_gives<R: Files + AllocGlobal + Threads + Wait + Sync + Abort + Clone + Drop>(
+fn bits_gives<R: Files + AllocGlobal + Clock + Threads + Wait + Sync + Abort + Clone + Drop>(
     rt: &R,
     image: &str,
     bytes: &[u8],
@@ -370,7 +381,7 @@ fn check_prints_the_report_of_an_image(rt: HostRuntime) -> Result<(), Fail> {
     for start in [
         "check --workers 1",
         "check --workers 2",
-        "check --workers 3",
+        "check --progress --workers 3",
         "check --workers 64",
     ] {
         for &(values, wanted) in changes {
@@ -397,7 +408,7 @@ fn repair_gives_a_lost_directory_back(rt: HostRuntime) -> Result<(), Fail> {
         (LOST_DIRECTORY, LOST_REPORT, LOST_MENDED),
         (&[(1_184, 33)], SOFT_REPORT, SOFT_MENDED),
     ];
-    for start in ["repair --workers 1", "repair --workers 4"] {
+    for start in ["repair --workers 1", "repair --progress --workers 4"] {
         for &(values, report, mended) in changes {
             let mut bytes = fresh.clone()?;
             set_all(bytes.as_mut_slice(), values);
@@ -517,7 +528,7 @@ fn no_words_check_the_sample(rt: HostRuntime) {
     let words: &[&str] = &[];
     let mut out = Vec::new(rt.alloc());
     let mut err = Vec::new(rt.alloc());
-    let status = perform(&rt, words, &mut out, &mut err);
+    let status = perform(&rt, words, &mut out, &mut err, unwatched());
     assert_eq!(rt; out.as_slice(), b"verdict clean\n".as_slice());
     assert!(rt; err.is_empty());
     assert_eq!(rt; status, 0);
@@ -537,7 +548,7 @@ fn a_wrong_line_is_refused_with_a_text(rt: HostRuntime) -> Result<(), Fail> {
         let words: Vec<&str> = line.split(' ').collect(rt.alloc())?;
         let mut out = Vec::new(rt.alloc());
         let mut err = Vec::new(rt.alloc());
-        let status = perform(&rt, words.as_slice(), &mut out, &mut err);
+        let status = perform(&rt, words.as_slice(), &mut out, &mut err, unwatched());
         assert!(rt; out.is_empty(), "{line}");
         assert!(rt; !err.is_empty(), "{line}");
         assert_eq!(rt; status, 3, "{line}");
@@ -584,13 +595,19 @@ fn a_failed_write_is_told_by_the_status(rt: HostRuntime) {
     let words: &[&str] = &[];
     for taken in 0..14 {
         let mut err = Vec::new(rt.alloc());
-        let status = perform(&rt, words, &mut Failing(taken), &mut err);
+        let status = perform(&rt, words, &mut Failing(taken), &mut err, unwatched());
         assert_eq!(rt; status, 4, "{taken}");
         assert!(rt; err.is_empty(), "{taken}");
     }
     let mut err = Vec::new(rt.alloc());
-    assert_eq!(rt; perform(&rt, words, &mut Failing(14), &mut err), 0);
-    assert_eq!(rt; perform(&rt, words, &mut Unflushed, &mut err), 4);
+    assert_eq!(rt;
+        perform(&rt, words, &mut Failing(14), &mut err, unwatched()),
+        0
+    );
+    assert_eq!(rt;
+        perform(&rt, words, &mut Unflushed, &mut err, unwatched()),
+        4
+    );
     assert!(rt; err.is_empty());
 }
 
@@ -601,7 +618,13 @@ fn a_refusal_keeps_its_status_where_it_cannot_be_printed(rt: HostRuntime) {
         (["bits", "rows_unprinted.img"], 4),
     ] {
         let mut out = Vec::new(rt.alloc());
-        let given = perform(&rt, words.as_slice(), &mut out, &mut Failing(3));
+        let given = perform(
+            &rt,
+            words.as_slice(),
+            &mut out,
+            &mut Failing(3),
+            unwatched(),
+        );
         assert_eq!(rt; given, status);
         assert!(rt; out.is_empty());
     }
@@ -612,7 +635,7 @@ const TIMES: u32 = 20;
 
 /// Carries out a line that starts with these words, and ends with the names of an image of these bytes, which are written to
 /// its file first, and of a file with this script.
-fn gives_of_script<R: Files + AllocGlobal + Threads + Wait + Sync + Abort + Clone + Drop>(
+fn gives_of_script<R: Files + AllocGlobal + Clock + Threads + Wait + Sync + Abort + Clone + Drop>(
     rt: &R,
     start: &str,
     (image, bytes): (&str, &[u8]),

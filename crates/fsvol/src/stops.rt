@@ -12,6 +12,7 @@ use snapshot::{Command, Volume};
 use std::alloc::{AllocError, Global};
 use std::thread::Threads;
 use user_scripts::{Handles, UserLine};
+use workers::OpenGate;
 
 /// How many users a script may have.
 const MOST_USERS: usize = 8;
@@ -107,7 +108,7 @@ fn write_stop(
     device: &mut MemDevice,
     writes: usize,
 ) -> Result<bool, Refusal> {
-    let checked = check(rt, alloc, device, 1)?;
+    let checked = check(rt, alloc, device, 1, &OpenGate)?;
     let verdict = checked.verdict();
     let findings = checked.findings().len();
     writeln!(text, "stop {writes} verdict {verdict} findings {findings}")?;

@@ -35,12 +35,14 @@ pub enum Tool<'a> {
         image: &'a str,
         path: &'a str,
         host: &'a str,
+        progress: bool,
     },
     /// What stands at a path of the host, and all below it, at a path in the image.
     Put {
         image: &'a str,
         path: &'a str,
         host: &'a str,
+        progress: bool,
     },
     /// What is to be done with each of these paths.
     Do {
@@ -54,6 +56,16 @@ pub enum Tool<'a> {
         naming: Naming,
         paths: Vec<&'a str>,
     },
+}
+
+impl Tool<'_> {
+    /// Whether the line is to show how far it has come.
+    pub fn asks_progress(&self) -> bool {
+        match self {
+            Tool::Get { progress, .. } | Tool::Put { progress, .. } => *progress,
+            _ => false,
+        }
+    }
 }
 
 /// What the matches of a command of the everyday tools ask for.
@@ -98,11 +110,13 @@ fn one_path_of<'a>(name: &str, options: &ArgMatches<'a>) -> Option<Tool<'a>> {
             image,
             path: options.get_str("path")?,
             host: options.get_str("host")?,
+            progress: options.get_flag("progress"),
         }),
         "put" => Some(Tool::Put {
             image,
             path: options.get_str("path")?,
             host: options.get_str("host")?,
+            progress: options.get_flag("progress"),
         }),
         _ => None,
     }
@@ -200,7 +214,8 @@ fn get<'a>(alloc: Global) -> Result<Command<'a>, AllocError> {
         .about("Makes a file or a whole tree of an image on the host, where nothing stands")
         .arg(image(alloc))?
         .arg(path(alloc))?
-        .arg(host(alloc))
+        .arg(host(alloc))?
+        .arg(progress(alloc))
 }
 
 fn put<'a>(alloc: Global) -> Result<Command<'a>, AllocError> {
@@ -208,7 +223,8 @@ fn put<'a>(alloc: Global) -> Result<Command<'a>, AllocError> {
         .about("Puts a file or a whole tree of the host into an image, where nothing stands")
         .arg(image(alloc))?
         .arg(path(alloc))?
-        .arg(host(alloc))
+        .arg(host(alloc))?
+        .arg(progress(alloc))
 }
 
 fn mkdir<'a>(alloc: Global) -> Result<Command<'a>, AllocError> {
@@ -271,7 +287,9 @@ fn host<'a>(alloc: Global) -> Arg<'a> {
     Arg::new(alloc, "host")
         .value_name("FOLDER")
         .required(true)
-        .help("The file or folder of the host")
+        .help(
+            "The file or folder of the host; - stands for a tar archive, on standard input or output",
+        )
 }
 
 /// Paths in an image.
@@ -280,6 +298,14 @@ fn paths<'a>(alloc: Global) -> Arg<'a> {
         .value_name("PATH")
         .required(true)
         .help("The paths in the image; % and two digits stand for a byte")
+}
+
+/// Whether a line shows how far it has come.
+pub(crate) fn progress<'a>(alloc: Global) -> Arg<'a> {
+    Arg::new(alloc, "progress")
+        .long("progress")
+        .action(ArgAction::SetTrue)
+        .help("Shows on standard error how far the line has come")
 }
 
 /// A flag.

@@ -9,27 +9,48 @@ use device::FileDevice;
 use frozen::load;
 use hosts::{Ended, get_from_file};
 use layout::Refusal;
+use packing::pack_from_file;
 use pictures::{draw, look};
-use putting::put_into_file;
+use progress::Watcher;
+use putting::{put_archive_into_file, put_into_file};
 use snapshot::Command;
 use std::alloc::Global;
 use std::marker::Brand;
 use std::os::unix::fs::FileExt;
 use std::rt::Files;
+use std::{fs, io};
 use tools::{Deed, Naming, aim_at, cat, deeds, info, ls, namings, path_of, stat};
 
-/// Does what a line of the everyday tools asks for. Those that only look open the image to be read alone.
+/// The word that stands for a tar archive, on standard input or output, where a folder of the host may stand.
+pub const ARCHIVE: &str = "-";
+
+/// The file of standard input.
+pub const STANDARD_INPUT: &str = "/dev/stdin";
+
+/// Does what a line of the everyday tools asks for. Those that only look open the image to be read alone. The watcher is told
+/// what goes into an image or comes out of it.
 pub fn answer_tool<R: Files + AllocGlobal + Clone + Drop>(
     rt: &R,
     tool: &Tool<'_>,
+    watcher: &impl Watcher,
 ) -> Result<Answer, Failure>
 where
     R::File: FileExt,
     ensures { IfOk result (λ answer. answer.status ≡ 0) }
 {
     match tool {
-        Tool::Get { image, path, host } => silent(rt.alloc(), get_from_file(rt, image, path, host)),
-        Tool::Put { image, path, host } => silent(rt.alloc(), put_into_file(rt, image, path, host)),
+        Tool::Get {
+            image,
+            path,
+            host,
+            ..
+        } => get_part(rt, image, path, host, watcher),
+        Tool::Put {
+            image,
+            path,
+            host,
+            ..
+        } => put_part(rt, image, path, host, watcher),
         Tool::Do { image, deed, paths } => do_in_file(rt, image, *deed, paths.as_slice()),
         Tool::Name {
             image,
@@ -41,6 +62,58 @@ where
             status: 0,
         }),
     }
+}
+
+/// Makes what stands in a file's image on the host, or prints a tar archive of it.
+fn get_part<R: Files + AllocGlobal>(
+    rt: &R,
+    image: &str,
+    path: &str,
+    host: &str,
+    watcher: &impl Watcher,
+) -> Result<Answer, Failure>
+where
+    R::File: FileExt,
+    ensures { IfOk result (λ answer. answer.status ≡ 0) }
+{
+    if host == ARCHIVE {
+        return match pack_from_file(rt, image, path, watcher) {
+            Ok(text) => Ok(Answer { text, status: 0 }),
+            Err(Ended { cause, told }) => Err(Failure::Ended { cause, told }),
+        };
+    }
+    silent(rt.alloc(), get_from_file(rt, image, path, host, watcher))
+}
+
+/// Puts what stands on the host, or in a tar archive on standard input, into a file's image.
+fn put_part<R: Files + AllocGlobal + Clone + Drop>(
+    rt: &R,
+    image: &str,
+    path: &str,
+    host: &str,
+    watcher: &impl Watcher,
+) -> Result<Answer, Failure>
+where
+    R::File: FileExt,
+    ensures { IfOk result (λ answer. answer.status ≡ 0) }
+{
+    if host == ARCHIVE {
+        let archive = bytes_of_file(rt, STANDARD_INPUT)?;
+        let put = put_archive_into_file(rt, image, path, archive.as_slice(), watcher);
+        return silent(rt.alloc(), put);
+    }
+    silent(rt.alloc(), put_into_file(rt, image, path, host, watcher))
+}
+
+/// The bytes of a file; refused with `NoMemory`, and with `Device` where it cannot be read.
+pub(crate) fn bytes_of_file<R: Files + AllocGlobal>(
+    rt: &R,
+    path: &str,
+) -> Result<Vec<u8>, Refusal> {
+    fs::read(rt, path).map_err(|error| match error.kind() {
+        io::ErrorKind::OutOfMemory => Refusal::NoMemory,
+        _ => Refusal::Device,
+    })
 }
 
 /// What a line prints that only looks; nothing of another one.

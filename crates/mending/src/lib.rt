@@ -23,16 +23,18 @@ use snapshot::{Command, Volume};
 use std::alloc::Global;
 use std::sync::Arc;
 use std::thread::Threads;
-use workers::OpenGate;
+use workers::Gate;
 
-/// Mends a volume that was just mounted, with 1 to 64 workers: its image is frozen and checked, each repair of the check is
-/// carried out in order, the snapshot is released, and all is written. Gives the check. Refused with `NoMemory` and with
-/// `Device`; what was written before stays written, and may be mounted and mended again.
-pub fn mend<D: Device>(
+/// Mends a volume that was just mounted, with 1 to 64 workers, which pass the gate as in `fsck::check`: its image is frozen
+/// and checked, each repair of the check is carried out in order, the snapshot is released, and all is written. Gives the
+/// check. Refused with `NoMemory` and with `Device`; what was written before stays written, and may be mounted and mended
+/// again.
+pub fn mend<D: Device, G: Gate>(
     rt: &(impl Threads + Sync),
     alloc: Global,
     volume: &mut Volume<D>,
     workers: u32,
+    gate: &G,
 ) -> Result<Arc<Checked>, Refusal>
     requires pending { pending_of volume.old.queue ≡ [] }
     requires idle { IsIdle volume.old.holdings }
@@ -51,7 +53,7 @@ pub fn mend<D: Device>(
     mended_images_are_clean::<D>();
     volume.live();
     volume.freeze(alloc)?;
-    let checked = Arc::new(alloc, check_snapshot(rt, alloc, volume, workers)?)?;
+    let checked = Arc::new(alloc, check_snapshot(rt, alloc, volume, workers, gate)?)?;
     volume.install(alloc, &checked)?;
     repair_all(alloc, volume, checked.repairs().len())?;
     volume.release(alloc)?;
@@ -60,18 +62,19 @@ pub fn mend<D: Device>(
 }
 
 /// Checks the snapshot that stands.
-fn check_snapshot<D: Device>(
+fn check_snapshot<D: Device, G: Gate>(
     rt: &(impl Threads + Sync),
     alloc: Global,
     volume: &Volume<D>,
     workers: u32,
+    gate: &G,
 ) -> Result<Checked, Refusal>
     ensures { IfOk result (IsSnapshotChecked volume.now) }
 {
     let Some(snapshot) = volume.live().snapshot() else {
         return Err(Refusal::NoSnapshot);
     };
-    fsck::check(rt, alloc, snapshot, workers, &OpenGate)
+    fsck::check(rt, alloc, snapshot, workers, gate)
 }
 
 /// Carries out so many repairs of the check that is installed, from the first one on.

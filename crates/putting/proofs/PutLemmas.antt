@@ -1,10 +1,12 @@
 -- What was asked of a volume, command by command, and what was put into it, item by item.
-use Rattle.std.proofs.Common.{◌≡◌, ◌<◌, ◌+◌, ℕ, suc, List, [], ◌∷◌, ◌++◌, get_or, length, map, take, IfOk, Ok, Err, Result, refl, sym, ap, ap₂, ◌∙◌, subst, arith}
+use Rattle.std.proofs.Common.{◌≡◌, ◌<◌, ◌+◌, ℕ, suc, List, [], ◌∷◌, ◌++◌, get_or, length, map, take, All, IfOk, Ok, Err, Result, refl, sym, ap, ap₂, ◌∙◌, subst, arith}
 use Rattle.std.specs.Fork.{slice_chunk}
+use Rattle.std.proofs.lemmas.List.Elements.{All-nil, All-push}
 use Rattle.std.proofs.lemmas.List.{append_assoc, append-nil, map-append, take_more}
+use Rattle.archives.specs.declared.entries.Kind.TheVariants as kind
 use Rattle.layout.specs.declared.refusal.Refusal.{Refusal}
 use Rattle.live.specs.Alive.{Alive}
-use Rattle.machine.specs.Command.{Command as Request, Create, Mkdir, Open, Write, Close, Sync}
+use Rattle.machine.specs.Command.{Command as Request, Create, Mkdir, Open, Write, Close, Flush, Sync}
 use Rattle.model.specs.Layout.{Geometry}
 use Rattle.model.specs.Uses.{blocks_of}
 use Rattle.snapshot.specs.declared.answer.Answer.{Answer}
@@ -12,9 +14,8 @@ use Rattle.snapshot.specs.declared.command.Command.{Command}
 use Rattle.snapshot.specs.Asked.{asked}
 use Rattle.snapshot.specs.Goes.{Applies}
 use Rattle.snapshot.proofs.AppliesLemmas.{runs_none, runs_on}
-use Rattle.putting.specs.Putting.{Adds, AddsItems, AllAnswer, Nothing, Folder, File, Written, MakesFile, Empty, Full, Went, Read, Reading, TookIn, WerePut, block_writes, item_of}
+use Rattle.putting.specs.Putting.{Adds, AddsItems, AllAnswer, Nothing, Folder, File, Flushed, Written, MakesFile, Empty, Full, IsTrueReading, Went, Read, Reading, TookIn, WerePut, block_writes, item_of}
 use Rattle.putting.specs.declared.items.Item.{Item}
-use Rattle.putting.specs.declared.items.Kind.TheVariants as kind
 
 answered_more : (replies : List (Result Answer Refusal)) (answer : Answer) → AllAnswer replies → AllAnswer (replies ++ Ok answer ∷ [])
 answered_more [] answer a = tt
@@ -75,6 +76,13 @@ module _ {D : Type 0} (held held' : List (List (List ℕ))) (image image' : List
     went = adds held₀ image₀ start put.requests put.went;
   })
 
+  pub adds_flush : (a : ℕ) → Adds held image old (Flush a ∷ []) held' image' new → AddsItems [] held image old held' image' new
+  adds_flush a adds before held₀ image₀ start put = subst (λ readings. WerePut readings held₀ image₀ start held' image' new) (sym (append-nil before)) (record {
+    requests = put.requests ++ Flush a ∷ [];
+    put = Flushed before put.requests a put.put;
+    went = adds held₀ image₀ start put.requests put.went;
+  })
+
 module _ {D : Type 0} (held : List (List (List ℕ))) (image : List (List ℕ)) (live : Alive D) where
   pub adds_none : Adds held image live [] held image live
   adds_none held₀ image₀ start before went = subst (λ rs. Went held₀ image₀ start rs held image live) (sym (append-nil before)) went
@@ -93,6 +101,10 @@ module _ {D : Type 0} (held held' held'' : List (List (List ℕ))) (image image'
   pub adds_then : (first second : List Request) → Adds held image old first held' image' mid → Adds held' image' mid second held'' image'' new → Adds held image old (first ++ second) held'' image'' new
   adds_then first second one two held₀ image₀ start before went =
       subst (λ rs. Went held₀ image₀ start rs held'' image'' new) (append_assoc before first second) (two held₀ image₀ start (before ++ first) (one held₀ image₀ start before went))
+
+  -- of items none was put between
+  pub no_items_then : AddsItems [] held image old held' image' mid → AddsItems [] held' image' mid held'' image'' new → AddsItems [] held image old held'' image'' new
+  no_items_then one two before held₀ image₀ start put = two before held₀ image₀ start (subst (λ r. WerePut r held₀ image₀ start held' image' mid) (append-nil before) (one before held₀ image₀ start put))
 
 -- ---- the bytes of a file
 module _ {D : Type 0} (held : List (List (List ℕ))) (image : List (List ℕ)) (live : Alive D) where
@@ -133,9 +145,15 @@ module _ {D : Type 0} (held₀ held₁ held₂ held₃ : List (List (List ℕ)))
       (writes (readings ++ reading ∷ []) held₀ image₀ v₀ (adds readings held₀ image₀ v₀ put))
 
 module _ {D : Type 0} (held₀ held₁ held₂ : List (List (List ℕ))) (image₀ image₁ image₂ : List (List ℕ)) (v₀ v₁ v₂ : Alive D) where
-  -- what waited was written
-  pub put_all : (readings : List Reading) → WerePut readings held₀ image₀ v₀ held₁ image₁ v₁ → Adds held₁ image₁ v₁ (Sync ∷ []) held₂ image₂ v₂ → TookIn readings held₀ image₀ v₀ held₂ image₂ v₂
+  put_all : (readings : List Reading) → WerePut readings held₀ image₀ v₀ held₁ image₁ v₁ → Adds held₁ image₁ v₁ (Sync ∷ []) held₂ image₂ v₂ → TookIn readings held₀ image₀ v₀ held₂ image₂ v₂
   put_all readings put writes = record { requests = put.requests; put = put.put; went = writes held₀ image₀ v₀ put.requests put.went }
+
+module _ {D : Type 0} (held₀ held₁ held₂ held₃ : List (List (List ℕ))) (image₀ image₁ image₂ image₃ : List (List ℕ)) (v₀ v₁ v₂ v₃ : Alive D) where
+  -- blocks were flushed, and what waited then was written
+  pub put_rest : (readings : List Reading) → WerePut readings held₀ image₀ v₀ held₁ image₁ v₁ → AddsItems [] held₁ image₁ v₁ held₂ image₂ v₂ → Adds held₂ image₂ v₂ (Sync ∷ []) held₃ image₃ v₃
+      → TookIn readings held₀ image₀ v₀ held₃ image₃ v₃
+  put_rest readings put flushes writes =
+      put_all held₀ held₂ held₃ image₀ image₂ image₃ v₀ v₂ v₃ readings (subst (λ r. WerePut r held₀ image₀ v₀ held₂ image₂ v₂) (append-nil readings) (flushes readings held₀ image₀ v₀ put)) writes
 
 -- none was read
 pub read_none : (items : List Item) (readings : List Reading) → readings ≡ [] → map item_of readings ≡ take 0 items
@@ -150,6 +168,13 @@ pub read_next : (items : List Item) (i : ℕ) (item : Item) (read : Read) (readi
     → map item_of readings ≡ take i items → map item_of next ≡ take (i + 1) items
 read_next items i item read readings next within at more before =
     ap (map item_of) more ∙ map-append item_of readings ((item, read) ∷ []) ∙ ap₂ (λ xs x. xs ++ x ∷ []) before at ∙ sym (take_more items i item within)
+
+-- readings are true to what their items hold
+pub none_false : (readings : List Reading) → readings ≡ [] → All IsTrueReading readings
+none_false readings none = subst (All IsTrueReading) (sym none) (All-nil IsTrueReading)
+
+pub next_true : (readings next : List Reading) (reading : Reading) → next ≡ readings ++ reading ∷ [] → IsTrueReading reading → All IsTrueReading readings → All IsTrueReading next
+next_true readings next reading more is before = subst (All IsTrueReading) (sym more) (All-push IsTrueReading readings reading before is)
 
 -- ---- what a call gives
 module _ {D : Type 0} (held held' : List (List (List ℕ))) (image image' : List (List ℕ)) (old new : Alive D) where

@@ -2,11 +2,12 @@
 use Rattle.std.specs.Prelude.{◌≡◌, ℕ, zero, suc, List, [], ◌∷◌, ◌++◌, length, map, Ok, Err, Result}
 use Rattle.std.specs.Fork.{slice_chunk}
 use Rattle.std.proofs.Common.{Vec, Global}
+use Rattle.archives.specs.declared.entries.Kind.TheVariants as kind
 use Rattle.layout.specs.declared.refusal.Refusal.{Refusal}
 use Rattle.live.specs.Alive.{Alive}
 use Rattle.live.specs.Mounting.{IsMountable}
 use Rattle.live_states.specs.Holdings.{IsIdle}
-use Rattle.machine.specs.Command.{Command as Request, Create, Mkdir, Open, Write, Close, Sync}
+use Rattle.machine.specs.Command.{Command as Request, Create, Mkdir, Open, Write, Close, Flush, Sync}
 use Rattle.model.specs.Uses.{blocks_of}
 use Rattle.softdep.specs.Queued.{pending_of}
 use Rattle.snapshot.specs.declared.answer.Answer.{Answer}
@@ -14,7 +15,8 @@ use Rattle.snapshot.specs.declared.command.Command.{Command}
 use Rattle.snapshot.specs.Asked.{asked}
 use Rattle.snapshot.specs.Goes.{Runs}
 use Rattle.putting.specs.declared.items.Item.{Item}
-use Rattle.putting.specs.declared.items.Kind.TheVariants as kind
+use Rattle.putting.specs.declared.items.Source.{Source}
+use Rattle.putting.specs.declared.items.Source.TheVariants.{Host, Held}
 
 -- none of these replies is a refusal
 abbrev pub AllAnswer : List (Result Answer Refusal) → Type 0
@@ -56,11 +58,20 @@ Reading = Item × Read
 abbrev pub item_of : Reading → Item
 item_of reading = reading.0
 
--- These requests put these items, one after another; between them all that waits may be written.
+-- bytes of a source: what it holds, if it holds any
+abbrev pub IsTrueTo : Source → List ℕ → Type 0
+IsTrueTo (Host path) bytes = Unit {0}
+IsTrueTo (Held held) bytes = bytes ≡ held.items
+
+abbrev pub IsTrueReading : Reading → Type 0
+IsTrueReading reading = IsTrueTo reading.0.source reading.1.items
+
+-- These requests put these items, one after another; between them blocks may be flushed, and all that waits may be written.
 pub data ArePut : List Reading → List Request → Type 0 where
   Nothing : ArePut [] []
   Folder : (readings : List Reading) (requests : List Request) (item : Item) (read : Read) → ArePut readings requests → item.kind ≡ kind.Folder → ArePut (readings ++ (item, read) ∷ []) (requests ++ Mkdir item.path.items ∷ [])
   File : (readings : List Reading) (requests more : List Request) (item : Item) (read : Read) → ArePut readings requests → item.kind ≡ kind.File → MakesFile item.path.items read.items more → ArePut (readings ++ (item, read) ∷ []) (requests ++ more)
+  Flushed : (readings : List Reading) (requests : List Request) (a : ℕ) → ArePut readings requests → ArePut readings (requests ++ Flush a ∷ [])
   Written : (readings : List Reading) (requests : List Request) → ArePut readings requests → ArePut readings (requests ++ Sync ∷ [])
 
 -- The requests put these items into a volume, and each was answered.

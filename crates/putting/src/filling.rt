@@ -1,26 +1,26 @@
 //! How items of the host go into a mounted volume.
-ghost use Rattle.std.specs.Prelude.{◌≡◌, ◌+◌, ◌++◌, List, [], ◌∷◌, IfOk, None, OnOk, length, map};
-ghost use Rattle.machine.specs.Command.{Command as Request, Close as AsksClose, Create as AsksCreate, Mkdir as AsksMkdir, Open as AsksOpen, Sync as AsksSync, Write as AsksWrite};
+ghost use Rattle.std.specs.Prelude.{◌≡◌, ◌+◌, ◌++◌, List, [], ◌∷◌, All, IfOk, None, OnOk, length, map};
+ghost use Rattle.machine.specs.Command.{Command as Request, Close as AsksClose, Create as AsksCreate, Mkdir as AsksMkdir, Open as AsksOpen, Write as AsksWrite};
 ghost use Rattle.model.specs.Layout.{Geometry};
 ghost use Rattle.model.specs.Uses.{blocks_of};
-ghost use Rattle.putting.specs.Putting.{Adds, AddsItems, MakesFile, PutMounted, Read, TookIn, block_writes, item_of};
+ghost use Rattle.putting.specs.Putting.{Adds, AddsItems, IsTrueReading, IsTrueTo, MakesFile, PutMounted, Read, TookIn, block_writes, item_of};
 ghost use Rattle.snapshot.specs.Asked.{asked};
 
-use crate::items::{Item, Kind};
+use crate::items::{Item, Source};
+use crate::writing::{flush_in_passes, write_rest, write_some};
+use archives::Kind;
 use changing::{mount, write_all};
 use device::Device;
 use hosts::HostError;
 use http_server::Log;
 use layout::{BLOCK_BYTES, Refusal};
+use progress::{Tally, Watcher};
 use snapshot::{Answer, Command, Volume};
 use std::alloc::Global;
 use std::fs;
 use std::rt::Files;
 
-/// After how many bytes all is written, so that the queue of updates stays short.
-const BYTES_AT_ONCE: usize = 1 << 20;
-
-/// What a file or folder adds to that by itself.
+/// How many bytes a file or folder adds to what waits by itself.
 const BYTES_OF_ITEM: usize = 1 << 12;
 
 /// How many items went into an image, and why the next one did not, if it did not.
@@ -51,26 +51,31 @@ pub fn put_on_device<R: Files + AllocGlobal, D: Device + Drop>(
     rt: &R,
     device: D,
     items: &[Item],
+    watcher: &impl Watcher,
 ) -> Result<Holding<D>, Refusal>
     // Where none is refused and the device was honest, the volume of its image took them, with the bytes that the host gave.
     ensures read { IfOk result (λ holding. holding.filled.stopped ≡ None → map item_of holding.filled.readings.items.items ≡ items.now) }
+    ensures held { IfOk result (λ holding. holding.filled.stopped ≡ None → All IsTrueReading holding.filled.readings.items.items) }
     ensures took_in { IfOk result (λ holding. holding.filled.stopped ≡ None → D.honest holding.volume.device
         → PutMounted (D.image device) holding.filled.readings.items.items (D.held holding.volume.device) (D.image holding.volume.device) holding.volume) }
 {
     let mut volume = mount(rt.alloc(), device)?;
-    let filled = put(rt, &mut volume, items)?;
+    let filled = put(rt, &mut volume, items, watcher)?;
     Ok(Holding { filled, volume })
 }
 
-/// Makes items in a volume, one after another, up to the first one that is refused, and writes all. A file that is refused is
-/// not left behind in part. Refused with `Device` and `NoMemory` where not all could be written.
+/// Makes items in a volume, one after another, up to the first one that is refused, and writes all. The watcher is told after
+/// each. A file that is refused is not left behind in part. Refused with `Device` and `NoMemory` where not all could be written.
 pub fn put<R: Files + AllocGlobal, D: Device>(
     rt: &R,
     volume: &mut Volume<D>,
     items: &[Item],
+    watcher: &impl Watcher,
 ) -> Result<Filled, Refusal>
     // Where none is refused they were put, with the bytes that the host gave, by commands of which each was answered.
     ensures read { IfOk result (λ filled. filled.stopped ≡ None → map item_of filled.readings.items.items ≡ items.now) }
+    // The bytes of an item that holds them are those.
+    ensures held { IfOk result (λ filled. filled.stopped ≡ None → All IsTrueReading filled.readings.items.items) }
     ensures all { IfOk result (λ filled. filled.stopped ≡ None → filled.done ≡ length items.now) }
     ensures took_in { IfOk result (λ filled. filled.stopped ≡ None → D.honest volume.new.device
         → TookIn filled.readings.items.items (D.held volume.old.device) (D.image volume.old.device) volume.old (D.held volume.new.device) (D.image volume.new.device) volume.new) }
@@ -78,6 +83,7 @@ pub fn put<R: Files + AllocGlobal, D: Device>(
 {
     let mut pending = 0;
     let mut done = 0;
+    let mut tally = Tally::new();
     let mut readings = Readings { items: Log::new() };
     for item in items {
         let bytes = match put_item(rt, volume, item, &mut readings) {
@@ -91,9 +97,12 @@ pub fn put<R: Files + AllocGlobal, D: Device>(
                 });
             }
         };
-        pending = write_some(rt.alloc(), volume, bytes.saturating_add(pending))?;
+        let more = bytes.saturating_add(BYTES_OF_ITEM);
+        pending = write_some(rt.alloc(), volume, more.saturating_add(pending))?;
         done += 1;
+        tally.count(bytes, watcher);
     }
+    flush_in_passes(rt.alloc(), volume)?;
     write_rest(rt.alloc(), volume)?;
     Ok(Filled {
         done,
@@ -102,71 +111,57 @@ pub fn put<R: Files + AllocGlobal, D: Device>(
     })
 }
 
-/// Makes an item, and tells how much it adds to what waits to be written, in bytes.
+/// Makes an item, and tells how many bytes it has.
 fn put_item<R: Files + AllocGlobal, D: Device>(
     rt: &R,
     volume: &mut Volume<D>,
     item: &Item,
     readings: &mut Readings,
 ) -> Result<usize, HostError>
-    ensures item { IfOk result (λ _. (bytes : Read) × (readings.new.items.items ≡ readings.old.items.items ++ (item.now, bytes) ∷ [])
+    ensures item { IfOk result (λ _. (bytes : Read) × (readings.new.items.items ≡ readings.old.items.items ++ (item.now, bytes) ∷ []) × IsTrueTo item.now.source bytes.items
         × (D.honest volume.new.device → AddsItems ((item.now, bytes) ∷ []) (D.held volume.old.device) (D.image volume.old.device) volume.old (D.held volume.new.device) (D.image volume.new.device) volume.new)) }
     ensures honest { D.honest volume.new.device → D.honest volume.old.device }
 {
     let bytes = bytes_of(rt, item, readings)?;
     match make_item(rt.alloc(), volume, item, bytes.as_slice()) {
-        Ok(()) => Ok(bytes.len().saturating_add(BYTES_OF_ITEM)),
+        Ok(()) => Ok(bytes.len()),
         Err(cause) => Err(HostError::in_image(rt.alloc(), cause, item.path.as_slice())),
     }
 }
 
-/// The bytes of a file of the host; none of a folder.
+/// The bytes of an item, which are noted.
 fn bytes_of<R: Files + AllocGlobal>(
     rt: &R,
     item: &Item,
     readings: &mut Readings,
 ) -> Result<Vec<u8>, HostError>
-    ensures { IfOk result (λ bytes. readings.new.items.items ≡ readings.old.items.items ++ (item.now, bytes) ∷ []) }
+    ensures noted { IfOk result (λ bytes. readings.new.items.items ≡ readings.old.items.items ++ (item.now, bytes) ∷ []) }
+    ensures held { IfOk result (λ bytes. IsTrueTo item.now.source bytes.items) }
 {
     let bytes = read_item(rt, item)?;
     readings.items = readings.items.and(item, &bytes);
     Ok(bytes)
 }
 
-fn read_item<R: Files + AllocGlobal>(rt: &R, item: &Item) -> Result<Vec<u8>, HostError> {
-    if item.kind == Kind::Folder {
+/// The bytes of an item: those that it holds, or those of its file of the host.
+fn read_item<R: Files + AllocGlobal>(rt: &R, item: &Item) -> Result<Vec<u8>, HostError>
+    ensures { IfOk result (λ bytes. IsTrueTo item.now.source bytes.items) }
+{
+    match &item.source {
+        Source::Held(bytes) => Ok(bytes.to_vec(rt.alloc())?),
+        Source::Host(host) => read_host(rt, host.as_str(), item.kind),
+    }
+}
+
+/// The bytes of a file of the host; none of a folder.
+fn read_host<R: Files + AllocGlobal>(rt: &R, host: &str, kind: Kind) -> Result<Vec<u8>, HostError> {
+    if kind == Kind::Folder {
         return Ok(Vec::new(rt.alloc()));
     }
-    match fs::read(rt, item.host.as_str()) {
+    match fs::read(rt, host) {
         Ok(bytes) => Ok(bytes),
-        Err(error) => Err(HostError::of_call(rt.alloc(), &error, item.host.as_str())),
+        Err(error) => Err(HostError::of_call(rt.alloc(), &error, host)),
     }
-}
-
-/// Writes all that waits, if it is this many bytes or more, and tells how many wait then.
-fn write_some<D: Device>(
-    alloc: Global,
-    volume: &mut Volume<D>,
-    pending: usize,
-) -> Result<usize, Refusal>
-    ensures written { IfOk result (λ _. D.honest volume.new.device
-        → AddsItems [] (D.held volume.old.device) (D.image volume.old.device) volume.old (D.held volume.new.device) (D.image volume.new.device) volume.new) }
-    ensures honest { D.honest volume.new.device → D.honest volume.old.device }
-{
-    if pending < BYTES_AT_ONCE {
-        return Ok(pending);
-    }
-    write_rest(alloc, volume)?;
-    Ok(0)
-}
-
-/// Writes all that waits.
-fn write_rest<D: Device>(alloc: Global, volume: &mut Volume<D>) -> Result<(), Refusal>
-    ensures written { OnOk result (D.honest volume.new.device
-        → Adds (D.held volume.old.device) (D.image volume.old.device) volume.old (AsksSync ∷ []) (D.held volume.new.device) (D.image volume.new.device) volume.new) }
-    ensures honest { D.honest volume.new.device → D.honest volume.old.device }
-{
-    write_all(alloc, volume)
 }
 
 /// Makes an item with these bytes.
@@ -314,7 +309,11 @@ fn close<D: Device>(alloc: Global, volume: &mut Volume<D>, handle: u32) -> Resul
 }
 
 /// Carries out a command.
-fn ask<D: Device>(alloc: Global, volume: &mut Volume<D>, command: &Command) -> Result<(), Refusal>
+pub(crate) fn ask<D: Device>(
+    alloc: Global,
+    volume: &mut Volume<D>,
+    command: &Command,
+) -> Result<(), Refusal>
     ensures asked { OnOk result (D.honest volume.new.device → (request : Request) → ((geo : Geometry) → asked geo command.now ≡ request)
         → Adds (D.held volume.old.device) (D.image volume.old.device) volume.old (request ∷ []) (D.held volume.new.device) (D.image volume.new.device) volume.new) }
     ensures honest { D.honest volume.new.device → D.honest volume.old.device }

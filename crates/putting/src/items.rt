@@ -3,6 +3,7 @@ ghost use Rattle.std.specs.Prelude.{OnOk};
 ghost use Rattle.std.specs.List.{All};
 ghost use Rattle.putting.specs.Placing.{IsNew};
 
+use archives::Kind;
 use frozen::Frozen;
 use hosts::HostError;
 use inode::INDIRECT_POSITION;
@@ -14,25 +15,27 @@ use std::fs::Metadata;
 use std::rt::Files;
 
 /// How many bytes a name in an image may have.
-const NAME_BYTES: usize = 56;
+pub(crate) const NAME_BYTES: usize = 56;
 
 /// How many bytes a path in an image may have.
-const PATH_BYTES: usize = 4_096;
+pub(crate) const PATH_BYTES: usize = 4_096;
 
 /// How many bytes a file in an image may have.
-const FILE_BYTES: u64 = INDIRECT_POSITION as u64 * BLOCK_BYTES as u64;
+pub(crate) const FILE_BYTES: u64 = INDIRECT_POSITION as u64 * BLOCK_BYTES as u64;
 
-/// What stands at a path of the host.
-#[derive(Clone, Copy, Debug, PartialEq, Eq)]
-pub enum Kind {
-    File,
-    Folder,
+/// Where the bytes of an item come from.
+#[derive(Debug, Drop)]
+pub enum Source {
+    /// From the file at this path of the host, once the item's turn comes; none, where a folder stands there.
+    Host(String),
+    /// They are here.
+    Held(Vec<u8>),
 }
 
-/// A file or folder of the host, and the path in the image that it is to have.
+/// A file or folder, and the path in the image that it is to have.
 #[derive(Debug, Drop)]
 pub struct Item {
-    pub host: String,
+    pub source: Source,
     pub path: Vec<u8>,
     pub kind: Kind,
 }
@@ -52,7 +55,7 @@ pub fn items_of<R: Files + AllocGlobal + Clone + Drop>(
         Err(error) => return Err(HostError::of_call(alloc, &error, host)),
     };
     let first = Item {
-        host: String::from_str(alloc, host)?,
+        source: Source::Host(String::from_str(alloc, host)?),
         path: path.to_vec(alloc)?,
         kind,
     };
@@ -95,23 +98,27 @@ fn add_below<R: Files + AllocGlobal + Clone + Drop>(
     folder: &Item,
     waiting: &mut Vec<Item>,
 ) -> Result<(), HostError> {
-    let mut names = names_in(rt, folder.host.as_str())?;
+    let Source::Host(host) = &folder.source else {
+        return Ok(());
+    };
+    let mut names = names_in(rt, host.as_str())?;
     names.sort()?;
     for name in names.iter().rev() {
-        waiting.push(item_in(rt, folder, name.as_str())?)?;
+        waiting.push(item_in(rt, host.as_str(), folder.path.as_slice(), name.as_str())?)?;
     }
     Ok(())
 }
 
-/// The item of a name in a folder.
+/// The item of a name in a folder of the host, of which the folder in the image has this path.
 fn item_in<R: Files + AllocGlobal + Clone + Drop>(
     rt: &R,
-    folder: &Item,
+    folder: &str,
+    path: &[u8],
     name: &str,
 ) -> Result<Item, HostError> {
     let alloc = rt.alloc();
-    let host = format!(in alloc; "{}/{name}", folder.host)?;
-    let path = joined(alloc, folder.path.as_slice(), name.as_bytes())?;
+    let host = format!(in alloc; "{folder}/{name}")?;
+    let path = joined(alloc, path, name.as_bytes())?;
     if name.len() > NAME_BYTES || path.len() > PATH_BYTES {
         return Err(HostError::on_host(alloc, Refusal::BadName, host.as_str()));
     }
@@ -119,7 +126,11 @@ fn item_in<R: Files + AllocGlobal + Clone + Drop>(
         Ok(metadata) => kind_of(alloc, &metadata, host.as_str())?,
         Err(error) => return Err(HostError::of_call(alloc, &error, host.as_str())),
     };
-    Ok(Item { host, path, kind })
+    Ok(Item {
+        source: Source::Host(host),
+        path,
+        kind,
+    })
 }
 
 /// The kind of what stands at a path of the host.

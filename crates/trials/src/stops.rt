@@ -11,6 +11,7 @@ use snapshot::Volume;
 use std::alloc::Global;
 use std::sync::Arc;
 use std::thread::Threads;
+use workers::OpenGate;
 
 /// What no stop may leave.
 #[derive(Clone, Copy, Debug, PartialEq, Eq)]
@@ -90,6 +91,6 @@ fn mended_volume<D: Device + Drop>(
     device: D,
 ) -> Result<Volume<D>, Refusal> {
     let mut volume = Volume::new(mount(alloc, device)?);
-    mend(rt, alloc, &mut volume, 1)?;
+    mend(rt, alloc, &mut volume, 1, &OpenGate)?;
     Ok(volume)
 }

@@ -39,6 +39,7 @@ fn reads_mkfs_in_any_order(rt: HostRuntime) -> Result<(), Fail> {
             blocks: 32,
             inodes: 16,
             from: None,
+            progress: false,
         };
         assert!(rt; job == asked, "{line}");
     }
@@ -58,6 +59,7 @@ fn reads_the_ends_of_the_numbers(rt: HostRuntime) -> Result<(), Fail> {
         blocks: u32::MAX,
         inodes: 0,
         from: None,
+        progress: false,
     };
     assert!(rt; job == asked);
     Ok(())
@@ -88,8 +90,12 @@ fn reads_check(rt: HostRuntime) -> Result<(), Fail> {
     ] {
         let words = words_of(rt.alloc(), line)?;
         let job = parse(rt.alloc(), words.as_slice()).ok().ok_or(line)?;
-        let image = "a.img";
-        assert!(rt; job == Job::Check { image, workers }, "{line}");
+        let asked = Job::Check {
+            image: "a.img",
+            workers,
+            progress: false,
+        };
+        assert!(rt; job == asked, "{line}");
     }
     Ok(())
 }
@@ -102,8 +108,12 @@ fn reads_repair(rt: HostRuntime) -> Result<(), Fail> {
     ] {
         let words = words_of(rt.alloc(), line)?;
         let job = parse(rt.alloc(), words.as_slice()).ok().ok_or(line)?;
-        let image = "a.img";
-        assert!(rt; job == Job::Repair { image, workers }, "{line}");
+        let asked = Job::Repair {
+            image: "a.img",
+            workers,
+            progress: false,
+        };
+        assert!(rt; job == asked, "{line}");
     }
     Ok(())
 }
@@ -123,6 +133,26 @@ fn reads_run(rt: HostRuntime) -> Result<(), Fail> {
             workers,
         };
         assert!(rt; job == asked, "{line}");
+    }
+    Ok(())
+}
+
+#[test]
+fn reads_whether_progress_is_shown(rt: HostRuntime) -> Result<(), Fail> {
+    for line in [
+        "mkfs --groups 2 --blocks 32 --inodes 16 a.img",
+        "check --workers 1 a.img",
+        "repair --workers 1 a.img",
+        "get a.img / b",
+        "put a.img / b",
+    ] {
+        let words = words_of(rt.alloc(), line)?;
+        let job = parse(rt.alloc(), words.as_slice()).ok().ok_or(line)?;
+        assert!(rt; !job.asks_progress(), "{line}");
+        let asking = format!(in rt.alloc(); "{line} --progress")?;
+        let words = words_of(rt.alloc(), asking.as_str())?;
+        let job = parse(rt.alloc(), words.as_slice()).ok().ok_or(line)?;
+        assert!(rt; job.asks_progress(), "{line}");
     }
     Ok(())
 }
@@ -283,7 +313,7 @@ fn refuses_a_line_that_asks_for_help(rt: HostRuntime) -> Result<(), Fail> {
         ),
         (
             "check --help",
-            "Usage: fsvol check --workers <NUMBER> <IMAGE>\n",
+            "Usage: fsvol check [OPTIONS] --workers <NUMBER> <IMAGE>\n",
         ),
         (
             "run --help",

@@ -10,10 +10,11 @@ use std::rt::Files;
 use std::sync::Wait;
 use std::test::Fail;
 use std::thread::Threads;
+use std::time::Clock;
 
 /// Carries out lines on an image, one after another: what stands before the image's name in each, what stands behind it but
 /// for its last word, and that word, and what it is to give.
-fn give<R: Files + AllocGlobal + Threads + Wait + Sync + Abort + Clone + Drop>(
+fn give<R: Files + AllocGlobal + Clock + Threads + Wait + Sync + Abort + Clone + Drop>(
     rt: &R,
     image: &str,
     lines: &[(&str, &str, &str, Wanted<'_>)],
@@ -276,7 +277,11 @@ fn a_picture_is_printed(rt: HostRuntime) -> Result<(), Fail> {
 }
 
 /// Makes a folder of the host with a file of three bytes in it.
-fn made_folder<R: Files + AllocGlobal>(rt: &R, folder: &str, file: &str) -> Result<(), Fail> {
+pub(super) fn made_folder<R: Files + AllocGlobal>(
+    rt: &R,
+    folder: &str,
+    file: &str,
+) -> Result<(), Fail> {
     let _ = fs::remove_dir_all(rt, folder);
     fs::create_dir(rt, folder)?;
     fs::write(rt, file, "abc")?;
@@ -293,7 +298,7 @@ fn a_folder_goes_in_and_is_not_put_over_another(rt: HostRuntime) -> Result<(), F
         &rt,
         image,
         &[
-            ("put", " /d", folder, NOTHING_PRINTED),
+            ("put --progress", " /d", folder, NOTHING_PRINTED),
             ("cat", "", "/d/a", printed("abc", 0)),
             (
                 "put",
@@ -318,7 +323,7 @@ fn a_tree_comes_out_and_is_not_got_over_another(rt: HostRuntime) -> Result<(), F
         image,
         &[
             ("put", " /d", folder, NOTHING_PRINTED),
-            ("get", " /", out, NOTHING_PRINTED),
+            ("get --progress", " /", out, NOTHING_PRINTED),
             (
                 "get",
                 " /",
@@ -331,6 +336,8 @@ fn a_tree_comes_out_and_is_not_got_over_another(rt: HostRuntime) -> Result<(), F
                 "rows_hosts_none",
                 refused("refused 7 NotFound\nat /x\n", 3),
             ),
+            // As an archive on standard output.
+            ("get", " /x", "-", refused("refused 7 NotFound\nat /x\n", 3)),
         ],
     )?;
     let bytes = fs::read(&rt, "rows_hosts_got/d/a")?;
@@ -342,7 +349,7 @@ fn a_tree_comes_out_and_is_not_got_over_another(rt: HostRuntime) -> Result<(), F
 fn an_image_is_made_of_a_folder(rt: HostRuntime) -> Result<(), Fail> {
     let folder = "rows_hosts_from";
     made_folder(&rt, folder, "rows_hosts_from/a")?;
-    let made = " --groups 1 --blocks 16 --inodes 16 --from";
+    let made = " --groups 1 --blocks 16 --inodes 16 --progress --from";
     give(
         &rt,
         "rows_hosts_from.img",

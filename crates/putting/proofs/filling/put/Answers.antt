@@ -1,6 +1,6 @@
 use Rattle.std.proofs.Common.{◌<◌, ◌≤◌, ◌∙◌, length, refl, arith}
 use Rattle.std.proofs.lemmas.List.{take_all}
-use Rattle.putting.proofs.PutLemmas.{nothing_put, put_all, put_next, read_next, read_none}
+use Rattle.putting.proofs.PutLemmas.{next_true, none_false, nothing_put, put_next, put_rest, read_next, read_none}
 use Rattle.putting.proofs.filling.put.Goals as goal
 
 pub loop-item-init : goal.loop-item-init
@@ -11,6 +11,7 @@ loop-item-init g c =
       done = refl;
       honest = λ h. h;
       read = read_none c.args.items.now c.new.result.items none;
+      held = none_false c.new.result.items none;
       put = λ h. nothing_put (g.D.Device.held old.device) (g.D.Device.image old.device) old c.new.result.items none;
     }
 
@@ -34,9 +35,10 @@ loop-item-preserved g c =
       done = omega (arith, inv.done);
       honest = λ h. inv.honest (c.put_item.ensures.honest (c.write_some.ensures.honest h));
       read = read_next items i item added.0 readings next within c.item-item.is added.1 inv.read;
+      held = next_true readings next (item, added.0) added.1 added.2 inv.held;
       put = λ h. let then = c.write_some.ensures.honest h in
           put_next (held old.device) (held here.device) (held mid.device) (held new.device) (image old.device) (image here.device) (image mid.device) (image new.device) old here mid new
-          readings next (item, added.0) added.1 (inv.put (c.put_item.ensures.honest then)) (added.2 then) (c.in_ok-pending.ensures.written h);
+          readings next (item, added.0) added.1 (inv.put (c.put_item.ensures.honest then)) (added.3 then) (c.in_ok-pending.ensures.written h);
     }
 
 pub returns-clause-read : goal.returns-clause-read
@@ -53,6 +55,11 @@ returns-clause-took_in g c = λ none honest.
     let image = g.D.Device.image in
     let old = c.args.volume.now in
     let here = c.loop-item.volume in
+    let mid = c.flush_in_passes.new.volume in
     let new = c.write_rest.new.volume in
-    put_all (held old.device) (held here.device) (held new.device) (image old.device) (image here.device) (image new.device) old here new c.loop-item.readings.items.items
-    (inv.put (c.write_rest.ensures.honest honest)) (c.in_ok-write_rest.ensures.written honest)
+    let then = c.write_rest.ensures.honest honest in
+    put_rest (held old.device) (held here.device) (held mid.device) (held new.device) (image old.device) (image here.device) (image mid.device) (image new.device) old here mid new c.loop-item.readings.items.items
+    (inv.put (c.flush_in_passes.ensures.honest then)) (c.in_ok-flush_in_passes.ensures.flushed then) (c.in_ok-write_rest.ensures.written honest)
+
+pub returns-clause-held : goal.returns-clause-held
+returns-clause-held g c = λ none. c.loop-item.invariant.held

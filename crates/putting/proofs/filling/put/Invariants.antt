@@ -1,5 +1,5 @@
-use Rattle.std.proofs.Common.{◌≡◌, map, take}
-use Rattle.putting.specs.Putting.{WerePut, item_of}
+use Rattle.std.proofs.Common.{◌≡◌, All, map, take}
+use Rattle.putting.specs.Putting.{IsTrueReading, WerePut, item_of}
 use Rattle.putting.proofs.filling.put.Given as goal
 
 abbrev pub invariant-loop-item : goal.invariant-loop-item
@@ -7,6 +7,7 @@ invariant-loop-item g l = record {
   done : l.done ≡ l.item-index;
   honest : g.D.Device.honest l.volume.device → g.D.Device.honest l.fn.volume.device;
   read : map item_of l.readings.items.items ≡ take l.item-index l.items;
+  held : All IsTrueReading l.readings.items.items;
   put : g.D.Device.honest l.volume.device
       → WerePut l.readings.items.items (g.D.Device.held l.fn.volume.device) (g.D.Device.image l.fn.volume.device) l.fn.volume (g.D.Device.held l.volume.device) (g.D.Device.image l.volume.device) l.volume;
 }

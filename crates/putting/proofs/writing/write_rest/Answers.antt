@@ -3,7 +3,7 @@ use Rattle.std.proofs.lemmas.Result.{on_ok_weaker}
 use Rattle.machine.specs.Command.{Sync as AsksSync}
 use Rattle.snapshot.specs.declared.command.Command.TheVariants.{Sync}
 use Rattle.putting.proofs.PutLemmas.{adds_one}
-use Rattle.putting.proofs.filling.write_rest.Goals as goal
+use Rattle.putting.proofs.writing.write_rest.Goals as goal
 
 pub returns-clause-written : goal.returns-clause-written
 returns-clause-written g c =

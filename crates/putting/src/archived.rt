@@ -1,0 +1,119 @@
+//! What stands in an archive, and where it goes in an image.
+ghost use Rattle.std.specs.Prelude.{◌≡◌, ◌++◌, IfOk, OnOk, map};
+ghost use Rattle.archives.specs.Entries.{view, views};
+ghost use Rattle.putting.specs.Placing.{ArePlaced, first, placed, shown};
+
+use crate::items::{FILE_BYTES, Item, NAME_BYTES, PATH_BYTES, Source};
+use archives::{Broken, Entry, Fault, Kind, orphan, read};
+use hosts::HostError;
+use layout::Refusal;
+use reading::joined;
+use std::alloc::Global;
+
+/// The items of an archive, in its order, below a directory of an image, and before them this directory, unless it is the root.
+/// Refused is an archive that cannot be read, by the byte where the header of the first such member begins, an entry of which
+/// the folder does not come before it, and a name, a path or a file that no image can have.
+pub fn items_in_archive(alloc: Global, archive: &[u8], path: &[u8]) -> Result<Vec<Item>, HostError>
+    ensures { IfOk result (λ items. ArePlaced archive.now path.now items.items) }
+{
+    let entries = match read(alloc, archive) {
+        Ok(entries) => entries,
+        Err(broken) => return Err(refused(alloc, broken)),
+    };
+    allow_folders(alloc, entries.as_slice())?;
+    let mut items = first_item(alloc, path)?;
+    add_entries(alloc, path, entries, &mut items)?;
+    Ok(items)
+}
+
+/// That an archive is not read.
+fn refused(alloc: Global, broken: Broken) -> HostError {
+    let (cause, at, fault) = match broken {
+        Broken::NoMemory => return HostError::from(Refusal::NoMemory),
+        Broken::Refused(at, Fault::CutOff) => (Refusal::BadLength, at, Fault::CutOff),
+        Broken::Refused(at, fault) => (Refusal::BadName, at, fault),
+    };
+    match format!(in alloc; "byte {at} of the archive: {fault}") {
+        Ok(place) => HostError {
+            cause,
+            path: Some(place),
+        },
+        Err(error) => HostError::from(error),
+    }
+}
+
+/// Refuses the first entry of which the folder does not come before it.
+fn allow_folders(alloc: Global, entries: &[Entry]) -> Result<(), HostError> {
+    match orphan(alloc, entries)? {
+        Some(place) => match entries.get(place) {
+            Some(entry) => Err(HostError::in_image(
+                alloc,
+                Refusal::NotFound,
+                entry.path.as_slice(),
+            )),
+            None => Ok(()),
+        },
+        None => Ok(()),
+    }
+}
+
+/// The item of the directory below which an archive goes; none of the root.
+fn first_item(alloc: Global, path: &[u8]) -> Result<Vec<Item>, HostError>
+    ensures { IfOk result (λ items. map shown items.items ≡ first path.now) }
+{
+    let mut items = Vec::new(alloc);
+    if path != b"/".as_slice() {
+        items.push(Item {
+            source: Source::Held(Vec::new(alloc)),
+            path: path.to_vec(alloc)?,
+            kind: Kind::Folder,
+        })?;
+    }
+    Ok(items)
+}
+
+/// Adds the items of entries.
+fn add_entries(
+    alloc: Global,
+    path: &[u8],
+    entries: Vec<Entry>,
+    items: &mut Vec<Item>,
+) -> Result<(), HostError>
+    ensures { OnOk result (map shown items.new.items ≡ map shown items.old.items ++ map (placed path.now) (views entries.items)) }
+{
+    for entry in entries {
+        items.push(item_of_entry(alloc, path, entry)?)?;
+    }
+    Ok(())
+}
+
+/// The item of an entry.
+fn item_of_entry(alloc: Global, path: &[u8], entry: Entry) -> Result<Item, HostError>
+    ensures { IfOk result (λ item. shown item ≡ placed path.now (view entry)) }
+{
+    let Entry {
+        path: below,
+        kind,
+        bytes,
+    } = entry;
+    let path = joined(alloc, path, below.as_slice())?;
+    if name_bytes(below.as_slice()) > NAME_BYTES || path.len() > PATH_BYTES {
+        return Err(HostError::in_image(alloc, Refusal::BadName, path.as_slice()));
+    }
+    if bytes.len() as u64 > FILE_BYTES {
+        return Err(HostError::in_image(alloc, Refusal::TooBig, path.as_slice()));
+    }
+    Ok(Item {
+        source: Source::Held(bytes),
+        path,
+        kind,
+    })
+}
+
+/// How many bytes the last name of a path has.
+fn name_bytes(path: &[u8]) -> usize {
+    match path.rsplit(|byte| *byte == b'/').next() {
+        Some(name) => name.len(),
+        None => 0,
+    }
+}

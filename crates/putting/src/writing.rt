@@ -1,0 +1,96 @@
+//! How what waits in a volume's queue is written while items go into it.
+ghost use Rattle.std.specs.Prelude.{◌≡◌, [], ◌∷◌, IfOk, OnOk};
+ghost use Rattle.machine.specs.Command.{Sync as AsksSync};
+ghost use Rattle.putting.specs.Putting.{Adds, AddsItems};
+
+use crate::filling::ask;
+use changing::write_all;
+use device::Device;
+use layout::Refusal;
+use snapshot::{Command, Volume};
+use std::alloc::Global;
+
+/// After how many bytes all is written, so that the queue of updates stays short.
+const BYTES_AT_ONCE: usize = 1 << 20;
+
+/// In how many passes blocks are flushed before all that is left is written: first maps and what files hold, then the inodes
+/// that claim it, then the directories that name these; and once more for what came of that.
+const PASSES: usize = 4;
+
+/// Writes all that waits, if it is this many bytes or more, and tells how many wait then.
+pub(crate) fn write_some<D: Device>(
+    alloc: Global,
+    volume: &mut Volume<D>,
+    pending: usize,
+) -> Result<usize, Refusal>
+    ensures written { IfOk result (λ _. D.honest volume.new.device
+        → AddsItems [] (D.held volume.old.device) (D.image volume.old.device) volume.old (D.held volume.new.device) (D.image volume.new.device) volume.new) }
+    ensures honest { D.honest volume.new.device → D.honest volume.old.device }
+{
+    if pending < BYTES_AT_ONCE {
+        return Ok(pending);
+    }
+    flush_in_passes(alloc, volume)?;
+    write_rest(alloc, volume)?;
+    Ok(0)
+}
+
+/// Writes all that waits.
+pub(crate) fn write_rest<D: Device>(alloc: Global, volume: &mut Volume<D>) -> Result<(), Refusal>
+    ensures written { OnOk result (D.honest volume.new.device
+        → Adds (D.held volume.old.device) (D.image volume.old.device) volume.old (AsksSync ∷ []) (D.held volume.new.device) (D.image volume.new.device) volume.new) }
+    ensures honest { D.honest volume.new.device → D.honest volume.old.device }
+{
+    write_all(alloc, volume)
+}
+
+/// Flushes blocks in passes. A sync alone would do too, but it flushes the least block that may be written each time, and so a
+/// block of inodes, which stands before the blocks of their files, again after each of these; a pass writes it once.
+pub(crate) fn flush_in_passes<D: Device>(
+    alloc: Global,
+    volume: &mut Volume<D>,
+) -> Result<(), Refusal>
+    ensures flushed { OnOk result (D.honest volume.new.device
+        → AddsItems [] (D.held volume.old.device) (D.image volume.old.device) volume.old (D.held volume.new.device) (D.image volume.new.device) volume.new) }
+    ensures honest { D.honest volume.new.device → D.honest volume.old.device }
+{
+    for _pass in 0..PASSES {
+        flush_pass(alloc, volume)?;
+    }
+    Ok(())
+}
+
+/// Flushes each block with an update that may go to the device once its turn comes, in the order of their addresses.
+fn flush_pass<D: Device>(alloc: Global, volume: &mut Volume<D>) -> Result<(), Refusal>
+    ensures flushed { OnOk result (D.honest volume.new.device
+        → AddsItems [] (D.held volume.old.device) (D.image volume.old.device) volume.old (D.held volume.new.device) (D.image volume.new.device) volume.new) }
+    ensures honest { D.honest volume.new.device → D.honest volume.old.device }
+{
+    let mut from = 0;
+    // No volume has more blocks.
+    for _turn in 0..u32::MAX {
+        match flush_next(alloc, volume, from)? {
+            Some(next) => from = next,
+            None => break,
+        }
+    }
+    Ok(())
+}
+
+/// Flushes the least block with an update that may go to the device, of this one and those above it, and gives the address
+/// behind it; none where there is no such block.
+fn flush_next<D: Device>(
+    alloc: Global,
+    volume: &mut Volume<D>,
+    from: u32,
+) -> Result<Option<u32>, Refusal>
+    ensures flushed { IfOk result (λ _. D.honest volume.new.device
+        → AddsItems [] (D.held volume.old.device) (D.image volume.old.device) volume.old (D.held volume.new.device) (D.image volume.new.device) volume.new) }
+    ensures honest { D.honest volume.new.device → D.honest volume.old.device }
+{
+    let Some(address) = volume.live().next_ready(from) else {
+        return Ok(None);
+    };
+    ask(alloc, volume, &Command::Flush(address))?;
+    Ok(address.checked_add(1))
+}
