@@ -99,7 +99,13 @@ ssize_t __write(int fd, const void *from, size_t size)
 
 ssize_t pread(int fd, void *to, size_t size, off_t at)
 {
-    return fails() ? -1 : syscall(SYS_pread64, fd, to, moved(size), at);
+    if (fails()) {
+        /* The first of several blocks is asked for again, alone: that fails too. */
+        if (size > 1024)
+            number++;
+        return -1;
+    }
+    return syscall(SYS_pread64, fd, to, moved(size), at);
 }
 
 ssize_t pwrite(int fd, const void *from, size_t size, off_t at)
