@@ -1,9 +1,10 @@
--- What a write of one word does to its bits, and the least bit of a word.
-use Rattle.std.proofs.Common.{◌≡◌, ◌<◌, ◌+◌, ◌*◌, ◌/◌, ◌%◌, ◌^◌, ℕ, Bool, true, false, eqb, List, length, get_or, set, inl, inr, refl, sym, ap, ap₂, ◌∙◌, arith, get_or-set_same, get_or-set_other, length-set, w64}
+-- What a write of one word does to its bits, and the least bit of a word, or of what is left of it from a number on.
+use Rattle.std.proofs.Common.{◌≡◌, ◌<◌, ◌≤◌, ◌+◌, ◌-◌, ◌*◌, ◌/◌, ◌%◌, ◌^◌, ℕ, Bool, true, false, eqb, List, length, get_or, set, inl, inr, refl, sym, ap, ap₂, ◌∙◌, arith, get_or-set_same, get_or-set_other, length-set, w64}
 use Rattle.std.specs.Int.{bit_at, trailing_zeros}
 use Rattle.std.proofs.lemmas.Bool.{cases_eq, cases_lt, cond-true, cond-false, eq-eqb, ne_eqb, false≢true}
-use Rattle.std.proofs.lemmas.Nat.Bits.{bit_at-zero, bit_at-trailing_zeros}
-use Rattle.marks.specs.Words.{bit, ChangesBit, IsLeastOfWord}
+use Rattle.std.proofs.lemmas.Nat.{shr-shr, shr_le}
+use Rattle.std.proofs.lemmas.Nat.Bits.{bit_at-zero, bit_at-trailing_zeros, bit_at_above}
+use Rattle.marks.specs.Words.{bit, ChangesBit, IsLeastOfWord, NoneInWord, IsNextInWord}
 
 -- bit n, whichever word and place it has
 pub bit_is : (words : List ℕ) (n w i : ℕ) → n / 64 ≡ w → n % 64 ≡ i → bit words n ≡ eqb (bit_at (get_or words w 0) i) 1
@@ -74,3 +75,40 @@ least_of_word words word some fits =
       is_set = bit_is words (64 * word + place) word place (omega arith) (omega arith) ∙ ap (λ x. eqb x 1) found.1;
       least = λ n same below. bit_is words n word (n % 64) same refl ∙ ap (λ x. eqb x 1) (found.2 (n % 64) (omega arith));
     }
+
+-- what is left of a word, from the place of a number on
+module _ (words : List ℕ) (from : ℕ) where
+  abbrev word : ℕ
+  word = get_or words (from / 64) 0
+
+  abbrev left : ℕ
+  left = word / 2 ^ (from % 64)
+
+  -- it has the bits of the word, moved down
+  moved_down : (i : ℕ) → bit_at left i ≡ bit_at word (from % 64 + i)
+  moved_down i = ap (λ x. x % 2) (shr-shr word (from % 64) i)
+
+  bit_of_left : (n : ℕ) → from ≤ n → n / 64 ≡ from / 64 → bit words n ≡ eqb (bit_at left (n - from)) 1
+  bit_of_left n high same =
+      bit_is words n (from / 64) (from % 64 + (n - from)) same (omega arith) ∙ ap (λ x. eqb x 1) (sym (moved_down (n - from)))
+
+  -- where it is 0, the word has no bit from there on
+  pub none_in_word : left ≡ 0 → NoneInWord words from
+  none_in_word none n high same = bit_of_left n high same ∙ ap (λ x. eqb (bit_at x (n - from)) 1) none ∙ ap (λ x. eqb x 1) (bit_at-zero (n - from))
+
+  -- its trailing zeroes lead to the next bit
+  pub next_of_word : 0 < left → word < 2 ^ 64 → IsNextInWord words from (from + trailing_zeros w64 left)
+  next_of_word some fits =
+      let zeroes = trailing_zeros w64 left in
+      let found = bit_at-trailing_zeros w64 left some (omega (arith, shr_le word (from % 64))) in
+      let within : from % 64 + zeroes < 64 = elim (cases_lt (from % 64 + zeroes) 64) [
+        | inl low ↦ low
+        | inr past ↦ omega (arith, found.1, moved_down zeroes, bit_at_above word 64 (from % 64 + zeroes) fits past)
+      ] in
+      record {
+        above = omega arith;
+        in_word = omega arith;
+        is_set = bit_is words (from + zeroes) (from / 64) (from % 64 + zeroes) (omega arith) (omega arith)
+            ∙ ap (λ x. eqb x 1) (sym (moved_down zeroes) ∙ found.1);
+        least = λ n high low. bit_of_left n high (omega arith) ∙ ap (λ x. eqb x 1) (found.2 (n - from) (omega arith));
+      }

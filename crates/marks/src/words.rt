@@ -61,13 +61,11 @@ pub fn next_in_word(words: &[u64], from: usize) -> Option<usize>
     if from / 64 >= words.len() {
         return None;
     }
-    let end = 64 * (from / 64) + 64;
-    for number in from..end {
-        if has_bit(words, number) {
-            return Some(number);
-        }
+    let left = words[from / 64] >> (from % 64);
+    if left == 0 {
+        return None;
     }
-    None
+    Some(from + left.trailing_zeros() as usize)
 }
 
 /// The first word from this one on that is not 0.
