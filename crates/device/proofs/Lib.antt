@@ -2,4 +2,4 @@ pub mod WriteLemmas
 pub mod MemoryLemmas
 pub mod FormatLemmas
 pub mod RunLemmas
-pub mod OrderLemmas
+pub mod KeepLemmas

@@ -1,14 +1,14 @@
-ghost use Rattle.std.specs.Prelude.{◌≡◌, ◌⊎◌, ℕ, ◌<◌, ◌*◌, ◌+◌, ◌-◌, ◌^◌, min, List, [], ◌∷◌, ◌++◌, IfOk, IfErr, IsOkUnless, OnErr, OnOk, replicate};
+ghost use Rattle.std.specs.Prelude.{◌≡◌, ◌⊎◌, ℕ, ◌<◌, ◌*◌, ◌+◌, ◌-◌, ◌^◌, min, true, false, None, List, [], ◌∷◌, ◌++◌, IfOk, IfErr, IfSome, IsOkUnless, OnErr, OnOk, replicate};
 ghost use Rattle.layout.specs.declared.refusal.Refusal.TheVariants.{BadLength, Device as DeviceRefusal};
-ghost use Rattle.model.specs.Image.{IsBlock};
-ghost use Rattle.device.specs.Writes.{image_after, images_held};
-ghost use Rattle.device.specs.Calls.{AreHonest, writes_of, image_of};
-ghost use Rattle.device.specs.declared.file.Call.TheVariants.{ReadBlock, WriteBlock};
+ghost use Rattle.model.specs.Image.{IsBlock, block_at};
+ghost use Rattle.device.specs.Writes.{CountsFaults};
+ghost use Rattle.device.specs.Calls.{GoesOn, IsHonestFile, call_at, calls_of, held_so_far, image_now};
+ghost use Rattle.device.specs.declared.file.Call.TheVariants.{ReadBlock};
 ghost use Rattle.device.specs.Memory.{IsWholeBlocks};
-ghost use Rattle.device.specs.Runs.{writes_of_run};
+ghost use Rattle.device.specs.Runs.{IsUntouched, writes_of_run};
 ghost use Rattle.device.specs.Zeroes.{zeroes_are_whole};
 
-use crate::run::{RUN_BLOCKS, Run};
+use crate::run::{Earlier, RUN_BLOCKS, Run};
 use crate::{Device, DeviceFault};
 use http_server::Log;
 use layout::{BLOCK_BYTES, Block, Refusal};
@@ -31,16 +31,17 @@ impl Start for Brand {
     ghost whole = { λ _. zeroes_are_whole };
 }
 
-/// A call that a device answered, and the address of its block.
+/// A call that a file answered, and the address of its block.
 #[derive(Clone, Copy, Debug, PartialEq, Eq)]
 pub enum Call {
     ReadBlock(u32),
     WriteBlock(u32),
 }
 
-/// A file as a device. It keeps a history of the calls that were answered, which only clauses read: no contract can say
-/// what a file gives back, so what is proved of the blocks of a file has as its premise that each read gave what the
-/// file held at first or what was written there since.
+/// A file as a device. It keeps a history of what the file was asked and answered, which only clauses read: no contract can
+/// say what a file gives back, so what is proved of the blocks of a file has as its premise that each block that the file
+/// gave is what it held at first or what it was given there since. A block that is read out of memory needs no premise of
+/// its own: that it is the one that stands there is proved.
 ///
 /// Blocks that are read one after another come from the file in runs. A device that gathers gives the file blocks that are
 /// written one after another in runs, too: the last ones wait in memory until another block is written, or `sync` or `give`
@@ -51,42 +52,43 @@ pub struct FileDevice<F, S: Start> {
     file: F,
     count: u32,
     failures: u64,
+    /// What the file was asked and answered.
     answered: Log<Call, Block>,
-    /// The writes that the file was given, for clauses too.
-    given: Log<u32, Block>,
     /// The blocks that were read or written last.
     kept: Run,
     /// Whether what is kept was written, and the file was not given it yet.
     waits: bool,
+    /// The last block of those that were kept before them, where writes are gathered.
+    earlier: Earlier,
     /// Whether writes may wait.
     gathers: bool,
     start: PhantomData<S>,
 }
 
 impl<F, S: Start> Model for FileDevice<F, S> {
-    ghost use Rattle.device.specs.Calls.{Calls};
-    ghost use Rattle.device.specs.Runs.{IsInOrder};
+    ghost use Rattle.device.specs.Calls.{Calls, image_of};
+    ghost use Rattle.device.specs.Runs.{IsKeeping, waiting, writes_of_run, writes_of_earlier};
 
     ghost Value = { Calls };
 
-    ghost view = { λ device. record { count = device.count; answered = device.answered.items; given = device.given.items; failures = device.failures } };
+    ghost view = { λ device. record { count = device.count; answered = device.answered.items; waiting = waiting device.waits device.kept; failures = device.failures } };
 
-    ghost invariant = { λ device. IsInOrder device.answered.items device.given.items device.waits device.kept };
+    ghost invariant = { λ device. IsKeeping (image_of S.first device.count) device.answered.items (waiting device.waits device.kept) (writes_of_run device.kept) (writes_of_earlier device.earlier) };
 }
 
 impl<F, S: Start> FileDevice<F, S> {
     /// The device over a file of this many blocks, with no call made yet.
     fn over(file: F, count: u32) -> FileDevice<F, S>
-        ensures { result ≡ record { count = count; answered = []; given = []; failures = 0 } }
+        ensures { result ≡ record { count = count; answered = []; waiting = []; failures = 0 } }
     {
         FileDevice {
             file,
             count,
             failures: 0,
             answered: Log::new(),
-            given: Log::new(),
             kept: Run::before(0),
             waits: false,
+            earlier: Earlier::none(),
             gathers: false,
             start: PhantomData,
         }
@@ -102,13 +104,6 @@ impl<F, S: Start> FileDevice<F, S> {
         }
     }
 
-    /// Adds a block that was read to the history.
-    fn note_read(&mut self, address: u32, block: &Block)
-        ensures { self.new ≡ record self.old { answered = self.old.answered ++ (ReadBlock address, block.now) ∷ [] } }
-    {
-        self.answered = self.answered.and(&Call::ReadBlock(address), block);
-    }
-
     /// A fault, which is counted.
     fn fault(&mut self) -> DeviceFault
         ensures { self.new ≡ record self.old { failures = min (self.old.failures + 1) (2 ^ 64 - 1) } }
@@ -116,12 +111,33 @@ impl<F, S: Start> FileDevice<F, S> {
         self.failures = self.failures.saturating_add(1);
         DeviceFault
     }
+
+    /// The block of this address, where a copy of it is kept. Where none is, no block waits for this address.
+    fn find(&self, address: u32) -> Option<&Block>
+        ensures copy { IfSome result (λ block. IsHonestFile S.first self.now → address < self.now.count → block.now ≡ block_at (image_now S.first self.now) address) }
+        ensures none { result ≡ None → IsUntouched self.now.waiting address }
+    {
+        match self.kept.block(address) {
+            Some(block) => Some(block),
+            None => self.earlier.block(address),
+        }
+    }
+
+    /// Lets go of the blocks that are kept, where none of them waits; the next ones are read from behind this address on.
+    fn let_go(&mut self, address: u32)
+        ensures { self.new ≡ self.old }
+    {
+        if self.waits {
+            return;
+        }
+        self.kept.clear(address.saturating_add(1));
+    }
 }
 
 impl<F: FileExt, S: Start> FileDevice<F, S> {
     /// Gives the file what waits; then it was given each write that was answered. After a fault it still waits.
     pub fn give(&mut self) -> Result<(), DeviceFault>
-        ensures given { OnOk result (self.new ≡ record self.old { given = writes_of self.old.answered }) }
+        ensures given { OnOk result (self.new ≡ record self.old { answered = self.old.answered ++ calls_of true self.old.waiting; waiting = [] }) }
         ensures fault { OnErr result (self.new ≡ record self.old { failures = min (self.old.failures + 1) (2 ^ 64 - 1) }) }
     {
         match self.give_waiting() {
@@ -132,38 +148,38 @@ impl<F: FileExt, S: Start> FileDevice<F, S> {
 
     /// Gives the file what waits, and counts no fault.
     fn give_waiting(&mut self) -> io::Result<()>
-        ensures given { OnOk result (self.new ≡ record self.old { given = writes_of self.old.answered }) }
-        ensures all { OnOk result (self.new.given ≡ writes_of self.new.answered) }
+        ensures given { OnOk result (self.new ≡ record self.old { answered = self.old.answered ++ calls_of true self.old.waiting; waiting = [] }) }
         ensures refused { OnErr result (self.new ≡ self.old) }
     {
         if !self.waits {
             return Ok(());
         }
         self.file.write_all_at(self.kept.blocks().as_flattened(), offset(self.kept.first()))?;
-        add_run(&mut self.given, &self.kept);
+        add_run(&mut self.answered, &self.kept, true);
         self.waits = false;
         Ok(())
     }
 
     /// Gets a block from what is kept, or else from the file.
     fn get(&mut self, address: u32, to: &mut Block) -> io::Result<()>
-        ensures { self.new ≡ self.old }
+        ensures read { GoesOn self.old self.new [] }
+        ensures failures { self.new.failures ≡ self.old.failures }
+        ensures block { OnOk result (IsHonestFile S.first self.new → address < self.new.count → to.new ≡ block_at (image_now S.first self.new) address) }
     {
         self.read_ahead(address);
-        if let Some(block) = self.kept.block(address) {
+        if let Some(block) = self.find(address) {
             *to = *block;
             return Ok(());
         }
-        if !self.waits {
-            self.kept.clear(address.saturating_add(1));
-        }
-        self.file.read_exact_at(to, offset(address))
+        self.let_go(address);
+        self.fetch(address, to)
     }
 
     /// Reads a run of blocks from this one on, where nothing waits and the one before it was read last; none is kept where the
     /// file does not give them all.
     fn read_ahead(&mut self, address: u32)
-        ensures { self.new ≡ self.old }
+        ensures read { GoesOn self.old self.new [] }
+        ensures failures { self.new.failures ≡ self.old.failures }
     {
         if self.waits || !self.kept.ends_before(address) {
             return;
@@ -171,12 +187,24 @@ impl<F: FileExt, S: Start> FileDevice<F, S> {
         let left = self.count.saturating_sub(address) as usize;
         let count = left.min(RUN_BLOCKS);
         self.kept.read(&self.file, address, count);
+        add_run(&mut self.answered, &self.kept, false);
+    }
+
+    /// Reads a block from the file.
+    fn fetch(&mut self, address: u32, to: &mut Block) -> io::Result<()>
+        ensures read { OnOk result (self.new ≡ record self.old { answered = self.old.answered ++ (ReadBlock address, to.new) ∷ [] }) }
+        ensures refused { OnErr result (self.new ≡ self.old) }
+    {
+        self.file.read_exact_at(to, offset(address))?;
+        self.answered = self.answered.and(&Call::ReadBlock(address), to);
+        Ok(())
     }
 
     /// Writes a block, and counts no fault.
     fn take(&mut self, address: u32, from: &Block) -> io::Result<()>
-        ensures taken { OnOk result (self.new ≡ record self.old { answered = self.old.answered ++ (WriteBlock address, from.now) ∷ []; given = self.new.given }) }
-        ensures refused { OnErr result (self.new ≡ record self.old { given = self.new.given }) }
+        ensures taken { OnOk result (GoesOn self.old self.new ((address, from.now) ∷ [])) }
+        ensures refused { OnErr result (GoesOn self.old self.new []) }
+        ensures failures { self.new.failures ≡ self.old.failures }
     {
         if self.gathers {
             return self.gather(address, from);
@@ -186,51 +214,79 @@ impl<F: FileExt, S: Start> FileDevice<F, S> {
 
     /// Keeps a block that is written, and gives the file those before it, if they are no run with it.
     fn gather(&mut self, address: u32, from: &Block) -> io::Result<()>
-        ensures kept { OnOk result (self.new ≡ record self.old { answered = self.old.answered ++ (WriteBlock address, from.now) ∷ []; given = self.new.given }) }
-        ensures refused { OnErr result (self.new ≡ record self.old { given = self.new.given }) }
+        ensures taken { OnOk result (GoesOn self.old self.new ((address, from.now) ∷ [])) }
+        ensures refused { OnErr result (GoesOn self.old self.new []) }
+        ensures failures { self.new.failures ≡ self.old.failures }
     {
         if self.waits && self.kept.goes_on(address) {
             self.kept.push(from);
-            self.answered = self.answered.and(&Call::WriteBlock(address), from);
+            self.earlier.replace(address, from);
             return Ok(());
         }
         self.give_waiting()?;
+        self.earlier.keep_last(&self.kept);
+        self.earlier.replace(address, from);
         self.kept.start(address, from);
         self.waits = true;
-        self.answered = self.answered.and(&Call::WriteBlock(address), from);
         Ok(())
     }
 
     /// Gives the file a block that is written, and what waited before it.
     fn put(&mut self, address: u32, from: &Block) -> io::Result<()>
-        ensures kept { OnOk result (self.new ≡ record self.old { answered = self.old.answered ++ (WriteBlock address, from.now) ∷ []; given = self.new.given }) }
-        ensures refused { OnErr result (self.new ≡ record self.old { given = self.new.given }) }
+        ensures taken { OnOk result (GoesOn self.old self.new ((address, from.now) ∷ [])) }
+        ensures refused { OnErr result (GoesOn self.old self.new []) }
+        ensures failures { self.new.failures ≡ self.old.failures }
     {
         self.give_waiting()?;
         self.file.write_all_at(from, offset(address))?;
+        self.answered = self.answered.and(&Call::WriteBlock(address), from);
+        self.kept.replace(address, from);
+        self.earlier.replace(address, from);
         // What waited was given.
         self.waits = false;
-        self.kept.replace(address, from);
-        self.given = self.given.and(&address, from);
-        self.answered = self.answered.and(&Call::WriteBlock(address), from);
         Ok(())
     }
 }
 
-/// Adds the blocks of a run to what a file was given.
-fn add_run(given: &mut Log<u32, Block>, run: &Run)
-    ensures { given.new.items ≡ given.old.items ++ writes_of_run run.now }
+impl<F: FileExt + OpenFile, S: Start> FileDevice<F, S> {
+    /// Gives the file what waits, and then waits until what it was given has reached the medium.
+    fn settle(&mut self) -> Result<(), DeviceFault>
+        ensures same { GoesOn self.old self.new [] }
+        ensures given { OnOk result (self.new.waiting ≡ []) }
+        ensures cause { CountsFaults result self.old.failures self.new.failures }
+    {
+        self.give()?;
+        match self.file.sync_data() {
+            Ok(()) => Ok(()),
+            Err(_) => Err(self.fault()),
+        }
+    }
+}
+
+/// Adds to what a file answered that it was given the blocks of a run, or gave them.
+fn add_run(answered: &mut Log<Call, Block>, run: &Run, is_write: bool)
+    ensures { answered.new.items ≡ answered.old.items ++ calls_of is_write (writes_of_run run.now) }
 {
     for (at, block) in run.blocks().iter().enumerate() {
-        *given = given.and(&(run.first() + at as u32), block);
+        *answered = answered.and(&call_at(is_write, run.first() + at as u32), block);
     }
+}
+
+/// The call that writes the block of this address, or reads it.
+fn call_at(is_write: bool, address: u32) -> Call
+    ensures { result ≡ call_at is_write address }
+{
+    if is_write {
+        return Call::WriteBlock(address);
+    }
+    Call::ReadBlock(address)
 }
 
 impl<F: OpenFile, S: Start> FileDevice<F, S> {
     /// Opens a file for reading alone. It is refused where it cannot be opened or measured, and where its length is no
     /// whole number of blocks, or none.
     pub fn open<R: Files<File = F>>(rt: &R, path: &str) -> Result<FileDevice<F, S>, Refusal>
-        ensures new { IfOk result (λ device. (device.answered ≡ []) × (device.failures ≡ 0) × (0 < device.count)) }
+        ensures new { IfOk result (λ device. (device.answered ≡ []) × (device.waiting ≡ []) × (device.failures ≡ 0) × (0 < device.count)) }
         ensures error { IfErr result (λ refusal. (refusal ≡ DeviceRefusal) ⊎ (refusal ≡ BadLength)) }
     {
         let file = fs::open(rt, path).map_err(|_| Refusal::Device)?;
@@ -243,7 +299,7 @@ impl<F: OpenFile, S: Start> FileDevice<F, S> {
         rt: &R,
         path: &str,
     ) -> Result<FileDevice<F, S>, Refusal>
-        ensures new { IfOk result (λ device. (device.answered ≡ []) × (device.failures ≡ 0) × (0 < device.count)) }
+        ensures new { IfOk result (λ device. (device.answered ≡ []) × (device.waiting ≡ []) × (device.failures ≡ 0) × (0 < device.count)) }
         ensures error { IfErr result (λ refusal. (refusal ≡ DeviceRefusal) ⊎ (refusal ≡ BadLength)) }
     {
         let file = OpenOptions::new()
@@ -262,7 +318,7 @@ impl<F: OpenFile, S: Start> FileDevice<F, S> {
         path: &str,
         blocks: u32,
     ) -> Result<FileDevice<F, S>, Refusal>
-        ensures new { IfOk result (λ device. device ≡ record { count = blocks; answered = []; given = []; failures = 0 }) }
+        ensures new { IfOk result (λ device. device ≡ record { count = blocks; answered = []; waiting = []; failures = 0 }) }
         ensures error { IsOkUnless result Refusal.Device }
     {
         let file = fs::create(rt, path).map_err(|_| Refusal::Device)?;
@@ -300,11 +356,11 @@ pub(crate) fn offset(address: u32) -> u64
 }
 
 impl<F: FileExt + OpenFile, S: Start> Device for FileDevice<F, S> {
-    ghost honest = { λ device. AreHonest (image_of S.first device.count) device.answered };
+    ghost honest = { λ device. IsHonestFile S.first device };
 
-    ghost image = { λ device. image_after (image_of S.first device.count) (writes_of device.answered) };
+    ghost image = { λ device. image_now S.first device };
 
-    ghost held = { λ device. images_held (image_of S.first device.count) (writes_of device.answered) };
+    ghost held = { λ device. held_so_far S.first device };
 
     ghost failures = { λ device. device.failures };
 
@@ -314,10 +370,7 @@ impl<F: FileExt + OpenFile, S: Start> Device for FileDevice<F, S> {
 
     fn read(&mut self, address: u32, to: &mut Block) -> Result<(), DeviceFault> {
         match self.get(address, to) {
-            Ok(()) => {
-                self.note_read(address, to);
-                Ok(())
-            }
+            Ok(()) => Ok(()),
             Err(_) => Err(self.fault()),
         }
     }
@@ -330,11 +383,7 @@ impl<F: FileExt + OpenFile, S: Start> Device for FileDevice<F, S> {
     }
 
     fn sync(&mut self) -> Result<(), DeviceFault> {
-        self.give()?;
-        match self.file.sync_data() {
-            Ok(()) => Ok(()),
-            Err(_) => Err(self.fault()),
-        }
+        self.settle()
     }
 }
 

@@ -214,6 +214,30 @@ fn what_waits_outlives_a_fault(rt: HostRuntime) -> Result<(), Fail> {
 }
 
 #[test]
+fn blocks_written_in_turn_are_read_out_of_memory(rt: HostRuntime) -> Result<(), Fail> {
+    let mut device = gathering(rt, 9)?;
+    for (address, byte) in [(2, 1), (5, 2), (2, 3), (5, 4)] {
+        write_byte(&mut device, address, byte)?;
+    }
+    // All but the last were given.
+    assert_eq!(rt; device.file.byte(2 * BLOCK_BYTES), Some(3));
+    assert_eq!(rt; device.file.byte(5 * BLOCK_BYTES), Some(2));
+    assert_eq!(rt; read_block(&mut device, 2), Some([3; BLOCK_BYTES]));
+    assert_eq!(rt; read_block(&mut device, 5), Some([4; BLOCK_BYTES]));
+    assert_eq!(rt; device.file.calls.get(), 3);
+    assert_eq!(rt; device.give(), Ok(()));
+    assert_eq!(rt; read_block(&mut device, 2), Some([3; BLOCK_BYTES]));
+    assert_eq!(rt; read_block(&mut device, 5), Some([4; BLOCK_BYTES]));
+    write_byte(&mut device, 2, 5)?;
+    assert_eq!(rt; read_block(&mut device, 2), Some([5; BLOCK_BYTES]));
+    assert_eq!(rt; read_block(&mut device, 5), Some([4; BLOCK_BYTES]));
+    // The fourth is what `give` gave.
+    assert_eq!(rt; device.file.calls.get(), 4);
+    assert_eq!(rt; device.file.byte(5 * BLOCK_BYTES), Some(4));
+    Ok(())
+}
+
+#[test]
 fn blocks_that_follow_are_read_together(rt: HostRuntime) -> Result<(), Fail> {
     let bytes = vec![in rt.alloc(); 0xAA; 50 * BLOCK_BYTES]?;
     let mut device: FakeDevice = FileDevice::over(FakeFile::new(bytes), 50);

@@ -1,19 +1,20 @@
-use Rattle.std.proofs.Common.{◌≡◌, ◌+◌, ◌++◌, ◌∷◌, [], sym, ap, ◌∙◌, append-nil, arith, subst, slice_index_or}
+use Rattle.std.proofs.Common.{◌+◌, ◌++◌, ◌∷◌, [], sym, ap, ◌∙◌, append-nil, arith, slice_index_or}
 use Rattle.std.proofs.lemmas.List.{take_all}
+use Rattle.device.specs.Calls.{call_at, calls_of}
 use Rattle.device.specs.Runs.{writes_from}
 use Rattle.device.proofs.RunLemmas.{add_next}
 use Rattle.device.proofs.file.add_run.Goals as goal
 
 pub loop-at-init : goal.loop-at-init
-loop-at-init c = sym (append-nil c.args.given.now.items)
+loop-at-init c = sym (append-nil c.args.answered.now.items)
 
 pub loop-at-preserved : goal.loop-at-preserved
 loop-at-preserved c =
     let blocks = c.blocks-block-items.result.now in
-    add_next c.args.run.now.first c.loop-at.at blocks c.args.given.now.items c.loop-at.given.items c.and.result.items c.loop-at-test.true c.loop-at.invariant
-    (c.and.ensures ∙ ap (λ a. c.loop-at.given.items ++ (a + c.loop-at.at, slice_index_or blocks c.loop-at.at []) ∷ []) c.first.ensures)
+    add_next c.args.is_write c.args.run.now.span.first c.loop-at.at blocks c.args.answered.now.items c.loop-at.answered.items c.and.result.items c.loop-at-test.true c.loop-at.invariant
+    (c.and.ensures ∙ ap (λ call. c.loop-at.answered.items ++ (call, slice_index_or blocks c.loop-at.at []) ∷ []) (c.call_at.ensures ∙ ap (λ a. call_at c.args.is_write (a + c.loop-at.at)) c.first.ensures))
 
 pub returns : goal.returns
 returns c =
     let blocks = c.blocks-block-items.result.now in
-    c.loop-at.invariant ∙ ap (λ l. c.args.given.now.items ++ writes_from c.args.run.now.first l) (take_all c.loop-at.at blocks (omega (arith, c.loop-at-test.false)) ∙ c.blocks-block-items.ensures)
+    c.loop-at.invariant ∙ ap (λ l. c.args.answered.now.items ++ calls_of c.args.is_write (writes_from c.args.run.now.span.first l)) (take_all c.loop-at.at blocks (omega (arith, c.loop-at-test.false)) ∙ c.blocks-block-items.ensures)
