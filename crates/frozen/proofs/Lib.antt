@@ -4,3 +4,4 @@ pub mod ClaimLemmas
 pub mod KeepingLemmas
 pub mod SlotLemmas
 pub mod CopyLemmas
+pub mod LettingGo

@@ -1,10 +1,11 @@
--- Blocks that take the place of others.
-use Rattle.std.specs.Prelude.{◌≡◌, ℕ, ◌<◌, List, [], ◌∷◌, Some, slice_set}
+-- Blocks that take the place of others, and blocks that are let go of.
+use Rattle.std.specs.Prelude.{◌≡◌, ℕ, ◌<◌, List, [], ◌∷◌, None, Some, IsTrue, slice_set}
 use Rattle.std.specs.Arc.{arc_value}
-use Rattle.model.specs.Layout.{Geometry, block_count, group_block}
+use Rattle.model.specs.Layout.{Geometry, block_count, group_block, is_data_address}
 use Rattle.model.specs.Image.{IsBlock, IsGroupBlock}
+use Rattle.model.specs.Uses.{IsClaim, indirect_position, is_directory_at}
 use Rattle.frozen.specs.declared.frozen.Placed.{Placed}
-use Rattle.frozen.specs.Kept.{Kept}
+use Rattle.frozen.specs.Kept.{Kept, frozen_view}
 
 -- A block may stand there: the superblock stays, and a group's block of maps has its magic and number.
 pub record FitsAt (geo : Geometry) (a : ℕ) (bytes : List ℕ) : Type 0 where
@@ -28,3 +29,13 @@ standing p = (p.address, arc_value p.block)
 
 abbrev pub FitsIn : Geometry → Placed → Type 0
 FitsIn geo p = FitsAt geo p.address (arc_value p.block)
+
+-- what is kept without the block of this address
+abbrev pub without_block : Kept → ℕ → Kept
+without_block kept a = record kept { blocks = slice_set kept.blocks a None }
+
+-- No metadata stands in this block: it is one of data, and neither the indirect block of an inode nor a block of a directory.
+pub record IsPlain (kept : Kept) (a : ℕ) : Type 0 where
+  pub of_data : IsTrue (is_data_address kept.geometry a)
+  pub no_indirect : (i : ℕ) → IsClaim kept.geometry (frozen_view kept) i indirect_position a → ⊥
+  pub no_directory : (d k : ℕ) → IsTrue (is_directory_at kept.geometry (frozen_view kept) d) → IsClaim kept.geometry (frozen_view kept) d k a → ⊥

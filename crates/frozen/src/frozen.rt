@@ -6,7 +6,7 @@ ghost use Rattle.model.specs.Uses.{record_use, use_at, claim_at, is_sound_at, is
 ghost use Rattle.model.specs.Slots.{Absent, slot, slot_in};
 ghost use Rattle.model.specs.Image.{IsGroupBlock};
 ghost use Rattle.std.specs.List.{All};
-ghost use Rattle.frozen.specs.Installed.{FitsIn, standing, with_blocks};
+ghost use Rattle.frozen.specs.Installed.{FitsIn, IsPlain, standing, with_blocks, without_block};
 
 use crate::Held;
 use inode::{INDIRECT_POSITION, Record};
@@ -158,5 +158,13 @@ impl Frozen {
         ensures { self.new ≡ with_blocks self.old (map standing blocks.items) }
     {
         self.held.install(blocks);
+    }
+
+    /// Lets go of the block of this address, if it is kept: no metadata stands in it.
+    pub fn let_go(&mut self, address: u32)
+        requires { IsPlain self.old address }
+        ensures { self.new ≡ without_block self.old address }
+    {
+        self.held.let_go(address);
     }
 }

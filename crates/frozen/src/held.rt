@@ -6,7 +6,7 @@ ghost use Rattle.model.specs.Layout.{inode_count, group_block, inode_block, is_d
 ghost use Rattle.model.specs.Uses.{record_use, is_used, value_at, use_at, claim_at, is_sound_at, is_directory_at};
 ghost use Rattle.model.specs.View.{u32_at};
 ghost use Rattle.model.specs.Image.{IsGroupBlock};
-ghost use Rattle.frozen.specs.Installed.{FitsIn, standing, with_block, with_blocks};
+ghost use Rattle.frozen.specs.Installed.{FitsIn, standing, with_block, with_blocks, without_block};
 ghost use Rattle.std.specs.List.{All};
 
 use crate::Placed;
@@ -188,6 +188,14 @@ impl Held {
         ensures frame { KeepsFrame self.new }
     {
         self.blocks[placed.address as usize] = Some(placed.block);
+    }
+
+    /// Lets go of the block of this address, which is one of data, if it is kept.
+    pub(crate) fn let_go(&mut self, address: u32)
+        requires { IsTrue (is_data_address self.old.geometry address) }
+        ensures { self.new ≡ without_block self.old address }
+    {
+        self.blocks[address as usize] = None;
     }
 
     /// Whether the number is that of an inode that is looked at.

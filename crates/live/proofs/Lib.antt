@@ -3,6 +3,7 @@ mod ByteLemmas
 mod Carrying
 mod Commands
 mod Flushes
+mod LettingGo
 mod Looks
 mod Mounting
 mod Quietly

@@ -1,8 +1,10 @@
-ghost use Rattle.std.specs.Prelude.{◌≡◌, ◌⊎◌, [], IfErr, IfOk, IfSome, IsErrOf, IsOkUnless, IsTrue, OnErr, OnOk};
+ghost use Rattle.std.specs.Prelude.{◌≡◌, ◌⊎◌, ◌<◌, ℕ, [], None, Some, IfErr, IfOk, IfSome, IsErrOf, IsFalse, IsOkUnless, IsTrue, OnErr, OnOk};
 ghost use Rattle.device.specs.Writes.{HasFailed};
 ghost use Rattle.layout.specs.declared.refusal.Refusal.TheVariants.{Device as DeviceRefusal};
 ghost use Rattle.machine.specs.Command.{Bytes, Close, Done, Number, Open, Read, Truncate, Write};
+ghost use Rattle.frozen.specs.Kept.{frozen_view, kept_at};
 ghost use Rattle.model.specs.Layout.{is_data_address};
+ghost use Rattle.model.specs.Uses.{claim_at, indirect_position, is_directory_at};
 ghost use Rattle.ordering.specs.Cuts.{users_view};
 ghost use Rattle.softdep.specs.Queued.{pending_of};
 ghost use Rattle.live_states.specs.Planned.{AreSeen, IsRefusedWith};
@@ -13,6 +15,7 @@ use crate::Live;
 use crate::bytes::{bytes_of, first_bytes};
 use crate::ending::Ending;
 use device::Device;
+use inode::INDIRECT_POSITION;
 use layout::{BLOCK_BYTES, Block, Refusal};
 use live_files::{Reading, opening_of, reading_of};
 use live_writes::{Target, aim};
@@ -83,7 +86,27 @@ impl<D: Device> Live<D> {
             piece,
         )?;
         self.carry_out(alloc, planned, Ending::Nothing)?;
+        self.let_go(&target);
         Ok(())
+    }
+
+    /// Lets go of the bytes in memory that a file has where it was written: until they are on the device the queue has them, and
+    /// no metadata stands there.
+    fn let_go(&mut self, target: &Target)
+        ensures device { self.new.device ≡ self.old.device }
+        ensures queue { self.new.queue ≡ self.old.queue }
+        ensures holdings { self.new.holdings ≡ self.old.holdings }
+        ensures geometry { self.new.kept.geometry ≡ self.old.kept.geometry }
+        ensures gone { (a : ℕ) → target.now.index < indirect_position → IsFalse (is_directory_at self.old.kept.geometry (frozen_view self.old.kept) target.now.file)
+            → claim_at self.old.kept.geometry (frozen_view self.old.kept) target.now.file target.now.index ≡ Some a → kept_at self.new.kept.blocks a ≡ None }
+    {
+        let frozen = self.metadata.frozen();
+        if target.index >= INDIRECT_POSITION || frozen.is_directory_at(target.file) {
+            return;
+        }
+        if let Some(block) = frozen.claim_at(target.file, target.index) {
+            self.metadata.let_go(block);
+        }
     }
 
     /// The bytes that a piece is put over, as users see them; zeroes where there are none.

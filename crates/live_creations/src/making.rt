@@ -19,6 +19,7 @@ use live_places::choose;
 use live_plans::{NewEntry, Plan, enter, entry};
 use metadata::Metadata;
 use std::alloc::{AllocError, Global};
+use std::sync::Arc;
 use updates::{Cell, Change};
 
 /// The plan by which a directory is made; its number is the plan's file.
@@ -69,7 +70,7 @@ fn made(alloc: Global, metadata: &Metadata, new: &NewEntry, own: u32) -> Result<
     plan.push(Change::SetNumber(new.number, true), Vec::new(alloc))?;
     plan.push(Change::SetBlock(own, true), Vec::new(alloc))?;
     plan.push(Change::SetInode(new.directory, new.parent), Vec::new(alloc))?;
-    let dots = Box::new(alloc, dots(new.number, new.directory))?;
+    let dots = Arc::new(alloc, dots(new.number, new.directory))?;
     let after = vec![in alloc; Cell::BlockBit(own), Cell::Record(new.directory)]?;
     plan.push(Change::SetBytes(own, dots), after)?;
     let after = vec![in alloc; Cell::NumberBit(new.number), Cell::Block(own)]?;

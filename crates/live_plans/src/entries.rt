@@ -19,6 +19,7 @@ use inode::Record;
 use layout::Block;
 use metadata::Metadata;
 use std::alloc::{AllocError, Global};
+use std::sync::Arc;
 use updates::{Cell, Change};
 
 /// The bytes of an entry that gives a number this name.
@@ -57,7 +58,7 @@ pub fn put_slot(
 {
     let mut bytes = *bytes;
     replace(&mut bytes, slot as usize % SLOTS, entry);
-    let change = Change::SetBytes(block, Box::new(alloc, bytes)?);
+    let change = Change::SetBytes(block, Arc::new(alloc, bytes)?);
     plan.push(change, after)
 }
 

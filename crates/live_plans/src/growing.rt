@@ -17,6 +17,7 @@ use inode::{DIRECT_POINTERS, INDIRECT_POSITION, Record};
 use layout::{BLOCK_BYTES, Block};
 use metadata::Metadata;
 use std::alloc::{AllocError, Global};
+use std::sync::Arc;
 use updates::{Cell, Change};
 
 /// How many bytes a pointer has.
@@ -62,7 +63,7 @@ pub fn fill(alloc: Global, plan: &mut Plan, block: u32, bytes: &Block) -> Result
     ensures { OnOk result (GoesOn plan.old plan.new (filled block bytes.now)) }
 {
     plan.push(Change::SetBlock(block, true), Vec::new(alloc))?;
-    let bytes = Box::new(alloc, *bytes)?;
+    let bytes = Arc::new(alloc, *bytes)?;
     let after = vec![in alloc; Cell::BlockBit(block)]?;
     plan.push(Change::SetBytes(block, bytes), after)
 }
@@ -123,7 +124,7 @@ pub fn point_at(
 {
     let mut pointers = *pointers;
     put_pointer(&mut pointers, position as usize - DIRECT_POINTERS, block);
-    let bytes = Box::new(alloc, pointers)?;
+    let bytes = Arc::new(alloc, pointers)?;
     let after = vec![in alloc; Cell::Block(block), Cell::Record(number)]?;
     plan.push(Change::SetBytes(owner.indirect, bytes), after)
 }
@@ -145,7 +146,7 @@ pub fn point_first(
     plan.push(Change::SetBlock(table, true), Vec::new(alloc))?;
     let mut pointers = [0; BLOCK_BYTES];
     put_pointer(&mut pointers, 0, block);
-    let bytes = Box::new(alloc, pointers)?;
+    let bytes = Arc::new(alloc, pointers)?;
     let after = vec![in alloc;
         Cell::BlockBit(table),
         Cell::Block(block),

@@ -1,4 +1,5 @@
 pub mod Installing
+pub mod LettingGo
 pub mod Loading
 pub mod Planning
 pub mod Quiet

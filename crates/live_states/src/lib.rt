@@ -3,10 +3,11 @@
 //! its users see.
 #![tactic(auto)]
 
-ghost use Rattle.std.specs.Prelude.{◌≡◌, ℕ, Bool, false, List, [], None, Ok, IsSome, IsTrue, length};
+ghost use Rattle.std.specs.Prelude.{◌≡◌, ◌<◌, ℕ, Bool, false, List, [], None, Ok, IsFalse, IsSome, IsTrue, length};
 ghost use Rattle.model.specs.Image.{IsImage, image_view};
 ghost use Rattle.model.specs.Layout.{block_count};
 ghost use Rattle.model.specs.Rules.{ObeysRules};
+ghost use Rattle.model.specs.Uses.{IsClaim, indirect_position, is_directory_at};
 ghost use Rattle.model.specs.View.{View};
 ghost use Rattle.ordering.specs.Cuts.{IsClosed, Pending, rest, seen, users_view};
 ghost use Rattle.machine.specs.Command.{Answer, Check, Command, Done, Install};
@@ -16,6 +17,7 @@ ghost use Rattle.courses.specs.Serves.{Serves};
 ghost use Rattle.plans_data.specs.Carried.{Stands};
 ghost use Rattle.plans_data.specs.Release.{releasing};
 ghost use Rattle.updates.specs.declared.change.Update.{Update};
+ghost use Rattle.frozen.specs.Installed.{IsPlain, without_block};
 ghost use Rattle.frozen.specs.Kept.{IsKeptOf, Kept, KeepsMetadata, frozen_view};
 ghost use Rattle.metadata.specs.declared.staged.Staged.{Staged};
 ghost use Rattle.metadata.specs.Staged.{IsStaged, after, changes};
@@ -66,6 +68,13 @@ pub fn planned_commands_are_steps()
         × ((safe : ℕ → Bool) → Stands kept.geometry disk q (state_over disk q holdings beside) safe
         → Serves kept.geometry disk q (state_over disk q holdings beside) safe command answer disk (over q draft.updates) (state_over disk (over q draft.updates) holdings' beside)
         (safe_after kept.geometry (users_view disk q) command safe) []) }
+{}
+
+/// A block that a file holds data in may be let go of in memory: no metadata stands in it, and a volume stays one without it.
+pub fn data_may_be_let_go()
+    ensures { (kept : Kept) (holdings : Holdings) (q : List Pending) (disk : View) → KeepsMetadata kept → IsVolume kept holdings q disk
+        → (f k a : ℕ) → IsClaim kept.geometry (frozen_view kept) f k a → k < indirect_position → IsFalse (is_directory_at kept.geometry (frozen_view kept) f)
+        → IsPlain kept a × IsVolume (without_block kept a) holdings q disk }
 {}
 
 /// A volume stays one where a closed part of what is pending is written; its users see what they saw.

@@ -23,6 +23,7 @@ use live_holdings::Holdings;
 use live_plans::{Plan, Planned, fill, point_at, point_first};
 use metadata::Metadata;
 use std::alloc::{AllocError, Global};
+use std::sync::Arc;
 use updates::{Cell, Change};
 
 /// The plan by which a piece is written where `aim` has settled, over these bytes of the block that is seen there. Behind
@@ -117,7 +118,7 @@ fn replace(alloc: Global, plan: &mut Plan, block: u32, bytes: &Block) -> Result<
     requires { IsTrue (is_data_address plan.old.geometry block) }
     ensures { OnOk result (GoesOn plan.old plan.new (λ q. record { change = SetBytes block bytes.now; after = [] } ∷ q)) }
 {
-    let bytes = Box::new(alloc, *bytes)?;
+    let bytes = Arc::new(alloc, *bytes)?;
     plan.push(Change::SetBytes(block, bytes), Vec::new(alloc))
 }
 

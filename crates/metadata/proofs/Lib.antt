@@ -1,2 +1,3 @@
+pub mod LettingGo
 pub mod Steps
 pub mod ShownLemmas

@@ -20,7 +20,7 @@ use Rattle.queue_model.proofs.Lists.{contains_cases, contains_none}
 use Rattle.updates.specs.declared.change.Update as program
 use Rattle.updates.specs.Values.{change}
 use Rattle.updates.specs.Places.{IsCell}
-use Rattle.updates.specs.Alone.{ChangesAlone}
+use Rattle.updates.specs.Alone.{ChangesAlone, IsPutInto}
 use Rattle.frozen.specs.Kept.{Kept, KeepsFrame, frozen_view, kept_at, kept_bytes}
 use Rattle.frozen.specs.declared.frozen.Placed.{Placed}
 use Rattle.frozen.specs.Installed.{FitsIn, standing, with_block, with_blocks}
@@ -224,13 +224,18 @@ gives_before us u a gives = elim (Contains-append_cases us (u ∷ []) (SetBytes 
   ]
 ]
 
-module _ (kept : Kept) (frame : KeepsFrame kept) (us : List Update) (u : Update) (old new : Staged) (p : Placed) (before : List ℕ)
+module _ (kept : Kept) (frame : KeepsFrame kept) (us : List Update) (u : Update) (old new : Staged) (p : Placed)
     (is : IsStaged kept us old) (behind : 0 < p.address) (low : p.address < block_count kept.geometry) (whole : IsBlock (arc_value p.block))
-    (group : (g : ℕ) → home_of kept.geometry (cell_of u) ≡ group_block kept.geometry g → IsGroupBlock g before → IsGroupBlock g (arc_value p.block)) (home : p.address ≡ home_of kept.geometry (cell_of u)) (cell : IsCell kept.geometry (cell_of u))
-    (read : before ≡ unwrap_or (kept_at (staged_after kept old).blocks p.address) (replicate 1024 0))
-    (put : (blocks : ℕ → List ℕ) → blocks p.address ≡ before → view_of kept.geometry (put_at blocks p.address (arc_value p.block)) ≡ updated (view_of kept.geometry blocks) u)
-    (alone : ChangesAlone kept.geometry u before (arc_value p.block))
+    (home : p.address ≡ home_of kept.geometry (cell_of u)) (cell : IsCell kept.geometry (cell_of u))
+    (into : IsPutInto kept.geometry u (unwrap_or (kept_at (staged_after kept old).blocks p.address) (replicate 1024 0)) (arc_value p.block))
     (blocks : new.blocks.items ≡ old.blocks.items ++ p ∷ []) (bits : map bit new.bits.items ≡ map bit old.bits.items ++ bits_of (u ∷ [])) where
+  -- the block as it was with what was staged before
+  abbrev before : List ℕ
+  before = unwrap_or (kept_at (staged_after kept old).blocks p.address) (replicate 1024 0)
+
+  put : (blocks : ℕ → List ℕ) → blocks p.address ≡ before → view_of kept.geometry (put_at blocks p.address (arc_value p.block)) ≡ updated (view_of kept.geometry blocks) u
+  put blocks e = ap (λ a. view_of kept.geometry (put_at blocks a (arc_value p.block))) home ∙ into.view blocks (ap blocks (sym home) ∙ e)
+
   abbrev mid : Kept
   mid = staged_after kept old
 
@@ -249,7 +254,7 @@ module _ (kept : Kept) (frame : KeepsFrame kept) (us : List Update) (u : Update)
       let in_volume : g < kept.geometry.groups = subst (λ h. h < kept.geometry.groups) (ap (group_of_address kept.geometry) (sym e) ∙ maps_group kept.geometry frame.geometry g) (address_in_group kept.geometry frame.geometry p.address low) in
       let there : group_block mid.geometry g ≡ p.address = ap (λ (h : Geometry). group_block h g) same ∙ e in
       let is_frame_block = maps_are_frame mid mid_frame g (subst (λ (h : Geometry). g < h.groups) (sym same) in_volume) in
-      subst (IsGroupBlock g) (ap (kept_bytes mid.blocks) there ∙ or_default (kept_at mid.blocks p.address) (subst (λ a. IsSome (kept_at mid.blocks a)) there (mid_frame.frame (group_block mid.geometry g) is_frame_block)) ∙ sym read)
+      subst (IsGroupBlock g) (ap (kept_bytes mid.blocks) there ∙ or_default (kept_at mid.blocks p.address) (subst (λ a. IsSome (kept_at mid.blocks a)) there (mid_frame.frame (group_block mid.geometry g) is_frame_block)))
       (mid_frame.group_blocks g (subst (λ (h : Geometry). g < h.groups) (sym same) in_volume))
     where
       or_default : (o : Option (List ℕ)) → IsSome o → unwrap_or o [] ≡ unwrap_or o (replicate {A = ℕ} 1024 0)
@@ -257,19 +262,19 @@ module _ (kept : Kept) (frame : KeepsFrame kept) (us : List Update) (u : Update)
       or_default None some = let bad : false ≡ true = some in cc
 
   fits : FitsIn kept.geometry p
-  fits = record { behind = behind; on_volume = low; whole = whole; group_block = λ g e. group g (sym home ∙ sym e) (group_before g e) }
+  fits = record { behind = behind; on_volume = low; whole = whole; group_block = λ g e. into.group_block g (sym home ∙ sym e) (group_before g e) }
 
   step : (users : View) → Shows mid users → Shows (with_block mid p.address (arc_value p.block)) (updated users u)
   step = shows_after mid mid_frame p.address before (arc_value p.block) u (subst (λ (g : Geometry). p.address < block_count g) (sym same) low)
-      (home ∙ ap (λ (g : Geometry). home_of g (cell_of u)) (sym same)) (subst (λ (g : Geometry). IsCell g (cell_of u)) (sym same) cell) read
+      (home ∙ ap (λ (g : Geometry). home_of g (cell_of u)) (sym same)) (subst (λ (g : Geometry). IsCell g (cell_of u)) (sym same) cell) refl
       (subst (λ (g : Geometry). (blocks : ℕ → List ℕ) → blocks p.address ≡ before → view_of g (put_at blocks p.address (arc_value p.block)) ≡ updated (view_of g blocks) u) (sym same) put)
-      (subst (λ (g : Geometry). ChangesAlone g u before (arc_value p.block)) (sym same) alone)
+      (subst (λ (g : Geometry). ChangesAlone g u before (arc_value p.block)) (sym same) into.alone)
 
   more : (a : ℕ) → IsSome (kept_at mid.blocks a) ⊎ (a ≡ p.address) → IsSome (kept_at (with_block mid p.address (arc_value p.block)).blocks a)
   more = more_after mid mid_frame p.address before (arc_value p.block) u (subst (λ (g : Geometry). p.address < block_count g) (sym same) low)
-      (home ∙ ap (λ (g : Geometry). home_of g (cell_of u)) (sym same)) (subst (λ (g : Geometry). IsCell g (cell_of u)) (sym same) cell) read
+      (home ∙ ap (λ (g : Geometry). home_of g (cell_of u)) (sym same)) (subst (λ (g : Geometry). IsCell g (cell_of u)) (sym same) cell) refl
       (subst (λ (g : Geometry). (blocks : ℕ → List ℕ) → blocks p.address ≡ before → view_of g (put_at blocks p.address (arc_value p.block)) ≡ updated (view_of g blocks) u) (sym same) put)
-      (subst (λ (g : Geometry). ChangesAlone g u before (arc_value p.block)) (sym same) alone)
+      (subst (λ (g : Geometry). ChangesAlone g u before (arc_value p.block)) (sym same) into.alone)
 
   stays : (a : ℕ) → IsSome (kept_at kept.blocks a) ⊎ GivesBytes (us ++ u ∷ []) a → IsSome (kept_at (with_block mid p.address (arc_value p.block)).blocks a)
   stays a (inl some) = more a (inl (is.more a (inl some)))

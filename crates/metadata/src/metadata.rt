@@ -6,14 +6,16 @@ ghost use Rattle.model.specs.Cells.{Update as Changed, updated, updated_all};
 ghost use Rattle.machine.specs.Room.{IsFreeBlock, has_number, unmarked_blocks};
 ghost use Rattle.free_space.specs.Free.{IsFreeOf, IsLeastNumber, IsNextBlock};
 ghost use Rattle.ordering.specs.Cuts.{cell_of};
+ghost use Rattle.queue_model.specs.Blocks.{home_of};
 ghost use Rattle.updates.specs.Values.{change as change_of};
+ghost use Rattle.updates.specs.Alone.{IsPutInto};
 ghost use Rattle.updates.specs.Places.{IsCell, IsUpdate};
 ghost use Rattle.model.specs.View.{View};
 ghost use Rattle.model.specs.Metadata.{SameMetadata};
 ghost use Rattle.model.specs.Image.{IsBlock, image_view};
 ghost use Rattle.frozen.specs.Kept.{Kept, KeepsMetadata, IsKeptOf, frozen_view, kept_at};
 ghost use Rattle.metadata.specs.Shown.{Shows};
-ghost use Rattle.frozen.specs.Installed.{standing, with_blocks};
+ghost use Rattle.frozen.specs.Installed.{IsPlain, standing, with_blocks, without_block};
 ghost use Rattle.metadata.specs.Staged.{IsStaged, NoneAt, IsLastAt, AreBitsOf, IsBitOf, after, bit, bit as update_of, changes};
 
 use crate::{Bit, Staged};
@@ -104,6 +106,15 @@ impl Metadata {
         self.frozen.install(staged.blocks);
     }
 
+    /// Lets go of a block of data, if it is kept: no metadata stands in it. Users see what they saw.
+    pub fn let_go(&mut self, address: u32)
+        requires { IsPlain self.old address }
+        ensures left { self.new ≡ without_block self.old address }
+        ensures shows { (users : View) → Shows self.old users → Shows self.new users }
+    {
+        self.frozen.let_go(address);
+    }
+
     /// A copy of its blocks with what was made ready, which is all metadata then too; what users see stays. Takes memory
     /// for the table of blocks.
     pub fn copy_with(&self, alloc: Global, staged: Staged) -> Result<Frozen, AllocError>
@@ -126,13 +137,34 @@ impl Metadata {
         requires { IsCell self.now.geometry (cell_of (change_of change.now)) }
         ensures { OnOk result ((us : List Changed) → IsStaged self.now us staged.old → IsStaged self.now (us ++ change_of change.now ∷ []) staged.new) }
     {
-        let geometry = self.frozen.geometry();
-        let address = change.cell().home(&geometry);
-        let mut block = self.copy_of(staged.blocks.as_slice(), address);
-        change.put(&geometry, &mut block);
-        let block = share(alloc, &block)?;
+        let address = change.cell().home(&self.frozen.geometry());
+        let block = self.changed(alloc, staged.blocks.as_slice(), address, change)?;
         staged.blocks.push(Placed { address, block })?;
         staged.note(change)
+    }
+
+    /// The block of this address as it is with these in their places, and then with one more change. A change that gives all of
+    /// its bytes shares them.
+    fn changed(
+        &self,
+        alloc: Global,
+        blocks: &[Placed],
+        address: u32,
+        change: &Change,
+    ) -> Result<Arc<Block>, AllocError>
+        requires cell { IsCell self.now.geometry (cell_of (change_of change.now)) }
+        requires address { address ≡ home_of self.now.geometry (cell_of (change_of change.now)) }
+        requires low { address < length self.now.blocks }
+        ensures changed { IfOk result (λ block. IsPutInto self.now.geometry (change_of change.now) (unwrap_or (kept_at (with_blocks self.now (map standing blocks.now)).blocks address) (replicate 1024 0)) (arc_value block)) }
+        ensures whole { IfOk result (λ block. IsBlock (arc_value block)) }
+    {
+        let geometry = self.frozen.geometry();
+        if let Some(block) = change.whole() {
+            return share_again(block);
+        }
+        let mut block = self.copy_of(blocks, address);
+        change.put(&geometry, &mut block);
+        share(alloc, &block)
     }
 
     /// A copy of a block as it is with these in their places, and zeroes where it is none that is kept.
@@ -184,6 +216,22 @@ fn share(alloc: Global, block: &Block) -> Result<Arc<Block>, AllocError>
     ensures whole { IfOk result (λ shared. IsBlock (arc_value shared)) }
 {
     Ok(Arc::new(alloc, *block)?)
+}
+
+/// The same block once more.
+fn share_again(block: &Arc<Block>) -> Result<Arc<Block>, AllocError>
+    ensures bytes { IfOk result (λ shared. arc_value shared ≡ arc_value block.now) }
+    ensures whole { IfOk result (λ shared. IsBlock (arc_value shared)) }
+{
+    is_whole(block);
+    Arc::clone(block)
+}
+
+/// A block has all of its bytes, and each is one.
+fn is_whole(block: &Block)
+    ensures { IsBlock block.now }
+{
+    block.iter();
 }
 
 /// What is kept of an image shows what the image holds.

@@ -5,6 +5,7 @@ use anyhow::Result;
 use layout::{Block, Geometry, Refusal};
 use softdep::{Change, Queue, Update};
 use std::alloc::Global;
+use std::sync::Arc;
 use std::time::{Clock, Duration, Instant};
 
 /// What was issued.
@@ -109,7 +110,7 @@ pub fn hold(alloc: Global, spread: Spread, updates: usize) -> Result<Issued> {
 }
 
 /// Keeps the contents of these commands.
-fn hold_all(held: &mut Vec<Box<Block>>, commands: Vec<Command>) -> Result<(), Refusal> {
+fn hold_all(held: &mut Vec<Arc<Block>>, commands: Vec<Command>) -> Result<(), Refusal> {
     for command in commands {
         for update in command.into_updates() {
             let Update { change, .. } = update;

@@ -5,6 +5,7 @@ use inode::{DIRECT_POINTERS, FILE, FREE, Record};
 use layout::{BLOCK_BYTES, Geometry, Refusal};
 use softdep::{Cell, Change, Update};
 use std::alloc::{AllocError, Global};
+use std::sync::Arc;
 
 /// The updates of a command, as they are added.
 #[derive(Drop)]
@@ -42,7 +43,7 @@ impl List {
         let mut bytes = [0; BLOCK_BYTES];
         bytes[0..4].copy_from_slice(&number.to_le_bytes());
         self.updates.push(Update {
-            change: Change::SetBytes(address, Box::new(self.alloc, bytes)?),
+            change: Change::SetBytes(address, Arc::new(self.alloc, bytes)?),
             file,
             after: after.to_vec(self.alloc)?,
         })?;

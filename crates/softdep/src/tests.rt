@@ -10,6 +10,7 @@ use inode::{DIRECT_POINTERS, FILE, FREE, Record};
 use layout::{BLOCK_BYTES, Block, Geometry, ROOT, Refusal};
 use std::alloc::Global;
 use std::process::Abort;
+use std::sync::Arc;
 use std::test::Fail;
 
 mod cases;
@@ -102,7 +103,7 @@ fn change_of(alloc: Global, put: Put) -> Result<Change, Refusal> {
         Put::Number(number, marked) => Change::SetNumber(number, marked),
         Put::Bit(address, marked) => Change::SetBlock(address, marked),
         Put::Bytes(address, byte) => {
-            Change::SetBytes(address, Box::new(alloc, [byte; BLOCK_BYTES])?)
+            Change::SetBytes(address, Arc::new(alloc, [byte; BLOCK_BYTES])?)
         }
     })
 }

@@ -1,7 +1,11 @@
--- What a change of one cell leaves of the block in which the cell stands.
+-- What a change of one cell leaves of the block in which the cell stands, and that the view then has its new value.
 use Rattle.std.specs.Prelude.{◌≡◌, ℕ, ◌+◌, ◌%◌, ◌<◌, ◌≤◌, ◌⊎◌, List, slice_index}
-use Rattle.model.specs.Layout.{Geometry, inode_byte, data_bit}
-use Rattle.model.specs.Cells.{Update, SetInode, SetNumber, SetBlock, SetBytes}
+use Rattle.model.specs.Image.{IsGroupBlock}
+use Rattle.model.specs.Layout.{Geometry, group_block, inode_byte, data_bit}
+use Rattle.model.specs.Cells.{Update, SetInode, SetNumber, SetBlock, SetBytes, put_at, updated}
+use Rattle.model.specs.View.{view_of}
+use Rattle.ordering.specs.Cuts.{cell_of}
+use Rattle.queue_model.specs.Blocks.{home_of}
 use Rattle.cgmaps.specs.Maps.{ChangesBit}
 
 -- The new block is the old one but for the 60 bytes of a record, or for one bit, or it is the bytes that were given.
@@ -10,3 +14,9 @@ ChangesAlone geo (SetInode n inode) old new = (k : ℕ) → (k < inode_byte n) �
 ChangesAlone geo (SetNumber n marked) old new = ChangesBit old new 32 (n % geo.inodes) marked
 ChangesAlone geo (SetBlock a marked) old new = ChangesBit old new 160 (data_bit geo a) marked
 ChangesAlone geo (SetBytes a bytes) old new = new ≡ bytes
+
+-- The new block is the old one with the new value of a cell that stands there.
+pub record IsPutInto (geo : Geometry) (u : Update) (old new : List ℕ) : Type 0 where
+  pub view : (blocks : ℕ → List ℕ) → blocks (home_of geo (cell_of u)) ≡ old → view_of geo (put_at blocks (home_of geo (cell_of u)) new) ≡ updated (view_of geo blocks) u
+  pub alone : ChangesAlone geo u old new
+  pub group_block : (g : ℕ) → home_of geo (cell_of u) ≡ group_block geo g → IsGroupBlock g old → IsGroupBlock g new

@@ -1,4 +1,5 @@
 -- What the cells, changes and updates of the program stand for.
+use Rattle.std.specs.Arc.{arc_value}
 use Rattle.std.specs.Prelude.{map, unwrap_or}
 use Rattle.model.specs.Cells as model
 use Rattle.ordering.specs.Cuts as cuts
@@ -19,7 +20,7 @@ abbrev pub change : Change → model.Update
 change (SetInode n inode) = model.SetInode n inode
 change (SetNumber n marked) = model.SetNumber n marked
 change (SetBlock a marked) = model.SetBlock a marked
-change (SetBytes a bytes) = model.SetBytes a bytes.value
+change (SetBytes a bytes) = model.SetBytes a (arc_value bytes)
 
 -- an update of no file's contents names file 0
 abbrev pub written : Update → Written

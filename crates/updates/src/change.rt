@@ -1,18 +1,20 @@
-ghost use Rattle.std.specs.Prelude.{◌≡◌, ◌≢◌, ◌<◌, ◌≤◌, ◌+◌, ◌*◌, ◌⊎◌, ℕ, List, length, drop, slice_index};
+ghost use Rattle.std.specs.Arc.{arc_value};
+ghost use Rattle.std.specs.Prelude.{◌≡◌, ◌≢◌, ◌<◌, ◌≤◌, ◌+◌, ◌*◌, ◌⊎◌, ℕ, IfSome, List, length, drop, slice_index};
 ghost use Rattle.model.specs.View.{inode_at, view_of};
 ghost use Rattle.model.specs.Image.{IsGroupBlock};
-ghost use Rattle.model.specs.Layout.{group_block};
+ghost use Rattle.model.specs.Layout.{Geometry as Numbers, IsGeometry, group_block};
 ghost use Rattle.model.specs.Cells.{put_at, updated};
 ghost use Rattle.ordering.specs.Cuts.{cell_of};
 ghost use Rattle.queue_model.specs.Blocks.{home_of};
 ghost use Rattle.updates.specs.Values.{cell, change};
 ghost use Rattle.updates.specs.Places.{IsCell};
-ghost use Rattle.updates.specs.Alone.{ChangesAlone};
+ghost use Rattle.updates.specs.Alone.{ChangesAlone, IsPutInto};
 
 use crate::Cell;
 use cgmaps::{Map, put_bit};
 use inode::{RECORD_BYTES, Record};
 use layout::{Block, Geometry, INODES_PER_BLOCK};
+use std::sync::Arc;
 
 /// A cell and its new value.
 #[derive(Debug, Drop)]
@@ -24,7 +26,7 @@ pub enum Change {
     /// Whether a data block is marked, by its address.
     SetBlock(u32, bool),
     /// The bytes of a data block, by its address.
-    SetBytes(u32, Box<Block>),
+    SetBytes(u32, Arc<Block>),
 }
 
 /// A change, and what the order of writes asks of it.
@@ -48,6 +50,16 @@ impl Change {
             Change::SetNumber(number, _) => Cell::NumberBit(*number),
             Change::SetBlock(address, _) => Cell::BlockBit(*address),
             Change::SetBytes(address, _) => Cell::Block(*address),
+        }
+    }
+
+    /// The bytes of the whole block in which the cell stands, where those are the new value.
+    pub fn whole(&self) -> Option<&Arc<Block>>
+        ensures { IfSome result (λ block. (geo : Numbers) → IsGeometry geo → IsCell geo (cell_of (change self.now)) → (old : List ℕ) → IsPutInto geo (change self.now) old (arc_value block.now)) }
+    {
+        match self {
+            Change::SetBytes(_, bytes) => Some(bytes),
+            _ => None,
         }
     }
 

@@ -4,6 +4,7 @@ use crate::{Cell, Change, Update, places};
 use inode::{DIRECT_POINTERS, FILE, RECORD_BYTES, Record};
 use layout::{BLOCK_BYTES, Geometry};
 use std::process::Abort;
+use std::sync::Arc;
 use std::test::Fail;
 
 /// Two groups of 16 blocks and 16 inodes: maps at 1 and 17, data from 4 to 16 and from 20 to 32.
@@ -97,7 +98,7 @@ fn bits_are_cleared_among_their_neighbours(rt: HostRuntime) {
 #[test]
 fn a_block_is_put_whole(rt: HostRuntime) -> Result<(), Fail> {
     let bytes = [7; BLOCK_BYTES];
-    let change = Change::SetBytes(32, Box::new(rt.alloc(), bytes)?);
+    let change = Change::SetBytes(32, Arc::new(rt.alloc(), bytes)?);
     let mut block = [0xaa; BLOCK_BYTES];
     change.put(&small(&rt), &mut block);
     assert!(rt; block == bytes, "the block's new bytes");

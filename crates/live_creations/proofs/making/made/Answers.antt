@@ -1,5 +1,6 @@
 -- The bits, the parent's record, the dots, the new record, and then the entry.
 use Rattle.std.proofs.Common.{◌+◌, map, sym, ap, ◌∙◌, subst}
+use Rattle.std.specs.Arc.{arc_value}
 use Rattle.frozen.specs.Kept.{Kept}
 use Rattle.machine.specs.Effects.{AreDots, with_links}
 use Rattle.model.specs.View.{Inode}
@@ -10,7 +11,7 @@ use Rattle.live_creations.proofs.making.made.Goals as goal
 pub returns : goal.returns
 returns c = λ view shows.
     let new = c.args.new.now in
-    makes_directory c.args.metadata.now.geometry c.geometry.result view new c.args.own c.in_ok-dots.dots.value
+    makes_directory c.args.metadata.now.geometry c.geometry.result view new c.args.own (arc_value c.in_ok-dots.dots)
     c.new-plan.result c.push.new.self c.push-2.new.self c.push-3.new.self c.push-4.new.self c.push-5.new.self c.enter.new.plan
     (map cell c.new.result.items) (map cell c.new-2.result.items) (map cell c.new-3.result.items) (map cell c.in_ok-after.after.items) (map cell c.in_ok-after-2.after.items) c.new_directory.result
     c.new-plan.ensures (c.geometry.ensures.geometry ∙ ap (λ (k : Kept). k.geometry) c.frozen.ensures.same)

@@ -9,9 +9,10 @@ use Rattle.live_states.specs.Holdings.{with_held}
 use Rattle.live_states.specs.Planned.{IsPlannedWith, IsRefusedWith}
 use Rattle.live_states.proofs.Standing.{stands_with}
 use Rattle.live_writes.specs.Aimed.{IsAimed, seen_before}
-use Rattle.live.specs.Alive.{Alive, MayRefuse}
+use Rattle.live.specs.Alive.{Alive, Answers, MayRefuse}
 use Rattle.live.proofs.Between.{answered, still_seen}
 use Rattle.live.proofs.Commands.{refused_with}
+use Rattle.live.proofs.LettingGo.{answers_with}
 use Rattle.live.proofs.live.Live.write.Goals as goal
 
 pub aim-requires : goal.aim-requires
@@ -74,11 +75,15 @@ returns-clause-done g c = λ h.
     let old = c.args.self.now in
     let mid = c.bytes_under.new.self in
     let was = g.D.Device.image old.device in
-    let honest = subst (λ d. g.D.Device.honest d) c.in_ok-carry_out.ensures.device h in
+    let then = c.carry_out.new.self in
+    let new = c.let_go.new.self in
+    let honest = subst (λ d. g.D.Device.honest d) c.in_ok-carry_out.ensures.device (subst (λ d. g.D.Device.honest d) c.let_go.ensures.device h) in
     let planned =
     subst (λ (l : Alive _). IsPlannedWith l.kept l.holdings seen command Done c.in_ok-planned.planned.plan (with_held (ended l.holdings Nothing) c.in_ok-planned.planned.holds.items)) c.self-2.view_is
     (c.in_ok-planned.ensures.planned c.args.handle c.args.index aimed) in
     let same = c.in_ok-before.ensures.image in
     let untouched = c.in_ok-before.ensures.untouched in
-    answered was (g.D.Device.image mid.device) old mid same untouched.0 untouched.1 untouched.2 command Done (g.D.Device.image c.carry_out.new.self.device) c.carry_out.new.self []
-    (c.in_ok-carry_out.ensures.done seen command Done planned honest (still_seen was (g.D.Device.image mid.device) old mid same untouched.0 untouched.1 untouched.2 seen (c.in_ok-before.ensures.seen honest)))
+    subst (λ d. Answers was old command Done (g.D.Device.image d) new []) (sym c.let_go.ensures.device)
+    (answers_with was (g.D.Device.image then.device) old then new command Done [] c.let_go.ensures.queue c.let_go.ensures.holdings c.let_go.ensures.geometry
+    (answered was (g.D.Device.image mid.device) old mid same untouched.0 untouched.1 untouched.2 command Done (g.D.Device.image then.device) then []
+    (c.in_ok-carry_out.ensures.done seen command Done planned honest (still_seen was (g.D.Device.image mid.device) old mid same untouched.0 untouched.1 untouched.2 seen (c.in_ok-before.ensures.seen honest)))))

@@ -1,4 +1,5 @@
 use Rattle.std.proofs.Common.{◌%◌, List, ℕ, sym, ap, subst, rules, arith}
+use Rattle.std.specs.Arc.{arc_value}
 use Rattle.ordering.specs.Cuts.{cell_of}
 use Rattle.cgmaps.specs.Maps.{ChangesBit}
 use Rattle.updates.specs.declared.change.Change.{Change}
@@ -50,7 +51,7 @@ returns-in-SetBytes-clause-view c =
     let geo = c.args.geometry.now in
     let old = c.args.block.now in
     let a = c.in-SetBytes.field-0 in
-    let bytes = c.in-SetBytes.bytes.value in
+    let bytes = arc_value c.in-SetBytes.bytes in
     let P : Change → Type 0 = λ s. IsCell geo (cell_of (change s)) → PutsCell geo old bytes (change s) in
     let Q : List ℕ → Type 0 = λ new. PutsCell geo old new (change c.args.self.now) in
     subst Q (sym c.deref.ensures)
