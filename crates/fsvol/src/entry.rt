@@ -12,7 +12,6 @@ use crate::stops::stops;
 use crate::tooling::{ARCHIVE, STANDARD_INPUT, answer_tool, bytes_of_file, silent};
 use crate::watching::{Screen, Watched};
 use device::{Before, FileDevice};
-use hosts::Ended;
 use layout::{Geometry, Refusal};
 use progress::Watcher;
 use putting::{Item, items_of_archive, items_of_folder, put_items};
@@ -166,10 +165,7 @@ fn items_of<R: Files + AllocGlobal + Clone + Drop>(
     } else {
         items_of_folder(rt, folder)
     };
-    match items {
-        Ok(items) => Ok(items),
-        Err(Ended { cause, told }) => Err(Failure::Ended { cause, told }),
-    }
+    Ok(items?)
 }
 
 /// Makes a file with a fresh image, in place of what was there.

@@ -7,6 +7,7 @@ ghost use Rattle.fsvol.specs.declared.failure.Failure.TheVariants as failure;
 ghost use Rattle.fsvol.specs.Status as spec;
 
 use clap::error::ErrorKind;
+use hosts::Ended;
 use layout::Refusal;
 use std::alloc::{AllocError, Global};
 use std::io::Write;
@@ -58,6 +59,15 @@ impl From<AllocError> for Failure {
 
     fn from(_error: AllocError) -> Failure {
         Failure::Refused(Refusal::NoMemory)
+    }
+}
+
+impl From<Ended> for Failure {
+    ghost from_gives = { λ ended failed. failed ≡ failure.Ended ended.cause ended.told };
+
+    fn from(ended: Ended) -> Failure {
+        let Ended { cause, told } = ended;
+        Failure::Ended { cause, told }
     }
 }
 

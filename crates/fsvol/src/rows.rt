@@ -1,10 +1,10 @@
 //! What the lines print and give, on files of the tests' own.
 mod everyday;
 mod progressing;
+mod trying;
 
 use crate::entry::perform;
-use crate::watching::Screen;
-use std::io::{Sink, Write};
+use std::io::Write;
 use std::os::unix::fs::FileExt;
 use std::process::Abort;
 use std::rt::Files;
@@ -13,6 +13,10 @@ use std::test::Fail;
 use std::thread::Threads;
 use std::time::Clock;
 use std::{fs, io};
+use trying::{
+    Wanted, bits_gives, gives, gives_of_bytes, made, made_small, printed, refused, set, set_all,
+    stands, unwatched,
+};
 
 /// How many bytes an image of 1 group, 16 blocks and 16 inodes has.
 const SMALL: usize = 17_408;
@@ -93,141 +97,6 @@ const SHARED_BLOCK: &[(usize, u8)] = &[
 /// The report of such an image.
 const SHARED_REPORT: &str =
     "phase 1 blocks and sizes\n  duplicate 6 position 0 block 8\nphase 2 names\nphase 3 connectivity\nphase 4 reference counts\nphase 5 maps\nfindings 1\nrepairs 0\nverdict damaged\n";
-
-/// What a line is to give.
-#[derive(Clone, Copy)]
-struct Wanted<'a> {
-    out: &'a str,
-    err: &'a str,
-    status: u8,
-}
-
-const NOTHING_PRINTED: Wanted<'static> = Wanted {
-    out: "",
-    err: "",
-    status: 0,
-};
-
-/// What a line is to give that is refused with this text.
-fn refused(err: &str, status: u8) -> Wanted<'_> {
-    Wanted {
-        out: "",
-        err,
-        status,
-    }
-}
-
-/// What a line is to give that prints this text.
-fn printed(out: &str, status: u8) -> Wanted<'_> {
-    Wanted {
-        out,
-        err: "",
-        status,
-    }
-}
-
-/// A screen that nobody sees.
-fn unwatched() -> Screen<Sink> {
-    Screen {
-        to: io::sink(),
-        is_terminal: false,
-    }
-}
-
-/// Carries out a line that starts with these words, and ends with the image's name.
-fn gives<R: Files + AllocGlobal + Clock + Threads + Wait + Sync + Abort + Clone + Drop>(
-    rt: &R,
-    start: &str,
-    image: &str,
-    wanted: Wanted<'_>,
-) -> Result<(), Fail>
-where
-    R::File: FileExt + Send,
-{
-    let mut words: Vec<&str> = start.split(' ').collect(rt.alloc())?;
-    words.push(image)?;
-    let mut out = Vec::new(rt.alloc());
-    let mut err = Vec::new(rt.alloc());
-    let status = perform(rt, words.as_slice(), &mut out, &mut err, unwatched());
-    assert_eq!(rt; out.as_slice(), wanted.out.as_bytes(), "{start} {image}");
-    assert_eq!(rt; err.as_slice(), wanted.err.as_bytes(), "{start} {image}");
-    assert_eq!(rt; status, wanted.status, "{start} {image}");
-    Ok(())
-}
-
-/// Makes a fresh image in this file, and gives its bytes.
-fn made<R: Files + AllocGlobal + Clock + Threads + Wait + Sync + Abort + Clone + Drop>(
-    rt: &R,
-    geometry: &str,
-    image: &str,
-) -> Result<Vec<u8>, Fail>
-where
-    R::File: FileExt + Send,
-{
-    let start = format!(in rt.alloc(); "mkfs {geometry}")?;
-    gives(rt, start.as_str(), image, NOTHING_PRINTED)?;
-    Ok(fs::read(rt, image)?)
-}
-
-/// A fresh image of 1 group, 16 blocks and 16 inodes, in this file.
-fn made_small<R: Files + AllocGlobal + Clock + Threads + Wait + Sync + Abort + Clone + Drop>(
-    rt: &R,
-    image: &str,
-) -> Result<Vec<u8>, Fail>
-where
-    R::File: FileExt + Send,
-{
-    made(rt, "--groups 1 --blocks 16 --inodes 16", image)
-}
-
-/// Carries out a line of these words on an image of these bytes, which stand in this file, and then stand there still.
-fn gives_of_bytes<R: Files + AllocGlobal + Clock + Threads + Wait + Sync + Abort + Clone + Drop>(
-    rt: &R,
-    start: &str,
-    image: &str,
-    bytes: &[u8],
-    wanted: Wanted<'_>,
-) -> Result<(), Fail>
-where
-    R::File: FileExt + Send,
-{
-    fs::write(rt, image, bytes)?;
-    gives(rt, start, image, wanted)?;
-    assert!(rt; fs::read(rt, image)?.as_slice() == bytes, "{start} {image}");
-    Ok(())
-}
-
-/// Checks the number maps of an image of these bytes, which stand in this file.
-fn bits_gives<R: Files + AllocGlobal + Clock + Threads + Wait + Sync + Abort + Clone + Drop>(
-    rt: &R,
-    image: &str,
-    bytes: &[u8],
-    wanted: Wanted<'_>,
-) -> Result<(), Fail>
-where
-    R::File: FileExt + Send,
-{
-    gives_of_bytes(rt, "bits", image, bytes, wanted)
-}
-
-/// Sets a byte.
-fn set(bytes: &mut [u8], place: usize, value: u8) {
-    if let Some(byte) = bytes.get_mut(place) {
-        *byte = value;
-    }
-}
-
-/// Sets each of these bytes.
-fn set_all(bytes: &mut [u8], values: &[(usize, u8)]) {
-    for &(place, value) in values {
-        set(bytes, place, value);
-    }
-}
-
-/// Whether the file stands there.
-fn stands<R: Files>(rt: &R, path: &str) -> bool {
-    fs::metadata(rt, path).is_ok()
-}
 
 #[test]
 fn mkfs_writes_these_bytes(rt: HostRuntime) -> Result<(), Fail> {

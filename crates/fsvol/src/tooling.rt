@@ -77,10 +77,8 @@ where
     ensures { IfOk result (λ answer. answer.status ≡ 0) }
 {
     if host == ARCHIVE {
-        return match pack_from_file(rt, image, path, watcher) {
-            Ok(text) => Ok(Answer { text, status: 0 }),
-            Err(Ended { cause, told }) => Err(Failure::Ended { cause, told }),
-        };
+        let text = pack_from_file(rt, image, path, watcher)?;
+        return Ok(Answer { text, status: 0 });
     }
     silent(rt.alloc(), get_from_file(rt, image, path, host, watcher))
 }
@@ -158,13 +156,11 @@ pub fn silent(alloc: Global, done: Result<(), Ended>) -> Result<Answer, Failure>
     ensures silent { IfOk result (λ answer. answer.text.items ≡ []) }
     ensures refused { IfErr done (λ ended. IfErr result (λ failure. failure ≡ Failure.Ended ended.cause ended.told)) }
 {
-    match done {
-        Ok(()) => Ok(Answer {
-            text: Vec::new(alloc),
-            status: 0,
-        }),
-        Err(Ended { cause, told }) => Err(Failure::Ended { cause, told }),
-    }
+    done?;
+    Ok(Answer {
+        text: Vec::new(alloc),
+        status: 0,
+    })
 }
 
 /// Does this with each of these paths in a file's image.

@@ -1,12 +1,15 @@
 //! How items of the host go into a mounted volume.
-ghost use Rattle.std.specs.Prelude.{◌≡◌, ◌+◌, ◌++◌, List, [], ◌∷◌, All, IfOk, None, OnOk, length, map};
+ghost use Rattle.std.specs.Prelude.{◌≡◌, ◌≢◌, ◌+◌, ◌++◌, List, [], ◌∷◌, All, IfErr, IfOk, IfSome, None, OnOk, length, map};
+ghost use Rattle.std.specs.Io.KnownBytes.{IsAtEnd};
+ghost use Rattle.std.specs.IoError.{error_kind};
+ghost use Rattle.std.specs.declared.io.ErrorKind.TheVariants.{Interrupted};
 ghost use Rattle.machine.specs.Command.{Command as Request, Close as AsksClose, Create as AsksCreate, Mkdir as AsksMkdir, Open as AsksOpen, Write as AsksWrite};
 ghost use Rattle.model.specs.Layout.{Geometry};
 ghost use Rattle.model.specs.Uses.{blocks_of};
 ghost use Rattle.putting.specs.Putting.{Adds, AddsItems, IsTrueReading, IsTrueTo, MakesFile, PutMounted, Read, TookIn, block_writes, item_of};
 ghost use Rattle.snapshot.specs.Asked.{asked};
 
-use crate::items::{Item, Source};
+use crate::items::{FILE_BYTES, Item, Source};
 use crate::writing::{flush_in_passes, write_rest, write_some};
 use archives::Kind;
 use changing::{mount, write_all};
@@ -17,8 +20,10 @@ use layout::{BLOCK_BYTES, Refusal};
 use progress::{Tally, Watcher};
 use snapshot::{Answer, Command, Volume};
 use std::alloc::Global;
-use std::fs;
+use std::fs::OpenFile;
+use std::io::Read;
 use std::rt::Files;
+use std::{fs, io};
 
 /// How many bytes a file or folder adds to what waits by itself.
 const BYTES_OF_ITEM: usize = 1 << 12;
@@ -144,7 +149,7 @@ fn bytes_of<R: Files + AllocGlobal>(
 }
 
 /// The bytes of an item: those that it holds, or those of its file of the host.
-fn read_item<R: Files + AllocGlobal>(rt: &R, item: &Item) -> Result<Vec<u8>, HostError>
+pub(crate) fn read_item<R: Files + AllocGlobal>(rt: &R, item: &Item) -> Result<Vec<u8>, HostError>
     ensures { IfOk result (λ bytes. IsTrueTo item.now.source bytes.items) }
 {
     match &item.source {
@@ -158,10 +163,36 @@ fn read_host<R: Files + AllocGlobal>(rt: &R, host: &str, kind: Kind) -> Result<V
     if kind == Kind::Folder {
         return Ok(Vec::new(rt.alloc()));
     }
-    match fs::read(rt, host) {
+    match read_file(rt, host) {
         Ok(bytes) => Ok(bytes),
         Err(error) => Err(HostError::of_call(rt.alloc(), &error, host)),
     }
+}
+
+/// The bytes of a file of the host. Its length is asked for only to read it in few calls.
+fn read_file<R: Files + AllocGlobal>(rt: &R, host: &str) -> io::Result<Vec<u8>> {
+    let mut file = fs::open(rt, host)?;
+    let length = file.metadata().map_or(0, |metadata| metadata.len());
+    read_all(rt.alloc(), &mut file, length.min(FILE_BYTES) as usize)
+}
+
+/// What is left to read, up to its end. Two reads do where it is as long as expected.
+fn read_all<F: Read>(alloc: Global, reader: &mut F, expected: usize) -> io::Result<Vec<u8>>
+    ensures all { IfOk result (λ bytes. IfSome (F.remaining reader.old) (λ left. bytes.items ≡ left)) }
+    ensures end { OnOk result (IsAtEnd (F.remaining reader.new)) }
+    ensures retried { IfErr result (λ error. error_kind error ≢ Interrupted) }
+{
+    // The byte behind them is room for the read that finds the end.
+    let mut bytes = Vec::with_capacity(alloc, expected.saturating_add(1))?;
+    bytes.resize(expected, 0)?;
+    let count = match reader.read(bytes.as_mut_slice()) {
+        Ok(count) => count,
+        Err(error) if error.kind() == io::ErrorKind::Interrupted => 0,
+        Err(error) => return Err(error),
+    };
+    bytes.truncate(count);
+    reader.read_to_end(&mut bytes)?;
+    Ok(bytes)
 }
 
 /// Makes an item with these bytes.

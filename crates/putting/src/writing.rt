@@ -10,14 +10,11 @@ use layout::Refusal;
 use snapshot::{Command, Volume};
 use std::alloc::Global;
 
-/// After how many bytes all is written, so that the queue of updates stays short.
+/// After how many bytes what waits is flushed, so that the queue of updates stays short.
 const BYTES_AT_ONCE: usize = 1 << 20;
 
-/// In how many passes blocks are flushed before all that is left is written: first maps and what files hold, then the inodes
-/// that claim it, then the directories that name these; and once more for what came of that.
-const PASSES: usize = 4;
-
-/// Writes all that waits, if it is this many bytes or more, and tells how many wait then.
+/// Flushes what waits, if it is this many bytes or more, and tells how many wait then. It does not wait for the medium: each
+/// image that the device holds on the way is one that a stop may leave.
 pub(crate) fn write_some<D: Device>(
     alloc: Global,
     volume: &mut Volume<D>,
@@ -31,11 +28,10 @@ pub(crate) fn write_some<D: Device>(
         return Ok(pending);
     }
     flush_in_passes(alloc, volume)?;
-    write_rest(alloc, volume)?;
     Ok(0)
 }
 
-/// Writes all that waits.
+/// Writes all that waits, and waits for the medium.
 pub(crate) fn write_rest<D: Device>(alloc: Global, volume: &mut Volume<D>) -> Result<(), Refusal>
     ensures written { OnOk result (D.honest volume.new.device
         → Adds (D.held volume.old.device) (D.image volume.old.device) volume.old (AsksSync ∷ []) (D.held volume.new.device) (D.image volume.new.device) volume.new) }
@@ -44,8 +40,9 @@ pub(crate) fn write_rest<D: Device>(alloc: Global, volume: &mut Volume<D>) -> Re
     write_all(alloc, volume)
 }
 
-/// Flushes blocks in passes. A sync alone would do too, but it flushes the least block that may be written each time, and so a
-/// block of inodes, which stands before the blocks of their files, again after each of these; a pass writes it once.
+/// Flushes blocks in passes until none is ready. A sync would do too, but it flushes the least block that may be written each
+/// time, and so a block of inodes, which stands before the blocks of their files, again after each of these; a pass writes it
+/// once.
 pub(crate) fn flush_in_passes<D: Device>(
     alloc: Global,
     volume: &mut Volume<D>,
@@ -54,10 +51,19 @@ pub(crate) fn flush_in_passes<D: Device>(
         → AddsItems [] (D.held volume.old.device) (D.image volume.old.device) volume.old (D.held volume.new.device) (D.image volume.new.device) volume.new) }
     ensures honest { D.honest volume.new.device → D.honest volume.old.device }
 {
-    for _pass in 0..PASSES {
+    // Each pass writes an update, and no queue has more of them.
+    for _pass in 0..u32::MAX {
+        if !has_ready(volume) {
+            break;
+        }
         flush_pass(alloc, volume)?;
     }
     Ok(())
+}
+
+/// Whether some block has an update that may go to the device.
+fn has_ready<D: Device>(volume: &Volume<D>) -> bool {
+    volume.live().least_ready().is_some()
 }
 
 /// Flushes each block with an update that may go to the device once its turn comes, in the order of their addresses.

@@ -1,8 +1,8 @@
 //! The lines of the everyday tools.
-use super::{
-    CLEAN_REPORT, NOTHING_PRINTED, SHARED_BLOCK, Wanted, gives, gives_of_bytes, made, made_small,
-    printed, refused, set_all,
+use super::trying::{
+    NOTHING_PRINTED, Wanted, gives, gives_of_bytes, made, made_small, printed, refused, set_all,
 };
+use super::{CLEAN_REPORT, SHARED_BLOCK};
 use std::fs;
 use std::os::unix::fs::FileExt;
 use std::process::Abort;

@@ -1,6 +1,6 @@
 //! What a watcher is told of the lines.
 use super::everyday::made_folder;
-use super::{made_small, set_all};
+use super::trying::{made_small, set_all};
 use crate::entry::carry_out;
 use crate::line::parse;
 use progress::{Step, Watcher};
