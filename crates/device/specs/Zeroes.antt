@@ -1,11 +1,9 @@
 -- Blocks of zeroes.
-use Rattle.std.specs.Prelude.{◌≡◌, ℕ, ◌<◌, List, [], length}
-use Rattle.std.proofs.Common.{refl, arith, ap, ◌∙◌}
+use Rattle.std.specs.Prelude.{◌≡◌, ℕ, ◌<◌, List, length}
+use Rattle.std.proofs.Common.{refl, arith}
 use Rattle.std.proofs.lemmas.List.Elements.{All-replicate}
-use Rattle.std.proofs.lemmas.List.FromFn.{get_or-map-range_with_len, length-map-range_with_len}
 use Rattle.model.specs.Image.{IsBlock, block_at}
 use Rattle.layout.specs.Fresh.{zero_block}
-use Rattle.device.specs.Calls.{Calls, image_now}
 
 -- each block of the image is zeroes
 abbrev pub AreZeroes : List (List ℕ) → Type 0
@@ -13,14 +11,3 @@ AreZeroes image = (a : ℕ) → a < length image → block_at image a ≡ zero_b
 
 pub zeroes_are_whole : IsBlock zero_block
 zeroes_are_whole = record { length = refl; bytes = All-replicate (λ b. b < 256) 1024 0 (omega arith) }
-
--- ---- a file that held zeroes before its first call, and none was made
-
-module _ (calls : Calls) (count : ℕ) (new : calls ≡ record { count = count; answered = []; waiting = []; failures = 0 }) where
-  pub new_file_count : length (image_now (λ _. zero_block) calls) ≡ count
-  new_file_count = ap (λ c. length (image_now (λ _. zero_block) c)) new ∙ length-map-range_with_len (λ _. zero_block) 0 count
-
-  pub new_file_zeroes : AreZeroes (image_now (λ _. zero_block) calls)
-  new_file_zeroes a b =
-      ap (λ c. block_at (image_now (λ _. zero_block) c) a) new
-      ∙ get_or-map-range_with_len (λ _. zero_block) 0 count a a [] (omega (arith, b, new_file_count, length-map-range_with_len (λ _. zero_block) 0 count)) (omega arith)

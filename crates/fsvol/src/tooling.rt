@@ -5,7 +5,7 @@ use crate::failure::Failure;
 use crate::jobs::Answer;
 use crate::tool_line::Tool;
 use changing::{Outcome, change_device, outcome_of};
-use device::FileDevice;
+use file_device::FileDevice;
 use frozen::load;
 use hosts::{Ended, get_from_file};
 use layout::Refusal;

@@ -67,6 +67,7 @@ fn first_item(alloc: Global, path: &[u8]) -> Result<Vec<Item>, HostError>
             source: Source::Held(Vec::new(alloc)),
             path: path.to_vec(alloc)?,
             kind: Kind::Folder,
+            length: 0,
         })?;
     }
     Ok(items)
@@ -100,13 +101,15 @@ fn item_of_entry(alloc: Global, path: &[u8], entry: Entry) -> Result<Item, HostE
     if name_bytes(below.as_slice()) > NAME_BYTES || path.len() > PATH_BYTES {
         return Err(HostError::in_image(alloc, Refusal::BadName, path.as_slice()));
     }
-    if bytes.len() as u64 > FILE_BYTES {
+    let length = bytes.len() as u64;
+    if length > FILE_BYTES {
         return Err(HostError::in_image(alloc, Refusal::TooBig, path.as_slice()));
     }
     Ok(Item {
         source: Source::Held(bytes),
         path,
         kind,
+        length,
     })
 }
 

@@ -20,7 +20,6 @@ use layout::{BLOCK_BYTES, Refusal};
 use progress::{Tally, Watcher};
 use snapshot::{Answer, Command, Volume};
 use std::alloc::Global;
-use std::fs::OpenFile;
 use std::io::Read;
 use std::rt::Files;
 use std::{fs, io};
@@ -90,8 +89,9 @@ pub fn put<R: Files + AllocGlobal, D: Device>(
     let mut done = 0;
     let mut tally = Tally::new();
     let mut readings = Readings { items: Log::new() };
+    let mut room = Vec::new(rt.alloc());
     for item in items {
-        let bytes = match put_item(rt, volume, item, &mut readings) {
+        let bytes = match put_item(rt, volume, item, room, &mut readings) {
             Ok(bytes) => bytes,
             Err(error) => {
                 write_all(rt.alloc(), volume)?;
@@ -102,10 +102,11 @@ pub fn put<R: Files + AllocGlobal, D: Device>(
                 });
             }
         };
-        let more = bytes.saturating_add(BYTES_OF_ITEM);
+        let more = bytes.len().saturating_add(BYTES_OF_ITEM);
         pending = write_some(rt.alloc(), volume, more.saturating_add(pending))?;
         done += 1;
-        tally.count(bytes, watcher);
+        tally.count(bytes.len(), watcher);
+        room = bytes;
     }
     flush_in_passes(rt.alloc(), volume)?;
     write_rest(rt.alloc(), volume)?;
@@ -116,20 +117,21 @@ pub fn put<R: Files + AllocGlobal, D: Device>(
     })
 }
 
-/// Makes an item, and tells how many bytes it has.
+/// Makes an item, and gives its bytes, of which the next one may have the room.
 fn put_item<R: Files + AllocGlobal, D: Device>(
     rt: &R,
     volume: &mut Volume<D>,
     item: &Item,
+    room: Vec<u8>,
     readings: &mut Readings,
-) -> Result<usize, HostError>
+) -> Result<Vec<u8>, HostError>
     ensures item { IfOk result (λ _. (bytes : Read) × (readings.new.items.items ≡ readings.old.items.items ++ (item.now, bytes) ∷ []) × IsTrueTo item.now.source bytes.items
         × (D.honest volume.new.device → AddsItems ((item.now, bytes) ∷ []) (D.held volume.old.device) (D.image volume.old.device) volume.old (D.held volume.new.device) (D.image volume.new.device) volume.new)) }
     ensures honest { D.honest volume.new.device → D.honest volume.old.device }
 {
-    let bytes = bytes_of(rt, item, readings)?;
+    let bytes = bytes_of(rt, item, room, readings)?;
     match make_item(rt.alloc(), volume, item, bytes.as_slice()) {
-        Ok(()) => Ok(bytes.len()),
+        Ok(()) => Ok(bytes),
         Err(cause) => Err(HostError::in_image(rt.alloc(), cause, item.path.as_slice())),
     }
 }
@@ -138,53 +140,71 @@ fn put_item<R: Files + AllocGlobal, D: Device>(
 fn bytes_of<R: Files + AllocGlobal>(
     rt: &R,
     item: &Item,
+    room: Vec<u8>,
     readings: &mut Readings,
 ) -> Result<Vec<u8>, HostError>
     ensures noted { IfOk result (λ bytes. readings.new.items.items ≡ readings.old.items.items ++ (item.now, bytes) ∷ []) }
     ensures held { IfOk result (λ bytes. IsTrueTo item.now.source bytes.items) }
 {
-    let bytes = read_item(rt, item)?;
+    let bytes = read_item(rt, item, room)?;
     readings.items = readings.items.and(item, &bytes);
     Ok(bytes)
 }
 
-/// The bytes of an item: those that it holds, or those of its file of the host.
-pub(crate) fn read_item<R: Files + AllocGlobal>(rt: &R, item: &Item) -> Result<Vec<u8>, HostError>
+/// The bytes of an item: those that it holds, or those of its file of the host. They may get this room.
+pub(crate) fn read_item<R: Files + AllocGlobal>(
+    rt: &R,
+    item: &Item,
+    mut room: Vec<u8>,
+) -> Result<Vec<u8>, HostError>
     ensures { IfOk result (λ bytes. IsTrueTo item.now.source bytes.items) }
 {
     match &item.source {
         Source::Held(bytes) => Ok(bytes.to_vec(rt.alloc())?),
-        Source::Host(host) => read_host(rt, host.as_str(), item.kind),
+        Source::Host(host) if item.kind == Kind::File => {
+            read_host(rt, host.as_str(), item.length, room)
+        }
+        Source::Host(_) => {
+            room.clear();
+            Ok(room)
+        }
     }
 }
 
-/// The bytes of a file of the host; none of a folder.
-fn read_host<R: Files + AllocGlobal>(rt: &R, host: &str, kind: Kind) -> Result<Vec<u8>, HostError> {
-    if kind == Kind::Folder {
-        return Ok(Vec::new(rt.alloc()));
-    }
-    match read_file(rt, host) {
+/// The bytes of a file of the host, of which so many are expected.
+fn read_host<R: Files + AllocGlobal>(
+    rt: &R,
+    host: &str,
+    expected: u64,
+    room: Vec<u8>,
+) -> Result<Vec<u8>, HostError> {
+    match read_file(rt, host, expected, room) {
         Ok(bytes) => Ok(bytes),
         Err(error) => Err(HostError::of_call(rt.alloc(), &error, host)),
     }
 }
 
-/// The bytes of a file of the host. Its length is asked for only to read it in few calls.
-fn read_file<R: Files + AllocGlobal>(rt: &R, host: &str) -> io::Result<Vec<u8>> {
+/// The bytes of a file of the host, of which so many are expected.
+fn read_file<R: Files + AllocGlobal>(
+    rt: &R,
+    host: &str,
+    expected: u64,
+    room: Vec<u8>,
+) -> io::Result<Vec<u8>> {
     let mut file = fs::open(rt, host)?;
-    let length = file.metadata().map_or(0, |metadata| metadata.len());
-    read_all(rt.alloc(), &mut file, length.min(FILE_BYTES) as usize)
+    read_all(&mut file, expected.min(FILE_BYTES) as usize, room)
 }
 
-/// What is left to read, up to its end. Two reads do where it is as long as expected.
-fn read_all<F: Read>(alloc: Global, reader: &mut F, expected: usize) -> io::Result<Vec<u8>>
+/// What is left to read, up to its end, over whatever stood in its room. Two reads do where it is as long as expected.
+fn read_all<F: Read>(reader: &mut F, expected: usize, room: Vec<u8>) -> io::Result<Vec<u8>>
     ensures all { IfOk result (λ bytes. IfSome (F.remaining reader.old) (λ left. bytes.items ≡ left)) }
     ensures end { OnOk result (IsAtEnd (F.remaining reader.new)) }
     ensures retried { IfErr result (λ error. error_kind error ≢ Interrupted) }
 {
-    // The byte behind them is room for the read that finds the end.
-    let mut bytes = Vec::with_capacity(alloc, expected.saturating_add(1))?;
+    let mut bytes = room;
     bytes.resize(expected, 0)?;
+    // Room for the read that finds the end.
+    bytes.reserve(1)?;
     let count = match reader.read(bytes.as_mut_slice()) {
         Ok(count) => count,
         Err(error) if error.kind() == io::ErrorKind::Interrupted => 0,
@@ -298,36 +318,51 @@ fn write_blocks<D: Device>(
         → Adds (D.held volume.old.device) (D.image volume.old.device) volume.old (block_writes handle bytes.now (blocks_of (length bytes.now))) (D.held volume.new.device) (D.image volume.new.device) volume.new) }
     ensures honest { D.honest volume.new.device → D.honest volume.old.device }
 {
-    let mut index = 0;
+    let mut next = Next {
+        index: 0,
+        room: Vec::with_capacity(alloc, BLOCK_BYTES)?,
+    };
     for piece in bytes.chunks(BLOCK_BYTES) {
-        index = write_piece(alloc, volume, handle, index, piece)?;
+        next = write_piece(alloc, volume, handle, next, piece)?;
     }
     Ok(())
 }
 
-/// Writes the bytes of a block, and gives the index of the next one.
+/// What the write of a block needs.
+#[derive(Drop)]
+struct Next {
+    /// The index of the block.
+    index: u32,
+    /// Room for its bytes.
+    room: Vec<u8>,
+}
+
+/// Writes the bytes of a block, and gives what the next one needs.
 fn write_piece<D: Device>(
     alloc: Global,
     volume: &mut Volume<D>,
     handle: u32,
-    index: u32,
+    block: Next,
     piece: &[u8],
-) -> Result<u32, Refusal>
-    ensures next { IfOk result (λ next. next ≡ index + 1) }
+) -> Result<Next, Refusal>
+    ensures next { IfOk result (λ next. next.index ≡ block.index + 1) }
     ensures written { IfOk result (λ _. D.honest volume.new.device
-        → Adds (D.held volume.old.device) (D.image volume.old.device) volume.old (AsksWrite handle index piece.now ∷ []) (D.held volume.new.device) (D.image volume.new.device) volume.new) }
+        → Adds (D.held volume.old.device) (D.image volume.old.device) volume.old (AsksWrite handle block.index piece.now ∷ []) (D.held volume.new.device) (D.image volume.new.device) volume.new) }
     ensures honest { D.honest volume.new.device → D.honest volume.old.device }
 {
-    let Some(next) = index.checked_add(1) else {
-        return Err(Refusal::TooBig);
-    };
+    let Next { index, mut room } = block;
+    room.clear();
+    room.extend_from_slice(piece)?;
     let command = Command::Write {
         handle,
         index,
-        piece: piece.to_vec(alloc)?,
+        piece: room,
     };
     ask(alloc, volume, &command)?;
-    Ok(next)
+    match (index.checked_add(1), command) {
+        (Some(index), Command::Write { piece: room, .. }) => Ok(Next { index, room }),
+        _ => Err(Refusal::TooBig),
+    }
 }
 
 /// Closes a handle.

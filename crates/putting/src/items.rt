@@ -38,6 +38,8 @@ pub struct Item {
     pub source: Source,
     pub path: Vec<u8>,
     pub kind: Kind,
+    /// How many bytes it had when it was listed; its file is read in few calls where it has as many still.
+    pub length: u64,
 }
 
 /// What stands at a path of the host, and all below it, each folder before what it holds, and the names in a folder in the
@@ -50,14 +52,16 @@ pub fn items_of<R: Files + AllocGlobal + Clone + Drop>(
     path: &[u8],
 ) -> Result<Vec<Item>, HostError> {
     let alloc = rt.alloc();
-    let kind = match fs::metadata(rt, host) {
-        Ok(metadata) => kind_of(alloc, &metadata, host)?,
+    let metadata = match fs::metadata(rt, host) {
+        Ok(metadata) => metadata,
         Err(error) => return Err(HostError::of_call(alloc, &error, host)),
     };
+    let kind = kind_of(alloc, &metadata, host)?;
     let first = Item {
         source: Source::Host(String::from_str(alloc, host)?),
         path: path.to_vec(alloc)?,
         kind,
+        length: metadata.len(),
     };
     if path != b"/".as_slice() {
         return with_all_below(rt, first);
@@ -122,14 +126,16 @@ fn item_in<R: Files + AllocGlobal + Clone + Drop>(
     if name.len() > NAME_BYTES || path.len() > PATH_BYTES {
         return Err(HostError::on_host(alloc, Refusal::BadName, host.as_str()));
     }
-    let kind = match fs::symlink_metadata(rt, host.as_str()) {
-        Ok(metadata) => kind_of(alloc, &metadata, host.as_str())?,
+    let metadata = match fs::symlink_metadata(rt, host.as_str()) {
+        Ok(metadata) => metadata,
         Err(error) => return Err(HostError::of_call(alloc, &error, host.as_str())),
     };
+    let kind = kind_of(alloc, &metadata, host.as_str())?;
     Ok(Item {
         source: Source::Host(host),
         path,
         kind,
+        length: metadata.len(),
     })
 }
 

@@ -1,20 +1,23 @@
 //! What the lines of `fsvol` do that put files of the host into an image in a file.
 use crate::archived::items_in_archive;
-use crate::filling::{Filled, put_on_device};
+use crate::filling::{Filled, put, put_on_device};
 use crate::items::{Item, allow_items, items_of};
-use device::FileDevice;
+use changing::mount;
+use device::Device;
+use file_device::FileDevice;
 use frozen::load;
 use hosts::{Ended, HostError};
 use layout::Refusal;
 use progress::Watcher;
+use snapshot::Volume;
 use std::alloc::Global;
 use std::marker::Brand;
 use std::os::unix::fs::FileExt;
 use std::rt::Files;
 use tools::path_of;
 
-/// Puts what stands at a path of the host, and all below it, at a path in a file's image. All names are looked at before the image
-/// is opened to be written.
+/// Puts what stands at a path of the host, and all below it, at a path in a file's image. All names are looked at before anything
+/// is written.
 pub fn put_into_file<R: Files + AllocGlobal + Clone + Drop>(
     rt: &R,
     image: &str,
@@ -25,13 +28,13 @@ pub fn put_into_file<R: Files + AllocGlobal + Clone + Drop>(
 where
     R::File: FileExt,
 {
-    match allowed_items(rt, image, path, host) {
-        Ok(items) => put_items(rt, image, items.as_slice(), watcher),
+    match items_at(rt, path, host) {
+        Ok(items) => put_new_items(rt, image, items.as_slice(), watcher),
         Err(error) => Err(Ended::before(rt.alloc(), &error)),
     }
 }
 
-/// Puts what stands in an archive at a path in a file's image. All names are looked at before the image is opened to be written.
+/// Puts what stands in an archive at a path in a file's image. All names are looked at before anything is written.
 pub fn put_archive_into_file<R: Files + AllocGlobal>(
     rt: &R,
     image: &str,
@@ -42,56 +45,26 @@ pub fn put_archive_into_file<R: Files + AllocGlobal>(
 where
     R::File: FileExt,
 {
-    match allowed_entries(rt, image, path, archive) {
-        Ok(items) => put_items(rt, image, items.as_slice(), watcher),
+    match entries_at(rt.alloc(), path, archive) {
+        Ok(items) => put_new_items(rt, image, items.as_slice(), watcher),
         Err(error) => Err(Ended::before(rt.alloc(), &error)),
     }
 }
 
-/// The items of a line that puts something into an image. None of them stands there yet.
-fn allowed_items<R: Files + AllocGlobal + Clone + Drop>(
+/// The items of a line that puts something into an image.
+fn items_at<R: Files + AllocGlobal + Clone + Drop>(
     rt: &R,
-    image: &str,
     path: &str,
     host: &str,
-) -> Result<Vec<Item>, HostError>
-where
-    R::File: FileExt,
-{
+) -> Result<Vec<Item>, HostError> {
     let path = path_of(rt.alloc(), path)?;
-    let items = items_of(rt, host, path.as_slice())?;
-    allow_in_file(rt, image, items.as_slice())?;
-    Ok(items)
+    items_of(rt, host, path.as_slice())
 }
 
-/// The items of a line that puts an archive into an image. None of them stands there yet.
-fn allowed_entries<R: Files + AllocGlobal>(
-    rt: &R,
-    image: &str,
-    path: &str,
-    archive: &[u8],
-) -> Result<Vec<Item>, HostError>
-where
-    R::File: FileExt,
-{
-    let path = path_of(rt.alloc(), path)?;
-    let items = items_in_archive(rt.alloc(), archive, path.as_slice())?;
-    allow_in_file(rt, image, items.as_slice())?;
-    Ok(items)
-}
-
-/// Refuses the first item of which the path leads somewhere in a file's image already, or can lead nowhere.
-fn allow_in_file<R: Files + AllocGlobal>(
-    rt: &R,
-    image: &str,
-    items: &[Item],
-) -> Result<(), HostError>
-where
-    R::File: FileExt,
-{
-    let mut device: FileDevice<R::File, Brand> = FileDevice::open(rt, image)?;
-    let frozen = load(rt.alloc(), &mut device)?;
-    allow_items(rt.alloc(), &frozen, items)
+/// The items of a line that puts an archive into an image.
+fn entries_at(alloc: Global, path: &str, archive: &[u8]) -> Result<Vec<Item>, HostError> {
+    let path = path_of(alloc, path)?;
+    items_in_archive(alloc, archive, path.as_slice())
 }
 
 /// The items of a line that puts an archive into the root of a fresh image.
@@ -123,13 +96,9 @@ pub fn put_items<R: Files + AllocGlobal>(
 where
     R::File: FileExt,
 {
-    let Filled { done, stopped, .. } = match put_in_file(rt, image, items, watcher) {
-        Ok(filled) => filled,
-        Err(cause) => return Err(Ended::before(rt.alloc(), &HostError::from(cause))),
-    };
-    match stopped {
-        Some(error) => Err(Ended::after(rt.alloc(), &error, done, items.len())),
-        None => Ok(()),
+    match put_in_file(rt, image, items, watcher) {
+        Ok(filled) => end_of(rt.alloc(), filled, items.len()),
+        Err(cause) => Err(Ended::before(rt.alloc(), &HostError::from(cause))),
     }
 }
 
@@ -146,4 +115,89 @@ where
     let device: FileDevice<R::File, Brand> = FileDevice::open_to_write(rt, image)?.gathering();
     let holding = put_on_device(rt, device, items, watcher)?;
     Ok(holding.filled)
+}
+
+/// Puts items into the volume of a file's image, where none of them may stand yet. Where one is refused, what went before it is
+/// written.
+fn put_new_items<R: Files + AllocGlobal>(
+    rt: &R,
+    image: &str,
+    items: &[Item],
+    watcher: &impl Watcher,
+) -> Result<(), Ended>
+where
+    R::File: FileExt,
+{
+    match put_new_in_file(rt, image, items, watcher) {
+        Ok(filled) => end_of(rt.alloc(), filled, items.len()),
+        Err(error) => Err(Ended::before(rt.alloc(), &error)),
+    }
+}
+
+/// Puts items into the volume of a file's image, where none of them may stand yet, and tells how many went into it.
+fn put_new_in_file<R: Files + AllocGlobal>(
+    rt: &R,
+    image: &str,
+    items: &[Item],
+    watcher: &impl Watcher,
+) -> Result<Filled, HostError>
+where
+    R::File: FileExt,
+{
+    match mount_file(rt, image) {
+        Ok(mut volume) => {
+            allow_in_volume(rt.alloc(), &volume, items)?;
+            Ok(put(rt, &mut volume, items, watcher)?)
+        }
+        Err(cause) => {
+            // An item that the image cannot have is told of first.
+            allow_in_file(rt, image, items)?;
+            Err(HostError::from(cause))
+        }
+    }
+}
+
+/// Mounts the volume of a file's image.
+fn mount_file<R: Files + AllocGlobal>(
+    rt: &R,
+    image: &str,
+) -> Result<Volume<FileDevice<R::File, Brand>>, Refusal>
+where
+    R::File: FileExt,
+{
+    let device = FileDevice::open_to_write(rt, image)?.gathering();
+    mount(rt.alloc(), device)
+}
+
+/// Refuses the first item of which the path leads somewhere in a mounted volume already, or can lead nowhere.
+fn allow_in_volume<D: Device>(
+    alloc: Global,
+    volume: &Volume<D>,
+    items: &[Item],
+) -> Result<(), HostError> {
+    let view = volume.live().view(alloc)?;
+    allow_items(alloc, &view, items)
+}
+
+/// Refuses the first item of which the path leads somewhere in a file's image already, or can lead nowhere.
+fn allow_in_file<R: Files + AllocGlobal>(
+    rt: &R,
+    image: &str,
+    items: &[Item],
+) -> Result<(), HostError>
+where
+    R::File: FileExt,
+{
+    let mut device: FileDevice<R::File, Brand> = FileDevice::open(rt, image)?;
+    let frozen = load(rt.alloc(), &mut device)?;
+    allow_items(rt.alloc(), &frozen, items)
+}
+
+/// How a line ends that put these of so many items into an image.
+fn end_of(alloc: Global, filled: Filled, count: usize) -> Result<(), Ended> {
+    let Filled { done, stopped, .. } = filled;
+    match stopped {
+        Some(error) => Err(Ended::after(alloc, &error, done, count)),
+        None => Ok(()),
+    }
 }

@@ -11,7 +11,7 @@ use snapshot::{Command, Volume};
 use std::alloc::Global;
 
 /// After how many bytes what waits is flushed, so that the queue of updates stays short.
-const BYTES_AT_ONCE: usize = 1 << 20;
+const BYTES_AT_ONCE: usize = 1 << 17;
 
 /// Flushes what waits, if it is this many bytes or more, and tells how many wait then. It does not wait for the medium: each
 /// image that the device holds on the way is one that a stop may leave.

@@ -1,5 +1,5 @@
 use Rattle.std.proofs.Common.{◌∙◌}
-use Rattle.device.specs.Zeroes.{new_file_count, new_file_zeroes}
+use Rattle.file_device.proofs.NewFileLemmas.{new_file_count, new_file_zeroes}
 use Rattle.fsvol.proofs.entry.make_file.Goals as goal
 
 pub make-requires-clause-count : goal.make-requires-clause-count

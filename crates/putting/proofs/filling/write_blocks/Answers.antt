@@ -15,9 +15,9 @@ loop-piece-preserved g c =
     let mid = c.loop-piece.volume in
     let new = c.write_piece.new.volume in
     let bytes = c.args.bytes.now in
-    let n = c.loop-piece.index in
-    let next = c.in_ok-index.index in
-    let cut = cut_step bytes n next _ _ _ c.in-Some.piece c.in-Some.is c.next.ensures.steps inv.2 inv.3 c.in_ok-index.ensures.next in (
+    let n = c.loop-piece.next.index in
+    let next = c.in_ok-next.next.index in
+    let cut = cut_step bytes n next _ _ _ c.in-Some.piece c.in-Some.is c.next.ensures.steps inv.2 inv.3 c.in_ok-next.ensures.next in (
       search rules,
       search rules,
       cut.size,
@@ -25,7 +25,7 @@ loop-piece-preserved g c =
       cut.within,
       λ h. inv.5 (c.write_piece.ensures.honest h),
       λ h. wrote_more (held old.device) (held mid.device) (held new.device) (image old.device) (image mid.device) (image new.device) old mid new c.args.handle n next bytes c.in-Some.piece.now
-          c.in_ok-index.ensures.next cut.piece_is (inv.6 (c.write_piece.ensures.honest h)) (c.in_ok-index.ensures.written h),
+          c.in_ok-next.ensures.next cut.piece_is (inv.6 (c.write_piece.ensures.honest h)) (c.in_ok-next.ensures.written h),
     )
 
 pub loop-piece-init : goal.loop-piece-init
@@ -49,4 +49,4 @@ returns-clause-written g c = λ honest.
     let old = c.args.volume.now in
     let new = c.loop-piece.volume in
     subst (λ n. Adds (held old.device) (image old.device) old (block_writes c.args.handle c.args.bytes.now n) (held new.device) (image new.device) new)
-    (cut_end c.args.bytes.now c.loop-piece.index _ _ _ c.in-None.is c.next.ensures.steps inv.3 inv.4) (inv.6 honest)
+    (cut_end c.args.bytes.now c.loop-piece.next.index _ _ _ c.in-None.is c.next.ensures.steps inv.3 inv.4) (inv.6 honest)

@@ -8,8 +8,8 @@ invariant-loop-piece g l =
     (goal.iterator-loop-piece g).can_next l.piece-iterator
     × (goal.iterator-loop-piece g).is_finite l.piece-iterator
     × (chunks_size l.piece-iterator ≡ 1024)
-    × (chunks_rest l.piece-iterator ≡ drop (l.index * 1024) l.bytes)
-    × (l.index * 1024 < length l.bytes + 1024)
+    × (chunks_rest l.piece-iterator ≡ drop (l.next.index * 1024) l.bytes)
+    × (l.next.index * 1024 < length l.bytes + 1024)
     × (g.D.Device.honest l.volume.device → g.D.Device.honest l.fn.volume.device)
     × (g.D.Device.honest l.volume.device → Adds (g.D.Device.held l.fn.volume.device) (g.D.Device.image l.fn.volume.device) l.fn.volume
-    (block_writes l.handle l.bytes l.index) (g.D.Device.held l.volume.device) (g.D.Device.image l.volume.device) l.volume)
+    (block_writes l.handle l.bytes l.next.index) (g.D.Device.held l.volume.device) (g.D.Device.image l.volume.device) l.volume)

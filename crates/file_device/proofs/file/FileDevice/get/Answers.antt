@@ -1,0 +1,15 @@
+use Rattle.std.proofs.Common.{sym, subst}
+use Rattle.std.proofs.lemmas.Result.{on_ok_weaker}
+use Rattle.file_device.specs.Calls.{Calls}
+use Rattle.file_device.specs.Runs.{IsUntouched}
+use Rattle.file_device.proofs.CallLemmas.{fetched}
+use Rattle.file_device.proofs.file.FileDevice.get.Goals as goal
+
+pub fetch-requires : goal.fetch-requires
+fetch-requires g c = subst (λ (v : Calls). IsUntouched v.waiting c.args.address) (sym c.let_go.ensures) (c.find.ensures.none c.in_default.is)
+
+pub returns-clause-block : goal.returns-clause-block
+returns-clause-block g c =
+    on_ok_weaker c.fetch.result
+    (λ is h _. fetched g.S.Start.first c.let_go.new.self c.fetch.new.self c.args.address c.fetch.new.to
+    (subst (λ (v : Calls). IsUntouched v.waiting c.args.address) (sym c.let_go.ensures) (c.find.ensures.none c.in_default.is)) is h) c.fetch.ensures.read

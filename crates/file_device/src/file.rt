@@ -1,0 +1,393 @@
+ghost use Rattle.std.specs.Prelude.{◌≡◌, ◌⊎◌, ℕ, ◌<◌, ◌*◌, ◌+◌, ◌-◌, ◌^◌, min, true, false, None, List, [], ◌∷◌, ◌++◌, IfOk, IfErr, IfSome, IsOkUnless, OnErr, OnOk, replicate};
+ghost use Rattle.layout.specs.declared.refusal.Refusal.TheVariants.{BadLength, Device as DeviceRefusal};
+ghost use Rattle.model.specs.Image.{IsBlock, block_at};
+ghost use Rattle.device.specs.Writes.{CountsFaults};
+ghost use Rattle.device.specs.Memory.{IsWholeBlocks};
+ghost use Rattle.device.specs.Zeroes.{zeroes_are_whole};
+ghost use Rattle.file_device.specs.Calls.{GoesOn, IsHonestFile, call_at, calls_of, held_so_far, image_now};
+ghost use Rattle.file_device.specs.Runs.{IsUntouched, writes_of_run};
+ghost use Rattle.file_device.specs.declared.file.Call.TheVariants.{ReadBlock};
+
+use crate::run::{Earlier, RUN_BLOCKS, Run};
+use device::{Device, DeviceFault};
+use http_server::Log;
+use layout::{BLOCK_BYTES, Block, Refusal};
+use std::fs::{OpenFile, OpenOptions};
+use std::marker::{Brand, Model, PhantomData};
+use std::os::unix::fs::FileExt;
+use std::rt::Files;
+use std::{fs, io};
+
+/// What a file held before its first call, block by block. Only clauses read it.
+pub trait Start {
+    ghost first: { ℕ → List ℕ };
+
+    ghost whole: { (a : ℕ) → IsBlock (first a) };
+}
+
+impl Start for Brand {
+    ghost first = { λ _. replicate 1024 0 };
+
+    ghost whole = { λ _. zeroes_are_whole };
+}
+
+/// A call that a file answered, and the address of its block.
+#[derive(Clone, Copy, Debug, PartialEq, Eq)]
+pub enum Call {
+    ReadBlock(u32),
+    WriteBlock(u32),
+}
+
+/// A file as a device. It keeps a history of what the file was asked and answered, which only clauses read: no contract can
+/// say what a file gives back, so what is proved of the blocks of a file has as its premise that each block that the file
+/// gave is what it held at first or what it was given there since. A block that is read out of memory needs no premise of
+/// its own: that it is the one that stands there is proved.
+///
+/// Blocks that are read one after another come from the file in runs, and those that are read alone are kept, each until
+/// another needs its place: so what others write to the file meanwhile may stay unseen. A device that gathers gives the file
+/// blocks that are written one after another in runs, too: the last ones wait in memory until another block is written, or
+/// `sync` or `give` is called. The file is given all writes in their order, so that after each call of the system it holds
+/// what some of the writes left, the first first.
+#[derive(Drop)]
+pub struct FileDevice<F, S: Start> {
+    file: F,
+    count: u32,
+    failures: u64,
+    /// What the file was asked and answered.
+    answered: Log<Call, Block>,
+    /// The blocks that were read or written last.
+    kept: Run,
+    /// Whether what is kept was written, and the file was not given it yet.
+    waits: bool,
+    /// Blocks that were read alone, each as it was written last.
+    earlier: Earlier,
+    /// Whether writes may wait.
+    gathers: bool,
+    start: PhantomData<S>,
+}
+
+impl<F, S: Start> Model for FileDevice<F, S> {
+    ghost use Rattle.file_device.specs.Calls.{Calls, image_of};
+    ghost use Rattle.file_device.specs.Runs.{IsKeeping, waiting, writes_of_run, writes_of_earlier};
+
+    ghost Value = { Calls };
+
+    ghost view = { λ device. record { count = device.count; answered = device.answered.items; waiting = waiting device.waits device.kept; failures = device.failures } };
+
+    ghost invariant = { λ device. IsKeeping (image_of S.first device.count) device.answered.items (waiting device.waits device.kept) (writes_of_run device.kept) (writes_of_earlier device.earlier) };
+}
+
+impl<F, S: Start> FileDevice<F, S> {
+    /// The device over a file of this many blocks, with no call made yet.
+    fn over(file: F, count: u32) -> FileDevice<F, S>
+        ensures { result ≡ record { count = count; answered = []; waiting = []; failures = 0 } }
+    {
+        FileDevice {
+            file,
+            count,
+            failures: 0,
+            answered: Log::new(),
+            kept: Run::before(0),
+            waits: false,
+            earlier: Earlier::none(),
+            gathers: false,
+            start: PhantomData,
+        }
+    }
+
+    /// The same device, which gathers what is written.
+    pub fn gathering(self) -> FileDevice<F, S>
+        ensures { result ≡ self }
+    {
+        FileDevice {
+            gathers: true,
+            ..self
+        }
+    }
+
+    /// A fault, which is counted.
+    fn fault(&mut self) -> DeviceFault
+        ensures { self.new ≡ record self.old { failures = min (self.old.failures + 1) (2 ^ 64 - 1) } }
+    {
+        self.failures = self.failures.saturating_add(1);
+        DeviceFault
+    }
+
+    /// The block of this address, where a copy of it is kept. Where none is, no block waits for this address.
+    fn find(&self, address: u32) -> Option<&Block>
+        ensures copy { IfSome result (λ block. IsHonestFile S.first self.now → address < self.now.count → block.now ≡ block_at (image_now S.first self.now) address) }
+        ensures none { result ≡ None → IsUntouched self.now.waiting address }
+    {
+        match self.kept.block(address) {
+            Some(block) => Some(block),
+            None => self.earlier.block(address),
+        }
+    }
+
+    /// Lets go of the blocks that are kept, where none of them waits; the next ones are read from behind this address on.
+    fn let_go(&mut self, address: u32)
+        ensures { self.new ≡ self.old }
+    {
+        if self.waits {
+            return;
+        }
+        self.kept.clear(address.saturating_add(1));
+    }
+}
+
+impl<F: FileExt, S: Start> FileDevice<F, S> {
+    /// Gives the file what waits; then it was given each write that was answered. After a fault it still waits.
+    pub fn give(&mut self) -> Result<(), DeviceFault>
+        ensures given { OnOk result (self.new ≡ record self.old { answered = self.old.answered ++ calls_of true self.old.waiting; waiting = [] }) }
+        ensures fault { OnErr result (self.new ≡ record self.old { failures = min (self.old.failures + 1) (2 ^ 64 - 1) }) }
+    {
+        match self.give_waiting() {
+            Ok(()) => Ok(()),
+            Err(_) => Err(self.fault()),
+        }
+    }
+
+    /// Gives the file what waits, and counts no fault.
+    fn give_waiting(&mut self) -> io::Result<()>
+        ensures given { OnOk result (self.new ≡ record self.old { answered = self.old.answered ++ calls_of true self.old.waiting; waiting = [] }) }
+        ensures refused { OnErr result (self.new ≡ self.old) }
+    {
+        if !self.waits {
+            return Ok(());
+        }
+        self.file.write_all_at(self.kept.blocks().as_flattened(), offset(self.kept.first()))?;
+        add_run(&mut self.answered, &self.kept, true);
+        self.waits = false;
+        Ok(())
+    }
+
+    /// Gets a block from what is kept, or else from the file.
+    fn get(&mut self, address: u32, to: &mut Block) -> io::Result<()>
+        ensures read { GoesOn self.old self.new [] }
+        ensures failures { self.new.failures ≡ self.old.failures }
+        ensures block { OnOk result (IsHonestFile S.first self.new → address < self.new.count → to.new ≡ block_at (image_now S.first self.new) address) }
+    {
+        self.read_ahead(address);
+        if let Some(block) = self.find(address) {
+            *to = *block;
+            return Ok(());
+        }
+        self.let_go(address);
+        self.fetch(address, to)
+    }
+
+    /// Reads a run of blocks from this one on, where nothing waits and the one before it was read last; none is kept where the
+    /// file does not give them all.
+    fn read_ahead(&mut self, address: u32)
+        ensures read { GoesOn self.old self.new [] }
+        ensures failures { self.new.failures ≡ self.old.failures }
+    {
+        if self.waits || !self.kept.ends_before(address) {
+            return;
+        }
+        let left = self.count.saturating_sub(address) as usize;
+        let count = left.min(RUN_BLOCKS);
+        self.kept.read(&self.file, address, count);
+        add_run(&mut self.answered, &self.kept, false);
+    }
+
+    /// Reads a block from the file, and keeps a copy of it. No block may wait for this address.
+    fn fetch(&mut self, address: u32, to: &mut Block) -> io::Result<()>
+        requires { IsUntouched self.old.waiting address }
+        ensures read { OnOk result (self.new ≡ record self.old { answered = self.old.answered ++ (ReadBlock address, to.new) ∷ [] }) }
+        ensures refused { OnErr result (self.new ≡ self.old) }
+    {
+        self.file.read_exact_at(to, offset(address))?;
+        self.answered = self.answered.and(&Call::ReadBlock(address), to);
+        self.earlier.keep(address, to);
+        Ok(())
+    }
+
+    /// Writes a block, and counts no fault.
+    fn take(&mut self, address: u32, from: &Block) -> io::Result<()>
+        ensures taken { OnOk result (GoesOn self.old self.new ((address, from.now) ∷ [])) }
+        ensures refused { OnErr result (GoesOn self.old self.new []) }
+        ensures failures { self.new.failures ≡ self.old.failures }
+    {
+        if self.gathers {
+            return self.gather(address, from);
+        }
+        self.put(address, from)
+    }
+
+    /// Keeps a block that is written, and gives the file those before it, if they are no run with it.
+    fn gather(&mut self, address: u32, from: &Block) -> io::Result<()>
+        ensures taken { OnOk result (GoesOn self.old self.new ((address, from.now) ∷ [])) }
+        ensures refused { OnErr result (GoesOn self.old self.new []) }
+        ensures failures { self.new.failures ≡ self.old.failures }
+    {
+        if self.waits && self.kept.goes_on(address) {
+            self.kept.push(from);
+            self.earlier.replace(address, from);
+            return Ok(());
+        }
+        self.give_waiting()?;
+        self.earlier.replace(address, from);
+        self.kept.start(address, from);
+        self.waits = true;
+        Ok(())
+    }
+
+    /// Gives the file a block that is written, and what waited before it.
+    fn put(&mut self, address: u32, from: &Block) -> io::Result<()>
+        ensures taken { OnOk result (GoesOn self.old self.new ((address, from.now) ∷ [])) }
+        ensures refused { OnErr result (GoesOn self.old self.new []) }
+        ensures failures { self.new.failures ≡ self.old.failures }
+    {
+        self.give_waiting()?;
+        self.file.write_all_at(from, offset(address))?;
+        self.answered = self.answered.and(&Call::WriteBlock(address), from);
+        self.kept.replace(address, from);
+        self.earlier.replace(address, from);
+        // What waited was given.
+        self.waits = false;
+        Ok(())
+    }
+}
+
+impl<F: FileExt + OpenFile, S: Start> FileDevice<F, S> {
+    /// Gives the file what waits, and then waits until what it was given has reached the medium.
+    fn settle(&mut self) -> Result<(), DeviceFault>
+        ensures same { GoesOn self.old self.new [] }
+        ensures given { OnOk result (self.new.waiting ≡ []) }
+        ensures cause { CountsFaults result self.old.failures self.new.failures }
+    {
+        self.give()?;
+        match self.file.sync_data() {
+            Ok(()) => Ok(()),
+            Err(_) => Err(self.fault()),
+        }
+    }
+}
+
+/// Adds to what a file answered that it was given the blocks of a run, or gave them.
+fn add_run(answered: &mut Log<Call, Block>, run: &Run, is_write: bool)
+    ensures { answered.new.items ≡ answered.old.items ++ calls_of is_write (writes_of_run run.now) }
+{
+    for (at, block) in run.blocks().iter().enumerate() {
+        *answered = answered.and(&call_at(is_write, run.first() + at as u32), block);
+    }
+}
+
+/// The call that writes the block of this address, or reads it.
+fn call_at(is_write: bool, address: u32) -> Call
+    ensures { result ≡ call_at is_write address }
+{
+    if is_write {
+        return Call::WriteBlock(address);
+    }
+    Call::ReadBlock(address)
+}
+
+impl<F: OpenFile, S: Start> FileDevice<F, S> {
+    /// Opens a file for reading alone. It is refused where it cannot be opened or measured, and where its length is no
+    /// whole number of blocks, or none.
+    pub fn open<R: Files<File = F>>(rt: &R, path: &str) -> Result<FileDevice<F, S>, Refusal>
+        ensures new { IfOk result (λ device. (device.answered ≡ []) × (device.waiting ≡ []) × (device.failures ≡ 0) × (0 < device.count)) }
+        ensures error { IfErr result (λ refusal. (refusal ≡ DeviceRefusal) ⊎ (refusal ≡ BadLength)) }
+    {
+        let file = fs::open(rt, path).map_err(|_| Refusal::Device)?;
+        let count = blocks_in(&file)?;
+        Ok(FileDevice::over(file, count))
+    }
+
+    /// Opens a file for reading and writing. It is refused as by `open`.
+    pub fn open_to_write<R: Files<File = F>>(
+        rt: &R,
+        path: &str,
+    ) -> Result<FileDevice<F, S>, Refusal>
+        ensures new { IfOk result (λ device. (device.answered ≡ []) × (device.waiting ≡ []) × (device.failures ≡ 0) × (0 < device.count)) }
+        ensures error { IfErr result (λ refusal. (refusal ≡ DeviceRefusal) ⊎ (refusal ≡ BadLength)) }
+    {
+        let file = OpenOptions::new()
+            .read(true)
+            .write(true)
+            .open(rt, path)
+            .map_err(|_| Refusal::Device)?;
+        let count = blocks_in(&file)?;
+        Ok(FileDevice::over(file, count))
+    }
+
+    /// Makes a file of this many blocks, all zero, for writing alone: each read is a fault. A file that was there is
+    /// replaced.
+    pub fn create<R: Files<File = F>>(
+        rt: &R,
+        path: &str,
+        blocks: u32,
+    ) -> Result<FileDevice<F, S>, Refusal>
+        ensures new { IfOk result (λ device. device ≡ record { count = blocks; answered = []; waiting = []; failures = 0 }) }
+        ensures error { IsOkUnless result Refusal.Device }
+    {
+        let file = fs::create(rt, path).map_err(|_| Refusal::Device)?;
+        file.set_len(offset(blocks)).map_err(|_| Refusal::Device)?;
+        Ok(FileDevice::over(file, blocks))
+    }
+}
+
+/// How many blocks an open file has.
+fn blocks_in<F: OpenFile>(file: &F) -> Result<u32, Refusal>
+    ensures some { IfOk result (λ count. 0 < count) }
+    ensures error { IfErr result (λ refusal. (refusal ≡ DeviceRefusal) ⊎ (refusal ≡ BadLength)) }
+{
+    let metadata = file.metadata().map_err(|_| Refusal::Device)?;
+    count_of(metadata.len())
+}
+
+/// How many blocks a file of this many bytes has.
+fn count_of(bytes: u64) -> Result<u32, Refusal>
+    ensures count { IfOk result (λ count. (1024 * count ≡ bytes) × (0 < count)) }
+    ensures refused { IfErr result (λ refusal. (refusal ≡ BadLength) × (IsWholeBlocks bytes → ⊥)) }
+{
+    let count = bytes / BLOCK_BYTES as u64;
+    if count == 0 || bytes % BLOCK_BYTES as u64 != 0 || count > u64::from(u32::MAX) {
+        return Err(Refusal::BadLength);
+    }
+    Ok(count as u32)
+}
+
+/// The byte where the block of this address begins, and so the length of the blocks before it.
+pub(crate) fn offset(address: u32) -> u64
+    ensures { result ≡ 1024 * address }
+{
+    u64::from(address) * BLOCK_BYTES as u64
+}
+
+impl<F: FileExt + OpenFile, S: Start> Device for FileDevice<F, S> {
+    ghost honest = { λ device. IsHonestFile S.first device };
+
+    ghost image = { λ device. image_now S.first device };
+
+    ghost held = { λ device. held_so_far S.first device };
+
+    ghost failures = { λ device. device.failures };
+
+    fn blocks(&self) -> u32 {
+        self.count
+    }
+
+    fn read(&mut self, address: u32, to: &mut Block) -> Result<(), DeviceFault> {
+        match self.get(address, to) {
+            Ok(()) => Ok(()),
+            Err(_) => Err(self.fault()),
+        }
+    }
+
+    fn write(&mut self, address: u32, from: &Block) -> Result<(), DeviceFault> {
+        match self.take(address, from) {
+            Ok(()) => Ok(()),
+            Err(_) => Err(self.fault()),
+        }
+    }
+
+    fn sync(&mut self) -> Result<(), DeviceFault> {
+        self.settle()
+    }
+}
+
+#[cfg(test)]
+mod tests;
