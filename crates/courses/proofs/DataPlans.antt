@@ -1,8 +1,8 @@
 -- The plans of writes, truncations, closings and repairs, update by update.
-use Rattle.std.proofs.Common.{◌≡◌, ℕ, ◌≤◌, ◌-◌, Bool, true, false, ltb, List, [], ◌∷◌, refl, subst, IsTrue, arith}
+use Rattle.std.proofs.Common.{◌≡◌, ℕ, ◌≤◌, ◌-◌, ◌*◌, ◌==◌, Bool, true, false, ltb, List, [], ◌∷◌, refl, subst, IsTrue, arith}
 use Rattle.std.specs.Prelude.{if◌then◌else◌}
 use Rattle.model.specs.Layout.{Geometry}
-use Rattle.model.specs.View.{View, Inode}
+use Rattle.model.specs.View.{View, Inode, u32_at}
 use Rattle.model.specs.Cells.{SetInode, SetBlock, SetBytes}
 use Rattle.model.specs.Uses.{is_sound, is_sound_at, blocks_of, IsClaim}
 use Rattle.model.specs.Rules.{ObeysRules}
@@ -15,7 +15,7 @@ use Rattle.machine.specs.State.{State}
 use Rattle.machine.specs.Cells.{block_of, with_pointer}
 use Rattle.machine.specs.Effects.{size_after, with_links}
 use Rattle.plans_data.specs.Now.{now}
-use Rattle.plans_data.specs.Append.{Holder, InRecord, InTable, InNewTable, filled, linked, pointed, sized, appended}
+use Rattle.plans_data.specs.Append.{Holder, InRecord, InTable, InNewTable, filled, linked, pointed, pointer_after, sized, appended}
 use Rattle.plans_data.specs.Freeing.{freeing}
 use Rattle.plans_data.specs.Write.{MayWriteInPlace, MayWriteAppended, MayWriteMoved, written, relocated}
 use Rattle.plans_data.specs.Truncate.{truncation}
@@ -45,13 +45,18 @@ module _ (geo : Geometry) (disk : View) (q : List Pending) (rules : ObeysRules g
         enlarged_fits (start.inode n) size (Block b ∷ []) (u ∷ q) false (b ∷ [])
         (On u Start (Own b bytes [] (files_own geo start rules n k b claim) (no_cells []))) one (one_block b []) (ltb (start.inode n).size size)
 
+    -- the record, or nothing
+    no_block : (none : Bool) → AreOf (if none then [] else Record n ∷ []) []
+    no_block true = no_cells []
+    no_block false = λ c m. let e = only (Record n) (Block c) m in cc
+
     -- the indirect block is written after a block that the plan has written
-    table_fits : (b : ℕ) (bytes table : List ℕ) → IsNoFiles geo start b → IsClaim geo start n 268 (start.inode n).indirect
-        → Fits geo disk n q false ((start.inode n).indirect ∷ b ∷ []) (record { change = SetBytes (start.inode n).indirect table; after = Block b ∷ Record n ∷ [] } ∷ filled b bytes q)
-    table_fits b bytes table other claim =
-        On (record { change = SetBytes (start.inode n).indirect table; after = Block b ∷ Record n ∷ [] }) (filled_fits geo disk n q b bytes q [] other Start)
-        (Own (start.inode n).indirect table (Block b ∷ Record n ∷ []) (files_own geo start rules n 268 (start.inode n).indirect claim)
-        (one_more b (Record n ∷ []) [] (λ c m. let e = only (Record n) (Block c) m in cc)))
+    table_fits : (k b : ℕ) (bytes before table : List ℕ) → IsNoFiles geo start b → IsClaim geo start n 268 (start.inode n).indirect
+        → Fits geo disk n q false ((start.inode n).indirect ∷ b ∷ []) (record { change = SetBytes (start.inode n).indirect table; after = pointer_after n k b before } ∷ filled b bytes q)
+    table_fits k b bytes before table other claim =
+        On (record { change = SetBytes (start.inode n).indirect table; after = pointer_after n k b before }) (filled_fits geo disk n q b bytes q [] other Start)
+        (Own (start.inode n).indirect table (pointer_after n k b before) (files_own geo start rules n 268 (start.inode n).indirect claim)
+        (one_more b (if u32_at before (4 * (k - 12)) == 0 then [] else Record n ∷ []) [] (no_block (u32_at before (4 * (k - 12)) == 0))))
 
     pub appended_fits : (k b : ℕ) (bytes : List ℕ) (size : ℕ) (holder : Holder) → IsNoFiles geo start b → ((table : List ℕ) → holder ≡ InTable table → IsClaim geo start n 268 (start.inode n).indirect) → ((x : ℕ) (table : List ℕ) → holder ≡ InNewTable x table → IsNoFiles geo start x)
         → Fitting geo disk n q (appended n (start.inode n) k b bytes size holder q)
@@ -59,7 +64,7 @@ module _ (geo : Geometry) (disk : View) (q : List Pending) (rules : ObeysRules g
         record_fits geo disk n q (sized (pointed (start.inode n) k b InRecord) size) (Block b ∷ []) (filled b bytes q) true (b ∷ []) (filled_fits geo disk n q b bytes q [] other Start) one (one_block b [])
     appended_fits k b bytes size (InTable table) other kept fresh =
         record_fits geo disk n q (sized (start.inode n) size) (Block (start.inode n).indirect ∷ Block b ∷ []) (linked n (start.inode n) k b (InTable table) (filled b bytes q)) false ((start.inode n).indirect ∷ b ∷ [])
-        (table_fits b bytes (with_pointer table (k - 12) b) other (kept table refl)) one (one_more (start.inode n).indirect (Block b ∷ []) (b ∷ []) (one_block b []))
+        (table_fits k b bytes table (with_pointer table (k - 12) b) other (kept table refl)) one (one_more (start.inode n).indirect (Block b ∷ []) (b ∷ []) (one_block b []))
     appended_fits k b bytes size (InNewTable x table) other kept fresh =
         record_fits geo disk n q (sized (pointed (start.inode n) k b (InNewTable x table)) size) (Block x ∷ Block b ∷ []) (linked n (start.inode n) k b (InNewTable x table) (filled b bytes q)) true (x ∷ b ∷ [])
         (bytes_fits geo disk n q x table (BlockBit x ∷ Block b ∷ Record n ∷ []) (record { change = SetBlock x true; after = [] } ∷ filled b bytes q) (b ∷ []) (fresh x table refl)
@@ -71,7 +76,7 @@ module _ (geo : Geometry) (disk : View) (q : List Pending) (rules : ObeysRules g
     relocated_fits k b bytes size (InNewTable x table) other kept fresh = appended_fits k b bytes size (InNewTable x table) other kept fresh
     relocated_fits k b bytes size (InTable table) other kept fresh =
         enlarged_fits (start.inode n) size (Block (start.inode n).indirect ∷ Block b ∷ []) (linked n (start.inode n) k b (InTable table) (filled b bytes q)) false ((start.inode n).indirect ∷ b ∷ [])
-        (table_fits b bytes (with_pointer table (k - 12) b) other (kept table refl)) one (one_more (start.inode n).indirect (Block b ∷ []) (b ∷ []) (one_block b [])) (ltb (start.inode n).size size)
+        (table_fits k b bytes table (with_pointer table (k - 12) b) other (kept table refl)) one (one_more (start.inode n).indirect (Block b ∷ []) (b ∷ []) (one_block b [])) (ltb (start.inode n).size size)
 
   -- ---- what these ask for says so
 

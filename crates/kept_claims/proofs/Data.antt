@@ -12,7 +12,7 @@ use Rattle.ordering.specs.Cuts.{Cell, Record, BlockBit, Block, Pending, users_vi
 use Rattle.machine.specs.Cells.{block_of, with_pointer}
 use Rattle.machine.specs.Effects.{with_links, size_after}
 use Rattle.machine.specs.State.{State}
-use Rattle.plans_data.specs.Append.{Holder, InRecord, InTable, InNewTable, filled, linked, pointed, sized, known, appended}
+use Rattle.plans_data.specs.Append.{Holder, InRecord, InTable, InNewTable, filled, linked, pointed, pointer_after, sized, known, appended}
 use Rattle.plans_data.specs.Freeing.{freeing}
 use Rattle.plans_data.specs.Now.{now}
 use Rattle.plans_data.specs.Relink.{goes_away, relinking, closing, repairing, inode_of}
@@ -127,7 +127,7 @@ module _ (geo : Geometry) (disk : View) (q : List Pending) where
       relocated_since (InTable table) may =
           let t = (start.inode n).indirect in
           let s1 = filled_on may.free.unmarked in
-          let s2 = table_on geo disk q p1 nothing s1 t (with_pointer table (k - 12) b) (Block b ∷ Record n ∷ []) (bytes_metadata geo (users_view disk p1) t (with_pointer table (k - 12) b) (pointers may)) in
+          let s2 = table_on geo disk q p1 nothing s1 t (with_pointer table (k - 12) b) (pointer_after n k b table) (bytes_metadata geo (users_view disk p1) t (with_pointer table (k - 12) b) (pointers may)) in
           enlarged_on (linked n (start.inode n) k b (InTable table) p1) nothing s2 n size (known (start.inode n) b (InTable table)) refl may.write.sound may.write.file
           (same_blocks (start.inode n).size k (length piece) may.inside may.write.few)
         where

@@ -14,7 +14,7 @@ use Rattle.machine.specs.Cells.{with_pointer}
 use Rattle.machine.specs.Effects.{with_links}
 use Rattle.machine.specs.Room.{IsFreeBlock}
 use Rattle.machine.proofs.PointerTables.{pointer_here, pointer_there}
-use Rattle.plans_data.specs.Append.{Holder, InRecord, InTable, InNewTable, IsWhole, IsKeptIn, filled, linked, pointed, sized, known, appended}
+use Rattle.plans_data.specs.Append.{Holder, InRecord, InTable, InNewTable, IsWhole, IsKeptIn, filled, linked, pointed, pointer_after, sized, known, appended}
 use Rattle.plans_data.proofs.Blocks.{claims_indirect}
 use Rattle.plans_data.proofs.Numbers.{address_small}
 use Rattle.plans_data.proofs.Used.{Uses, Direct, Middle, Last, uses, used, value_direct, value_middle, value_last}
@@ -136,7 +136,7 @@ module _ (geo : Geometry) (disk : View) (q : List Pending) (rules : ObeysRules g
           ∙ sym (pointer_there table whole (k - 12) b (omega (arith, g.room)) small (j - 12) (λ e. omega (arith, e, less, low)))
 
       s2 : Since geo disk q p2 (Or new (Data b))
-      s2 = table_on geo disk q p1 (Or new (Data b)) (s1 g.free) t (with_pointer table (k - 12) b) (Block b ∷ Record n ∷ []) (bytes_metadata geo v1 t (with_pointer table (k - 12) b) same_pointers)
+      s2 = table_on geo disk q p1 (Or new (Data b)) (s1 g.free) t (with_pointer table (k - 12) b) (pointer_after n k b table) (bytes_metadata geo v1 t (with_pointer table (k - 12) b) same_pointers)
 
       table_kept_on : Since geo disk q (appended n old k b bytes size (InTable table) p) (Grown new b (InTable table))
       table_kept_on = record_on geo disk q p2 (Or new (Data b)) s2 n x (known old b (InTable table)) (λ j a m. elim (uses geo x j m.used) [

@@ -1,4 +1,4 @@
-ghost use Rattle.std.specs.Prelude.{◌≡◌, ◌≤◌, IfOk, IsErrOf, IsOkUnless, IsTrue, length, take};
+ghost use Rattle.std.specs.Prelude.{◌≡◌, ◌≤◌, IfOk, IsErrOf, IsOkUnless, IsTrue, OnOk, length, take};
 ghost use Rattle.device.specs.Writes.{HasFailed};
 ghost use Rattle.model.specs.Image.{image_view};
 ghost use Rattle.model.specs.Layout.{block_count, is_data_address};
@@ -6,20 +6,21 @@ ghost use Rattle.ordering.specs.Cuts.{users_view};
 ghost use Rattle.softdep.specs.Queued.{pending_of};
 
 use device::Device;
-use layout::{BLOCK_BYTES, Block, Refusal};
+use layout::{Block, Refusal};
 use softdep::Queue;
 use std::alloc::{AllocError, Global};
 
-/// The bytes of a data block as users see them: those that the last pending update of it gives, and else those that the
-/// device holds.
-pub(crate) fn bytes_of<D: Device>(
+/// Reads a data block as users see it: the bytes that the last pending update of it gives, and else those that the device
+/// holds.
+pub(crate) fn read_seen<D: Device>(
     device: &mut D,
     queue: &Queue,
     address: u32,
-) -> Result<Block, Refusal>
+    block: &mut Block,
+) -> Result<(), Refusal>
     requires address { IsTrue (is_data_address queue.now.geometry address) }
     requires count { length (D.image device.old) ≡ block_count queue.now.geometry }
-    ensures bytes { IfOk result (λ bytes. D.honest device.new → (users_view (image_view queue.now.geometry (D.image device.old)) (pending_of queue.now)).bytes address ≡ bytes) }
+    ensures bytes { OnOk result (D.honest device.new → (users_view (image_view queue.now.geometry (D.image device.old)) (pending_of queue.now)).bytes address ≡ block.new) }
     ensures image { D.image device.new ≡ D.image device.old }
     ensures held { D.held device.new ≡ D.held device.old }
     ensures honest { D.honest device.new → D.honest device.old }
@@ -27,11 +28,11 @@ pub(crate) fn bytes_of<D: Device>(
     ensures cause { IsErrOf result Refusal.Device → HasFailed (D.failures device.old) (D.failures device.new) }
 {
     if let Some(bytes) = queue.contents(address) {
-        return Ok(*bytes);
+        *block = *bytes;
+        return Ok(());
     }
-    let mut bytes = [0; BLOCK_BYTES];
-    device.read(address, &mut bytes)?;
-    Ok(bytes)
+    device.read(address, block)?;
+    Ok(())
 }
 
 /// The first bytes of a block, so many.

@@ -12,7 +12,7 @@ ghost use Rattle.live_writes.specs.Aimed.{seen_at, seen_before};
 ghost use Rattle.live.specs.Alive.{Answers, MayRefuse, disk_of};
 
 use crate::Live;
-use crate::bytes::{bytes_of, first_bytes};
+use crate::bytes::{first_bytes, read_seen};
 use crate::ending::Ending;
 use device::Device;
 use inode::INDIRECT_POSITION;
@@ -51,7 +51,8 @@ impl<D: Device> Live<D> {
         ensures untouched { (self.new.queue ≡ self.old.queue) × (self.new.kept ≡ self.old.kept) × (self.new.holdings ≡ self.old.holdings) }
     {
         let Reading { block, length } = reading_of(&self.metadata, &self.holdings, handle, index)?;
-        let bytes = bytes_of(&mut self.device, &self.queue, block)?;
+        let mut bytes = [0; BLOCK_BYTES];
+        read_seen(&mut self.device, &self.queue, block, &mut bytes)?;
         Ok(first_bytes(alloc, &bytes, length)?)
     }
 
@@ -75,8 +76,9 @@ impl<D: Device> Live<D> {
         ensures honest { D.honest self.new.device → D.honest self.old.device }
         ensures untouched { OnErr result ((self.new.queue ≡ self.old.queue) × (self.new.kept ≡ self.old.kept) × (self.new.holdings ≡ self.old.holdings)) }
     {
+        let mut before = [0; BLOCK_BYTES];
         let target = aim(&self.metadata, &self.holdings, handle, index, piece)?;
-        let before = self.bytes_under(&target)?;
+        self.read_under(&target, &mut before)?;
         let planned = live_writes::write(
             alloc,
             &self.metadata,
@@ -109,11 +111,11 @@ impl<D: Device> Live<D> {
         }
     }
 
-    /// The bytes that a piece is put over, as users see them; zeroes where there are none.
-    fn bytes_under(&mut self, target: &Target) -> Result<Block, Refusal>
+    /// Reads the block that a piece is put over, where there is one, as users see it.
+    fn read_under(&mut self, target: &Target, block: &mut Block) -> Result<(), Refusal>
         requires { IfSome (seen_at target.now.place) (λ a. IsTrue (is_data_address self.old.kept.geometry a)) }
-        ensures seen { IfOk result (λ bytes. D.honest self.new.device
-            → AreSeen (seen_before target.now bytes) (users_view (disk_of (D.image self.old.device) self.old) (pending_of self.old.queue))) }
+        ensures seen { OnOk result (D.honest self.new.device
+            → AreSeen (seen_before target.now block.new) (users_view (disk_of (D.image self.old.device) self.old) (pending_of self.old.queue))) }
         ensures image { D.image self.new.device ≡ D.image self.old.device }
         ensures held { D.held self.new.device ≡ D.held self.old.device }
         ensures honest { D.honest self.new.device → D.honest self.old.device }
@@ -122,8 +124,8 @@ impl<D: Device> Live<D> {
         ensures cause { IsErrOf result Refusal.Device → HasFailed (D.failures self.old.device) (D.failures self.new.device) }
     {
         match target.seen() {
-            Some(block) => bytes_of(&mut self.device, &self.queue, block),
-            None => Ok([0; BLOCK_BYTES]),
+            Some(address) => read_seen(&mut self.device, &self.queue, address, block),
+            None => Ok(()),
         }
     }
 

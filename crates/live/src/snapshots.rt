@@ -20,12 +20,12 @@ ghost use Rattle.live_states.specs.Snapshots.{AreRepairsOf, IsSettled, held_bloc
 ghost use Rattle.live.specs.Alive.{Answers, IsSnapshotOf, disk_of, state_of};
 
 use crate::Live;
-use crate::bytes::bytes_of;
+use crate::bytes::read_seen;
 use crate::live::issue;
 use device::Device;
 use findings::Repair;
 use frozen::Frozen;
-use layout::{Block, Geometry, Refusal};
+use layout::{BLOCK_BYTES, Block, Geometry, Refusal};
 use live_plans::Plan;
 use std::alloc::{AllocError, Global};
 use std::sync::Arc;
@@ -73,7 +73,9 @@ impl<D: Device> Live<D> {
         ensures honest { D.honest self.new.device → D.honest self.old.device }
         ensures untouched { (self.new.queue ≡ self.old.queue) × (self.new.kept ≡ self.old.kept) × (self.new.holdings ≡ self.old.holdings) }
     {
-        bytes_of(&mut self.device, &self.queue, address)
+        let mut bytes = [0; BLOCK_BYTES];
+        read_seen(&mut self.device, &self.queue, address, &mut bytes)?;
+        Ok(bytes)
     }
 
     /// Keeps a snapshot of what a check is to see: from now on no block of it is changed or given out. Nothing may be

@@ -1,4 +1,5 @@
-ghost use Rattle.std.specs.Prelude.{◌≡◌, ◌≤◌, ◌<◌, ◌∷◌, [], ℕ, Some, IfOk, IsFalse, IsTrue, OnOk, map, replicate};
+ghost use Rattle.std.specs.Prelude.{◌≡◌, ◌+◌, ◌≤◌, ◌<◌, ◌∷◌, [], ℕ, Some, IfOk, IsFalse, IsTrue, OnOk, map, replicate};
+ghost use Rattle.std.specs.Arc.{arc_value};
 ghost use Rattle.frozen.specs.Kept.{frozen_view};
 ghost use Rattle.model.specs.Layout.{is_data_address, is_number};
 ghost use Rattle.model.specs.Uses.{blocks_of, direct_positions, indirect_position, is_directory_at};
@@ -7,14 +8,15 @@ ghost use Rattle.machine.specs.Cells.{with_pointer};
 ghost use Rattle.machine.specs.Effects.{with_links};
 ghost use Rattle.machine.specs.Room.{is_full};
 ghost use Rattle.metadata.specs.Shown.{Shows};
-ghost use Rattle.plans_data.specs.Append.{InTable, InNewTable, filled, linked};
+ghost use Rattle.plans_data.specs.Append.{InTable, InNewTable, filled, linked, pointer_after};
+ghost use Rattle.updates.specs.Values.{cell};
 ghost use Rattle.live_places.specs.Chosen.{IsNewBlock};
 ghost use Rattle.live_states.specs.Drafts.{GoesOn};
 ghost use Rattle.live_plans.specs.Grown.{Grows, HasPointers, PointsTo};
 
 use crate::{Plan, bytes_of};
 use inode::{DIRECT_POINTERS, INDIRECT_POSITION, Record};
-use layout::{BLOCK_BYTES, Block};
+use layout::{BLOCK_BYTES, Block, u32_at};
 use metadata::Metadata;
 use std::alloc::{AllocError, Global};
 use std::sync::Arc;
@@ -43,7 +45,8 @@ pub(crate) fn grow(
     ensures geometry { OnOk result (plan.new.geometry ≡ plan.old.geometry) }
     ensures grows { OnOk result ((view : View) → Shows metadata.now view → Grows metadata.now.geometry view directory parent.now block table plan.old plan.new) }
 {
-    fill(alloc, plan, block, &[0; BLOCK_BYTES])?;
+    let zeroes = Arc::new(alloc, [0; BLOCK_BYTES])?;
+    fill(alloc, plan, block, zeroes)?;
     let mut grown = *parent;
     grown.size += BLOCK_BYTES as u32;
     let position = parent.blocks() as usize;
@@ -58,12 +61,11 @@ pub(crate) fn grow(
 }
 
 /// Adds the updates that mark a block and then fill it.
-pub fn fill(alloc: Global, plan: &mut Plan, block: u32, bytes: &Block) -> Result<(), AllocError>
+pub fn fill(alloc: Global, plan: &mut Plan, block: u32, bytes: Arc<Block>) -> Result<(), AllocError>
     requires { IsTrue (is_data_address plan.old.geometry block) }
-    ensures { OnOk result (GoesOn plan.old plan.new (filled block bytes.now)) }
+    ensures { OnOk result (GoesOn plan.old plan.new (filled block (arc_value bytes))) }
 {
     plan.push(Change::SetBlock(block, true), Vec::new(alloc))?;
-    let bytes = Arc::new(alloc, *bytes)?;
     let after = vec![in alloc; Cell::BlockBit(block)]?;
     plan.push(Change::SetBytes(block, bytes), after)
 }
@@ -122,11 +124,30 @@ pub fn point_at(
     requires room { position < indirect_position }
     ensures { OnOk result (GoesOn plan.old plan.new (linked number owner.now position block (InTable pointers.now))) }
 {
+    let place = position as usize - DIRECT_POINTERS;
+    let after = pointer_after(alloc, number, place, block, pointers)?;
     let mut pointers = *pointers;
-    put_pointer(&mut pointers, position as usize - DIRECT_POINTERS, block);
+    put_pointer(&mut pointers, place, block);
     let bytes = Arc::new(alloc, pointers)?;
-    let after = vec![in alloc; Cell::Block(block), Cell::Record(number)]?;
     plan.push(Change::SetBytes(owner.indirect, bytes), after)
+}
+
+/// What a pointer to a block comes after that is put into this place of an inode's indirect block: the block, and where another
+/// pointer stood there the inode's record too, since an older one may have it in use.
+pub(crate) fn pointer_after(
+    alloc: Global,
+    number: u32,
+    place: usize,
+    block: u32,
+    pointers: &Block,
+) -> Result<Vec<Cell>, AllocError>
+    requires { place < 256 }
+    ensures { IfOk result (λ after. map cell after.items ≡ pointer_after number (12 + place) block pointers.now) }
+{
+    if u32_at(pointers, POINTER_BYTES * place) == 0 {
+        return Ok(vec![in alloc; Cell::Block(block)]?);
+    }
+    Ok(vec![in alloc; Cell::Block(block), Cell::Record(number)]?)
 }
 
 /// Adds the updates that mark a new indirect block of an inode, and put the pointer to a new block into it.

@@ -4,6 +4,7 @@ ghost use Rattle.model.specs.Uses.{is_directory_at};
 ghost use Rattle.live_plans.specs.Grown.{HasPointers};
 
 use crate::entering::enter_at;
+use crate::growing::pointer_after;
 use crate::{Found, NewEntry, Plan, locate};
 use device::{Before, Device, MemDevice, format};
 use frozen::{Frozen, load};
@@ -264,13 +265,27 @@ fn a_directory_grows_by_its_indirect_block(rt: HostRuntime) -> Result<(), Fail> 
     let mut pointers = [0; BLOCK_BYTES];
     pointers[0] = 5;
     pointers[4] = 7;
-    let behind = [Cell::Block(7), Cell::Record(5)];
-    assert!(rt; writes(&updates[2], 6, &pointers, &behind));
+    assert!(rt; writes(&updates[2], 6, &pointers, &[Cell::Block(7)]));
     let blocks = [Cell::Block(6), Cell::Block(7)];
     assert!(rt; sets(&updates[3], 5, &directory(12, 0, 14336, 6), &blocks));
     let mut after = [Cell::Block(5); 14];
     after[0] = Cell::Record(9);
     assert!(rt; writes(&updates[4], 7, &first_entry(), &after));
+    Ok(())
+}
+
+#[test]
+fn a_pointer_over_another_waits_for_the_inode(rt: HostRuntime) -> Result<(), Fail> {
+    let mut pointers = [0; BLOCK_BYTES];
+    pointers[4] = 9;
+    for (place, wanted) in [
+        (0, [Cell::Block(7)].as_slice()),
+        (1, [Cell::Block(7), Cell::Record(5)].as_slice()),
+        (2, [Cell::Block(7)].as_slice()),
+    ] {
+        let after = pointer_after(rt.alloc(), 5, place, 7, &pointers)?;
+        assert_eq!(rt; after.as_slice(), wanted);
+    }
     Ok(())
 }
 

@@ -1,9 +1,12 @@
 -- What a block holds after a piece.
 use Rattle.std.proofs.Common.{◌≡◌, ◌≤◌, ◌+◌, ◌-◌, ℕ, zero, suc, List, [], ◌∷◌, ◌++◌, length, take, drop, inl, inr, refl, sym, ap, ◌∙◌, subst, arith, length-take}
 use Rattle.std.proofs.lemmas.Bool.{cases_lt}
-use Rattle.std.proofs.lemmas.List.{drop-take}
+use Rattle.std.proofs.lemmas.List.{drop-take, length-replicate}
 use Rattle.model.specs.Image.{IsBlock}
 use Rattle.machine.specs.Effects.{IsOverwritten}
+use Rattle.live_writes.specs.Written.{bytes_after, bytes_under}
+use Rattle.live_writes.specs.declared.aiming.Place.{Place}
+use Rattle.live_writes.specs.declared.aiming.Place.TheVariants.{InPlace, Behind, Elsewhere}
 
 -- the first of some numbers begin them
 takes : (n : ℕ) (xs : List ℕ) → take (length (take n xs)) xs ≡ take n xs
@@ -56,3 +59,13 @@ over_short n bytes before whole short =
     let same : take n bytes ++ drop (length (take n bytes)) before ≡ take n bytes =
     ap (λ (l : List ℕ). take n bytes ++ l) (drops_all (length (take n bytes)) before short) ∙ append_none (take n bytes) in
     record { whole = whole; begins = ap (λ (l : List ℕ). take (length l) bytes) same ∙ takes n bytes ∙ sym same }
+
+-- a piece as long as a block leaves nothing of what was there
+under_short : (place : Place) (before : List ℕ) → length before ≤ 1024 → length (bytes_under place before) ≤ 1024
+under_short (InPlace a) before short = short
+under_short (Behind b table) before short = omega (arith, length-replicate {A = ℕ} 1024 0)
+under_short (Elsewhere a b) before short = short
+
+pub over_all : (place : Place) (before piece : List ℕ) → length before ≤ 1024 → length piece ≡ 1024 → piece ≡ bytes_after place before piece
+over_all place before piece short long =
+    sym (ap (λ (l : List ℕ). piece ++ l) (drops_all (length piece) (bytes_under place before) (omega (arith, under_short place before short, long))) ∙ append_none piece)

@@ -67,23 +67,33 @@ fn too_few_blocks_are_refused(rt: HostRuntime) -> Result<(), Fail> {
 }
 
 #[test]
-fn a_piece_leaves_what_is_behind_it(rt: HostRuntime) {
+fn a_piece_leaves_what_is_behind_it(rt: HostRuntime) -> Result<(), Fail> {
     let mut wanted = [9; BLOCK_BYTES];
     wanted[0] = b'a';
     wanted[1] = b'b';
     let place = Place::InPlace { block: 5 };
-    assert!(rt; overwritten(&place, &[9; BLOCK_BYTES], b"ab") == wanted);
+    assert!(rt; *overwritten(rt.alloc(), &place, &[9; BLOCK_BYTES], b"ab")? == wanted);
     let place = Place::Elsewhere { old: 5, block: 7 };
-    assert!(rt; overwritten(&place, &[9; BLOCK_BYTES], b"ab") == wanted);
+    assert!(rt; *overwritten(rt.alloc(), &place, &[9; BLOCK_BYTES], b"ab")? == wanted);
+    Ok(())
 }
 
 #[test]
-fn a_new_block_has_zeroes_behind_the_piece(rt: HostRuntime) {
+fn a_new_block_has_zeroes_behind_the_piece(rt: HostRuntime) -> Result<(), Fail> {
     let mut wanted = [0; BLOCK_BYTES];
     wanted[0] = b'a';
     wanted[1] = b'b';
     let place = behind(7, None);
-    assert!(rt; overwritten(&place, &[9; BLOCK_BYTES], b"ab") == wanted);
+    assert!(rt; *overwritten(rt.alloc(), &place, &[9; BLOCK_BYTES], b"ab")? == wanted);
+    Ok(())
+}
+
+#[test]
+fn a_piece_as_long_as_a_block_leaves_nothing(rt: HostRuntime) -> Result<(), Fail> {
+    let place = Place::InPlace { block: 5 };
+    let piece = [7; BLOCK_BYTES];
+    assert!(rt; *overwritten(rt.alloc(), &place, &[9; BLOCK_BYTES], &piece)? == piece);
+    Ok(())
 }
 
 #[test]

@@ -1,4 +1,5 @@
 ghost use Rattle.std.specs.Prelude.{◌≡◌, ◌<◌, ◌≤◌, ◌∷◌, [], ℕ, IfOk, IsTrue, List, OnOk, length, map};
+ghost use Rattle.std.specs.Arc.{arc_value};
 ghost use Rattle.std.specs.List.{All};
 ghost use Rattle.frozen.specs.Kept.{frozen_view};
 ghost use Rattle.machine.specs.Command.{Done, Write};
@@ -21,7 +22,7 @@ use inode::{DIRECT_POINTERS, Record};
 use layout::{BLOCK_BYTES, Block};
 use live_holdings::Holdings;
 use live_plans::{Plan, Planned, fill, point_at, point_first};
-use metadata::Metadata;
+use metadata::{Metadata, share};
 use std::alloc::{AllocError, Global};
 use std::sync::Arc;
 use updates::{Cell, Change};
@@ -51,8 +52,8 @@ pub fn write(
     let size = metadata.frozen().record(target.file).size;
     let end = BLOCK_BYTES as u32 * target.index + piece.len() as u32;
     let size = if end > size { end } else { size };
-    let bytes = overwritten(&target.place, before, piece);
-    let plan = updates(alloc, metadata, target, &bytes, size)?;
+    let bytes = overwritten(alloc, &target.place, before, piece)?;
+    let plan = updates(alloc, metadata, target, bytes, size)?;
     let holds = held_blocks(alloc, &target.place)?;
     Ok(Planned { plan, holds })
 }
@@ -68,16 +69,39 @@ pub(crate) fn held_blocks(alloc: Global, place: &Place) -> Result<Vec<u32>, Allo
 }
 
 /// The new bytes of the block: the piece, and behind it what was there, or zeroes in a block behind the last one.
-pub(crate) fn overwritten(place: &Place, before: &Block, piece: &[u8]) -> Block
+pub(crate) fn overwritten(
+    alloc: Global,
+    place: &Place,
+    before: &Block,
+    piece: &[u8],
+) -> Result<Arc<Block>, AllocError>
     requires { length piece.now ≤ 1024 }
-    ensures { result ≡ bytes_after place.now before.now piece.now }
+    ensures bytes { IfOk result (λ bytes. arc_value bytes ≡ bytes_after place.now before.now piece.now) }
+    ensures whole { IfOk result (λ bytes. IsBlock (arc_value bytes)) }
+{
+    match piece.as_array() {
+        Some(whole) => share(alloc, whole),
+        None => overwritten_in_part(alloc, place, before, piece),
+    }
+}
+
+/// The new bytes of the block where the piece may be shorter than it.
+fn overwritten_in_part(
+    alloc: Global,
+    place: &Place,
+    before: &Block,
+    piece: &[u8],
+) -> Result<Arc<Block>, AllocError>
+    requires { length piece.now ≤ 1024 }
+    ensures bytes { IfOk result (λ bytes. arc_value bytes ≡ bytes_after place.now before.now piece.now) }
+    ensures whole { IfOk result (λ bytes. IsBlock (arc_value bytes)) }
 {
     let mut bytes = match place {
         Place::Behind { .. } => [0; BLOCK_BYTES],
         _ => *before,
     };
     bytes[..piece.len()].copy_from_slice(piece);
-    bytes
+    share(alloc, &bytes)
 }
 
 /// The updates by which the block that is written gets its bytes, and the file this size.
@@ -85,13 +109,12 @@ fn updates(
     alloc: Global,
     metadata: &Metadata,
     target: &Target,
-    bytes: &Block,
+    bytes: Arc<Block>,
     size: u32,
 ) -> Result<Plan, AllocError>
     requires pointers { HasPointers metadata.now target.now.file }
     requires fits { (holdings : Held) × Fits metadata.now holdings target.now }
-    ensures whole { IfOk result (λ plan. IsBlock bytes.now) }
-    ensures goes { IfOk result (λ plan. GoesOn (record { geometry = metadata.now.geometry; file = target.now.file; updates = [] }) plan (updates_at metadata.now target.now bytes.now size)) }
+    ensures { IfOk result (λ plan. GoesOn (record { geometry = metadata.now.geometry; file = target.now.file; updates = [] }) plan (updates_at metadata.now target.now (arc_value bytes) size)) }
 {
     let mut plan = Plan::new(alloc, metadata.frozen().geometry(), target.file);
     match target.place {
@@ -114,11 +137,10 @@ fn updates(
 }
 
 /// Adds the update that gives a block these bytes.
-fn replace(alloc: Global, plan: &mut Plan, block: u32, bytes: &Block) -> Result<(), AllocError>
+fn replace(alloc: Global, plan: &mut Plan, block: u32, bytes: Arc<Block>) -> Result<(), AllocError>
     requires { IsTrue (is_data_address plan.old.geometry block) }
-    ensures { OnOk result (GoesOn plan.old plan.new (λ q. record { change = SetBytes block bytes.now; after = [] } ∷ q)) }
+    ensures { OnOk result (GoesOn plan.old plan.new (λ q. record { change = SetBytes block (arc_value bytes); after = [] } ∷ q)) }
 {
-    let bytes = Arc::new(alloc, *bytes)?;
     plan.push(Change::SetBytes(block, bytes), Vec::new(alloc))
 }
 

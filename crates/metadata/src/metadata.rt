@@ -21,7 +21,7 @@ ghost use Rattle.metadata.specs.Staged.{IsStaged, NoneAt, IsLastAt, AreBitsOf, I
 use crate::{Bit, Staged};
 use free_space::FreeSpace;
 use frozen::{Frozen, Placed};
-use layout::{BLOCK_BYTES, Block};
+use layout::{BLOCK_BYTES, Block, Geometry};
 use std::alloc::{AllocError, Global};
 use std::marker::Model;
 use std::sync::Arc;
@@ -158,26 +158,44 @@ impl Metadata {
         ensures changed { IfOk result (λ block. IsPutInto self.now.geometry (change_of change.now) (unwrap_or (kept_at (with_blocks self.now (map standing blocks.now)).blocks address) (replicate 1024 0)) (arc_value block)) }
         ensures whole { IfOk result (λ block. IsBlock (arc_value block)) }
     {
-        let geometry = self.frozen.geometry();
-        if let Some(block) = change.whole() {
-            return share_again(block);
+        self.frozen.geometry();
+        match change.whole() {
+            Some(block) => share_again(block),
+            None => self.changed_in_part(alloc, blocks, address, change),
         }
-        let mut block = self.copy_of(blocks, address);
-        change.put(&geometry, &mut block);
-        share(alloc, &block)
     }
 
-    /// A copy of a block as it is with these in their places, and zeroes where it is none that is kept.
-    fn copy_of(&self, blocks: &[Placed], address: u32) -> Block
+    /// The block of this address as it is with these in their places, and then with one more change of a part of it.
+    fn changed_in_part(
+        &self,
+        alloc: Global,
+        blocks: &[Placed],
+        address: u32,
+        change: &Change,
+    ) -> Result<Arc<Block>, AllocError>
+        requires cell { IsCell self.now.geometry (cell_of (change_of change.now)) }
+        requires address { address ≡ home_of self.now.geometry (cell_of (change_of change.now)) }
+        requires low { address < length self.now.blocks }
+        ensures changed { IfOk result (λ block. IsPutInto self.now.geometry (change_of change.now) (unwrap_or (kept_at (with_blocks self.now (map standing blocks.now)).blocks address) (replicate 1024 0)) (arc_value block)) }
+        ensures whole { IfOk result (λ block. IsBlock (arc_value block)) }
+    {
+        let geometry = self.frozen.geometry();
+        let mut block = share(alloc, self.standing_at(blocks, address))?;
+        put_into(&mut block, &geometry, change)?;
+        Ok(block)
+    }
+
+    /// A block as it is with these in their places, and zeroes where it is none that is kept.
+    fn standing_at<'a>(&'a self, blocks: &'a [Placed], address: u32) -> &'a Block
         requires { address < length self.now.blocks }
-        ensures { result ≡ unwrap_or (kept_at (with_blocks self.now (map standing blocks.now)).blocks address) (replicate 1024 0) }
+        ensures { result.now ≡ unwrap_or (kept_at (with_blocks self.now (map standing blocks.now)).blocks address) (replicate 1024 0) }
     {
         if let Some(place) = last_at(blocks, address) {
-            return *blocks[place].block;
+            return &blocks[place].block;
         }
         match self.frozen.block(address) {
-            Some(block) => *block,
-            None => [0; BLOCK_BYTES],
+            Some(block) => block,
+            None => &[0; BLOCK_BYTES],
         }
     }
 }
@@ -211,11 +229,23 @@ fn last_at(blocks: &[Placed], address: u32) -> Option<usize>
 }
 
 /// A block with these bytes that may be shared.
-fn share(alloc: Global, block: &Block) -> Result<Arc<Block>, AllocError>
+pub fn share(alloc: Global, block: &Block) -> Result<Arc<Block>, AllocError>
     ensures bytes { IfOk result (λ shared. arc_value shared ≡ block.now) }
     ensures whole { IfOk result (λ shared. IsBlock (arc_value shared)) }
 {
     Ok(Arc::new(alloc, *block)?)
+}
+
+/// Puts a change into a shared block. It is copied first, if it has other owners.
+fn put_into(block: &mut Arc<Block>, geometry: &Geometry, change: &Change) -> Result<(), AllocError>
+    requires { IsCell geometry.now (cell_of (change_of change.now)) }
+    ensures put { OnOk result (IsPutInto geometry.now (change_of change.now) (arc_value block.old) (arc_value block.new)) }
+    ensures whole { OnOk result (IsBlock (arc_value block.new)) }
+{
+    let bytes = Arc::make_mut(block)?;
+    change.put(geometry, bytes);
+    is_whole(bytes);
+    Ok(())
 }
 
 /// The same block once more.

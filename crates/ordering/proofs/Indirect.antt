@@ -27,46 +27,65 @@ use Rattle.ordering.proofs.Data.{plain_write, directory_mode}
 use Rattle.ordering.proofs.Records.{put_here, put_there}
 use Rattle.ordering.proofs.RecordSteps.{tree_stays, TreeKeeps}
 
-module _ (geo : Geometry) (v : View) (n x : ℕ) (bytes : List ℕ) (c : IsClaim geo v n indirect_position x) (u : UsesAreClaims geo v) where
-  abbrev pub after : View
-  after = updated v (SetBytes x bytes)
+-- an indirect block that no other inode claims, nor this one at another position
+module _ (geo : Geometry) (v : View) (n x : ℕ) (bytes : List ℕ) (alone : (m l : ℕ) → IsClaim geo v m l x → (m ≡ n) × (l ≡ indirect_position)) where
+  abbrev put : View
+  put = updated v (SetBytes x bytes)
 
-  -- the use at a position whose pointer stays
-  pub same_use : (m k : ℕ) → (m ≡ n → direct_positions ≤ k → k < indirect_position → IsTrue (is_used geo (v.inode n) k) → pointer_at (v.bytes x) k ≡ pointer_at bytes k) → use_at geo v m k ≡ use_at geo after m k
+  -- the use at a position whose pointer stays, where it is in use
+  pub lone_use : (m k : ℕ) → (m ≡ n → direct_positions ≤ k → k < indirect_position → IsUse geo v n k (pointer_at (v.bytes x) k) → pointer_at (v.bytes x) k ≡ pointer_at bytes k) → use_at geo v m k ≡ use_at geo put m k
   unfolding use_at
-  same_use m k stays =
-      same_then (is_sound_at geo v m && is_used geo (v.inode m) k) (value_at v (v.inode m) k) (value_at after (v.inode m) k) (λ h.
+  lone_use m k stays =
+      same_then (is_sound_at geo v m && is_used geo (v.inode m) k) (value_at v (v.inode m) k) (value_at put (v.inode m) k) (λ h.
       let parts = and_parts (is_sound_at geo v m) (is_used geo (v.inode m) k) h in
       same_else (ltb k direct_positions) _ _ (get_or (v.inode m).direct k 0) (λ low.
       same_cond (ltb k indirect_position) _ _ (v.inode m).indirect (λ high.
       elim (cases_eq (v.inode m).indirect x) [
         | inr other ↦ ap (λ block. u32_at block (4 * (k - direct_positions))) (sym (put_there v.bytes x (v.inode m).indirect bytes other))
         | inl e ↦
-            let mine : m ≡ n = (u.once m indirect_position n indirect_position x (subst (λ b. IsClaim geo v m indirect_position b) e (claims_indirect_of geo v m k parts.0 low high parts.1)) c).0 in
-            let used : IsTrue (is_used geo (v.inode n) k) = subst (λ j. IsTrue (is_used geo (v.inode j) k)) mine parts.1 in
+            let mine : m ≡ n = (alone m indirect_position (subst (λ b. IsClaim geo v m indirect_position b) e (claims_indirect_of geo v m k parts.0 low high parts.1))).0 in
+            let there : IsUse geo v m k (pointer_at (v.bytes x) k) = use_from geo v m k (pointer_at (v.bytes x) k) (record {
+              sound = parts.0;
+              used = parts.1;
+              value = cond-false (ltb k direct_positions) _ _ low ∙ cond-true (ltb k indirect_position) _ _ high ∙ ap (λ b. u32_at (v.bytes b) (4 * (k - direct_positions))) e;
+            }) in
             ap (λ b. u32_at (v.bytes b) (4 * (k - direct_positions))) e
-            ∙ stays mine (ltb-false k direct_positions low) (ltb-true k indirect_position high) used
+            ∙ stays mine (ltb-false k direct_positions low) (ltb-true k indirect_position high) (subst (λ j. IsUse geo v j k (pointer_at (v.bytes x) k)) mine there)
             ∙ ap (λ block. u32_at block (4 * (k - direct_positions))) (sym (put_here v.bytes x bytes) ∙ ap (put_at v.bytes x bytes) (sym e))
       ])))
 
   -- slots do not stand in an indirect block
-  pub same_slot : (d s : ℕ) → use_at geo v d (s / 16) ≡ use_at geo after d (s / 16) → slot geo v d s ≡ slot geo after d s
+  pub lone_slot : (d s : ℕ) → use_at geo v d (s / 16) ≡ use_at geo put d (s / 16) → slot geo v d s ≡ slot geo put d s
   unfolding slot claim_at
-  same_slot d s uses =
+  lone_slot d s uses =
       same_cond (is_directory_at geo v d && ltb (s / 16) indirect_position) _ _ Absent (λ h.
-      same_map_or (λ b. slot_in geo (v.bytes b) s) (λ b. slot_in geo (after.bytes b) s) Absent (claim_at geo v d (s / 16)) (λ b claim.
+      same_map_or (λ b. slot_in geo (v.bytes b) s) (λ b. slot_in geo (put.bytes b) s) Absent (claim_at geo v d (s / 16)) (λ b claim.
       ap (λ block. slot_in geo block s) (sym (put_there v.bytes x b bytes (λ e.
       let low : s / 16 < 268 = ltb-true (s / 16) indirect_position (and_parts (is_directory_at geo v d) (ltb (s / 16) indirect_position) h).1 in
-      let at : s / 16 ≡ 268 = (u.once d (s / 16) n indirect_position x (subst (λ y. IsClaim geo v d (s / 16) y) e (claim_parts geo v d (s / 16) b claim)) c).1 in
+      let at : s / 16 ≡ 268 = (alone d (s / 16) (subst (λ y. IsClaim geo v d (s / 16) y) e (claim_parts geo v d (s / 16) b claim))).1 in
       omega (arith, low, at))))))
-      ∙ ap (λ o. cond (is_directory_at geo v d && ltb (s / 16) indirect_position) (option_map_or (λ b. slot_in geo (after.bytes b) s) (option_and_then (λ a. then_some (is_data_address geo a) a) o) Absent) Absent) uses
+      ∙ ap (λ o. cond (is_directory_at geo v d && ltb (s / 16) indirect_position) (option_map_or (λ b. slot_in geo (put.bytes b) s) (option_and_then (λ a. then_some (is_data_address geo a) a) o) Absent) Absent) uses
 
-  pub append_shape : ((k : ℕ) → direct_positions ≤ k → k < indirect_position → IsTrue (is_used geo (v.inode n) k) → pointer_at (v.bytes x) k ≡ pointer_at bytes k) → SameShape geo v after
-  append_shape stays =
-      shape_from geo v after (λ m. refl) (λ m. refl) (λ m. refl) uses (λ d s. same_slot d s (uses d (s / 16)))
+  pub lone_shape : ((k : ℕ) → direct_positions ≤ k → k < indirect_position → IsUse geo v n k (pointer_at (v.bytes x) k) → pointer_at (v.bytes x) k ≡ pointer_at bytes k) → SameShape geo v put
+  lone_shape stays =
+      shape_from geo v put (λ m. refl) (λ m. refl) (λ m. refl) uses (λ d s. lone_slot d s (uses d (s / 16)))
     where
-      uses : (m k : ℕ) → use_at geo v m k ≡ use_at geo after m k
-      uses m k = same_use m k (λ e low high used. stays k low high used)
+      uses : (m k : ℕ) → use_at geo v m k ≡ use_at geo put m k
+      uses m k = lone_use m k (λ e low high h. stays k low high h)
+
+-- the same of an inode that claims it, where uses are claims
+module _ (geo : Geometry) (v : View) (n x : ℕ) (bytes : List ℕ) (c : IsClaim geo v n indirect_position x) (u : UsesAreClaims geo v) where
+  alone : (m l : ℕ) → IsClaim geo v m l x → (m ≡ n) × (l ≡ indirect_position)
+  alone m l d = u.once m l n indirect_position x d c
+
+  pub same_use : (m k : ℕ) → (m ≡ n → direct_positions ≤ k → k < indirect_position → IsTrue (is_used geo (v.inode n) k) → pointer_at (v.bytes x) k ≡ pointer_at bytes k) → use_at geo v m k ≡ use_at geo (updated v (SetBytes x bytes)) m k
+  same_use m k stays = lone_use geo v n x bytes alone m k (λ e low high h. stays e low high (use_parts geo v n k (pointer_at (v.bytes x) k) h).used)
+
+  pub same_slot : (d s : ℕ) → use_at geo v d (s / 16) ≡ use_at geo (updated v (SetBytes x bytes)) d (s / 16) → slot geo v d s ≡ slot geo (updated v (SetBytes x bytes)) d s
+  same_slot = lone_slot geo v n x bytes alone
+
+  pub append_shape : ((k : ℕ) → direct_positions ≤ k → k < indirect_position → IsTrue (is_used geo (v.inode n) k) → pointer_at (v.bytes x) k ≡ pointer_at bytes k) → SameShape geo v (updated v (SetBytes x bytes))
+  append_shape stays = lone_shape geo v n x bytes alone (λ k low high h. stays k low high (use_parts geo v n k (pointer_at (v.bytes x) k) h).used)
 
 -- the cut's view has the users' record, and so their indirect block
 view_claim : (geo : Geometry) (users : View) (ghost : Ghost) (after : List Cell) (n x : ℕ) → IsClaim geo users n indirect_position x → Contains after (Record n)
@@ -82,18 +101,34 @@ view_claim geo users ghost cells n x c first set view a met =
       c.1,
     )
 
+-- where a pointer is appended: a cut that has the block's last bytes
+module _ (geo : Geometry) (users : View) (ghost : Ghost) (after : List Cell) (n x : ℕ) (bytes : List ℕ) (may : MayAppendSlot geo users after n x bytes)
+    (set : Cell → Bool) (view : View) (a : Agrees geo users ghost set view) (own : IsTrue (set (Block x))) (met : AreIn after set) where
+  -- nobody else claims it
+  pub append_alone : (m l : ℕ) → IsClaim geo view m l x → (m ≡ n) × (l ≡ indirect_position)
+  append_alone m l c = let e = a.blocks.claimed x n indirect_position m l (a.blocks.marked x n indirect_position may.claims own) may.claims c in (e.0, e.1)
+
+  same_pointer : (k : ℕ) → pointer_at (view.bytes x) k ≡ pointer_at (users.bytes x) k
+  same_pointer k = ap (λ block. pointer_at block k) (a.same (Block x) own)
+
+  -- a pointer in use stays
+  pub append_stays : (k : ℕ) → direct_positions ≤ k → k < indirect_position → IsUse geo view n k (pointer_at (view.bytes x) k) → pointer_at (view.bytes x) k ≡ pointer_at bytes k
+  append_stays k low high h = elim may.record_first [
+    | inl first ↦ same_pointer k ∙ may.others k low high (ap (λ y. is_used geo y k) (sym (a.same (Record n) (met (Record n) first))) ∙ (use_parts geo view n k (pointer_at (view.bytes x) k) h).used)
+    | inr fills ↦ elim (cases_eq k fills.0) [
+      | inr other ↦ same_pointer k ∙ fills.1.others k low high other
+      | inl e ↦
+          let zero : pointer_at (view.bytes x) k ≡ 0 = same_pointer k ∙ ap (pointer_at (users.bytes x)) e ∙ fills.1.none in
+          absurd (both_ways (is_data_address geo 0) refl (subst (λ b. IsTrue (is_data_address geo b)) zero (a.rules.rule3.claims n k (pointer_at (view.bytes x) k) h)))
+    ]
+  ]
+
 pub append_slot_keeps : (geo : Geometry) (disk : View) (q : List Pending) (ghost : Ghost) (after : List Cell) (n x : ℕ) (bytes : List ℕ)
     → MayAppendSlot geo (users_view disk q) after n x bytes → Keeps geo disk q ghost (record { change = SetBytes x bytes; after = after }) ghost
 append_slot_keeps geo disk q ghost after n x bytes may all =
     let users = users_view disk q in
-    plain_write geo disk q ghost after x bytes
-    (append_shape geo users n x bytes may.claims (users_obey geo disk q ghost all).rule3 may.others)
-    (λ set view a own met.
-    let same : view.inode n ≡ users.inode n = a.same (Record n) (met (Record n) may.record_first) in
-    let claim = view_claim geo users ghost after n x may.claims may.record_first set view a met in
-    append_shape geo view n x bytes claim a.rules.rule3
-    (λ k low high used. ap (λ block. pointer_at block k) (a.same (Block x) own) ∙ may.others k low high (ap (λ y. is_used geo y k) (sym same) ∙ used)))
-    all
+    plain_write geo disk q ghost after x bytes (append_shape geo users n x bytes may.claims (users_obey geo disk q ghost all).rule3 may.others)
+    (λ set view a own met. lone_shape geo view n x bytes (append_alone geo users ghost after n x bytes may set view a own met) (append_stays geo users ghost after n x bytes may set view a own met)) all
 
 module _ (geo : Geometry) (disk : View) (q : List Pending) (ghost : Ghost) (held : ℕ → Bool) (given_up : ℕ → ℕ → ℕ → Bool) (after : List Cell) (n x p : ℕ) (bytes : List ℕ)
     (may : MayMoveSlot geo disk q ghost (moved held given_up ghost) after n x p bytes) where

@@ -98,10 +98,15 @@ pub record MayFree (geo : Geometry) (disk : View) (q : List Pending) (ghost ghos
 abbrev pub pointer_at : List ℕ → ℕ → ℕ
 pointer_at bytes k = u32_at bytes (4 * (k - direct_positions))
 
--- new bytes of an indirect block, which change no pointer that is in use
+-- one pointer alone is another in the new bytes of an indirect block, and it was 0
+pub record FillsPointer (before bytes : List ℕ) (k : ℕ) : Type 0 where
+  pub others : (j : ℕ) → direct_positions ≤ j → j < indirect_position → (j ≡ k → ⊥) → pointer_at before j ≡ pointer_at bytes j
+  pub none : pointer_at before k ≡ 0
+
+-- new bytes of an indirect block, which change no pointer that is in use: a pointer that was 0 is none in any record, and otherwise the record comes first
 pub record MayAppendSlot (geo : Geometry) (users : View) (after : List Cell) (n x : ℕ) (bytes : List ℕ) : Type 0 where
   pub claims : IsClaim geo users n indirect_position x
-  pub record_first : Contains after (Record n)
+  pub record_first : Contains after (Record n) ⊎ ((k : ℕ) × FillsPointer (users.bytes x) bytes k)
   pub others : (k : ℕ) → direct_positions ≤ k → k < indirect_position → IsTrue (is_used geo (users.inode n) k) → pointer_at (users.bytes x) k ≡ pointer_at bytes k
 
 -- new bytes of a file's indirect block, which move one position in use to a free block

@@ -1,6 +1,7 @@
 -- An inode gets one more block, to which its indirect block points.
-use Rattle.std.proofs.Common.{◌≡◌, ◌<◌, ◌≤◌, ◌-◌, ◌*◌, ◌/◌, ℕ, List, [], ◌∷◌, ◌⊎◌, inl, inr, refl, sym, ap, ◌∙◌, subst, IsTrue, IsFalse, arith, Contains}
+use Rattle.std.proofs.Common.{◌≡◌, ◌<◌, ◌≤◌, ◌-◌, ◌*◌, ◌==◌, if◌then◌else◌, ◌/◌, ℕ, List, [], ◌∷◌, ◌⊎◌, inl, inr, refl, sym, ap, ◌∙◌, subst, IsTrue, IsFalse, arith, Contains}
 use Rattle.std.proofs.lemmas.Bool.{cases_lt}
+use Rattle.std.proofs.lemmas.Bool.Decides.{eqb_tells}
 use Rattle.model.specs.Layout.{Geometry}
 use Rattle.model.specs.View.{View, Inode, u32_at}
 use Rattle.model.specs.Image.{IsBlock}
@@ -12,17 +13,17 @@ use Rattle.model.specs.Rules.{ObeysRules}
 use Rattle.ordering.proofs.Bits.{users_obey}
 use Rattle.machine.specs.Cells.{with_pointer}
 use Rattle.machine.proofs.PointerTables.{pointer_here, pointer_there}
-use Rattle.ordering.specs.Cuts.{Record, BlockBit, Block, Pending, users_view, IsAfter, EachCut}
+use Rattle.ordering.specs.Cuts.{Cell, Record, BlockBit, Block, Pending, users_view, IsAfter, EachCut}
 use Rattle.ordering.specs.Ghosts.{Ghost}
 use Rattle.ordering.specs.Agrees.{AllAgree}
 use Rattle.ordering.specs.Kinds.{IsFree}
-use Rattle.ordering.specs.Rewrites.{Comes, pointer_at}
+use Rattle.ordering.specs.Rewrites.{Comes, FillsPointer, pointer_at}
 use Rattle.ordering.specs.Histories.{AppendsSlot}
 use Rattle.ordering.proofs.CutLemmas.{after_kept}
 use Rattle.ordering.proofs.Indirect.{append_shape}
 use Rattle.ordering.proofs.Growth.{growth_credits}
 use Rattle.ordering.proofs.Records.{put_here, put_there}
-use Rattle.plans_data.specs.Append.{InTable, MayAppend, filled, sized, appended}
+use Rattle.plans_data.specs.Append.{InTable, MayAppend, filled, pointer_after, sized, appended}
 use Rattle.plans_data.proofs.Chains.{Goes, step}
 use Rattle.plans_data.proofs.Used.{Direct, Middle, Last, uses, used, value_middle, value_last}
 use Rattle.plans_data.proofs.Numbers.{address_small, empty_slot}
@@ -52,8 +53,11 @@ module _ (geo : Geometry) (disk : View) (q : List Pending) (ghost : Ghost) (n k 
     abbrev table' : List ℕ
     table' = with_pointer table (k - 12) b
 
+    abbrev cells : List Cell
+    cells = pointer_after n k b table
+
     abbrev slot : Pending
-    slot = record { change = SetBytes x table'; after = Block b ∷ Record n ∷ [] }
+    slot = record { change = SetBytes x table'; after = cells }
 
     abbrev q3 : List Pending
     q3 = slot ∷ q2
@@ -87,8 +91,11 @@ module _ (geo : Geometry) (disk : View) (q : List Pending) (ghost : Ghost) (n k 
     before : u2.bytes x ≡ table
     before = put_there u0.bytes b x bytes (λ e. apart (sym e)) ∙ sym may.kept.1
 
+    elsewhere : (j : ℕ) → direct_positions ≤ j → j < indirect_position → (j ≡ k → ⊥) → pointer_at (u2.bytes x) j ≡ pointer_at table' j
+    elsewhere j low high other = ap (λ t. pointer_at t j) before ∙ sym (pointer_there table whole (k - 12) b place small (j - 12) (λ e. other (omega (arith, e, low, may.kept.0))))
+
     others : (j : ℕ) → direct_positions ≤ j → j < indirect_position → IsTrue (is_used geo old j) → pointer_at (u2.bytes x) j ≡ pointer_at table' j
-    others j low high u = ap (λ t. pointer_at t j) before ∙ sym (pointer_there table whole (k - 12) b place small (j - 12) (λ e. omega (arith, s.low j high u, e, low, may.kept.0)))
+    others j low high u = elsewhere j low high (λ e. omega (arith, s.low j high u, e, low, may.kept.0))
 
     claim2 : IsClaim geo u2 n indirect_position x
     claim2 = (sym (s.filled.uses n 268) ∙ claim.0, claim.1)
@@ -96,11 +103,14 @@ module _ (geo : Geometry) (disk : View) (q : List Pending) (ghost : Ghost) (n k 
     uses3 : (m j : ℕ) → use_at geo u2 m j ≡ use_at geo u3 m j
     uses3 = (append_shape geo u2 n x table' claim2 (users_obey geo disk q2 ghost s.filled.goes.all).rule3 others).uses
 
-    second : Contains (Block b ∷ Record n ∷ []) (Record n)
-    second = (1, omega arith, refl)
+    second : Contains cells (Record n) ⊎ ((j : ℕ) × FillsPointer (u2.bytes x) table' j)
+    second = elim (eqb_tells (u32_at table (4 * (k - 12))) 0) [
+      | inl t ↦ inr (k, record { others = elsewhere; none = ap (λ t. pointer_at t k) before ∙ t.1 })
+      | inr t ↦ inl (subst (λ none. Contains (Block b ∷ (if none then [] else Record n ∷ [])) (Record n)) (sym t.0) (1, omega arith, refl))
+    ]
 
     goes3 : Goes geo disk q ghost q3 ghost
-    goes3 = step geo disk q ghost q2 ghost slot ghost s.filled.goes (AppendsSlot (Block b ∷ Record n ∷ []) n x table' (record { claims = claim2; record_first = second; others = others }))
+    goes3 = step geo disk q ghost q2 ghost slot ghost s.filled.goes (AppendsSlot cells n x table' (record { claims = claim2; record_first = second; others = others }))
 
     free3 : IsFree geo u3 ghost b
     free3 = let f = s.filled.free in record {
@@ -133,8 +143,8 @@ module _ (geo : Geometry) (disk : View) (q : List Pending) (ghost : Ghost) (n k 
     first : Contains (Block x ∷ Block b ∷ []) (Block x)
     first = (0, omega arith, refl)
 
-    then : Contains (Block x ∷ Block b ∷ []) (Block b)
-    then = (1, omega arith, refl)
+    second_block : Contains (Block x ∷ Block b ∷ []) (Block b)
+    second_block = (1, omega arith, refl)
 
     grows : Grows geo disk q3 ghost (Block x ∷ Block b ∷ []) n old new
     grows = record {
@@ -155,7 +165,7 @@ module _ (geo : Geometry) (disk : View) (q : List Pending) (ghost : Ghost) (n k 
       new_block = λ j u fresh. (
         b,
         subst (λ i. Comes geo disk q3 ghost (Block x ∷ Block b ∷ []) new i b) (sym (only j u fresh))
-            (s.comes q3 (Block x ∷ Block b ∷ []) new here free3 bit3 then (λ low. first)),
+            (s.comes q3 (Block x ∷ Block b ∷ []) new here free3 bit3 second_block (λ low. first)),
       );
       once = λ j l u f v g e. only j u f ∙ sym (only l v g);
       empty = λ t two u fresh low.
@@ -170,7 +180,7 @@ module _ (geo : Geometry) (disk : View) (q : List Pending) (ghost : Ghost) (n k 
 
     pub credit : EachCut disk (appended n old k b bytes size (InTable table) q) (λ set view. IsTrue (set (Block b)) → (m j : ℕ) → IsClaim geo view m j b → IsTrue (set (Record n)))
     credit = growth_credits geo disk q3 ghost (Block x ∷ Block b ∷ []) n new k b
-        (s.comes q3 (Block x ∷ Block b ∷ []) new here free3 bit3 then (λ low. first)) goes3.all
+        (s.comes q3 (Block x ∷ Block b ∷ []) new here free3 bit3 second_block (λ low. first)) goes3.all
 
     pub came : (i j a : ℕ) → IsClaim geo (users_view disk (appended n old k b bytes size (InTable table) q)) i j a → IsClaim geo u0 i j a ⊎ IsFalse (ghost.held a)
     came i j a c = elim (grown_claim geo disk q3 ghost (Block x ∷ Block b ∷ []) n old new grows i j a c) [

@@ -1,6 +1,6 @@
 -- A block of a file moves, and its indirect block holds the pointer.
-use Rattle.std.proofs.Common.{◌≡◌, ◌<◌, ◌≤◌, ◌-◌, ◌*◌, ℕ, Bool, false, eqb, List, [], ◌∷◌, refl, sym, ap, ◌∙◌, subst, IsTrue, arith, Contains, eq-eqb}
-use Rattle.std.proofs.lemmas.Bool.{and_parts, and_from, or_left, or_right}
+use Rattle.std.proofs.Common.{◌≡◌, ◌<◌, ◌≤◌, ◌-◌, ◌*◌, ◌==◌, if◌then◌else◌, ℕ, Bool, false, eqb, List, [], ◌∷◌, refl, sym, ap, ◌∙◌, subst, IsTrue, arith, Contains, eq-eqb}
+use Rattle.std.proofs.lemmas.Bool.{and_parts, and_from, both_ways, ne_eqb, or_left, or_right}
 use Rattle.model.specs.Layout.{Geometry, is_number, is_data_address}
 use Rattle.model.specs.View.{View, Inode, u32_at}
 use Rattle.model.specs.Image.{IsBlock}
@@ -12,7 +12,7 @@ use Rattle.machine.specs.State.{State}
 use Rattle.machine.specs.Cells.{block_of, with_pointer}
 use Rattle.machine.specs.Room.{IsFreeBlock}
 use Rattle.machine.proofs.PointerTables.{pointer_here, pointer_there}
-use Rattle.ordering.specs.Cuts.{Record, BlockBit, Block, Pending, users_view, IsAfter}
+use Rattle.ordering.specs.Cuts.{Cell, Record, BlockBit, Block, Pending, users_view, IsAfter}
 use Rattle.ordering.specs.Ghosts.{Ghost, at_rest}
 use Rattle.ordering.specs.Agrees.{AllAgree}
 use Rattle.ordering.specs.Kinds.{IsFree}
@@ -23,7 +23,7 @@ use Rattle.ordering.proofs.Indirect.{same_use}
 use Rattle.ordering.proofs.Records.{put_here, put_there}
 use Rattle.ordering.proofs.Outside.{other_use}
 use Rattle.plans_data.specs.Now.{now}
-use Rattle.plans_data.specs.Append.{IsWhole, InTable, sized, filled}
+use Rattle.plans_data.specs.Append.{IsWhole, InTable, pointer_after, sized, filled}
 use Rattle.plans_data.specs.Write.{held_besides, relocated}
 use Rattle.plans_data.proofs.Blocks.{block_is, claims_indirect, used_below}
 use Rattle.plans_data.proofs.Chains.{Goes, step}
@@ -59,8 +59,11 @@ module _ (geo : Geometry) (disk : View) (q : List Pending) (old : State) (safe :
   abbrev table' : List ℕ
   table' = with_pointer table (k - 12) b
 
+  abbrev cells : List Cell
+  cells = pointer_after n k b table
+
   abbrev slot : Pending
-  slot = record { change = SetBytes x table'; after = Block b ∷ Record n ∷ [] }
+  slot = record { change = SetBytes x table'; after = cells }
 
   abbrev q3 : List Pending
   q3 = slot ∷ q2
@@ -116,15 +119,27 @@ module _ (geo : Geometry) (disk : View) (q : List Pending) (old : State) (safe :
   used_k : IsTrue (is_used geo was k)
   used_k = used_below geo users rules n k sound_at inside high
 
-  first : Contains (Block b ∷ Record n ∷ []) (Block b)
+  -- the pointer that stands there
+  abbrev there : ℕ
+  there = u32_at table (4 * (k - 12))
+
+  address_there : IsTrue (is_data_address geo there)
+  address_there = rules.rule3.claims n k there (use_from geo users n k there (record {
+    sound = sound_at;
+    used = used_k;
+    value = value_middle users was k low high ∙ ap (λ t. u32_at t (4 * (k - 12))) (sym is_table);
+  }))
+
+  first : Contains cells (Block b)
   first = (0, omega arith, refl)
 
-  second : Contains (Block b ∷ Record n ∷ []) (Record n)
-  second = (1, omega arith, refl)
+  second : Contains cells (Record n)
+  second = subst (λ none. Contains (Block b ∷ (if none then [] else Record n ∷ [])) (Record n))
+      (sym (ne_eqb there 0 (λ zero. both_ways (is_data_address geo 0) refl (subst (λ c. IsTrue (is_data_address geo c)) zero address_there)))) (1, omega arith, refl)
 
   goes3 : Goes geo disk q ghost q3 (at_rest held safe)
   goes3 = step geo disk q ghost q2 ghost slot (at_rest held safe) f.goes
-      (MovesSlot held (λ c m j. false) (Block b ∷ Record n ∷ []) n x k table' (record {
+      (MovesSlot held (λ c m j. false) cells n x k table' (record {
         claims = claim2;
         record_first = second;
         file = file;
@@ -135,7 +150,7 @@ module _ (geo : Geometry) (disk : View) (q : List Pending) (old : State) (safe :
         free = subst (λ c. IsFree geo u2 ghost c) (sym points) f.free;
         address = subst (λ c. IsTrue (is_data_address geo c)) (sym points) address.address;
         bit = subst (λ c. IsAfter disk q2 (Block c) (BlockBit c)) (sym points) f.bit;
-        contents = subst (λ c. Contains (Block b ∷ Record n ∷ []) (Block c)) (sym points) first;
+        contents = subst (λ c. Contains cells (Block c)) (sym points) first;
         dropped = λ c h. or_right (old.held c) (eqb c (block_of geo users n k)) (eq-eqb c (block_of geo users n k) (sym (block_is geo users n k c (f.uses n k ∙ h.0, h.1))));
         held = λ c t. or_left (old.held c) _ t;
         given_up = λ c m j t. t;

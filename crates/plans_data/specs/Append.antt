@@ -1,5 +1,5 @@
 -- An inode gets one more block.
-use Rattle.std.specs.Prelude.{◌≡◌, ◌≢◌, ℕ, ◌+◌, ◌-◌, ◌%◌, ◌<◌, true, List, [], ◌∷◌, length, replicate, slice_set, IsTrue, IsFalse}
+use Rattle.std.specs.Prelude.{◌≡◌, ◌≢◌, ℕ, ◌+◌, ◌-◌, ◌*◌, ◌%◌, ◌<◌, ◌==◌, if◌then◌else◌, true, List, [], ◌∷◌, length, replicate, slice_set, IsTrue, IsFalse}
 use Rattle.model.specs.Layout.{Geometry, IsGeometry, is_number}
 use Rattle.model.specs.View.{View, Inode, u32_at}
 use Rattle.model.specs.Image.{IsBlock}
@@ -25,11 +25,16 @@ filled b bytes q =
     record { change = SetBytes b bytes; after = BlockBit b ∷ [] }
     ∷ record { change = SetBlock b true; after = [] } ∷ q
 
+-- what a pointer to block b comes after that is put at position k into the indirect block of inode n with these bytes: the block, and where another pointer
+-- stood there the record too, since an older record may have it in use
+abbrev pub pointer_after : ℕ → ℕ → ℕ → List ℕ → List Cell
+pointer_after n k b table = Block b ∷ (if u32_at table (4 * (k - direct_positions)) == 0 then [] else Record n ∷ [])
+
 -- position k of inode n, with this record, points to block b: by its indirect block, unless the record itself is to hold the pointer
 abbrev pub linked : ℕ → Inode → ℕ → ℕ → Holder → List Pending → List Pending
 linked n inode k b InRecord q = q
 linked n inode k b (InTable table) q =
-    record { change = SetBytes inode.indirect (with_pointer table (k - direct_positions) b); after = Block b ∷ Record n ∷ [] } ∷ q
+    record { change = SetBytes inode.indirect (with_pointer table (k - direct_positions) b); after = pointer_after n k b table } ∷ q
 linked n inode k b (InNewTable x table) q =
     record { change = SetBytes x table; after = BlockBit x ∷ Block b ∷ Record n ∷ [] }
     ∷ record { change = SetBlock x true; after = [] } ∷ q

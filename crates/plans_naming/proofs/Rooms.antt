@@ -23,7 +23,7 @@ use Rattle.machine.specs.Room.{is_empty}
 use Rattle.machine.specs.Whole.{HasWholeBlocks}
 use Rattle.machine.proofs.Decisions.{any_same}
 use Rattle.plans_data.specs.Issues.{Issues}
-use Rattle.plans_data.specs.Append.{Holder, InRecord, InTable, InNewTable, IsSpare, IsKeptIn, MayAppend, OfDirectory, pointed, sized, filled, linked, known}
+use Rattle.plans_data.specs.Append.{Holder, InRecord, InTable, InNewTable, IsSpare, IsKeptIn, MayAppend, OfDirectory, pointed, sized, filled, linked, known, pointer_after}
 use Rattle.plans_data.proofs.Append.{append_issues, append_places, append_credit}
 use Rattle.plans_naming.specs.Entries.{slot_written, StandsAt, TakesName, HasBlocks, HasOtherBlocks}
 use Rattle.plans_naming.specs.Grow.{CanGrow, AreOther, grown, empty_block}
@@ -186,7 +186,7 @@ pub after_grown : (disk : View) (p : List Pending) (d : ℕ) (x : Inode) (b : �
 after_grown disk p d x b InRecord c a other table kept h = record_after disk (filled b empty_block p) d (new_record x b InRecord) (known x b InRecord) c a (bytes_after disk (bit_set b p) b empty_block (BlockBit b ∷ []) c a other (bit_after disk p b c a h))
 after_grown disk p d x b (InTable t) c a other table kept h =
     record_after disk (linked d x (blocks_of x.size) b (InTable t) (filled b empty_block p)) d (new_record x b (InTable t)) (known x b (InTable t)) c a
-    (bytes_after disk (filled b empty_block p) x.indirect (with_pointer t (blocks_of x.size - direct_positions) b) (Block b ∷ Record d ∷ []) c a (λ e. table kept (sym e))
+    (bytes_after disk (filled b empty_block p) x.indirect (with_pointer t (blocks_of x.size - direct_positions) b) (pointer_after d (blocks_of x.size) b t) c a (λ e. table kept (sym e))
     (bytes_after disk (bit_set b p) b empty_block (BlockBit b ∷ []) c a other (bit_after disk p b c a h)))
 after_grown disk p d x b (InNewTable y t) c a other table kept h =
     record_after disk (linked d x (blocks_of x.size) b (InNewTable y t) (filled b empty_block p)) d (new_record x b (InNewTable y t)) (known x b (InNewTable y t)) c a

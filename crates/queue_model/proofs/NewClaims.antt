@@ -22,7 +22,7 @@ use Rattle.ordering.proofs.Frames.{claim_back}
 use Rattle.ordering.proofs.Records.{body_shape, put_here}
 use Rattle.ordering.proofs.Outside.{other_mode}
 use Rattle.ordering.proofs.RecordSteps.{use_before, new_claim}
-use Rattle.ordering.proofs.Indirect.{same_use}
+use Rattle.ordering.proofs.Indirect.{append_alone, append_stays, lone_use, same_use}
 use Rattle.queue_model.specs.Files.{IsFileBlock}
 
 -- it was there before, in a block that is not written now, or it is one of the users' view
@@ -118,12 +118,10 @@ indirect_claim geo users view n x c same =
 
 append_accounts : (geo : Geometry) (users : View) (ghost : Ghost) (after : List Cell) (m x : ℕ) (bytes : List ℕ) → MayAppendSlot geo users after m x bytes → Accounts geo users ghost (record { change = SetBytes x bytes; after = after })
 append_accounts geo users ghost after m x bytes may set view a own met n k b f =
-    let same : view.inode m ≡ users.inode m = a.same (Record m) (met (Record m) may.record_first) in
-    let claim = indirect_claim geo users view m x may.claims same in
+    let alone = append_alone geo users ghost after m x bytes may set view a own met in
     plain_account geo (updated users (SetBytes x bytes)) view set x bytes n k b
-    (same_use geo view m x bytes claim a.rules.rule3 n k
-    (λ e low high used. ap (λ block. pointer_at block k) (a.same (Block x) own) ∙ may.others k low high (ap (λ y. is_used geo y k) (sym same) ∙ used)))
-    (λ i j c. c.1 (a.rules.rule3.once i j m indirect_position x c.0 claim).1) f
+    (lone_use geo view m x bytes alone n k (λ e low high h. append_stays geo users ghost after m x bytes may set view a own met k low high h))
+    (λ i j c. c.1 (alone i j c.0).1) f
 
 -- the pointer that stands at a position of an indirect block that was written
 pub new_pointer : (v : View) (y : Inode) (x p : ℕ) (bytes : List ℕ) → direct_positions ≤ p → p < indirect_position → y.indirect ≡ x → value_at (updated v (SetBytes x bytes)) y p ≡ pointer_at bytes p

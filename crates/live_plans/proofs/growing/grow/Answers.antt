@@ -7,6 +7,8 @@ use Rattle.model.proofs.SlotLemmas.{directory_number}
 use Rattle.model.specs.Uses.{blocks_of, direct_positions}
 use Rattle.frozen.specs.Kept.{frozen_view}
 use Rattle.updates.specs.Values.{cell}
+use Rattle.plans_data.specs.Append.{filled}
+use Rattle.live_states.specs.Drafts.{GoesOn}
 use Rattle.live_plans.specs.Grown.{Grows}
 use Rattle.live_plans.proofs.GrowLemmas.{grows_by_table, grows_in_record, no_table, record_with_pointer, record_with_table, size_is}
 use Rattle.live_plans.proofs.growing.grow.Goals as goal
@@ -26,7 +28,7 @@ returns-then-position-lt-DIRECT_POINTERS-clause-grows c =
     (λ sets view shows. subst (λ t. Grows kept.geometry view d inode b t c.args.plan.now c.push.new.self) (sym none)
     (grows_in_record kept view shows d b inode links c.requires.parent.1 c.args.plan.now c.fill.new.plan c.push.new.self given (map cell c.in_ok-after.after.items) few
     (record_with_pointer before inode c.blocks-position.result b c.grown.view_is c.blocks-position.ensures) (ap (map cell) c.in_ok-after.ensures.items)
-    c.in_ok-fill.ensures sets))
+    (subst (λ bytes. GoesOn c.args.plan.now c.fill.new.plan (filled b bytes)) c.in_ok-zeroes.ensures.ok c.in_ok-fill.ensures) sets))
     c.push.ensures
 
 pub push-requires-2-clause-changed : goal.push-requires-2-clause-changed
@@ -48,5 +50,5 @@ returns-clause-grows c =
     (λ sets view shows.
     grows_by_table kept.geometry view d b inode c.args.table table c.args.plan.now c.fill.new.plan c.point.new.plan c.push-2.new.self given (map cell c.in_ok-after-2.after.items)
     (record_with_table before inode table c.grown.view_is) (ap (map cell) c.in_ok-after-2.ensures.items)
-    c.in_ok-fill.ensures (c.in_ok-grown-inside.ensures.points view shows) sets)
+    (subst (λ bytes. GoesOn c.args.plan.now c.fill.new.plan (filled b bytes)) c.in_ok-zeroes.ensures.ok c.in_ok-fill.ensures) (c.in_ok-grown-inside.ensures.points view shows) sets)
     c.push-2.ensures

@@ -1,7 +1,7 @@
 -- The block gets its bytes, and then the file the block.
 use Rattle.std.proofs.Common.{◌≡◌, [], map, sym, ap, ◌∙◌, subst, IsTrue}
+use Rattle.std.specs.Arc.{arc_value}
 use Rattle.model.specs.Layout.{Geometry, is_data_address}
-use Rattle.model.proofs.ImageLemmas.{is_block}
 use Rattle.frozen.specs.Kept.{Kept, frozen_view}
 use Rattle.updates.specs.Values.{cell}
 use Rattle.live_states.specs.Drafts.{Draft, GoesOn}
@@ -33,14 +33,11 @@ enlarge-requires-clause-after c =
     (subst (λ (g : Geometry). IsTrue (is_data_address g a))
     (sym (c.in_ok-replace-in-InPlace.ensures.geometry ∙ ap (λ (d : Draft). d.geometry) c.new-plan.ensures ∙ c.geometry.ensures.geometry ∙ ap (λ (f : Kept). f.geometry) c.frozen.ensures.same)) address)
 
-pub returns-clause-whole : goal.returns-clause-whole
-returns-clause-whole c = is_block c.args.bytes.now c.told-bytes c.fits-bytes
-
-pub returns-clause-goes : goal.returns-clause-goes
-returns-clause-goes c =
+pub returns : goal.returns
+returns c =
     let kept = c.args.metadata.now in
     let target = c.args.target.now in
-    let bytes = c.args.bytes.now in
+    let bytes = arc_value c.args.bytes in
     let size = c.args.size in
     let start : Draft = record { geometry = kept.geometry; file = target.file; updates = [] } in
     let begun : c.new-plan.result ≡ start = c.new-plan.ensures ∙ ap (λ (g : Geometry). record { geometry = g; file = target.file; updates = [] }) (c.geometry.ensures.geometry ∙ ap (λ (f : Kept). f.geometry) c.frozen.ensures.same) in

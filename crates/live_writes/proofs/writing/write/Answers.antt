@@ -1,5 +1,6 @@
 -- The updates are those of the piece over what is seen, and of a longer piece over anything.
 use Rattle.std.proofs.Common.{◌≡◌, ◌<◌, ◌+◌, ◌*◌, [], length, refl, sym, ap, ◌∙◌, subst}
+use Rattle.std.specs.Arc.{arc_value}
 use Rattle.std.specs.List.{All}
 use Rattle.model.specs.Layout.{block_count}
 use Rattle.model.specs.View.{Inode}
@@ -21,9 +22,9 @@ returns-clause-planned c = λ h k aimed.
       | then-end-size w ↦ w.size-is ∙ size_from kept target.file target.index piece c.size.inside.size (1024 * target.index + length piece) (ap (λ (n : Inode). n.size) same) refl w.if-end-size.true
       | else-end-size w ↦ w.size-is ∙ size_stays kept target.file target.index piece c.size.inside.size (1024 * target.index + length piece) (ap (λ (n : Inode). n.size) same) refl w.if-end-size.false
     ] in
-    planned kept c.args.holdings.now c.frozen.ensures.metadata c.requires.volume c.requires.wide h k piece c.overwritten-bytes.result target aimed c.in_ok-plan.plan
-    (subst (λ s. GoesOn (record { geometry = kept.geometry; file = target.file; updates = [] }) c.in_ok-plan.plan (updates_at kept target c.overwritten-bytes.result s)) (size ∙ ap (λ j. grown_size kept target.file j piece) aimed.index) c.in_ok-plan.ensures.goes)
-    c.in_ok-holds.holds.items c.in_ok-holds.ensures c.in_ok-plan.ensures.whole c.args.before.now c.overwritten-bytes.ensures
+    planned kept c.args.holdings.now c.frozen.ensures.metadata c.requires.volume c.requires.wide h k piece (arc_value c.in_ok-bytes.bytes) target aimed c.in_ok-plan.plan
+    (subst (λ s. GoesOn (record { geometry = kept.geometry; file = target.file; updates = [] }) c.in_ok-plan.plan (updates_at kept target (arc_value c.in_ok-bytes.bytes) s)) (size ∙ ap (λ j. grown_size kept target.file j piece) aimed.index) c.in_ok-plan.ensures)
+    c.in_ok-holds.holds.items c.in_ok-holds.ensures c.in_ok-bytes.ensures.whole c.args.before.now c.in_ok-bytes.ensures.bytes
 
 pub returns-clause-planned_anyhow : goal.returns-clause-planned_anyhow
 returns-clause-planned_anyhow c = λ h k aimed.
@@ -35,9 +36,9 @@ returns-clause-planned_anyhow c = λ h k aimed.
       | then-end-size w ↦ w.size-is ∙ size_from kept target.file target.index piece c.size.inside.size (1024 * target.index + length piece) (ap (λ (n : Inode). n.size) same) refl w.if-end-size.true
       | else-end-size w ↦ w.size-is ∙ size_stays kept target.file target.index piece c.size.inside.size (1024 * target.index + length piece) (ap (λ (n : Inode). n.size) same) refl w.if-end-size.false
     ] in
-    planned_anyhow kept c.args.holdings.now c.frozen.ensures.metadata c.requires.volume c.requires.wide h k piece c.overwritten-bytes.result target aimed c.in_ok-plan.plan
-    (subst (λ s. GoesOn (record { geometry = kept.geometry; file = target.file; updates = [] }) c.in_ok-plan.plan (updates_at kept target c.overwritten-bytes.result s)) (size ∙ ap (λ j. grown_size kept target.file j piece) aimed.index) c.in_ok-plan.ensures.goes)
-    c.in_ok-holds.holds.items c.in_ok-holds.ensures c.in_ok-plan.ensures.whole
+    planned_anyhow kept c.args.holdings.now c.frozen.ensures.metadata c.requires.volume c.requires.wide h k piece (arc_value c.in_ok-bytes.bytes) target aimed c.in_ok-plan.plan
+    (subst (λ s. GoesOn (record { geometry = kept.geometry; file = target.file; updates = [] }) c.in_ok-plan.plan (updates_at kept target (arc_value c.in_ok-bytes.bytes) s)) (size ∙ ap (λ j. grown_size kept target.file j piece) aimed.index) c.in_ok-plan.ensures)
+    c.in_ok-holds.holds.items c.in_ok-holds.ensures c.in_ok-bytes.ensures.whole
 
 pub returns-clause-holds : goal.returns-clause-holds
 returns-clause-holds c =

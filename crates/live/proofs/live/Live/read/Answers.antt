@@ -1,6 +1,5 @@
-use Rattle.std.proofs.Common.{◌≡◌, List, [], ◌∷◌, take, ℕ, inl, inr, refl, sym, ap, ◌∙◌, subst}
+use Rattle.std.proofs.Common.{◌≡◌, List, [], ◌∷◌, take, ℕ, inr, sym, subst}
 use Rattle.std.proofs.lemmas.Result.{err_from_is_err_and}
-use Rattle.layout.specs.declared.refusal.Refusal.TheVariants.{BadHandle, BadIndex, Device as DeviceRefusal}
 use Rattle.model.specs.Image.{image_view}
 use Rattle.ordering.specs.Cuts.{users_view}
 use Rattle.machine.specs.Command.{Bytes, Read}
@@ -38,16 +37,16 @@ pub returns-clause-done : goal.returns-clause-done
 returns-clause-done g c = λ h.
     let device = c.self.inside.device in
     let image = g.D.Device.image device in
-    let before = c.in_ok-bytes.ensures.honest h in
-    let bytes = c.in_ok-bytes.bytes in
+    let before = c.in_ok-read_seen.ensures.honest h in
+    let bytes = c.read_seen.new.block in
     let block = c.in_ok-block.field-0.block in
     let count = c.in_ok-block.field-0.length in
     let first : c.in_ok-first_bytes.field-0.items ≡ take count bytes = c.in_ok-first_bytes.ensures.first in
     let sees = one_seen (users_view (image_view c.self.inside.metadata.geometry image) (pending_of c.self.inside.queue)) block bytes
-    (subst (λ geo. (users_view (image_view geo image) (pending_of c.self.inside.queue)).bytes block ≡ bytes) c.self.invariant.geometry (c.in_ok-bytes.ensures.bytes h)) in
-    subst (λ (items : List ℕ). Answers (g.D.Device.image c.args.self.now.device) c.args.self.now (Read c.args.handle c.args.index) (Bytes items) (g.D.Device.image c.bytes_of.new.device)
-    (record { device = c.bytes_of.new.device; queue = c.self.inside.queue; kept = c.self.inside.metadata; holdings = c.self.inside.holdings }) []) (sym first)
-    (subst (λ (l : Alive _). Answers (g.D.Device.image l.device) l (Read c.args.handle c.args.index) (Bytes (take count bytes)) (g.D.Device.image c.bytes_of.new.device)
-    (record { device = c.bytes_of.new.device; queue = c.self.inside.queue; kept = c.self.inside.metadata; holdings = c.self.inside.holdings }) []) c.self.view_is
+    (subst (λ geo. (users_view (image_view geo image) (pending_of c.self.inside.queue)).bytes block ≡ bytes) c.self.invariant.geometry (c.in_ok-read_seen.ensures.bytes h)) in
+    subst (λ (items : List ℕ). Answers (g.D.Device.image c.args.self.now.device) c.args.self.now (Read c.args.handle c.args.index) (Bytes items) (g.D.Device.image c.read_seen.new.device)
+    (record { device = c.read_seen.new.device; queue = c.self.inside.queue; kept = c.self.inside.metadata; holdings = c.self.inside.holdings }) []) (sym first)
+    (subst (λ (l : Alive _). Answers (g.D.Device.image l.device) l (Read c.args.handle c.args.index) (Bytes (take count bytes)) (g.D.Device.image c.read_seen.new.device)
+    (record { device = c.read_seen.new.device; queue = c.self.inside.queue; kept = c.self.inside.metadata; holdings = c.self.inside.holdings }) []) c.self.view_is
     (quiet_answers (g.D.Device.honest device) image c.self.inside.queue c.self.inside.metadata c.self.inside.holdings c.self.invariant (record { address = block; bytes = bytes } ∷ []) (Read c.args.handle c.args.index)
-    (Bytes (take count bytes)) c.self.inside.holdings (c.in_ok-block.ensures.reads bytes c.in_ok-first_bytes.ensures.whole) device c.bytes_of.new.device (g.D.Device.image c.bytes_of.new.device) c.in_ok-bytes.ensures.image before sees))
+    (Bytes (take count bytes)) c.self.inside.holdings (c.in_ok-block.ensures.reads bytes c.in_ok-first_bytes.ensures.whole) device c.read_seen.new.device (g.D.Device.image c.read_seen.new.device) c.in_ok-read_seen.ensures.image before sees))

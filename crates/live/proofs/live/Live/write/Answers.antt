@@ -1,4 +1,4 @@
-use Rattle.std.proofs.Common.{◌≡◌, ◌<◌, All, [], None, inr, sym, ap, ◌∙◌, subst}
+use Rattle.std.proofs.Common.{◌<◌, All, [], inr, sym, ap, ◌∙◌, subst}
 use Rattle.std.proofs.lemmas.Result.{err_from_is_err_and}
 use Rattle.model.specs.Layout.{block_count}
 use Rattle.machine.specs.Command.{Done, Write}
@@ -38,8 +38,8 @@ write-requires-clause-volume g c = stands_with c.self-2.inside.metadata c.self-2
 
 pub write-requires-clause-aimed : goal.write-requires-clause-aimed
 write-requires-clause-aimed g c =
-    let kept = ap (λ (l : Alive _). l.kept) c.self-2.view_is ∙ c.in_ok-before.ensures.untouched.1 ∙ sym (ap (λ (l : Alive _). l.kept) c.self.view_is) in
-    let holdings = ap (λ (l : Alive _). l.holdings) c.self-2.view_is ∙ c.in_ok-before.ensures.untouched.2 ∙ sym (ap (λ (l : Alive _). l.holdings) c.self.view_is) in (
+    let kept = ap (λ (l : Alive _). l.kept) c.self-2.view_is ∙ c.in_ok-read_under.ensures.untouched.1 ∙ sym (ap (λ (l : Alive _). l.kept) c.self.view_is) in
+    let holdings = ap (λ (l : Alive _). l.holdings) c.self-2.view_is ∙ c.in_ok-read_under.ensures.untouched.2 ∙ sym (ap (λ (l : Alive _). l.holdings) c.self.view_is) in (
       c.args.handle,
       c.args.index,
       subst (λ k. IsAimed k c.self-2.inside.holdings c.args.handle c.args.index c.args.piece.now c.in_ok-target.target) (sym kept)
@@ -48,8 +48,8 @@ write-requires-clause-aimed g c =
 
 pub carry_out-requires-clause-planned : goal.carry_out-requires-clause-planned
 carry_out-requires-clause-planned g c =
-    let kept = ap (λ (l : Alive _). l.kept) c.self-2.view_is ∙ c.in_ok-before.ensures.untouched.1 ∙ sym (ap (λ (l : Alive _). l.kept) c.self.view_is) in
-    let holdings = ap (λ (l : Alive _). l.holdings) c.self-2.view_is ∙ c.in_ok-before.ensures.untouched.2 ∙ sym (ap (λ (l : Alive _). l.holdings) c.self.view_is) in
+    let kept = ap (λ (l : Alive _). l.kept) c.self-2.view_is ∙ c.in_ok-read_under.ensures.untouched.1 ∙ sym (ap (λ (l : Alive _). l.kept) c.self.view_is) in
+    let holdings = ap (λ (l : Alive _). l.holdings) c.self-2.view_is ∙ c.in_ok-read_under.ensures.untouched.2 ∙ sym (ap (λ (l : Alive _). l.holdings) c.self.view_is) in
     let aimed =
     subst (λ k. IsAimed k c.self-2.inside.holdings c.args.handle c.args.index c.args.piece.now c.in_ok-target.target) (sym kept)
     (subst (λ o. IsAimed c.self.inside.metadata o c.args.handle c.args.index c.args.piece.now c.in_ok-target.target) (sym holdings) c.in_ok-target.ensures.aimed) in
@@ -65,15 +65,15 @@ carry_out-requires-clause-holds g c = subst (λ (l : Alive _). All (λ a. a < bl
 
 pub returns-clause-done : goal.returns-clause-done
 returns-clause-done g c = λ h.
-    let kept = ap (λ (l : Alive _). l.kept) c.self-2.view_is ∙ c.in_ok-before.ensures.untouched.1 ∙ sym (ap (λ (l : Alive _). l.kept) c.self.view_is) in
-    let holdings = ap (λ (l : Alive _). l.holdings) c.self-2.view_is ∙ c.in_ok-before.ensures.untouched.2 ∙ sym (ap (λ (l : Alive _). l.holdings) c.self.view_is) in
+    let kept = ap (λ (l : Alive _). l.kept) c.self-2.view_is ∙ c.in_ok-read_under.ensures.untouched.1 ∙ sym (ap (λ (l : Alive _). l.kept) c.self.view_is) in
+    let holdings = ap (λ (l : Alive _). l.holdings) c.self-2.view_is ∙ c.in_ok-read_under.ensures.untouched.2 ∙ sym (ap (λ (l : Alive _). l.holdings) c.self.view_is) in
     let aimed =
     subst (λ k. IsAimed k c.self-2.inside.holdings c.args.handle c.args.index c.args.piece.now c.in_ok-target.target) (sym kept)
     (subst (λ o. IsAimed c.self.inside.metadata o c.args.handle c.args.index c.args.piece.now c.in_ok-target.target) (sym holdings) c.in_ok-target.ensures.aimed) in
     let command = Write c.args.handle c.args.index c.args.piece.now in
-    let seen = seen_before c.in_ok-target.target c.in_ok-before.before in
+    let seen = seen_before c.in_ok-target.target c.read_under.new.block in
     let old = c.args.self.now in
-    let mid = c.bytes_under.new.self in
+    let mid = c.read_under.new.self in
     let was = g.D.Device.image old.device in
     let then = c.carry_out.new.self in
     let new = c.let_go.new.self in
@@ -81,9 +81,9 @@ returns-clause-done g c = λ h.
     let planned =
     subst (λ (l : Alive _). IsPlannedWith l.kept l.holdings seen command Done c.in_ok-planned.planned.plan (with_held (ended l.holdings Nothing) c.in_ok-planned.planned.holds.items)) c.self-2.view_is
     (c.in_ok-planned.ensures.planned c.args.handle c.args.index aimed) in
-    let same = c.in_ok-before.ensures.image in
-    let untouched = c.in_ok-before.ensures.untouched in
+    let same = c.in_ok-read_under.ensures.image in
+    let untouched = c.in_ok-read_under.ensures.untouched in
     subst (λ d. Answers was old command Done (g.D.Device.image d) new []) (sym c.let_go.ensures.device)
     (answers_with was (g.D.Device.image then.device) old then new command Done [] c.let_go.ensures.queue c.let_go.ensures.holdings c.let_go.ensures.geometry
     (answered was (g.D.Device.image mid.device) old mid same untouched.0 untouched.1 untouched.2 command Done (g.D.Device.image then.device) then []
-    (c.in_ok-carry_out.ensures.done seen command Done planned honest (still_seen was (g.D.Device.image mid.device) old mid same untouched.0 untouched.1 untouched.2 seen (c.in_ok-before.ensures.seen honest)))))
+    (c.in_ok-carry_out.ensures.done seen command Done planned honest (still_seen was (g.D.Device.image mid.device) old mid same untouched.0 untouched.1 untouched.2 seen (c.in_ok-read_under.ensures.seen honest)))))

@@ -1,5 +1,4 @@
 use Rattle.std.proofs.Common.{sym, ap, subst, ◌∙◌}
-use Rattle.model.specs.View.{View}
 use Rattle.frozen.specs.Installed.{IsPlain, without_block}
 use Rattle.frozen.specs.Kept.{Kept, KeepsMetadata}
 use Rattle.frozen.proofs.LettingGo.{keeps_without}

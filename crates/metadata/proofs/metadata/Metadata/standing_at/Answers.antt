@@ -1,7 +1,7 @@
 use Rattle.std.proofs.Common.{ℕ, unwrap_or, replicate, sym, ap, ◌∙◌}
 use Rattle.frozen.specs.Kept.{Kept, kept_at}
 use Rattle.metadata.proofs.Steps.{none_at, last_at}
-use Rattle.metadata.proofs.metadata.Metadata.copy_of.Goals as goal
+use Rattle.metadata.proofs.metadata.Metadata.standing_at.Goals as goal
 
 pub returns-in-Some : goal.returns-in-Some
 returns-in-Some c =

@@ -1,11 +1,11 @@
-use Rattle.std.proofs.Common.{[], List, None, Option, Some, ℕ, option_copied, sym, ap, ◌∙◌}
+use Rattle.std.proofs.Common.{[], List, Option, ℕ, option_copied, sym, ap, ◌∙◌}
 use Rattle.std.specs.Prelude.{unwrap_or}
 use Rattle.std.proofs.lemmas.Bool.{cond-true}
 use Rattle.model.specs.Image.{block_at, image_view}
 use Rattle.model.specs.Layout.{is_data_address}
 use Rattle.softdep.specs.Queued.{pending_of}
 use Rattle.live.proofs.ByteLemmas.{users_bytes}
-use Rattle.live.proofs.bytes.bytes_of.Goals as goal
+use Rattle.live.proofs.bytes.read_seen.Goals as goal
 
 pub returns-in-Some-clause-bytes : goal.returns-in-Some-clause-bytes
 returns-in-Some-clause-bytes g c = λ h.
