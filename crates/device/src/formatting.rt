@@ -1,4 +1,4 @@
-ghost use Rattle.std.specs.Prelude.{◌≡◌, ◌<◌, length, slice_set, OnOk, OnErr, IsErrOf, IsOkUnless};
+ghost use Rattle.std.specs.Prelude.{◌≡◌, ℕ, ◌<◌, ◌≤◌, length, slice_set, OnOk, OnErr, IsErrOf, IsOkUnless};
 ghost use Rattle.model.specs.Layout.{block_count};
 ghost use Rattle.model.specs.Image.{IsImage, block_at, image_view};
 ghost use Rattle.model.specs.Fresh.{fresh_view};
@@ -11,6 +11,7 @@ ghost use Rattle.device.specs.Writes.{CountsFaults, HasFailed};
 use crate::{Device, DeviceFault};
 use layout::{
     BLOCK_BYTES, Block, Geometry, Refusal, fresh_block, fresh_blocks_are_the_fresh_image,
+    next_fresh_block,
 };
 
 /// What the blocks of a device are known to hold before it is formatted.
@@ -40,11 +41,27 @@ pub fn format<D: Device>(device: &mut D, geometry: &Geometry, before: Before) ->
 {
     fresh_blocks_are_the_fresh_image();
     let mut block = [0; BLOCK_BYTES];
-    for address in 0..geometry.blocks() {
+    let mut address = 0;
+    while address < geometry.blocks() {
         fresh_block(geometry, address, &mut block);
         put(device, address, &block, before)?;
+        address = next_address(geometry, address, before);
     }
     Ok(())
+}
+
+/// The next address to be looked at: the blocks between are zeroes and stay so.
+fn next_address(geometry: &Geometry, address: u32, before: Before) -> u32
+    requires address { address < block_count geometry.now }
+    requires few { block_count geometry.now ≤ 262_145 }
+    ensures later { address < result }
+    ensures on_volume { result ≤ block_count geometry.now }
+    ensures between { (k : ℕ) → address < k → k < result → (before ≡ Before.Zeroes) × (fresh.fresh_bytes geometry.now k ≡ zero_block) }
+{
+    match before {
+        Before::Anything => address + 1,
+        Before::Zeroes => next_fresh_block(geometry, address),
+    }
 }
 
 /// Gives an address its block, by a write unless that would put zeroes over zeroes.

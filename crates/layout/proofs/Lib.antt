@@ -1,4 +1,5 @@
 pub mod FreshCases
+pub mod FreshGaps
 pub mod PutLemmas
 pub mod FreshBlocks
 pub mod RootBlocks

@@ -1,4 +1,4 @@
-ghost use Rattle.std.specs.Prelude.{◌≡◌, ◌<◌, ◌≤◌, ◌+◌};
+ghost use Rattle.std.specs.Prelude.{◌≡◌, ℕ, ◌<◌, ◌≤◌, ◌+◌};
 ghost use Rattle.model.specs.Layout.{Geometry as Numbers, IsGeometry, block_count};
 ghost use Rattle.model.specs.Image.{IsImage, image_view};
 ghost use Rattle.model.specs.Fresh.{fresh_view, root_bytes};
@@ -34,6 +34,21 @@ pub fn fresh_block(geometry: &Geometry, address: u32, block: &mut Block)
     } else if address == geometry.data_start(0) {
         write_root_slots(block);
     }
+}
+
+/// The next address whose block on a fresh image may be other than zeroes, or the number of blocks where none follows: the
+/// blocks between are zeroes.
+pub fn next_fresh_block(geometry: &Geometry, address: u32) -> u32
+    requires { address < block_count geometry.now }
+    ensures later { address < result }
+    ensures on_volume { result ≤ block_count geometry.now }
+    ensures zeroes { (k : ℕ) → address < k → k < result → fresh.fresh_bytes geometry.now k ≡ fresh.zero_block }
+{
+    let blocks = geometry.blocks_a_group();
+    if address < geometry.data_start(0) {
+        return address + 1;
+    }
+    1 + ((address - 1) / blocks + 1) * blocks
 }
 
 /// Writes the superblock over zeroes.

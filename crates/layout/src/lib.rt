@@ -13,7 +13,7 @@ mod refusal;
 #[cfg(test)]
 mod tests;
 
-pub use fresh::{GROUP_MAGIC, fresh_block, fresh_blocks_are_the_fresh_image};
+pub use fresh::{GROUP_MAGIC, fresh_block, fresh_blocks_are_the_fresh_image, next_fresh_block};
 pub use geometry::{
     DataPlace, Geometry, INODES_PER_BLOCK, InodePlace, ROOT, places_are_one_to_one, read_super,
 };
