@@ -1,13 +1,14 @@
 -- More blocks that are kept change no record and no claim that was there; and with the indirect blocks no claim comes either.
 use Rattle.std.proofs.Common.{◌≡◌, ◌*◌, ◌-◌, ℕ, ◌&&◌, Bool, List, [], zero, suc, Option, Some, None, IsSome, is_some, unwrap_or, drop, ltb, cond, get_or, IsTrue, false, true, refl, sym, ap, ◌∙◌, subst}
+use Rattle.std.specs.Prelude.{◌||◌, ◌==◌, ◌%◌, nat_lt, nat_le}
 use Rattle.std.specs.Bool.{then_some}
 use Rattle.std.proofs.lemmas.Bool.{cond-true, cond-false}
 use Rattle.model.specs.Layout.{Geometry, inode_block, inode_byte, is_data_address, is_number}
 use Rattle.model.specs.View.{View, Inode, inode_at, free_inode, u32_at}
-use Rattle.model.specs.Uses.{is_sound, is_directory, is_directory_at, is_used, value_at, use_at, IsClaim, indirect_position, direct_positions}
+use Rattle.model.specs.Uses.{blocks_of, is_sound, is_directory, is_directory_at, is_used, value_at, record_use, use_at, IsClaim, indirect_position, direct_positions}
 use Rattle.model.proofs.Addresses.{number_in_group}
 use Rattle.model.proofs.Same.{same_cond, same_else, same_use}
-use Rattle.model.proofs.UseLemmas.{use_parts, use_from}
+use Rattle.model.proofs.UseLemmas.{use_parts, use_from, use_of_record}
 use Rattle.frozen.specs.Kept.{Kept, KeepsFrame, KeepsMore, KeepsClaim, KeepsIndirect, KeepsDirectory, frozen_view, kept_at, kept_bytes}
 use Rattle.frozen.proofs.FrozenLemmas.{records_are_frame}
 
@@ -142,3 +143,11 @@ more_of_more kept more most h k = record {
   geometry = k.geometry ∙ h.geometry;
   blocks = λ a b e. k.blocks a b (h.blocks a b e);
 }
+
+-- a free record uses nothing
+free_uses_nothing : (geo : Geometry) (view : View) (r : Inode) (k : ℕ) → r.mode ≡ 0 → record_use geo view r k ≡ None
+free_uses_nothing geo view r k e =
+    ap (λ m. then_some (((m == 1 || m == 2 && nat_lt 0 r.size && r.size % 1024 == 0) && nat_le (blocks_of r.size) indirect_position) && is_used geo r k) (value_at view r k)) e
+
+pub free_no_use : (geo : Geometry) (view : View) (i k : ℕ) → IsTrue (is_number geo i) → (view.inode i).mode ≡ 0 → use_at geo view i k ≡ None
+free_no_use geo view i k t e = use_of_record geo view i k t ∙ free_uses_nothing geo view (view.inode i) k e

@@ -1,9 +1,9 @@
 -- What is kept without a block of data: the frame all the same, and all metadata where none stands in that block.
-use Rattle.std.proofs.Common.{◌≡◌, ◌<◌, ℕ, ◌&&◌, not, ltb, List, [], length, Some, None, IsSome, unwrap_or, IsTrue, false, true, refl, sym, ap, ◌∙◌, subst, arith, inl, inr, get_or-set_same, get_or-set_other}
+use Rattle.std.proofs.Common.{◌≡◌, ◌<◌, ℕ, ◌&&◌, not, ltb, [], length, Some, None, IsSome, unwrap_or, IsTrue, false, true, sym, ap, ◌∙◌, subst, arith, inl, inr, get_or-set_same, get_or-set_other}
 use mathlib.Core.Path.{fun_ext}
 use Rattle.std.proofs.lemmas.Bool.{and_parts, cases_eq}
 use Rattle.std.proofs.lemmas.List.{length-set}
-use Rattle.model.specs.Image.{IsBlock, IsGroupBlock, IsSuper}
+use Rattle.model.specs.Image.{IsGroupBlock, IsSuper}
 use Rattle.model.specs.Layout.{Geometry, block_count, group_block, is_data_address, is_number}
 use Rattle.model.specs.View.{Inode, View, view_of}
 use Rattle.model.specs.Cells.{SetBytes, put_at, updated}

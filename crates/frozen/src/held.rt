@@ -4,14 +4,15 @@ ghost use Rattle.std.specs.Option.{option_copied};
 ghost use Rattle.frozen.specs.Kept.{KeepsFrame, frozen_view, kept_at, kept_bytes, is_frame};
 ghost use Rattle.model.specs.Layout.{inode_count, group_block, inode_block, is_data_address, is_number};
 ghost use Rattle.model.specs.Uses.{record_use, is_used, value_at, use_at, claim_at, is_sound_at, is_directory_at};
-ghost use Rattle.model.specs.View.{u32_at};
+ghost use Rattle.model.specs.View.{inode_at, u32_at};
 ghost use Rattle.model.specs.Image.{IsGroupBlock};
 ghost use Rattle.frozen.specs.Installed.{FitsIn, standing, with_block, with_blocks, without_block};
 ghost use Rattle.std.specs.List.{All};
 
 use crate::Placed;
 use inode::{
-    DIRECT_POINTERS, INDIRECT_POSITION, RECORD_BYTES, Record, a_record_is_read_from_its_bytes,
+    DIRECT_POINTERS, DIRECTORY, FREE, INDIRECT_POSITION, RECORD_BYTES, Record,
+    a_record_is_read_from_its_bytes, mode_of,
 };
 use layout::{Block, Geometry, INODES_PER_BLOCK, ROOT, u32_at};
 use std::alloc::{AllocError, Global};
@@ -98,27 +99,42 @@ impl Held {
         requires { IsTrue (is_number self.now.geometry number) }
         ensures { result ≡ (frozen_view self.now).inode number }
     {
+        Record::read(self.record_bytes(number))
+    }
+
+    /// The mode of an inode, of whose record nothing else is read.
+    fn mode(&self, number: u32) -> u16
+        requires { IsTrue (is_number self.now.geometry number) }
+        ensures { result ≡ ((frozen_view self.now).inode number).mode }
+    {
+        mode_of(self.record_bytes(number))
+    }
+
+    /// The bytes of the record of an inode.
+    fn record_bytes(&self, number: u32) -> &[u8; RECORD_BYTES]
+        requires { IsTrue (is_number self.now.geometry number) }
+        ensures { inode_at result.now 0 ≡ (frozen_view self.now).inode number }
+    {
         a_record_is_read_from_its_bytes();
         let (records, _) = self.records_of(number).as_chunks::<RECORD_BYTES>();
-        Record::read(&records[(number % INODES_PER_BLOCK) as usize])
+        &records[(number % INODES_PER_BLOCK) as usize]
     }
 
     /// Whether the number is that of a sound inode.
     pub(crate) fn is_sound_at(&self, number: u32) -> bool
         ensures { result ≡ is_sound_at self.now.geometry (frozen_view self.now) number }
     {
-        self.is_number(number) && self.record(number).is_sound()
+        self.is_number(number) && self.mode(number) != FREE && self.record(number).is_sound()
     }
 
     /// Whether the number is that of a sound directory.
     pub(crate) fn is_directory_at(&self, number: u32) -> bool
         ensures { result ≡ is_directory_at self.now.geometry (frozen_view self.now) number }
     {
-        if !self.is_number(number) {
+        if !self.is_number(number) || self.mode(number) != DIRECTORY {
             return false;
         }
-        let inode = self.record(number);
-        inode.is_sound() && inode.is_directory()
+        self.record(number).is_sound()
     }
 
     /// The value that an inode uses at a position: below 12 one of its record's pointers, below 268 one of its
@@ -128,6 +144,9 @@ impl Held {
         ensures { result ≡ use_at self.now.geometry (frozen_view self.now) inode position }
     {
         if !self.is_number(inode) {
+            return None;
+        }
+        if self.mode(inode) == FREE {
             return None;
         }
         self.use_of(&self.record(inode), position)

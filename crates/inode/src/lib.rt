@@ -70,7 +70,7 @@ impl Record {
         let mut direct = [0; DIRECT_POINTERS];
         LittleEndian::read_u32_into(&bytes[8..56], &mut direct);
         Record {
-            mode: LittleEndian::read_u16(&bytes[0..]),
+            mode: mode_of(bytes),
             links: LittleEndian::read_u16(&bytes[2..]),
             size: LittleEndian::read_u32(&bytes[4..]),
             direct,
@@ -119,6 +119,13 @@ impl Record {
     {
         blocks_of_size(self.size)
     }
+}
+
+/// The mode of a record, of which nothing else is read.
+pub fn mode_of(bytes: &[u8; RECORD_BYTES]) -> u16
+    ensures { result ≡ (inode_at bytes.now 0).mode }
+{
+    LittleEndian::read_u16(&bytes[0..])
 }
 
 /// How many blocks a size in bytes takes: it is rounded up.

@@ -1,4 +1,4 @@
-use Rattle.std.proofs.Common.{◌≡◌, None, IsTrue, sym, ap, subst, ◌∙◌}
+use Rattle.std.proofs.Common.{None, IsTrue, sym, ap, subst, ◌∙◌}
 use Rattle.std.proofs.lemmas.List.{map-set}
 use Rattle.std.specs.Option.{option_map}
 use Rattle.std.specs.Arc.{arc_value}
