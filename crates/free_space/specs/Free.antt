@@ -1,5 +1,5 @@
 -- What of a volume may be given out: its numbers and data blocks that are not marked.
-use Rattle.std.specs.Prelude.{◌≡◌, ℕ, ◌<◌, ◌≤◌, ◌^◌, Bool, false, not, ◌&&◌, List, length, slice_index_or, if◌then◌else◌}
+use Rattle.std.specs.Prelude.{◌≡◌, ℕ, ◌<◌, ◌≤◌, ◌^◌, Bool, false, not, ◌&&◌, List, length, nat_lt, slice_index_or, if◌then◌else◌}
 use Rattle.model.specs.Layout.{Geometry, is_number, is_data_address, inode_count, block_count}
 use Rattle.model.specs.View.{View}
 use Rattle.model.specs.Reach.{sum_below}
@@ -28,6 +28,18 @@ pub record AreFreeNumbers (geo : Geometry) (view : View) (marks : List Bool) : T
 pub record AreFreeBlocks (geo : Geometry) (view : View) (marks : List Bool) : Type 0 where
   pub count : length marks ≡ block_count geo
   pub each : (a : ℕ) → slice_index_or marks a false ≡ (is_data_address geo a && not (view.block_marked a))
+
+-- of so many numbers, exactly those that pass and are below a bound are marked
+pub record AreMarkedBelow (all : ℕ) (passes : ℕ → Bool) (bound : ℕ) (marks : List Bool) : Type 0 where
+  pub count : length marks ≡ all
+  pub each : (n : ℕ) → slice_index_or marks n false ≡ (passes n && nat_lt n bound)
+
+-- of the numbers below a bound exactly those may be given out that are given out and not marked, and of the addresses
+abbrev pub AreFreeNumbersBelow : Geometry → View → ℕ → List Bool → Type 0
+AreFreeNumbersBelow geo view bound marks = AreMarkedBelow (inode_count geo) (λ i. is_number geo i && not (view.number_marked i)) bound marks
+
+abbrev pub AreFreeBlocksBelow : Geometry → View → ℕ → List Bool → Type 0
+AreFreeBlocksBelow geo view bound marks = AreMarkedBelow (block_count geo) (λ a. is_data_address geo a && not (view.block_marked a)) bound marks
 
 pub record IsFreeOf (geo : Geometry) (view : View) (free : Free) : Type 0 where
   pub numbers : AreFreeNumbers geo view free.numbers

@@ -5,13 +5,13 @@
 #[cfg(test)]
 mod tests;
 
-ghost use Rattle.std.specs.Prelude.{◌≡◌, ℕ, ◌<◌, ◌≤◌, not, ◌&&◌, length, IfOk, IsTrue, IsFalse, MatchOption};
-ghost use Rattle.model.specs.Layout.{Geometry as Numbers, is_number, is_data_address, inode_count};
+ghost use Rattle.std.specs.Prelude.{◌≡◌, ℕ, ◌<◌, ◌≤◌, ◌+◌, ◌*◌, length, IfOk, IsTrue, IsFalse, MatchOption};
+ghost use Rattle.model.specs.Layout.{Geometry as Numbers, is_number, is_data_address, group_block};
 ghost use Rattle.model.specs.View.{View};
 ghost use Rattle.model.specs.Cells.{SetNumber, SetBlock, updated};
 ghost use Rattle.frozen.specs.Kept.{frozen_view};
 ghost use Rattle.machine.specs.Room.{IsFreeBlock, has_number, unmarked_blocks};
-ghost use Rattle.free_space.specs.Free.{AreFreeNumbers, AreFreeBlocks, IsFreeOf, IsLeastNumber, IsNextBlock, IsCounted};
+ghost use Rattle.free_space.specs.Free.{AreFreeNumbers, AreFreeBlocks, AreFreeNumbersBelow, AreFreeBlocksBelow, IsFreeOf, IsLeastNumber, IsNextBlock, IsCounted, marked_in};
 
 use cgmaps::{Map, bit_of};
 use frozen::Frozen;
@@ -48,8 +48,7 @@ impl FreeSpace {
         ensures { IfOk result (IsFreeOf frozen.now.geometry (frozen_view frozen.now)) }
     {
         let numbers = free_numbers(alloc, frozen)?;
-        let blocks = free_blocks(alloc, frozen)?;
-        let unmarked = count(&blocks);
+        let (blocks, unmarked) = free_blocks(alloc, frozen)?;
         Ok(FreeSpace {
             numbers,
             blocks,
@@ -114,57 +113,59 @@ impl FreeSpace {
 fn free_numbers(alloc: Global, frozen: &Frozen) -> Result<Marks, AllocError>
     ensures { IfOk result (AreFreeNumbers frozen.now.geometry (frozen_view frozen.now)) }
 {
-    let numbers = frozen.geometry().inodes();
-    let mut marks = Marks::new(alloc, numbers)?;
-    for number in 0..numbers {
-        if is_number_free(frozen, number) {
+    let geometry = frozen.geometry();
+    let mut marks = Marks::new(alloc, geometry.inodes())?;
+    for group in 0..geometry.groups() {
+        mark_free_numbers(&mut marks, frozen, group);
+    }
+    Ok(marks)
+}
+
+/// Marks of the data blocks that may be given out, and how many these are.
+fn free_blocks(alloc: Global, frozen: &Frozen) -> Result<(Marks, u32), AllocError>
+    ensures blocks { IfOk result (λ both. AreFreeBlocks frozen.now.geometry (frozen_view frozen.now) both.0) }
+    ensures count { IfOk result (λ both. IsCounted both.1 both.0) }
+{
+    let geometry = frozen.geometry();
+    let mut marks = Marks::new(alloc, geometry.blocks())?;
+    let mut count = 0;
+    for group in 0..geometry.groups() {
+        count += mark_free_blocks(&mut marks, frozen, group);
+    }
+    Ok((marks, count))
+}
+
+/// Marks the numbers of a group that may be given out, where those of the groups before it are marked.
+fn mark_free_numbers(marks: &mut Marks, frozen: &Frozen, group: u32)
+    requires group { group < frozen.now.geometry.groups }
+    requires before { AreFreeNumbersBelow frozen.now.geometry (frozen_view frozen.now) (group * frozen.now.geometry.inodes) marks.old }
+    ensures { AreFreeNumbersBelow frozen.now.geometry (frozen_view frozen.now) ((group + 1) * frozen.now.geometry.inodes) marks.new }
+{
+    let inodes = frozen.geometry().inodes_a_group();
+    let maps = frozen.maps_of(group);
+    let first = group * inodes;
+    for bit in 0..inodes {
+        let number = first + bit;
+        if ROOT <= number && !bit_of(maps, Map::Inodes, bit) {
             marks.mark(number);
         }
     }
-    Ok(marks)
 }
 
-/// Marks of the data blocks that may be given out.
-fn free_blocks(alloc: Global, frozen: &Frozen) -> Result<Marks, AllocError>
-    ensures { IfOk result (AreFreeBlocks frozen.now.geometry (frozen_view frozen.now)) }
-{
-    let blocks = frozen.geometry().blocks();
-    let mut marks = Marks::new(alloc, blocks)?;
-    for address in 0..blocks {
-        if is_block_free(frozen, address) {
-            marks.mark(address);
-        }
-    }
-    Ok(marks)
-}
-
-/// Whether a number may be given out.
-fn is_number_free(frozen: &Frozen, number: u32) -> bool
-    requires { number < inode_count frozen.now.geometry }
-    ensures { result ≡ (is_number frozen.now.geometry number && not ((frozen_view frozen.now).number_marked number)) }
+/// Marks the data blocks of a group that may be given out, where those of the groups before it are marked; and tells
+/// how many it marks.
+fn mark_free_blocks(marks: &mut Marks, frozen: &Frozen, group: u32) -> u32
+    requires group { group < frozen.now.geometry.groups }
+    requires before { AreFreeBlocksBelow frozen.now.geometry (frozen_view frozen.now) (group_block frozen.now.geometry group) marks.old }
+    ensures blocks { AreFreeBlocksBelow frozen.now.geometry (frozen_view frozen.now) (group_block frozen.now.geometry (group + 1)) marks.new }
+    ensures count { marked_in marks.old + result ≡ marked_in marks.new }
 {
     let geometry = frozen.geometry();
-    let maps = frozen.maps_of(geometry.group_of(number));
-    ROOT <= number && !bit_of(maps, Map::Inodes, number % geometry.inodes_a_group())
-}
-
-/// Whether this is the address of a data block that may be given out.
-fn is_block_free(frozen: &Frozen, address: u32) -> bool
-    ensures { result ≡ (is_data_address frozen.now.geometry address && not ((frozen_view frozen.now).block_marked address)) }
-{
-    match frozen.geometry().place_of(address) {
-        Some(place) => !bit_of(frozen.maps_of(place.group), Map::Blocks, place.bit),
-        None => false,
-    }
-}
-
-/// How many numbers are marked.
-fn count(marks: &Marks) -> u32
-    ensures { IsCounted result marks.now }
-{
+    let maps = frozen.maps_of(group);
     let mut count = 0;
-    for number in 0..marks.count() {
-        if marks.is_marked(number) {
+    for bit in 0..geometry.blocks_a_group() - geometry.header_blocks() {
+        if !bit_of(maps, Map::Blocks, bit) {
+            marks.mark(geometry.data_address(group, bit));
             count += 1;
         }
     }

@@ -1,10 +1,10 @@
-use Rattle.std.proofs.Common.{◌≡◌, ◌&&◌, not, ltb, ℕ, length, false, get_or}
-use Rattle.model.specs.Layout.{is_data_address, block_count}
+use Rattle.model.specs.Layout.{group_block}
 use Rattle.frozen.specs.Kept.{frozen_view}
+use Rattle.free_space.specs.Free.{AreFreeBlocksBelow, IsCounted}
 use Rattle.free_space.proofs.free_blocks.Given as goal
 
-abbrev pub invariant-loop-address : goal.invariant-loop-address
-invariant-loop-address l = record {
-  count : length l.marks ≡ block_count l.fn.frozen.geometry;
-  each : (a : ℕ) → get_or l.marks a false ≡ ((is_data_address l.fn.frozen.geometry a && not ((frozen_view l.fn.frozen).block_marked a)) && ltb a l.address);
+abbrev pub invariant-loop-group : goal.invariant-loop-group
+invariant-loop-group l = record {
+  blocks : AreFreeBlocksBelow l.fn.frozen.geometry (frozen_view l.fn.frozen) (group_block l.fn.frozen.geometry l.group) l.marks;
+  counted : IsCounted l.count l.marks;
 }
