@@ -11,6 +11,7 @@ ghost use Rattle.frozen.specs.Installed.{FitsIn, IsPlain, standing, with_blocks,
 use crate::Held;
 use inode::{INDIRECT_POSITION, Record};
 use layout::{Block, Geometry};
+use spares::Spares;
 use std::alloc::{AllocError, Global};
 use std::marker::Model;
 use std::sync::Arc;
@@ -150,14 +151,14 @@ impl Frozen {
         self.held.block(claimed)
     }
 
-    /// Puts these blocks in the places of those of their addresses, or keeps them as more, the first first. What is kept
-    /// then has to be all metadata again.
-    pub fn install(&mut self, blocks: Vec<Placed>)
+    /// Puts these blocks in the places of those of their addresses, which are spare then, or keeps them as more, the first
+    /// first. What is kept then has to be all metadata again.
+    pub fn install(&mut self, blocks: Vec<Placed>, spares: &mut Spares)
         requires fits { All (FitsIn self.old.geometry) blocks.items }
         requires metadata { KeepsMetadata (with_blocks self.old (map standing blocks.items)) }
         ensures { self.new ≡ with_blocks self.old (map standing blocks.items) }
     {
-        self.held.install(blocks);
+        self.held.install(blocks, spares);
     }
 
     /// Lets go of the block of this address, if it is kept: no metadata stands in it.

@@ -15,8 +15,10 @@ use inode::{
     a_record_is_read_from_its_bytes, mode_of,
 };
 use layout::{Block, Geometry, INODES_PER_BLOCK, ROOT, u32_at};
+use spares::Spares;
 use std::alloc::{AllocError, Global};
 use std::marker::Model;
+use std::mem;
 use std::sync::Arc;
 
 /// Blocks of an image by address, shared: those that each volume has, and those data blocks that were kept so far.
@@ -190,23 +192,27 @@ impl Held {
         Ok(())
     }
 
-    /// Puts these blocks in the places of those of their addresses, or keeps them as more, the first first.
-    pub(crate) fn install(&mut self, blocks: Vec<Placed>)
+    /// Puts these blocks in the places of those of their addresses, which are spare then, or keeps them as more, the first
+    /// first.
+    pub(crate) fn install(&mut self, blocks: Vec<Placed>, spares: &mut Spares)
         requires { All (FitsIn self.old.geometry) blocks.items }
         ensures { self.new ≡ with_blocks self.old (map standing blocks.items) }
     {
         for placed in blocks {
-            self.put(placed);
+            self.put(placed, spares);
         }
     }
 
-    /// Puts a block in the place of the one of its address, or keeps it as one more.
-    fn put(&mut self, placed: Placed)
+    /// Puts a block in the place of the one of its address, which is spare then, or keeps it as one more.
+    fn put(&mut self, placed: Placed, spares: &mut Spares)
         requires { FitsIn self.old.geometry placed }
         ensures put { self.new ≡ with_block self.old placed.address (arc_value placed.block) }
         ensures frame { KeepsFrame self.new }
     {
-        self.blocks[placed.address as usize] = Some(placed.block);
+        let place = &mut self.blocks[placed.address as usize];
+        if let Some(block) = mem::replace(place, Some(placed.block)) {
+            spares.add(block);
+        }
     }
 
     /// Lets go of the block of this address, which is one of data, if it is kept.

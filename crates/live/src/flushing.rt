@@ -57,7 +57,9 @@ impl<D: Device> Live<D> {
         if address >= self.metadata.frozen().geometry().blocks() {
             return Err(Refusal::BadIndex);
         }
-        let count = self.queue.flush(&mut self.device, address)?;
+        let count = self
+            .queue
+            .flush(&mut self.device, address, &mut self.spares)?;
         Ok(count)
     }
 
@@ -76,7 +78,7 @@ impl<D: Device> Live<D> {
         ensures cause { IsErrOf result Refusal.Device → HasFailed (D.failures self.old.device) (D.failures self.new.device) }
         ensures honest { D.honest self.new.device → D.honest self.old.device }
     {
-        self.queue.sync(&mut self.device)?;
+        self.queue.sync(&mut self.device, &mut self.spares)?;
         Ok(())
     }
 }

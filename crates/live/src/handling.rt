@@ -86,6 +86,7 @@ impl<D: Device> Live<D> {
             &target,
             &before,
             piece,
+            &mut self.spares,
         )?;
         self.carry_out(alloc, planned, Ending::Nothing)?;
         self.let_go(&target);

@@ -26,6 +26,7 @@ use live_plans::{Plan, Planned};
 use metadata::Metadata;
 use rules::obeys;
 use softdep::Queue;
+use spares::Spares;
 use std::alloc::Global;
 use std::marker::Model;
 
@@ -36,6 +37,8 @@ pub struct Live<D: Device> {
     pub(crate) queue: Queue,
     pub(crate) metadata: Metadata,
     pub(crate) holdings: Holdings,
+    /// Blocks that served before and serve again; what the volume is does not depend on them.
+    pub(crate) spares: Spares,
 }
 
 impl<D: Device> Model for Live<D> {
@@ -60,6 +63,7 @@ struct Volume {
     queue: Queue,
     metadata: Metadata,
     holdings: Holdings,
+    spares: Spares,
 }
 
 impl<D: Device> Live<D> {
@@ -82,12 +86,14 @@ impl<D: Device> Live<D> {
                     queue,
                     metadata,
                     holdings,
+                    spares,
                 },
             ) => Ok(Live {
                 device,
                 queue,
                 metadata,
                 holdings,
+                spares,
             }),
             Err(cause) => Err(NotMounted { device, cause }),
         }
@@ -113,10 +119,12 @@ fn read_volume<D: Device>(alloc: Global, device: &mut D) -> Result<Volume, Refus
     let geometry = metadata.frozen().geometry();
     let queue = Queue::new(alloc, geometry)?;
     let holdings = Holdings::new(alloc, &geometry)?;
+    let spares = Spares::new(alloc)?;
     Ok(Volume {
         queue,
         metadata,
         holdings,
+        spares,
     })
 }
 
@@ -153,7 +161,13 @@ impl<D: Device> Live<D> {
         ensures error { IsOkUnless result Refusal.NoMemory }
     {
         let Planned { plan, holds } = planned;
-        issue(alloc, &mut self.queue, &mut self.metadata, plan)?;
+        issue(
+            alloc,
+            &mut self.queue,
+            &mut self.metadata,
+            plan,
+            &mut self.spares,
+        )?;
         end(&mut self.holdings, ending);
         self.holdings.hold(holds.as_slice());
         Ok(())
@@ -166,6 +180,7 @@ pub(crate) fn issue(
     queue: &mut Queue,
     metadata: &mut Metadata,
     plan: Plan,
+    spares: &mut Spares,
 ) -> Result<(), Refusal>
     requires geometry { queue.old.geometry ≡ metadata.old.geometry }
     requires plan { plan.geometry ≡ metadata.old.geometry }
@@ -175,8 +190,8 @@ pub(crate) fn issue(
     ensures error { IsOkUnless result Refusal.NoMemory }
 {
     let updates = plan.into_updates();
-    let staged = metadata.stage(alloc, updates.as_slice())?;
+    let staged = metadata.stage(alloc, updates.as_slice(), spares)?;
     queue.issue(updates)?;
-    metadata.install(staged);
+    metadata.install(staged, spares);
     Ok(())
 }

@@ -35,6 +35,13 @@ use updates::Change;
 const NO_FILE: u32 = 0;
 
 impl<D: Device> Live<D> {
+    /// The metadata in memory, as users see it.
+    pub fn metadata(&self) -> &Frozen
+        ensures { result.now ≡ self.now.kept }
+    {
+        self.metadata.frozen()
+    }
+
     /// The metadata of the image that a check is to see: that of users, without the open files that have no name. The
     /// blocks that do not differ are shared.
     pub fn view(&self, alloc: Global) -> Result<Frozen, AllocError>
@@ -122,7 +129,13 @@ impl<D: Device> Live<D> {
         let blocks = self.holdings.held_blocks(alloc)?;
         let geometry = self.metadata.frozen().geometry();
         let plan = clearing(alloc, geometry, blocks.as_slice())?;
-        issue(alloc, &mut self.queue, &mut self.metadata, plan)?;
+        issue(
+            alloc,
+            &mut self.queue,
+            &mut self.metadata,
+            plan,
+            &mut self.spares,
+        )?;
         self.holdings.let_go();
         Ok(())
     }

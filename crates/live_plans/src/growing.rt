@@ -95,8 +95,9 @@ fn point(
     match table {
         None => {
             let pointers = bytes_of(metadata, directory, INDIRECT_POSITION, parent.indirect);
+            let copy = Arc::new(alloc, *pointers)?;
             let position = parent.blocks();
-            point_at(alloc, plan, directory, parent, position, block, pointers)?;
+            point_at(alloc, plan, directory, parent, position, block, copy)?;
             Ok(parent.indirect)
         }
         Some(table) => {
@@ -107,7 +108,7 @@ fn point(
 }
 
 /// Adds the update that puts the pointer to a new block of an inode with this record into its indirect block, at this
-/// position. The indirect block holds these pointers.
+/// position. The indirect block holds these pointers; where no one else owns them they are changed in place.
 pub fn point_at(
     alloc: Global,
     plan: &mut Plan,
@@ -115,21 +116,19 @@ pub fn point_at(
     owner: &Record,
     position: u32,
     block: u32,
-    pointers: &Block,
+    mut pointers: Arc<Block>,
 ) -> Result<(), AllocError>
     requires number { IsTrue (is_number plan.old.geometry number) }
     requires block { IsTrue (is_data_address plan.old.geometry block) }
     requires indirect { IsTrue (is_data_address plan.old.geometry owner.now.indirect) }
     requires past { direct_positions ≤ position }
     requires room { position < indirect_position }
-    ensures { OnOk result (GoesOn plan.old plan.new (linked number owner.now position block (InTable pointers.now))) }
+    ensures { OnOk result (GoesOn plan.old plan.new (linked number owner.now position block (InTable (arc_value pointers)))) }
 {
     let place = position as usize - DIRECT_POINTERS;
-    let after = pointer_after(alloc, number, place, block, pointers)?;
-    let mut pointers = *pointers;
-    put_pointer(&mut pointers, place, block);
-    let bytes = Arc::new(alloc, pointers)?;
-    plan.push(Change::SetBytes(owner.indirect, bytes), after)
+    let after = pointer_after(alloc, number, place, block, &pointers)?;
+    put_into(&mut pointers, place, block)?;
+    plan.push(Change::SetBytes(owner.indirect, pointers), after)
 }
 
 /// What a pointer to a block comes after that is put into this place of an inode's indirect block: the block, and where another
@@ -174,6 +173,17 @@ pub fn point_first(
         Cell::Record(number),
     ]?;
     plan.push(Change::SetBytes(table, bytes), after)
+}
+
+/// Puts a pointer into a shared indirect block, at this place among the pointers. The block is copied first, if it has other
+/// owners.
+fn put_into(pointers: &mut Arc<Block>, place: usize, block: u32) -> Result<(), AllocError>
+    requires { place < 256 }
+    ensures { OnOk result (arc_value pointers.new ≡ with_pointer (arc_value pointers.old) place block) }
+{
+    let bytes = Arc::make_mut(pointers)?;
+    put_pointer(bytes, place, block);
+    Ok(())
 }
 
 /// Puts a pointer into an indirect block, at this place among the pointers.

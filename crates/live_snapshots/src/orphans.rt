@@ -10,6 +10,7 @@ use frozen::Frozen;
 use inode::{DIRECT_POINTERS, FREE, INDIRECT_POSITION, Record};
 use live_holdings::Holdings;
 use metadata::Metadata;
+use spares::Spares;
 use std::alloc::{AllocError, Global};
 use updates::{Change, Update};
 
@@ -25,7 +26,7 @@ pub(crate) fn without_orphans(
     ensures geometry { IfOk result (λ left. left.geometry ≡ metadata.now.geometry) }
 {
     let updates = free_orphans(alloc, metadata.frozen(), holdings)?;
-    let staged = metadata.stage(alloc, updates.as_slice())?;
+    let staged = metadata.stage(alloc, updates.as_slice(), &mut Spares::none(alloc))?;
     metadata.copy_with(alloc, staged)
 }
 

@@ -5,6 +5,7 @@ use device::{Before, Device, MemDevice, format};
 use frozen::load;
 use layout::{BLOCK_BYTES, Geometry, Refusal};
 use metadata::Metadata;
+use spares::Spares;
 use std::alloc::Global;
 use std::test::Fail;
 
@@ -68,31 +69,34 @@ fn too_few_blocks_are_refused(rt: HostRuntime) -> Result<(), Fail> {
 
 #[test]
 fn a_piece_leaves_what_is_behind_it(rt: HostRuntime) -> Result<(), Fail> {
+    let mut spares = Spares::none(rt.alloc());
     let mut wanted = [9; BLOCK_BYTES];
     wanted[0] = b'a';
     wanted[1] = b'b';
     let place = Place::InPlace { block: 5 };
-    assert!(rt; *overwritten(rt.alloc(), &place, &[9; BLOCK_BYTES], b"ab")? == wanted);
+    assert!(rt; *overwritten(rt.alloc(), &place, &[9; BLOCK_BYTES], b"ab", &mut spares)? == wanted);
     let place = Place::Elsewhere { old: 5, block: 7 };
-    assert!(rt; *overwritten(rt.alloc(), &place, &[9; BLOCK_BYTES], b"ab")? == wanted);
+    assert!(rt; *overwritten(rt.alloc(), &place, &[9; BLOCK_BYTES], b"ab", &mut spares)? == wanted);
     Ok(())
 }
 
 #[test]
 fn a_new_block_has_zeroes_behind_the_piece(rt: HostRuntime) -> Result<(), Fail> {
+    let mut spares = Spares::none(rt.alloc());
     let mut wanted = [0; BLOCK_BYTES];
     wanted[0] = b'a';
     wanted[1] = b'b';
     let place = behind(7, None);
-    assert!(rt; *overwritten(rt.alloc(), &place, &[9; BLOCK_BYTES], b"ab")? == wanted);
+    assert!(rt; *overwritten(rt.alloc(), &place, &[9; BLOCK_BYTES], b"ab", &mut spares)? == wanted);
     Ok(())
 }
 
 #[test]
 fn a_piece_as_long_as_a_block_leaves_nothing(rt: HostRuntime) -> Result<(), Fail> {
+    let mut spares = Spares::none(rt.alloc());
     let place = Place::InPlace { block: 5 };
     let piece = [7; BLOCK_BYTES];
-    assert!(rt; *overwritten(rt.alloc(), &place, &[9; BLOCK_BYTES], &piece)? == piece);
+    assert!(rt; *overwritten(rt.alloc(), &place, &[9; BLOCK_BYTES], &piece, &mut spares)? == piece);
     Ok(())
 }
 

@@ -22,7 +22,8 @@ use inode::{DIRECT_POINTERS, Record};
 use layout::{BLOCK_BYTES, Block};
 use live_holdings::Holdings;
 use live_plans::{Plan, Planned, fill, point_at, point_first};
-use metadata::{Metadata, share};
+use metadata::Metadata;
+use spares::Spares;
 use std::alloc::{AllocError, Global};
 use std::sync::Arc;
 use updates::{Cell, Change};
@@ -31,7 +32,7 @@ use updates::{Cell, Change};
 /// the last block it is put over zeroes.
 ///
 /// Whatever the bytes of the block were, the same plan is that of a piece, which reaches to the end of the block or of
-/// the file.
+/// the file. Spare blocks serve for its new bytes, where there are some.
 pub fn write(
     alloc: Global,
     metadata: &Metadata,
@@ -39,6 +40,7 @@ pub fn write(
     target: &Target,
     before: &Block,
     piece: &[u8],
+    spares: &mut Spares,
 ) -> Result<Planned, AllocError>
     requires volume { IsOfVolumeWith metadata.now holdings.now }
     requires aimed { (h : ℕ) × (k : ℕ) × IsAimed metadata.now holdings.now h k piece.now target.now }
@@ -52,8 +54,8 @@ pub fn write(
     let size = metadata.frozen().record(target.file).size;
     let end = BLOCK_BYTES as u32 * target.index + piece.len() as u32;
     let size = if end > size { end } else { size };
-    let bytes = overwritten(alloc, &target.place, before, piece)?;
-    let plan = updates(alloc, metadata, target, bytes, size)?;
+    let bytes = overwritten(alloc, &target.place, before, piece, spares)?;
+    let plan = updates(alloc, metadata, target, bytes, size, spares)?;
     let holds = held_blocks(alloc, &target.place)?;
     Ok(Planned { plan, holds })
 }
@@ -74,14 +76,15 @@ pub(crate) fn overwritten(
     place: &Place,
     before: &Block,
     piece: &[u8],
+    spares: &mut Spares,
 ) -> Result<Arc<Block>, AllocError>
     requires { length piece.now ≤ 1024 }
     ensures bytes { IfOk result (λ bytes. arc_value bytes ≡ bytes_after place.now before.now piece.now) }
     ensures whole { IfOk result (λ bytes. IsBlock (arc_value bytes)) }
 {
     match piece.as_array() {
-        Some(whole) => share(alloc, whole),
-        None => overwritten_in_part(alloc, place, before, piece),
+        Some(whole) => spares.share(alloc, whole),
+        None => overwritten_in_part(alloc, place, before, piece, spares),
     }
 }
 
@@ -91,6 +94,7 @@ fn overwritten_in_part(
     place: &Place,
     before: &Block,
     piece: &[u8],
+    spares: &mut Spares,
 ) -> Result<Arc<Block>, AllocError>
     requires { length piece.now ≤ 1024 }
     ensures bytes { IfOk result (λ bytes. arc_value bytes ≡ bytes_after place.now before.now piece.now) }
@@ -101,7 +105,7 @@ fn overwritten_in_part(
         _ => *before,
     };
     bytes[..piece.len()].copy_from_slice(piece);
-    share(alloc, &bytes)
+    spares.share(alloc, &bytes)
 }
 
 /// The updates by which the block that is written gets its bytes, and the file this size.
@@ -111,6 +115,7 @@ fn updates(
     target: &Target,
     bytes: Arc<Block>,
     size: u32,
+    spares: &mut Spares,
 ) -> Result<Plan, AllocError>
     requires pointers { HasPointers metadata.now target.now.file }
     requires fits { (holdings : Held) × Fits metadata.now holdings target.now }
@@ -126,11 +131,15 @@ fn updates(
         }
         Place::Behind { block, table } => {
             fill(alloc, &mut plan, block, bytes)?;
-            repoint(alloc, metadata, &mut plan, target, block, table, size)?;
+            repoint(
+                alloc, metadata, &mut plan, target, block, table, size, spares,
+            )?;
         }
         Place::Elsewhere { block, .. } => {
             fill(alloc, &mut plan, block, bytes)?;
-            repoint(alloc, metadata, &mut plan, target, block, None, size)?;
+            repoint(
+                alloc, metadata, &mut plan, target, block, None, size, spares,
+            )?;
         }
     }
     Ok(plan)
@@ -174,6 +183,7 @@ fn repoint(
     block: u32,
     table: Option<u32>,
     size: u32,
+    spares: &mut Spares,
 ) -> Result<(), AllocError>
     requires geometry { plan.old.geometry ≡ metadata.now.geometry }
     requires pointers { HasPointers metadata.now target.now.file }
@@ -199,15 +209,8 @@ fn repoint(
         return plan.push(Change::SetInode(target.file, changed), after);
     }
     let pointers = pointers_of(metadata, target.file, owner.indirect);
-    point_at(
-        alloc,
-        plan,
-        target.file,
-        &owner,
-        target.index,
-        block,
-        pointers,
-    )?;
+    let copy = spares.share(alloc, pointers)?;
+    point_at(alloc, plan, target.file, &owner, target.index, block, copy)?;
     let after = vec![in alloc; Cell::Block(owner.indirect), Cell::Block(block)]?;
     enlarge(plan, target.file, &owner, size, after)
 }

@@ -10,7 +10,6 @@ mod staged;
 mod tests;
 
 pub use metadata::{
-    Metadata, share, what_is_kept_is_the_metadata_of_what_it_shows,
-    what_is_kept_of_an_image_shows_it,
+    Metadata, what_is_kept_is_the_metadata_of_what_it_shows, what_is_kept_of_an_image_shows_it,
 };
 pub use staged::{Bit, Staged};

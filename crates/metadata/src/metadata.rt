@@ -22,6 +22,7 @@ use crate::{Bit, Staged};
 use free_space::FreeSpace;
 use frozen::{Frozen, Placed};
 use layout::{BLOCK_BYTES, Block, Geometry};
+use spares::Spares;
 use std::alloc::{AllocError, Global};
 use std::marker::Model;
 use std::sync::Arc;
@@ -84,26 +85,33 @@ impl Metadata {
         self.free.next_block(from)
     }
 
-    /// Makes these changes ready, the first first. Takes memory for each; what users see stays.
-    pub fn stage(&self, alloc: Global, updates: &[Update]) -> Result<Staged, AllocError>
+    /// Makes these changes ready, the first first. Takes memory for each, of spare blocks where there are some; what users
+    /// see stays.
+    pub fn stage(
+        &self,
+        alloc: Global,
+        updates: &[Update],
+        spares: &mut Spares,
+    ) -> Result<Staged, AllocError>
         requires { All (IsUpdate self.now.geometry) updates.now }
         ensures { IfOk result (IsStaged self.now (changes updates.now)) }
     {
         let mut staged = Staged::new(alloc);
         for update in updates {
-            self.stage_one(alloc, &mut staged, &update.change)?;
+            self.stage_one(alloc, &mut staged, &update.change, spares)?;
         }
         Ok(staged)
     }
 
-    /// Lets users see what was made ready. What is kept then has to be all metadata again.
-    pub fn install(&mut self, staged: Staged)
+    /// Lets users see what was made ready. What is kept then has to be all metadata again. The blocks that stood in the
+    /// places are spare.
+    pub fn install(&mut self, staged: Staged, spares: &mut Spares)
         requires staged { (us : List Changed) × IsStaged self.old us staged }
         requires metadata { KeepsMetadata (after self.old staged) }
         ensures { self.new ≡ after self.old staged }
     {
         note_all(&mut self.free, staged.bits.as_slice());
-        self.frozen.install(staged.blocks);
+        self.frozen.install(staged.blocks, spares);
     }
 
     /// Lets go of a block of data, if it is kept: no metadata stands in it. Users see what they saw.
@@ -123,7 +131,7 @@ impl Metadata {
         ensures { IfOk result (λ copy. copy ≡ after self.now staged) }
     {
         let mut copy = self.frozen.copy(alloc)?;
-        copy.install(staged.blocks);
+        copy.install(staged.blocks, &mut Spares::none(alloc));
         Ok(copy)
     }
 
@@ -133,12 +141,13 @@ impl Metadata {
         alloc: Global,
         staged: &mut Staged,
         change: &Change,
+        spares: &mut Spares,
     ) -> Result<(), AllocError>
         requires { IsCell self.now.geometry (cell_of (change_of change.now)) }
         ensures { OnOk result ((us : List Changed) → IsStaged self.now us staged.old → IsStaged self.now (us ++ change_of change.now ∷ []) staged.new) }
     {
         let address = change.cell().home(&self.frozen.geometry());
-        let block = self.changed(alloc, staged.blocks.as_slice(), address, change)?;
+        let block = self.changed(alloc, staged.blocks.as_slice(), address, change, spares)?;
         staged.blocks.push(Placed { address, block })?;
         staged.note(change)
     }
@@ -151,6 +160,7 @@ impl Metadata {
         blocks: &[Placed],
         address: u32,
         change: &Change,
+        spares: &mut Spares,
     ) -> Result<Arc<Block>, AllocError>
         requires cell { IsCell self.now.geometry (cell_of (change_of change.now)) }
         requires address { address ≡ home_of self.now.geometry (cell_of (change_of change.now)) }
@@ -161,7 +171,7 @@ impl Metadata {
         self.frozen.geometry();
         match change.whole() {
             Some(block) => share_again(block),
-            None => self.changed_in_part(alloc, blocks, address, change),
+            None => self.changed_in_part(alloc, blocks, address, change, spares),
         }
     }
 
@@ -172,6 +182,7 @@ impl Metadata {
         blocks: &[Placed],
         address: u32,
         change: &Change,
+        spares: &mut Spares,
     ) -> Result<Arc<Block>, AllocError>
         requires cell { IsCell self.now.geometry (cell_of (change_of change.now)) }
         requires address { address ≡ home_of self.now.geometry (cell_of (change_of change.now)) }
@@ -180,7 +191,7 @@ impl Metadata {
         ensures whole { IfOk result (λ block. IsBlock (arc_value block)) }
     {
         let geometry = self.frozen.geometry();
-        let mut block = share(alloc, self.standing_at(blocks, address))?;
+        let mut block = spares.share(alloc, self.standing_at(blocks, address))?;
         put_into(&mut block, &geometry, change)?;
         Ok(block)
     }
@@ -226,14 +237,6 @@ fn last_at(blocks: &[Placed], address: u32) -> Option<usize>
     ensures { MatchOption result (NoneAt blocks.now address) (IsLastAt blocks.now address) }
 {
     blocks.iter().rposition(|placed| placed.address == address)
-}
-
-/// A block with these bytes that may be shared.
-pub fn share(alloc: Global, block: &Block) -> Result<Arc<Block>, AllocError>
-    ensures bytes { IfOk result (λ shared. arc_value shared ≡ block.now) }
-    ensures whole { IfOk result (λ shared. IsBlock (arc_value shared)) }
-{
-    Ok(Arc::new(alloc, *block)?)
 }
 
 /// Puts a change into a shared block. It is copied first, if it has other owners.

@@ -5,6 +5,7 @@ use crate::{Bit, Metadata};
 use device::{Before, Device, MemDevice, format};
 use frozen::{Frozen, load};
 use layout::{BLOCK_BYTES, Geometry, ROOT, Refusal};
+use spares::Spares;
 use std::alloc::Global;
 use std::test::Fail;
 use updates::{Change, Update};
@@ -41,7 +42,7 @@ fn changes_of_one_block_add_up(rt: HostRuntime) -> Result<(), Fail> {
     let metadata = Metadata::new(alloc, fresh(alloc)?)?;
     let geometry = metadata.frozen().geometry();
     let updates = [marked(alloc, &geometry, 5)?, marked(alloc, &geometry, 15)?];
-    let staged = metadata.stage(alloc, &updates)?;
+    let staged = metadata.stage(alloc, &updates, &mut Spares::none(alloc))?;
     let bits = [Bit::Number(5, true), Bit::Number(15, true)];
     assert_eq!(rt; staged.bits.as_slice(), bits.as_slice());
     let last = staged.blocks.last().ok_or("no block")?;

@@ -175,8 +175,7 @@ fn allow_in_volume<D: Device>(
     volume: &Volume<D>,
     items: &[Item],
 ) -> Result<(), HostError> {
-    let view = volume.live().view(alloc)?;
-    allow_items(alloc, &view, items)
+    allow_items(alloc, volume.live().metadata(), items)
 }
 
 /// Refuses the first item of which the path leads somewhere in a file's image already, or can lead nowhere.

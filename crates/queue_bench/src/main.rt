@@ -23,6 +23,7 @@ use anyhow::Result;
 use issuing::{Issued, hold, issue};
 use line::{Line, Mode, parse};
 use softdep::Queue;
+use spares::Spares;
 use std::alloc::Global;
 use std::env;
 use std::time::Clock;
@@ -56,12 +57,13 @@ fn measure(clock: &impl Clock, alloc: Global, line: &Line) -> Result<(Issued, Wr
     }
     let mut queue = Queue::new(alloc, line.spread.geometry()?)?;
     let issued = issue(clock, alloc, &mut queue, line.spread, line.updates)?;
+    let mut spares = Spares::new(alloc)?;
     let written = match line.mode {
         Mode::Issue | Mode::Hold => Written::NOTHING,
-        Mode::Sync => sync(clock, alloc, &mut queue)?,
-        Mode::Upward => flush_in_passes(clock, alloc, &mut queue, Order::Upward)?,
-        Mode::Downward => flush_in_passes(clock, alloc, &mut queue, Order::Downward)?,
-        Mode::Again => write_again(clock, alloc, &mut queue)?,
+        Mode::Sync => sync(clock, alloc, &mut queue, &mut spares)?,
+        Mode::Upward => flush_in_passes(clock, alloc, &mut queue, &mut spares, Order::Upward)?,
+        Mode::Downward => flush_in_passes(clock, alloc, &mut queue, &mut spares, Order::Downward)?,
+        Mode::Again => write_again(clock, alloc, &mut queue, &mut spares)?,
         Mode::Once => write_once(clock, alloc, &queue, issued.homes.as_slice())?,
     };
     Ok((issued, written))

@@ -3,6 +3,7 @@ use anyhow::Result;
 use device::{Device, MemDevice};
 use layout::{BLOCK_BYTES, Block, Geometry, Refusal};
 use softdep::Queue;
+use spares::Spares;
 use std::alloc::Global;
 use std::time::{Clock, Duration, Instant};
 
@@ -39,10 +40,15 @@ fn fresh_device(alloc: Global, geometry: &Geometry) -> Result<MemDevice, Refusal
 }
 
 /// Syncs what is pending.
-pub fn sync(clock: &impl Clock, alloc: Global, queue: &mut Queue) -> Result<Written> {
+pub fn sync(
+    clock: &impl Clock,
+    alloc: Global,
+    queue: &mut Queue,
+    spares: &mut Spares,
+) -> Result<Written> {
     let mut device = fresh_device(alloc, &queue.geometry())?;
     let start = Instant::now(clock)?;
-    sync_to(queue, &mut device)?;
+    sync_to(queue, &mut device, spares)?;
     let time = start.elapsed(clock)?;
     Ok(Written {
         passes: 0,
@@ -52,20 +58,29 @@ pub fn sync(clock: &impl Clock, alloc: Global, queue: &mut Queue) -> Result<Writ
 }
 
 /// Syncs to a device, unless it is of another length.
-fn sync_to<D: Device>(queue: &mut Queue, device: &mut D) -> Result<(), Refusal> {
+fn sync_to<D: Device>(
+    queue: &mut Queue,
+    device: &mut D,
+    spares: &mut Spares,
+) -> Result<(), Refusal> {
     if device.blocks() != queue.geometry().blocks() {
         return Err(Refusal::BadLength);
     }
-    queue.sync(device)
+    queue.sync(device, spares)
 }
 
 /// Flushes a block to a device, unless the device is of another length or has no such block.
-fn flush_to<D: Device>(queue: &mut Queue, device: &mut D, address: u32) -> Result<usize, Refusal> {
+fn flush_to<D: Device>(
+    queue: &mut Queue,
+    device: &mut D,
+    address: u32,
+    spares: &mut Spares,
+) -> Result<usize, Refusal> {
     let blocks = device.blocks();
     if blocks != queue.geometry().blocks() || address >= blocks {
         return Err(Refusal::BadLength);
     }
-    queue.flush(device, address)
+    queue.flush(device, address, spares)
 }
 
 /// Flushes block after block, in the order of the addresses or in the reverse order, until nothing is pending.
@@ -73,6 +88,7 @@ pub fn flush_in_passes(
     clock: &impl Clock,
     alloc: Global,
     queue: &mut Queue,
+    spares: &mut Spares,
     order: Order,
 ) -> Result<Written> {
     let mut device = fresh_device(alloc, &queue.geometry())?;
@@ -82,7 +98,7 @@ pub fn flush_in_passes(
         if queue.pending() == 0 {
             break;
         }
-        flush_each(queue, &mut device, order)?;
+        flush_each(queue, &mut device, spares, order)?;
         passes = passes.saturating_add(1);
     }
     let time = start.elapsed(clock)?;
@@ -94,27 +110,37 @@ pub fn flush_in_passes(
 }
 
 /// Flushes each block once.
-fn flush_each(queue: &mut Queue, device: &mut MemDevice, order: Order) -> Result<(), Refusal> {
+fn flush_each(
+    queue: &mut Queue,
+    device: &mut MemDevice,
+    spares: &mut Spares,
+    order: Order,
+) -> Result<(), Refusal> {
     let blocks = device.blocks();
     for k in 0..blocks {
         let address = match order {
             Order::Upward => k,
             Order::Downward => blocks - 1 - k,
         };
-        flush_to(queue, device, address)?;
+        flush_to(queue, device, address, spares)?;
     }
     Ok(())
 }
 
 /// Writes the blocks that a sync writes, each as often as the sync does and in its order.
-pub fn write_again(clock: &impl Clock, alloc: Global, queue: &mut Queue) -> Result<Written> {
+pub fn write_again(
+    clock: &impl Clock,
+    alloc: Global,
+    queue: &mut Queue,
+    spares: &mut Spares,
+) -> Result<Written> {
     let mut device = fresh_device(alloc, &queue.geometry())?;
     let mut addresses = Vec::new(alloc);
     for _ in 0..u64::MAX {
         let Some(address) = queue.least_ready() else {
             break;
         };
-        flush_to(queue, &mut device, address)?;
+        flush_to(queue, &mut device, address, spares)?;
         addresses.push(address)?;
     }
     write_all(clock, alloc, queue, addresses.as_slice())

@@ -11,12 +11,18 @@ ghost use Rattle.softdep.specs.Syncing.{HasPut, IsHistory, AreFlushes};
 
 use crate::Queue;
 use device::Device;
-use layout::{BLOCK_BYTES, Refusal};
+use layout::Refusal;
+use spares::Spares;
 
 impl Queue {
     /// Writes a block with those of its pending updates that may go to the device, and counts them. Where none may, the
-    /// device is not touched. It takes no memory.
-    pub fn flush<D: Device>(&mut self, device: &mut D, address: u32) -> Result<usize, Refusal>
+    /// device is not touched. Blocks whose bytes are on the device then are spare. It needs no memory.
+    pub fn flush<D: Device>(
+        &mut self,
+        device: &mut D,
+        address: u32,
+        spares: &mut Spares,
+    ) -> Result<usize, Refusal>
         requires address { address < block_count self.old.geometry }
         requires count { length (D.image device.old) ≡ block_count self.old.geometry }
         ensures flushed { OnOk result (self.new ≡ flushed self.old address) }
@@ -38,15 +44,15 @@ impl Queue {
             return Ok(0);
         }
         self.geometry.blocks();
-        let mut block = [0; BLOCK_BYTES];
+        let block = &mut self.block;
         // An update of a data block gives all of its bytes, so what stands there is not read.
         if self.geometry.place_of(address).is_none() {
-            device.read(address, &mut block)?;
+            device.read(address, block)?;
         }
-        let count = self.table.take(&self.geometry, address, &mut block);
-        match device.write(address, &block) {
+        let count = self.table.take(&self.geometry, address, block);
+        match device.write(address, block) {
             Ok(()) => {
-                self.table.retire(&self.geometry, address);
+                self.table.retire(&self.geometry, address, spares);
                 self.events = self.events.and(&self.none, &Some(address));
                 Ok(count)
             }
@@ -57,9 +63,9 @@ impl Queue {
         }
     }
 
-    /// Flushes the least block with an update that may go, until nothing is pending, and waits for the medium. It takes no
-    /// memory.
-    pub fn sync<D: Device>(&mut self, device: &mut D) -> Result<(), Refusal>
+    /// Flushes the least block with an update that may go, until nothing is pending, and waits for the medium. Blocks whose
+    /// bytes are on the device then are spare. It needs no memory.
+    pub fn sync<D: Device>(&mut self, device: &mut D, spares: &mut Spares) -> Result<(), Refusal>
         requires { length (D.image device.old) ≡ block_count self.old.geometry }
         ensures pending { OnOk result (pending_of self.new ≡ []) }
         ensures view { OnOk result (D.honest device.new → image_view self.old.geometry (D.image device.new) ≡ users_view (image_view self.old.geometry (D.image device.old)) (pending_of self.old)) }
@@ -75,7 +81,7 @@ impl Queue {
     {
         self.pending();
         while let Some(address) = self.least_ready() {
-            self.flush(device, address)?;
+            self.flush(device, address, spares)?;
         }
         device.sync()?;
         Ok(())

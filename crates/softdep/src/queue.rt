@@ -13,7 +13,7 @@ ghost use Rattle.softdep_queue.specs.Next.{IsNextReady, NothingReadyFrom};
 ghost use Rattle.softdep.specs.Queued.{fresh_queue, pending_of};
 
 use http_server::Log;
-use layout::{Block, Geometry, Refusal};
+use layout::{BLOCK_BYTES, Block, Geometry, Refusal};
 use softdep_queue::Table;
 use std::alloc::Global;
 use std::marker::Model;
@@ -28,6 +28,8 @@ pub struct Queue {
     pub(crate) events: Log<Vec<Update>, Option<u32>>,
     /// No updates, for the history.
     pub(crate) none: Vec<Update>,
+    /// Room for the block that a flush writes.
+    pub(crate) block: Block,
 }
 
 impl Model for Queue {
@@ -51,6 +53,7 @@ impl Queue {
             table: Table::new(alloc, &geometry)?,
             events: Log::new(),
             none: Vec::new(alloc),
+            block: [0; BLOCK_BYTES],
         })
     }
 

@@ -8,6 +8,7 @@ use crate::{Cell, Change, Queue, Update};
 use device::{Device, Fuse, MemDevice};
 use inode::{DIRECT_POINTERS, FILE, FREE, Record};
 use layout::{BLOCK_BYTES, Block, Geometry, ROOT, Refusal};
+use spares::Spares;
 use std::alloc::Global;
 use std::process::Abort;
 use std::sync::Arc;
@@ -195,6 +196,7 @@ struct Seen {
 struct Bed {
     queue: Queue,
     device: Fuse<MemDevice>,
+    spares: Spares,
     /// The blocks that the device is to hold.
     expected: Vec<Block>,
     /// How many writes it is to have made.
@@ -216,6 +218,7 @@ impl Bed {
         Ok(Bed {
             queue: Queue::new(alloc, Geometry::new(2, 16, 16)?)?,
             device: Fuse::new(device, faults.after, faults.once),
+            spares: Spares::new(alloc)?,
             expected,
             writes: 0,
             pending: 0,
@@ -239,7 +242,8 @@ impl Bed {
         if address >= blocks || self.device.blocks() != blocks {
             return Err(Refusal::BadIndex);
         }
-        self.queue.flush(&mut self.device, address)
+        self.queue
+            .flush(&mut self.device, address, &mut self.spares)
     }
 
     /// Flushes all blocks; `BadIndex` where the device is not of the volume.
@@ -247,7 +251,7 @@ impl Bed {
         if self.device.blocks() != self.queue.geometry().blocks() {
             return Err(Refusal::BadIndex);
         }
-        self.queue.sync(&mut self.device)
+        self.queue.sync(&mut self.device, &mut self.spares)
     }
 
     /// What is seen of the queue, and of the device after so many writes.

@@ -12,17 +12,18 @@ ghost use Rattle.softdep_queue.specs.Taking.{ShowsCell};
 
 use crate::Table;
 use layout::Geometry;
-use updates::cells_have_places_of_their_own;
+use spares::Spares;
+use updates::{Change, cells_have_places_of_their_own};
 
 impl Table {
-    /// Strikes out what was taken of a block, once the block is written.
-    pub fn retire(&mut self, geometry: &Geometry, address: u32)
+    /// Strikes out what was taken of a block, once the block is written; the bytes' memory is spare then.
+    pub fn retire(&mut self, geometry: &Geometry, address: u32, spares: &mut Spares)
         requires { MayBeRetired geometry.now self.old address }
         ensures { (queue : Queue) (q : List Pending) (es : List Entry) → Takes geometry.now self.old queue q address es → NoOtherMayGo queue address es
             → Holds geometry.now self.new (flushed address queue) (rest q (ready (home_of geometry.now) address q)) }
     {
         self.release(address);
-        self.strike_all(geometry, address);
+        self.strike_all(geometry, address, spares);
         self.pending -= self.taken.len();
         self.taken.clear();
     }
@@ -40,8 +41,8 @@ impl Table {
         }
     }
 
-    /// Strikes out what was taken: it is on the device.
-    fn strike_all(&mut self, geometry: &Geometry, address: u32)
+    /// Strikes out what was taken: it is on the device. The bytes' memory is spare then.
+    fn strike_all(&mut self, geometry: &Geometry, address: u32, spares: &mut Spares)
         requires { HasReleased geometry.now self.old address }
         ensures struck { (queue : Queue) (q : List Pending) (es : List Entry) → IsReleased geometry.now self.old queue q address es → AreStruck geometry.now self.old self.new queue es }
     {
@@ -51,12 +52,12 @@ impl Table {
         while left > 0 {
             left -= 1;
             let number = self.taken[left];
-            self.strike(geometry, number);
+            self.strike(geometry, number, spares);
         }
     }
 
-    /// Strikes out an update.
-    fn strike(&mut self, geometry: &Geometry, number: u32)
+    /// Strikes out an update. The memory of the bytes that it gives is spare then.
+    fn strike(&mut self, geometry: &Geometry, number: u32, spares: &mut Spares)
         requires shows { ShowsCell geometry.now self.old number }
         requires places { length self.old.latest.items ≡ place_count geometry.now }
         ensures struck { (u : Update) → Shows (node_at self.old.nodes.items number).change u → IsStruck geometry.now self.old self.new number (cell_of u) }
@@ -67,7 +68,9 @@ impl Table {
         if u64::from(self.latest[place]) == u64::from(number) + 1 {
             self.latest[place] = 0;
         }
-        self.nodes[number as usize].change = None;
+        if let Some(Change::SetBytes(_, block)) = self.nodes[number as usize].change.take() {
+            spares.add(block);
+        }
     }
 
     /// The place of the cell that an update changes.

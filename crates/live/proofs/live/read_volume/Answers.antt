@@ -44,3 +44,8 @@ pub returns-in_err-holdings-clause-refused : goal.returns-in_err-holdings-clause
 returns-in_err-holdings-clause-refused g c =
     let p = err_from_is_err_and c.from_residual-in_err-holdings.result c.from_residual-in_err-holdings.ensures.1 in
     rw (p.1, p.2) tt
+
+pub returns-in_err-spares-clause-refused : goal.returns-in_err-spares-clause-refused
+returns-in_err-spares-clause-refused g c =
+    let p = err_from_is_err_and c.from_residual-in_err-spares.result c.from_residual-in_err-spares.ensures.1 in
+    rw (p.1, p.2) tt

@@ -21,7 +21,8 @@ returns-in_ok-point_at-in-None-clause-points c = λ view shows.
     (subst (λ x. PointsTo kept.geometry view d inode b None x c.args.plan.now c.point_at.new.plan) (sym indirect)
     (points_behind kept view shows d b inode c.requires.parent.0 c.requires.parent.1 c.bytes_of-pointers.result.now c.args.plan.now c.point_at.new.plan c.requires.past table
     (sym (ap view.bytes indirect) ∙ c.bytes_of-pointers.ensures.bytes view shows)
-    (subst (λ k. GoesOn c.args.plan.now c.point_at.new.plan (linked d inode k b (InTable c.bytes_of-pointers.result.now))) c.blocks-position.ensures c.in_ok-point_at-in-None.ensures)))
+    (subst (λ k. GoesOn c.args.plan.now c.point_at.new.plan (linked d inode k b (InTable c.bytes_of-pointers.result.now))) c.blocks-position.ensures
+    (subst (λ bytes. GoesOn c.args.plan.now c.point_at.new.plan (linked d inode c.blocks-position.result b (InTable bytes))) c.in_ok-copy-in-None.ensures.ok c.in_ok-point_at-in-None.ensures))))
 
 pub returns-in_ok-point_first-in-Some-clause-points : goal.returns-in_ok-point_first-in-Some-clause-points
 returns-in_ok-point_first-in-Some-clause-points c = λ view shows.

@@ -1,6 +1,7 @@
 -- The pointer is put, and then the record.
 use Rattle.std.proofs.Common.{◌∷◌, [], map, slice_set, sym, ap, ◌∙◌, subst, IsTrue}
 use Rattle.std.proofs.lemmas.Result.{on_ok_weaker}
+use Rattle.std.specs.Arc.{arc_value}
 use Rattle.model.specs.Layout.{Geometry, is_data_address}
 use Rattle.model.specs.View.{Inode}
 use Rattle.model.specs.Uses.{IsClaim, indirect_position}
@@ -82,7 +83,7 @@ returns c =
     let same = c.record-owner.ensures ∙ ap (λ (f : Kept). (frozen_view f).inode i) c.frozen.ensures.same in
     on_ok_weaker c.enlarge.result
     (λ sets. subst (λ t. GoesOn c.args.plan.now c.enlarge.new.plan (repointed i ((frozen_view kept).inode i) k b c.args.size (holder_at kept i k b t))) (sym c.in_default.is)
-    (in_table kept i k b c.args.size c.args.plan.now c.point_at.new.plan c.enlarge.new.plan owner c.pointers_of-pointers.result.now (map cell c.in_ok-after-3.after.items) c.if-position-lt-DIRECT_POINTERS.false
-    same (c.pointers_of-pointers.ensures ∙ ap (λ (n : Inode). (frozen_view kept).bytes n.indirect) c.owner.view_is)
+    (in_table kept i k b c.args.size c.args.plan.now c.point_at.new.plan c.enlarge.new.plan owner (arc_value c.in_ok-copy.copy) (map cell c.in_ok-after-3.after.items) c.if-position-lt-DIRECT_POINTERS.false
+    same (c.in_ok-copy.ensures.bytes ∙ c.pointers_of-pointers.ensures ∙ ap (λ (n : Inode). (frozen_view kept).bytes n.indirect) c.owner.view_is)
     (ap (map cell) c.in_ok-after-3.ensures.items ∙ ap (λ (n : Inode). Block n.indirect ∷ Block b ∷ []) c.owner.view_is) c.in_ok-point_at.ensures sets))
     c.enlarge.ensures

@@ -1,12 +1,8 @@
-use Rattle.std.proofs.Common.{◌<◌, All, [], inr, sym, ap, ◌∙◌, subst}
+use Rattle.std.proofs.Common.{[], inr, sym, ap, ◌∙◌, subst}
 use Rattle.std.proofs.lemmas.Result.{err_from_is_err_and}
-use Rattle.model.specs.Layout.{block_count}
 use Rattle.machine.specs.Command.{Done, Write}
 use Rattle.softdep.specs.Queued.{pending_of}
-use Rattle.live.specs.declared.ending.Ending.TheVariants.{Nothing}
-use Rattle.live.specs.Ended.{ended}
-use Rattle.live_states.specs.Holdings.{with_held}
-use Rattle.live_states.specs.Planned.{IsPlannedWith, IsRefusedWith}
+use Rattle.live_states.specs.Planned.{IsRefusedWith}
 use Rattle.live_states.proofs.Standing.{stands_with}
 use Rattle.live_writes.specs.Aimed.{IsAimed, seen_before}
 use Rattle.live.specs.Alive.{Alive, Answers, MayRefuse}
@@ -56,12 +52,11 @@ carry_out-requires-clause-planned g c =
     let anyhow = c.in_ok-planned.ensures.planned_anyhow c.args.handle c.args.index aimed in (
       Write c.args.handle c.args.index anyhow.0,
       Done,
-      subst (λ (l : Alive _). IsPlannedWith l.kept l.holdings [] (Write c.args.handle c.args.index anyhow.0) Done c.in_ok-planned.planned.plan (with_held (ended l.holdings Nothing) c.in_ok-planned.planned.holds.items)) c.self-2.view_is
-          anyhow.1,
+      anyhow.1,
     )
 
 pub carry_out-requires-clause-holds : goal.carry_out-requires-clause-holds
-carry_out-requires-clause-holds g c = subst (λ (l : Alive _). All (λ a. a < block_count l.kept.geometry) c.in_ok-planned.planned.holds.items) c.self-2.view_is c.in_ok-planned.ensures.holds
+carry_out-requires-clause-holds g c = c.in_ok-planned.ensures.holds
 
 pub returns-clause-done : goal.returns-clause-done
 returns-clause-done g c = λ h.
@@ -73,17 +68,20 @@ returns-clause-done g c = λ h.
     let command = Write c.args.handle c.args.index c.args.piece.now in
     let seen = seen_before c.in_ok-target.target c.read_under.new.block in
     let old = c.args.self.now in
-    let mid = c.read_under.new.self in
+    let mid : Alive _ = record { device = c.self-2.inside.device; queue = c.self-2.inside.queue; kept = c.self-2.inside.metadata; holdings = c.self-2.inside.holdings } in
+    let is = c.self-2.view_is in
     let was = g.D.Device.image old.device in
     let then = c.carry_out.new.self in
     let new = c.let_go.new.self in
     let honest = subst (λ d. g.D.Device.honest d) c.in_ok-carry_out.ensures.device (subst (λ d. g.D.Device.honest d) c.let_go.ensures.device h) in
-    let planned =
-    subst (λ (l : Alive _). IsPlannedWith l.kept l.holdings seen command Done c.in_ok-planned.planned.plan (with_held (ended l.holdings Nothing) c.in_ok-planned.planned.holds.items)) c.self-2.view_is
-    (c.in_ok-planned.ensures.planned c.args.handle c.args.index aimed) in
-    let same = c.in_ok-read_under.ensures.image in
+    let planned = c.in_ok-planned.ensures.planned c.args.handle c.args.index aimed in
+    let same = ap (λ (l : Alive _). g.D.Device.image l.device) is ∙ c.in_ok-read_under.ensures.image in
     let untouched = c.in_ok-read_under.ensures.untouched in
+    let queue = ap (λ (l : Alive _). l.queue) is ∙ untouched.0 in
+    let kept' = ap (λ (l : Alive _). l.kept) is ∙ untouched.1 in
+    let holdings' = ap (λ (l : Alive _). l.holdings) is ∙ untouched.2 in
     subst (λ d. Answers was old command Done (g.D.Device.image d) new []) (sym c.let_go.ensures.device)
     (answers_with was (g.D.Device.image then.device) old then new command Done [] c.let_go.ensures.queue c.let_go.ensures.holdings c.let_go.ensures.geometry
-    (answered was (g.D.Device.image mid.device) old mid same untouched.0 untouched.1 untouched.2 command Done (g.D.Device.image then.device) then []
-    (c.in_ok-carry_out.ensures.done seen command Done planned honest (still_seen was (g.D.Device.image mid.device) old mid same untouched.0 untouched.1 untouched.2 seen (c.in_ok-read_under.ensures.seen honest)))))
+    (answered was (g.D.Device.image mid.device) old mid same queue kept' holdings' command Done (g.D.Device.image then.device) then []
+    (c.in_ok-carry_out.ensures.done seen command Done planned honest
+    (still_seen was (g.D.Device.image mid.device) old mid same queue kept' holdings' seen (c.in_ok-read_under.ensures.seen (subst (λ (l : Alive _). g.D.Device.honest l.device) is honest))))))

@@ -1,14 +1,15 @@
-use Rattle.std.proofs.Common.{◌-◌, [], ◌∷◌, ◌++◌, sym, ap, ◌∙◌, subst, arith}
-use Rattle.std.proofs.lemmas.List.{append_assoc}
+use Rattle.std.proofs.Common.{◌-◌, [], ◌∷◌, ◌++◌, refl, sym, ap, ◌∙◌, subst, length, arith}
+use Rattle.std.proofs.lemmas.List.{append_assoc, length-map, length-reverse}
 use Rattle.ordering.specs.Cuts.{cell_of}
 use Rattle.queue_model.specs.Blocks.{home_of}
-use Rattle.queue_model.specs.Entries.{AreTaken}
+use Rattle.queue_model.specs.Entries.{Entry, AreTaken}
 use Rattle.queue_model.proofs.Standing.{id_low}
 use Rattle.softdep_queue.specs.declared.table.Node.{Node}
 use Rattle.softdep_queue.specs.Ties.{Shows, node_at}
 use Rattle.softdep_queue.specs.Retiring.{IsStruck}
+use Rattle.softdep_queue.proofs.Taken.{ids}
 use Rattle.softdep_queue.proofs.Released.{number_is, next_of, listed_at, not_done}
-use Rattle.softdep_queue.proofs.Struck.{one_struck}
+use Rattle.softdep_queue.proofs.Struck.{none_struck, one_struck}
 use Rattle.softdep_queue.proofs.table.Table.strike_all.Goals as goal
 
 pub strike-requires-clause-shows : goal.strike-requires-clause-shows
@@ -27,6 +28,19 @@ strike-requires-clause-shows c =
       cell = node.cell;
       low = (let l = id_low (home_of geo) h.queue h.q h.released.ties.represents c.args.address at.0 listed in let n = h.released.ties.next in let m = before.4.count in omega (arith, l, n, m, id));
     }
+
+pub loop-left-init : goal.loop-left-init
+loop-left-init c = record {
+  held = c.requires;
+  taken = refl;
+  struck = λ queue q es released. (
+    [],
+    es,
+    refl,
+    (let l = ap length released.taken in let r = length-reverse (ids es) in let m = length-map es (λ (e : Entry). e.id) in let n = c.len-left.ensures in omega (arith, l, r, m, n)),
+    none_struck c.args.geometry.now c.args.self.now queue q _ released.ties,
+  );
+}
 
 pub loop-left-preserved : goal.loop-left-preserved
 loop-left-preserved c = record {
