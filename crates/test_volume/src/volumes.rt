@@ -1,8 +1,7 @@
 //! Mounted volumes of small images.
 use device::MemDevice;
 use layout::{Geometry, Refusal};
-use live::Live;
-use snapshot::Volume;
+use snapshot::{Live, Volume};
 use std::alloc::Global;
 use test_images::{Byte, device_with};
 
