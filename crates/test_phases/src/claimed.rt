@@ -91,19 +91,32 @@ fn parts(alloc: Global, frozen: &Frozen) -> Result<Vec<Part>, Refusal> {
 
 /// The owners of the first six data blocks of a group.
 fn first_six(owners: &BlockOwners) -> [Option<Claim>; 6] {
-    [0, 1, 2, 3, 4, 5].map(|bit| owners.of(bit))
+    [
+        owners.of(0),
+        owners.of(1),
+        owners.of(2),
+        owners.of(3),
+        owners.of(4),
+        owners.of(5),
+    ]
 }
 
-/// What is found of both groups, and who owns the first six data blocks of the second one.
-fn look(alloc: Global, frozen: &Frozen) -> Result<(Vec<Finding>, [Option<Claim>; 6]), Refusal> {
+/// What is found of claims, and who owns the first six data blocks of a group.
+type Looked = (Vec<Finding>, [Option<Claim>; 6]);
+
+/// What is found of one group.
+fn look_at(alloc: Global, frozen: &Frozen, parts: &[Part], unit: u32) -> Result<Looked, Refusal> {
+    let OfGroup { kept, found } = owners(alloc, frozen, parts, unit)?;
+    Ok((found, first_six(&kept)))
+}
+
+/// What is found of both groups, with the owners of the second one.
+fn look(alloc: Global, frozen: &Frozen) -> Result<Looked, Refusal> {
     let parts = parts(alloc, frozen)?;
-    let OfGroup { mut found, .. } = owners(alloc, frozen, parts.as_slice(), 0)?;
-    let OfGroup {
-        kept,
-        found: mut more,
-    } = owners(alloc, frozen, parts.as_slice(), 1)?;
+    let (mut found, _) = look_at(alloc, frozen, parts.as_slice(), 0)?;
+    let (mut more, owned) = look_at(alloc, frozen, parts.as_slice(), 1)?;
     found.append(&mut more)?;
-    Ok((in_order(found)?, first_six(&kept)))
+    Ok((in_order(found)?, owned))
 }
 
 /// Expects these findings on the image with these records, and these owners of the first six data blocks of the second
