@@ -1,0 +1,10 @@
+//! The lines of `fsvol` that move files and folders between the host and an image, and the one that makes an image.
+#![tactic(auto)]
+
+mod ends;
+pub mod get;
+mod input;
+pub mod mkfs;
+pub mod put;
+
+pub use ends::silent;
