@@ -2,9 +2,9 @@
 #![tactic(auto)]
 
 mod line;
-mod perform;
+mod performing;
 mod words;
 
 pub use line::Line;
-pub use perform::{carry_out, perform};
+pub use performing::{carry_out, perform};
 pub use words::{parse, words_given};
