@@ -5,8 +5,6 @@
 
 mod counting;
 mod runs;
-#[cfg(test)]
-mod tests;
 
 ghost use Rattle.std.specs.Prelude.{◌≡◌, IfErr, IfOk, IsErrOf};
 ghost use Rattle.census.specs.Census.{IsCensus};

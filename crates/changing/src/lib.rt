@@ -8,8 +8,6 @@ ghost use Rattle.snapshot.specs.Asked.{asked};
 ghost use Rattle.snapshot.specs.Goes.{Runs};
 
 mod mounted;
-#[cfg(test)]
-mod tests;
 
 use device::Device;
 use layout::Refusal;

@@ -10,8 +10,6 @@ mod entries;
 mod lone_round;
 mod lost;
 mod shared_rounds;
-#[cfg(test)]
-mod tests;
 mod walkers;
 
 pub use alone::walk;

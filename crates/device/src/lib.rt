@@ -5,8 +5,6 @@ mod formatting;
 mod fuse;
 mod interface;
 mod memory;
-#[cfg(test)]
-mod tests;
 
 pub use formatting::{Before, format};
 pub use fuse::Fuse;

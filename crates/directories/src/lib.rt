@@ -12,8 +12,6 @@ ghost use Rattle.directories.specs.Named.{IsNamed, numbers_in};
 
 mod reading;
 mod table;
-#[cfg(test)]
-mod tests;
 
 pub use reading::{named, numbers_named};
 pub use table::{Named, merge};

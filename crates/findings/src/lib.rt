@@ -19,8 +19,6 @@ mod finding;
 mod order;
 mod repair;
 mod reports;
-#[cfg(test)]
-mod tests;
 mod verdicts;
 
 pub use finding::Finding;

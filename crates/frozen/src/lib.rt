@@ -4,8 +4,6 @@
 mod frozen;
 mod held;
 mod loading;
-#[cfg(test)]
-mod tests;
 
 pub use frozen::{Frozen, Placed};
 pub(crate) use held::Held;

@@ -26,8 +26,6 @@ mod hands;
 mod lone;
 mod order;
 mod phases;
-#[cfg(test)]
-mod tests;
 mod works;
 
 use by_group::{OfGroup, all_found, joined};

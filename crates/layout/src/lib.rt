@@ -10,8 +10,6 @@ use byteorder::{ByteOrder, LittleEndian};
 mod fresh;
 mod geometry;
 mod refusal;
-#[cfg(test)]
-mod tests;
 
 pub use fresh::{GROUP_MAGIC, fresh_block, fresh_blocks_are_the_fresh_image, next_fresh_block};
 pub use geometry::{

@@ -24,8 +24,6 @@ mod listing;
 mod lookup;
 mod path;
 mod scan;
-#[cfg(test)]
-mod tests;
 mod walking;
 
 pub use listing::{Named, names};

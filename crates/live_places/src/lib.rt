@@ -16,8 +16,6 @@
 mod choosing;
 mod rooms;
 mod taking;
-#[cfg(test)]
-mod tests;
 
 pub use choosing::{Place, Places, choose};
 pub use taking::take;

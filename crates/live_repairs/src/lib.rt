@@ -6,8 +6,6 @@
 #![tactic(auto)]
 
 mod relinking;
-#[cfg(test)]
-mod tests;
 mod unmarking;
 
 ghost use Rattle.std.specs.Prelude.{◌≡◌, ◌<◌, ◌≤◌, [], IfErr, IfOk, length};

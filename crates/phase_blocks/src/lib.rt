@@ -9,8 +9,6 @@ mod filling;
 mod owning;
 mod parts;
 mod scan;
-#[cfg(test)]
-mod tests;
 
 pub use owning::{BlockOwners, owners};
 pub use parts::{Claim, Part};

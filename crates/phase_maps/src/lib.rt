@@ -5,8 +5,6 @@
 
 mod blocks;
 mod numbers;
-#[cfg(test)]
-mod tests;
 mod units;
 
 pub use numbers::number_findings;

@@ -15,8 +15,6 @@ mod entries;
 mod look;
 mod parts;
 mod slots;
-#[cfg(test)]
-mod tests;
 mod units;
 mod whole;
 

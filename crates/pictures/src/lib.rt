@@ -6,8 +6,6 @@ mod claims;
 mod drawing;
 mod picture;
 mod scale;
-#[cfg(test)]
-mod tests;
 mod uses;
 
 ghost use Rattle.std.specs.Prelude.{◌≡◌, ◌↔◌, ℕ, IfErr, IfOk, IsErrOf};

@@ -5,8 +5,6 @@
 
 mod bytes;
 mod looking;
-#[cfg(test)]
-mod tests;
 mod trees;
 
 pub use bytes::read;

@@ -10,8 +10,6 @@ mod counting;
 mod links;
 mod parts;
 mod reading;
-#[cfg(test)]
-mod tests;
 
 pub use counting::{EntryCounts, counts};
 pub use links::findings;

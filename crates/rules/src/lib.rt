@@ -7,9 +7,6 @@ ghost use Rattle.model.specs.Rules.{IsLeastBroken, ObeysRules};
 ghost use Rattle.frozen.specs.Kept.{frozen_view};
 ghost use Rattle.rules.specs.Broken.{rule_broken};
 
-#[cfg(test)]
-mod tests;
-
 use findings::Finding;
 use frozen::Frozen;
 use layout::Refusal;

@@ -12,8 +12,6 @@ mod limits;
 mod progress;
 mod seat;
 mod shared;
-#[cfg(test)]
-mod tests;
 
 pub use booked::{Booked, Closed};
 pub use counts::Counts;

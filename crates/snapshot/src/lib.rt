@@ -13,8 +13,6 @@ mod command;
 mod laws;
 mod pieces;
 mod snapshots;
-#[cfg(test)]
-mod tests;
 mod users;
 mod volume;
 

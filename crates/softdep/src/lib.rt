@@ -4,8 +4,6 @@
 mod flushing;
 mod issuing;
 mod queue;
-#[cfg(test)]
-mod tests;
 
 pub use queue::Queue;
 pub use updates::{Cell, Change, Update};

@@ -7,8 +7,6 @@
 mod handles;
 mod lines;
 mod scripts;
-#[cfg(test)]
-mod tests;
 
 pub use handles::Handles;
 pub use lines::{BadScript, Commands, UserLine};

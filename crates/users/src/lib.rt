@@ -8,8 +8,6 @@ mod copies;
 mod flushing;
 mod lines;
 mod running;
-#[cfg(test)]
-mod tests;
 
 pub use calling::call;
 pub use checking::{Mended, mend};

@@ -1,6 +1,7 @@
 -- Lists with one element more, read by place.
 use Rattle.std.proofs.Common.{◌≡◌, ℕ, zero, suc, ◌+◌, ◌<◌, List, [], ◌∷◌, ◌++◌, length, Some, slice_get, refl, sym, ap, ◌∙◌, subst, arith, ◌⊎◌, inl, inr, slice_set, ◌≤◌}
 use Rattle.std.proofs.lemmas.Bool.{cases_lt}
+use Rattle.std.proofs.lemmas.List.{length_push}
 use Rattle.std.proofs.lemmas.Option.{slice_get_within}
 use Rattle.std.specs.List.{enumerate_from}
 
@@ -77,6 +78,10 @@ new_place xs x a i h past = elim (slice_get-push xs x i a h) [
   | inl there ↦ absurd (let e = slice_get_within xs i a there in omega arith)
   | inr last ↦ last
 ]
+
+-- lists that are as long as each other are so with one element more
+pub one_more : {A Z : Type 0} (xs : List A) (x : A) (zs : List Z) (z : Z) → length xs ≡ length zs → length (xs ++ x ∷ []) ≡ length (zs ++ z ∷ [])
+one_more xs x zs z same = length_push xs x ∙ ap (λ (k : ℕ). k + 1) same ∙ sym (length_push zs z)
 
 -- Where each element of a list is made of those of three others, so it is with one more in each.
 pub triples-push : {A B C Z : Type 0} (f : A → B → C → Z) (xs : List A) (ys : List B) (ws : List C) (zs : List Z) (x : A) (y : B) (w : C) (z : Z)

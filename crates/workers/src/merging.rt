@@ -1,5 +1,5 @@
 //! The parts of all workers, put in order of their units.
-ghost use Rattle.std.specs.Prelude.{◌≡◌, ℕ, ◌<◌, All, IfOk, IsOkUnless, Some, Ok, length, slice_get, vec_len};
+ghost use Rattle.std.specs.Prelude.{◌≡◌, ℕ, ◌<◌, ◌∷◌, ◌++◌, [], All, IfOk, IsOkUnless, OnOk, Some, Ok, length, slice_get, vec_len};
 ghost use Rattle.std.specs.List.{position_or_len};
 ghost use Rattle.claims.specs.Counting.{times, total, once_below};
 ghost use Rattle.claims.specs.Seats.{all_drawn};
@@ -19,6 +19,20 @@ pub(crate) struct Apart<W, P> {
     pub(crate) works: Vec<W>,
 }
 
+impl<W: Drop, P: Drop> Apart<W, P> {
+    /// Adds the turns of one worker more.
+    fn add(&mut self, turns: Turns<W, P>) -> Result<(), AllocError>
+        ensures lists { OnOk result (self.new.lists.items ≡ self.old.lists.items ++ turns.calls ∷ []) }
+        ensures seats { OnOk result (self.new.seats.items ≡ self.old.seats.items ++ turns.seat ∷ []) }
+        ensures works { OnOk result (self.new.works.items ≡ self.old.works.items ++ turns.work ∷ []) }
+    {
+        self.lists.push(turns.calls)?;
+        self.seats.push(turns.seat)?;
+        self.works.push(turns.work)?;
+        Ok(())
+    }
+}
+
 /// The calls, the seats and the workers of turns that were all done, apart, or a refusal of one that was not.
 pub(crate) fn settled<W: Drop, P: Drop>(
     alloc: Global,
@@ -33,20 +47,15 @@ pub(crate) fn settled<W: Drop, P: Drop>(
         → slice_get turns.items i ≡ Some (Ok (record { seat = seat; work = work; calls = list }))) }
     ensures error { IsOkUnless result Refusal.NoMemory }
 {
-    let mut lists = Vec::new(alloc);
-    let mut seats = Vec::new(alloc);
-    let mut works = Vec::new(alloc);
+    let mut apart = Apart {
+        lists: Vec::new(alloc),
+        seats: Vec::new(alloc),
+        works: Vec::new(alloc),
+    };
     for turn in turns {
-        let Turns { seat, work, calls } = turn?;
-        lists.push(calls)?;
-        seats.push(seat)?;
-        works.push(work)?;
+        apart.add(turn?)?;
     }
-    Ok(Apart {
-        lists,
-        seats,
-        works,
-    })
+    Ok(apart)
 }
 
 /// The parts of all units, from one list of calls for each worker, where each unit stands in one of them.

@@ -1,0 +1,7 @@
+//! Tests of a whole check. The crate has nothing but tests.
+#![tactic(auto)]
+
+#[cfg(test)]
+mod checked;
+#[cfg(test)]
+mod obeyed;

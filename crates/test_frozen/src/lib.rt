@@ -1,0 +1,5 @@
+//! Tests of what is kept of an image. The crate has nothing but tests.
+#![tactic(auto)]
+
+#[cfg(test)]
+mod loading;

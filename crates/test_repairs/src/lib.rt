@@ -1,0 +1,5 @@
+//! Tests of the plans of repairs. The crate has nothing but tests.
+#![tactic(auto)]
+
+#[cfg(test)]
+mod mended;

@@ -1,0 +1,5 @@
+//! Tests of a volume that threads share. The crate has nothing but tests.
+#![tactic(auto)]
+
+#[cfg(test)]
+mod threads;

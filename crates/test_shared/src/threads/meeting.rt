@@ -1,0 +1,162 @@
+//! A check by two workers of a snapshot, while a user goes on.
+ghost use Rattle.std.specs.Prelude.{◌≡◌, vec_len};
+
+use device::MemDevice;
+use fsck::{Checked, check};
+use layout::Refusal;
+use shared::{Seat, Shared};
+use snapshot::{Answer, Command, Reply, Volume};
+use std::alloc::{AllocError, Global};
+use std::marker::Brand;
+use std::sync::Wait;
+use std::sync::atomic::{AtomicU64, Ordering};
+use std::sync::ledger::{Blank, Ledger};
+use std::thread;
+use std::thread::{Threads, join};
+use std::time::{Clock, Duration};
+use workers::Gate;
+
+/// How often a gate looks, at most, and a millisecond lies between.
+const TURNS: u32 = 10_000;
+
+/// How many workers came to a phase for each of two units, and how many of the first ones met.
+#[derive(Drop)]
+struct Place {
+    first: AtomicU64,
+    second: AtomicU64,
+    met: AtomicU64,
+}
+
+/// A gate that holds the first pass of each of two units in a phase until both came to it in that phase; and in phase 1 until
+/// a user was answered twice.
+#[derive(Drop)]
+struct Meeting<'a, R> {
+    clock: &'a R,
+    places: &'a [Place],
+    answered: &'a AtomicU64,
+}
+
+impl<R: Clock + Sync> Gate for Meeting<'_, R> {
+    fn pass(&self, phase: u8, unit: u32) {
+        let Some(place) = self.places.get(usize::from(phase).wrapping_sub(1)) else {
+            return;
+        };
+        let mine = if unit == 0 {
+            &place.first
+        } else {
+            &place.second
+        };
+        if mine.fetch_add(1, Ordering::SeqCst) > 0 {
+            return;
+        }
+        for _turn in 0..TURNS {
+            let both = place.first.load(Ordering::SeqCst) > 0
+                && place.second.load(Ordering::SeqCst) > 0;
+            if both && (phase != 1 || self.answered.load(Ordering::SeqCst) >= 2) {
+                place.met.fetch_add(1, Ordering::SeqCst);
+                return;
+            }
+            thread::sleep(self.clock, Duration::from_millis(1));
+        }
+    }
+}
+
+/// The places of five phases, to which nobody came.
+fn five_places(alloc: Global) -> Result<Vec<Place>, AllocError> {
+    let mut places = Vec::new(alloc);
+    for _phase in 0..5 {
+        places.push(Place {
+            first: AtomicU64::new(0),
+            second: AtomicU64::new(0),
+            met: AtomicU64::new(0),
+        })?;
+    }
+    Ok(places)
+}
+
+/// What came of it.
+#[derive(Drop)]
+pub struct Met {
+    /// The check.
+    pub checked: Checked,
+    /// What the user was answered.
+    pub replies: Vec<Reply>,
+    /// How many of the two workers met in each phase.
+    pub met: Vec<u64>,
+}
+
+/// A volume of two groups is frozen and checked by two workers, while a user makes a file and takes it away: the first phase
+/// goes on only once the user was answered.
+pub fn check_beside_a_user<R: Threads + Wait + Clock + Sync>(
+    rt: &R,
+    alloc: Global,
+    volume: Volume<MemDevice>,
+) -> Result<Met, Refusal> {
+    check_beside_on::<Brand, Brand, R>(rt, alloc, volume, Blank::new(2), Blank::new(2))
+}
+
+/// The same with the ledgers of these blanks.
+fn check_beside_on<
+    L: Ledger + Send + Sync,
+    M: Ledger + Send + Sync,
+    R: Threads + Wait + Clock + Sync,
+>(
+    rt: &R,
+    alloc: Global,
+    volume: Volume<MemDevice>,
+    repairs: Blank,
+    others: Blank,
+) -> Result<Met, Refusal>
+    requires name { (repairs.name ≡ L.name) × (others.name ≡ M.name) }
+    requires parts { (repairs.parts ≡ L.parts) × (others.parts ≡ M.parts) }
+    requires two { (repairs.parts ≡ 2) × (others.parts ≡ 2) }
+{
+    let (shared, mut seats) = Shared::<MemDevice, L, M>::new(
+        alloc, volume, 100, 2, repairs, others,
+    )?;
+    let (mut checker, user) = (seats.pop().unwrap(), seats.pop().unwrap());
+    let frozen = shared.call(rt, alloc, &mut checker, Command::Freeze);
+    let Answer::Image(frozen) = frozen? else {
+        return Err(Refusal::NoSnapshot);
+    };
+    let places = five_places(alloc)?;
+    let answered = AtomicU64::new(0);
+    let gate = Meeting {
+        clock: rt,
+        places: places.as_slice(),
+        answered: &answered,
+    };
+    let (checked, replies) = join(
+        rt,
+        || check(rt, alloc, &frozen, 2, &gate),
+        || make_and_take_away(rt, alloc, &shared, user, &answered),
+    );
+    let mut met = Vec::new(alloc);
+    for place in &places {
+        met.push(place.met.load(Ordering::SeqCst))?;
+    }
+    Ok(Met {
+        checked: checked?,
+        replies: replies?,
+        met,
+    })
+}
+
+/// Makes a file and takes it away, and counts each answer.
+fn make_and_take_away<L: Ledger, M: Ledger, R: Wait>(
+    rt: &R,
+    alloc: Global,
+    shared: &Shared<MemDevice, L, M>,
+    mut seat: Seat<L, M>,
+    answered: &AtomicU64,
+) -> Result<Vec<Reply>, AllocError> {
+    let mut replies = Vec::new(alloc);
+    for command in [
+        Command::Create(b"/u".to_vec(alloc)?),
+        Command::Unlink(b"/u".to_vec(alloc)?),
+    ] {
+        replies.push(shared.call(rt, alloc, &mut seat, command))?;
+        answered.fetch_add(1, Ordering::SeqCst);
+    }
+    Ok(replies)
+}

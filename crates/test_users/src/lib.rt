@@ -1,0 +1,7 @@
+//! Tests of scripts of users, and of what they are answered. The crate has nothing but tests.
+#![tactic(auto)]
+
+#[cfg(test)]
+mod answered;
+#[cfg(test)]
+mod parsed;

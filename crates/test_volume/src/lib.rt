@@ -1,0 +1,7 @@
+//! Tests of a mounted volume of which snapshots are taken. The crate has nothing but tests.
+#![tactic(auto)]
+
+#[cfg(test)]
+mod changed;
+#[cfg(test)]
+mod frozen_volume;
