@@ -2,8 +2,6 @@
 use Rattle.std.specs.Prelude.{ℕ}
 use Rattle.layout.specs.declared.refusal.Refusal.{Refusal}
 use Rattle.layout.specs.declared.refusal.Refusal.TheVariants.{NoMemory, Device, Damaged}
-use Rattle.findings.specs.declared.verdicts.Verdict.{Verdict}
-use Rattle.findings.specs.declared.verdicts.Verdict.TheVariants as verdict
 use Rattle.command_line.specs.declared.failure.Failure.{Failure}
 use Rattle.command_line.specs.declared.failure.Failure.TheVariants as failure
 
@@ -20,9 +18,3 @@ status_of (failure.Line text) = 3
 status_of (failure.Refused refusal) = status_of_refusal refusal
 status_of (failure.Ended cause told) = status_of_refusal cause
 status_of (failure.Stopped cause done count) = status_of_refusal cause
-
--- where an image was checked
-abbrev pub status_of_verdict : Verdict → ℕ
-status_of_verdict verdict.Clean = 0
-status_of_verdict verdict.Soft = 1
-status_of_verdict verdict.Damaged = 2

@@ -7,7 +7,6 @@ ghost use Rattle.command_line.specs.declared.failure.Failure.TheVariants as fail
 ghost use Rattle.command_line.specs.Status as spec;
 
 use clap::error::ErrorKind;
-use findings::Verdict;
 use layout::Refusal;
 use std::alloc::{AllocError, Global};
 use std::io::Write;
@@ -112,16 +111,5 @@ fn status_of_refusal(refusal: Refusal) -> u8
         Refusal::NoMemory | Refusal::Device => GAVE_OUT,
         Refusal::Damaged => DAMAGED,
         _ => REFUSED,
-    }
-}
-
-/// The status that the program ends with where an image was checked.
-pub fn status_of_verdict(verdict: Verdict) -> u8
-    ensures { result ≡ spec.status_of_verdict verdict }
-{
-    match verdict {
-        Verdict::Clean => 0,
-        Verdict::Soft => SOFT,
-        Verdict::Damaged => DAMAGED,
     }
 }

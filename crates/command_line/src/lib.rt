@@ -9,6 +9,6 @@ mod files;
 mod watching;
 
 pub use answer::Answer;
-pub use failure::{DAMAGED, Failure, GAVE_OUT, REFUSED, SOFT, status_of_verdict};
+pub use failure::{DAMAGED, Failure, GAVE_OUT, REFUSED, SOFT};
 pub use files::bytes_of_file;
 pub use watching::{Screen, Watched};

@@ -68,10 +68,11 @@ where
 }
 
 /// Does what a line asks for, and tells the watcher how far that has come.
-pub fn carry_out<
-    R: Files + AllocGlobal + Threads + Wait + Sync + Clone + Drop,
-    T: Watcher + Sync,
->(rt: &R, line: &Line<'_>, watcher: &T) -> Result<Answer, Failure>
+pub fn carry_out<R: Files + AllocGlobal + Threads + Wait + Sync + Clone + Drop, T: Watcher + Sync>(
+    rt: &R,
+    line: &Line<'_>,
+    watcher: &T,
+) -> Result<Answer, Failure>
 where
     R::File: FileExt + Send,
     ensures { IfOk result (λ answer. answer.status < 3) }

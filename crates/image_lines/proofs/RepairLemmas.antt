@@ -13,7 +13,7 @@ use Rattle.model.specs.View.{View}
 use Rattle.live.specs.Alive.{Alive, disk_of}
 use Rattle.live.specs.Mounting.{IsMountable}
 use Rattle.image_lines.specs.Repaired.{IsRepaired, done_text, repair_text_of}
-use Rattle.command_line.specs.Status.{status_of_verdict}
+use Rattle.image_lines.specs.Status.{status_of_verdict}
 use Rattle.image_lines.specs.declared.repair.Outcome.TheVariants.{Left, Mended}
 
 pub soft_text : (v : Verdict) (x : CheckedImage) → v ≡ Soft → repair_text_of v x ≡ x.report ++ done_text x.repairs

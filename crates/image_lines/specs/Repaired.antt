@@ -13,7 +13,7 @@ use Rattle.model.specs.Image.{IsImage, image_view}
 use Rattle.model.specs.Layout.{Geometry}
 use Rattle.image_lines.specs.declared.repair.Outcome.{Outcome}
 use Rattle.image_lines.specs.declared.repair.Outcome.TheVariants.{Left, Mended}
-use Rattle.command_line.specs.Status.{status_of_verdict}
+use Rattle.image_lines.specs.Status.{status_of_verdict}
 
 -- a line for each repair, and how many they are
 abbrev pub repair_lines : List Repair → List ℕ

@@ -7,11 +7,12 @@ ghost use Rattle.findings.specs.Findings.{AreFindingsOf, is_of_numbers};
 ghost use Rattle.findings.specs.Report.{verdict_of};
 ghost use Rattle.device.specs.Writes.{HasFailed};
 ghost use Rattle.frozen.specs.Loading.{LoadRefuses};
-ghost use Rattle.command_line.specs.Status.{status_of_verdict};
+ghost use Rattle.image_lines.specs.Status.{status_of_verdict};
 ghost use Rattle.image_lines.specs.Bits.{bits_text, finding_lines};
 
+use crate::check::status_of_verdict;
 use clap::{ArgMatches, Command};
-use command_line::{Answer, Failure, arguments, status_of_verdict};
+use command_line::{Answer, Failure, arguments};
 use device::Device;
 use file_device::FileDevice;
 use findings::{Finding, verdict};

@@ -7,12 +7,13 @@ ghost use Rattle.device.specs.Writes.{HasFailed};
 ghost use Rattle.frozen.specs.Loading.{LoadRefuses};
 ghost use Rattle.fsck.specs.Checked.{IsChecked};
 ghost use Rattle.workers.specs.Workers.{may_work};
-ghost use Rattle.command_line.specs.Status.{status_of_verdict};
+ghost use Rattle.image_lines.specs.Status.{status_of_verdict};
 
 use clap::{ArgMatches, Command};
-use command_line::{Answer, Failure, Watched, arguments, status_of_verdict};
+use command_line::{Answer, DAMAGED, Failure, SOFT, Watched, arguments};
 use device::Device;
 use file_device::FileDevice;
+use findings::Verdict;
 use frozen::load;
 use fsck::Checked;
 use layout::Refusal;
@@ -141,4 +142,15 @@ pub fn told(alloc: Global, checked: &Checked) -> Result<Answer, Refusal>
         text: checked.report().to_vec(alloc)?,
         status: status_of_verdict(checked.verdict()),
     })
+}
+
+/// The status that the program ends with where an image was checked.
+pub(crate) fn status_of_verdict(verdict: Verdict) -> u8
+    ensures { result ≡ status_of_verdict verdict }
+{
+    match verdict {
+        Verdict::Clean => 0,
+        Verdict::Soft => SOFT,
+        Verdict::Damaged => DAMAGED,
+    }
 }

@@ -3,7 +3,7 @@ ghost use Rattle.std.specs.Prelude.{◌≡◌, ◌++◌, ◌<◌, Err, IfOk, IsF
 ghost use Rattle.std.specs.String.{string_bytes};
 ghost use Rattle.layout.specs.declared.refusal.Refusal.TheVariants.{BadWorkers};
 ghost use Rattle.workers.specs.Workers.{may_work};
-ghost use Rattle.command_line.specs.Status.{status_of_verdict};
+ghost use Rattle.image_lines.specs.Status.{status_of_verdict};
 ghost use Rattle.image_lines.specs.Repaired.{IsRepaired, device_of, done_text, repair_lines, repair_text_of};
 
 use crate::check::{allow_workers, check, check_file, told};

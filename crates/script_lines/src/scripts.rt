@@ -14,8 +14,10 @@ pub(crate) fn lines_of_file<R: Files + AllocGlobal>(
     which: Commands,
 ) -> Result<Vec<UserLine>, Failure> {
     let bytes = bytes_of_file(rt, script)?;
-    user_scripts::parse(rt.alloc(), bytes.as_slice(), which)
-        .map_err(|refused| refusal_of_script(rt.alloc(), refused))
+    user_scripts::parse(rt.alloc(), bytes.as_slice(), which).map_err(|refused| refusal_of_script(
+        rt.alloc(),
+        refused,
+    ))
 }
 
 /// What a script is refused for.

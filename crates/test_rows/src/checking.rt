@@ -1,9 +1,13 @@
 //! The lines `bits`, `check` and `repair`.
 use crate::reports::{
-    CLEAN_REPORT, DAMAGED_REPORT, LOST_DIRECTORY, LOST_MENDED, LOST_REPORT, SHARED_BLOCK, SHARED_REPORT, SOFT_MENDED, SOFT_REPORT,
+    CLEAN_REPORT, DAMAGED_REPORT, LOST_DIRECTORY, LOST_MENDED, LOST_REPORT, SHARED_BLOCK,
+    SHARED_REPORT, SOFT_MENDED, SOFT_REPORT,
 };
 use crate::trying::Wanted::{Printed, Refused};
-use crate::trying::{Changes, SMALL, Wanted, changed, gives, gives_of_bytes, gives_of_each, made, made_small, refuses_lengths};
+use crate::trying::{
+    Changes, SMALL, Wanted, changed, gives, gives_of_bytes, gives_of_each, made, made_small,
+    refuses_lengths,
+};
 use std::fs;
 use std::os::unix::fs::FileExt;
 use std::process::Abort;
@@ -21,9 +25,15 @@ const SMALL_NUMBERS: &[(Changes<'static>, Wanted<'static>)] = &[
         &[(1_056, 32)],
         Printed("lost number 5\nunmarked inode 2\nverdict damaged\n", 2),
     ),
-    (&[(1_056, 0)], Printed("unmarked inode 2\nverdict damaged\n", 2)),
+    (
+        &[(1_056, 0)],
+        Printed("unmarked inode 2\nverdict damaged\n", 2),
+    ),
     // The second byte of record 3's mode.
-    (&[(2_433, 1)], Printed("unmarked inode 3\nverdict damaged\n", 2)),
+    (
+        &[(2_433, 1)],
+        Printed("unmarked inode 3\nverdict damaged\n", 2),
+    ),
     // Numbers 0 and 1 are not given out, and there is no number 16.
     (&[(1_056, 7)], Printed("verdict clean\n", 0)),
     (&[(2_048, 1)], Printed("verdict clean\n", 0)),
@@ -74,7 +84,10 @@ const TWO_GROUPS: usize = 33_792;
 const NUMBERS_OF_TWO: &[(Changes<'static>, Wanted<'static>)] = &[
     (&[], Printed("verdict clean\n", 0)),
     (&[(17_440, 1)], Printed("lost number 16\nverdict soft\n", 1)),
-    (&[(17_441, 128)], Printed("lost number 31\nverdict soft\n", 1)),
+    (
+        &[(17_441, 128)],
+        Printed("lost number 31\nverdict soft\n", 1),
+    ),
     (
         &[(20_352, 1)],
         Printed("unmarked inode 31\nverdict damaged\n", 2),
@@ -82,14 +95,23 @@ const NUMBERS_OF_TWO: &[(Changes<'static>, Wanted<'static>)] = &[
     // Number 31 is marked, and its record is not free.
     (&[(17_441, 128), (20_352, 1)], Printed("verdict clean\n", 0)),
     (
-        &[(1_056, 36), (17_440, 1), (17_441, 128), (2_432, 1), (20_224, 1)],
+        &[
+            (1_056, 36),
+            (17_440, 1),
+            (17_441, 128),
+            (2_432, 1),
+            (20_224, 1),
+        ],
         Printed(
             "lost number 5\nlost number 16\nlost number 31\nunmarked inode 3\nunmarked inode 30\nverdict damaged\n",
             2,
         ),
     ),
     (&[(17_408, 0)], Refused("refused 5 BadGroup 1\n", 3)),
-    (&[(1_024, 0), (17_408, 0)], Refused("refused 5 BadGroup 0\n", 3)),
+    (
+        &[(1_024, 0), (17_408, 0)],
+        Refused("refused 5 BadGroup 0\n", 3),
+    ),
 ];
 
 #[test]
@@ -151,9 +173,14 @@ fn repair_gives_a_lost_directory_back(rt: HostRuntime) -> Result<(), Fail> {
 }
 
 /// An image of these bytes is mended, and is clean then.
-fn mends<
-    R: Files + AllocGlobal + Clock + Threads + Wait + Sync + Abort + Clone + Drop,
->(rt: &R, start: &str, image: &str, bytes: &[u8], report: &str, mended: &str) -> Result<(), Fail>
+fn mends<R: Files + AllocGlobal + Clock + Threads + Wait + Sync + Abort + Clone + Drop>(
+    rt: &R,
+    start: &str,
+    image: &str,
+    bytes: &[u8],
+    report: &str,
+    mended: &str,
+) -> Result<(), Fail>
 where
     R::File: FileExt + Send,
 {
@@ -201,9 +228,12 @@ fn check_and_repair_refuse_other_than_1_to_64_workers(rt: HostRuntime) -> Result
 }
 
 /// The line is refused for its workers, also where no file stands.
-fn refuses_workers<
-    R: Files + AllocGlobal + Clock + Threads + Wait + Sync + Abort + Clone + Drop,
->(rt: &R, start: &str, image: &str, fresh: &[u8]) -> Result<(), Fail>
+fn refuses_workers<R: Files + AllocGlobal + Clock + Threads + Wait + Sync + Abort + Clone + Drop>(
+    rt: &R,
+    start: &str,
+    image: &str,
+    fresh: &[u8],
+) -> Result<(), Fail>
 where
     R::File: FileExt + Send,
 {
@@ -213,8 +243,10 @@ where
 }
 
 /// How a check refuses a group that is none.
-const NO_GROUP: &[(Changes<'static>, Wanted<'static>)] =
-    &[(&[(1_028, 1)], Refused("refused 5 BadGroup 0\n", 3))];
+const NO_GROUP: &[(Changes<'static>, Wanted<'static>)] = &[(
+    &[(1_028, 1)],
+    Refused("refused 5 BadGroup 0\n", 3),
+)];
 
 #[test]
 fn check_refuses_what_is_no_image(rt: HostRuntime) -> Result<(), Fail> {

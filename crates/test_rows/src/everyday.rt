@@ -1,7 +1,9 @@
 //! The lines that look into an image, and those that change the names in it.
 use crate::reports::{CLEAN_REPORT, SHARED_BLOCK};
 use crate::trying::Wanted::{Printed, Refused};
-use crate::trying::{Changes, Row, Wanted, changed, give, gives, gives_of_each, holds, made, made_small};
+use crate::trying::{
+    Changes, Row, Wanted, changed, give, gives, gives_of_each, holds, made, made_small,
+};
 use std::fs;
 use std::os::unix::fs::FileExt;
 use std::process::Abort;
@@ -96,9 +98,11 @@ fn an_image_is_changed_and_looked_into(rt: HostRuntime) -> Result<(), Fail> {
 }
 
 /// A script writes the file `/f`.
-fn writes_a_file<
-    R: Files + AllocGlobal + Clock + Threads + Wait + Sync + Abort + Clone + Drop,
->(rt: &R, image: &str, script: &str) -> Result<(), Fail>
+fn writes_a_file<R: Files + AllocGlobal + Clock + Threads + Wait + Sync + Abort + Clone + Drop>(
+    rt: &R,
+    image: &str,
+    script: &str,
+) -> Result<(), Fail>
 where
     R::File: FileExt + Send,
 {

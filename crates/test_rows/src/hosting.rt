@@ -55,12 +55,7 @@ const GOT: &[Row<'static>] = &[
         Refused("refused 7 NotFound\nat /x\n", 3),
     ),
     // As an archive on standard output.
-    (
-        "get",
-        " /x",
-        "-",
-        Refused("refused 7 NotFound\nat /x\n", 3),
-    ),
+    ("get", " /x", "-", Refused("refused 7 NotFound\nat /x\n", 3)),
 ];
 
 #[test]

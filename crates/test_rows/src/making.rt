@@ -55,9 +55,12 @@ fn mkfs_replaces_an_older_file(rt: HostRuntime) -> Result<(), Fail> {
 }
 
 /// An image of these bytes is made in place of an older file of this length.
-fn replaces<
-    R: Files + AllocGlobal + Clock + Threads + Wait + Sync + Abort + Clone + Drop,
->(rt: &R, image: &str, length: usize, fresh: &[u8]) -> Result<(), Fail>
+fn replaces<R: Files + AllocGlobal + Clock + Threads + Wait + Sync + Abort + Clone + Drop>(
+    rt: &R,
+    image: &str,
+    length: usize,
+    fresh: &[u8],
+) -> Result<(), Fail>
 where
     R::File: FileExt + Send,
 {
@@ -88,9 +91,11 @@ fn mkfs_refuses_numbers_of_no_geometry(rt: HostRuntime) -> Result<(), Fail> {
 }
 
 /// The line is refused where no file stands, and makes none, and where one stands, and leaves that.
-fn refuses_geometry<
-    R: Files + AllocGlobal + Clock + Threads + Wait + Sync + Abort + Clone + Drop,
->(rt: &R, start: &str, image: &str) -> Result<(), Fail>
+fn refuses_geometry<R: Files + AllocGlobal + Clock + Threads + Wait + Sync + Abort + Clone + Drop>(
+    rt: &R,
+    start: &str,
+    image: &str,
+) -> Result<(), Fail>
 where
     R::File: FileExt + Send,
 {

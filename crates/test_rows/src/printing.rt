@@ -2,9 +2,7 @@
 use crate::trying::Wanted::Printed;
 use crate::trying::{gives_of_words, is_missing, unwatched};
 use commands::perform;
-use std::io;
 use std::io::Write;
-use std::fs;
 use std::os::unix::fs::FileExt;
 use std::process::Abort;
 use std::rt::Files;
@@ -12,6 +10,7 @@ use std::sync::Wait;
 use std::test::Fail;
 use std::thread::Threads;
 use std::time::Clock;
+use std::{fs, io};
 
 #[test]
 fn no_words_check_the_sample(rt: HostRuntime) {

@@ -16,9 +16,7 @@ const TIMES: u32 = 20;
 
 /// Carries out a line that starts with these words, and ends with the names of an image of these bytes, which are written to
 /// its file first, and of a file with this script.
-fn gives_of_script<
-    R: Files + AllocGlobal + Clock + Threads + Wait + Sync + Abort + Clone + Drop,
->(
+fn gives_of_script<R: Files + AllocGlobal + Clock + Threads + Wait + Sync + Abort + Clone + Drop>(
     rt: &R,
     start: &str,
     (image, bytes): (&str, &[u8]),
@@ -57,18 +55,31 @@ fn run_tells_what_users_are_answered(rt: HostRuntime) -> Result<(), Fail> {
     let [one, one_told] = *ONE_USER;
     let [two, two_told] = *TWO_USERS;
     for _time in 0..TIMES {
-        runs(&rt, (image, fresh.as_slice()), one, [one_told, CLEAN_REPORT, "repaired 0\n"])?;
-        runs(&rt, (image, leaked.as_slice()), two, [two_told, SOFT_REPORT, SOFT_MENDED])?;
-        runs(&rt, (image, fresh.as_slice()), "", ["", CLEAN_REPORT, "repaired 0\n"])?;
+        runs(
+            &rt,
+            (image, fresh.as_slice()),
+            one,
+            [one_told, CLEAN_REPORT, "repaired 0\n"],
+        )?;
+        runs(
+            &rt,
+            (image, leaked.as_slice()),
+            two,
+            [two_told, SOFT_REPORT, SOFT_MENDED],
+        )?;
+        runs(
+            &rt,
+            (image, fresh.as_slice()),
+            "",
+            ["", CLEAN_REPORT, "repaired 0\n"],
+        )?;
     }
     fs::remove_file(&rt, image)?;
     Ok(())
 }
 
 /// A script is carried out on an image of these bytes, and tells these parts; a check finds nothing on it then.
-fn runs<
-    R: Files + AllocGlobal + Clock + Threads + Wait + Sync + Abort + Clone + Drop,
->(
+fn runs<R: Files + AllocGlobal + Clock + Threads + Wait + Sync + Abort + Clone + Drop>(
     rt: &R,
     (image, bytes): (&str, &[u8]),
     script: &str,
@@ -147,9 +158,7 @@ fn run_writes_no_image_that_it_refuses(rt: HostRuntime) -> Result<(), Fail> {
 }
 
 /// Carries out a line with a script on an image of these bytes, which stand there still then.
-fn leaves<
-    R: Files + AllocGlobal + Clock + Threads + Wait + Sync + Abort + Clone + Drop,
->(
+fn leaves<R: Files + AllocGlobal + Clock + Threads + Wait + Sync + Abort + Clone + Drop>(
     rt: &R,
     start: &str,
     (image, bytes): (&str, &[u8]),
@@ -211,7 +220,13 @@ fn stops_tells_what_each_write_leaves(rt: HostRuntime) -> Result<(), Fail> {
     let image = "rows_stops.img";
     let fresh = made_small(&rt, image)?;
     for [script, told] in STOPS {
-        leaves(&rt, "stops", (image, fresh.as_slice()), script, Printed(told, 0))?;
+        leaves(
+            &rt,
+            "stops",
+            (image, fresh.as_slice()),
+            script,
+            Printed(told, 0),
+        )?;
     }
     fs::remove_file(&rt, image)?;
     Ok(())
@@ -225,7 +240,11 @@ const STOPS_REFUSED: &[(Changes<'static>, &str, Wanted<'static>)] = &[
         "1 sync\n1  sync\n",
         Refused("script line 2\n", 3),
     ),
-    (&[(1_056, 0)], "1 sync\n", Refused("refused 24 Damaged\n", 2)),
+    (
+        &[(1_056, 0)],
+        "1 sync\n",
+        Refused("refused 24 Damaged\n", 2),
+    ),
 ];
 
 #[test]

@@ -42,9 +42,12 @@ pub(crate) fn unwatched() -> Screen<Sink> {
 }
 
 /// Carries out a line of these words, and of a last one behind them.
-pub(crate) fn gives<
-    R: Files + AllocGlobal + Clock + Threads + Wait + Sync + Abort + Clone + Drop,
->(rt: &R, start: &str, last: &str, wanted: Wanted<'_>) -> Result<(), Fail>
+pub(crate) fn gives<R: Files + AllocGlobal + Clock + Threads + Wait + Sync + Abort + Clone + Drop>(
+    rt: &R,
+    start: &str,
+    last: &str,
+    wanted: Wanted<'_>,
+) -> Result<(), Fail>
 where
     R::File: FileExt + Send,
 {
@@ -68,14 +71,7 @@ where
 }
 
 /// What was written to the output and the errors, and the status, are those that are wanted of these words.
-fn given(
-    rt: &impl Abort,
-    words: &[&str],
-    out: &[u8],
-    err: &[u8],
-    status: u8,
-    wanted: Wanted<'_>,
-) {
+fn given(rt: &impl Abort, words: &[&str], out: &[u8], err: &[u8], status: u8, wanted: Wanted<'_>) {
     let (wanted_out, wanted_err, wanted_status) = match wanted {
         Printed(text, status) => (text, "", status),
         Refused(text, status) => ("", text, status),
@@ -91,9 +87,11 @@ pub(crate) fn same(rt: &impl Abort, words: &[&str], bytes: &[u8], wanted: &[u8])
 }
 
 /// Carries out lines on an image, one after another.
-pub(crate) fn give<
-    R: Files + AllocGlobal + Clock + Threads + Wait + Sync + Abort + Clone + Drop,
->(rt: &R, image: &str, lines: &[Row<'_>]) -> Result<(), Fail>
+pub(crate) fn give<R: Files + AllocGlobal + Clock + Threads + Wait + Sync + Abort + Clone + Drop>(
+    rt: &R,
+    image: &str,
+    lines: &[Row<'_>],
+) -> Result<(), Fail>
 where
     R::File: FileExt + Send,
 {
@@ -105,9 +103,11 @@ where
 }
 
 /// Makes a fresh image in this file, and gives its bytes.
-pub(crate) fn made<
-    R: Files + AllocGlobal + Clock + Threads + Wait + Sync + Abort + Clone + Drop,
->(rt: &R, geometry: &str, image: &str) -> Result<Vec<u8>, Fail>
+pub(crate) fn made<R: Files + AllocGlobal + Clock + Threads + Wait + Sync + Abort + Clone + Drop>(
+    rt: &R,
+    geometry: &str,
+    image: &str,
+) -> Result<Vec<u8>, Fail>
 where
     R::File: FileExt + Send,
 {

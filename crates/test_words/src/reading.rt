@@ -47,18 +47,9 @@ const READ: &[(&str, &str)] = &[
     ),
     ("repair --workers 1 a.img", "repair \"a.img\" 1 false"),
     ("repair a.img --workers=65", "repair \"a.img\" 65 false"),
-    (
-        "run --workers 1 a.img b.txt",
-        "run \"a.img\" \"b.txt\" 1",
-    ),
-    (
-        "run a.img --workers=65 b.txt",
-        "run \"a.img\" \"b.txt\" 65",
-    ),
-    (
-        "run a.img b.txt --workers 0",
-        "run \"a.img\" \"b.txt\" 0",
-    ),
+    ("run --workers 1 a.img b.txt", "run \"a.img\" \"b.txt\" 1"),
+    ("run a.img --workers=65 b.txt", "run \"a.img\" \"b.txt\" 65"),
+    ("run a.img b.txt --workers 0", "run \"a.img\" \"b.txt\" 0"),
     ("stops a.img b.txt", "stops \"a.img\" \"b.txt\""),
 ];
 

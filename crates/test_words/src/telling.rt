@@ -32,21 +32,27 @@ pub(crate) fn asks_progress(alloc: Global, line: &str) -> Result<bool, Fail> {
 pub(crate) fn told(alloc: Global, line: &Line<'_>) -> Result<String, AllocError> {
     match line {
         Line::Mkfs(line) => told_of_mkfs(alloc, line),
-        Line::Check(CheckLine {
-            image,
-            workers,
-            progress,
-        }) => format!(in alloc; "check {image:?} {workers} {progress}"),
-        Line::Repair(RepairLine {
-            image,
-            workers,
-            progress,
-        }) => format!(in alloc; "repair {image:?} {workers} {progress}"),
-        Line::Run(RunLine {
-            image,
-            script,
-            workers,
-        }) => format!(in alloc; "run {image:?} {script:?} {workers}"),
+        Line::Check(
+            CheckLine {
+                image,
+                workers,
+                progress,
+            },
+        ) => format!(in alloc; "check {image:?} {workers} {progress}"),
+        Line::Repair(
+            RepairLine {
+                image,
+                workers,
+                progress,
+            },
+        ) => format!(in alloc; "repair {image:?} {workers} {progress}"),
+        Line::Run(
+            RunLine {
+                image,
+                script,
+                workers,
+            },
+        ) => format!(in alloc; "run {image:?} {script:?} {workers}"),
         Line::Stops(StopsLine { image, script }) => format!(in alloc; "stops {image:?} {script:?}"),
         Line::Bits(BitsLine { image }) => format!(in alloc; "bits {image:?}"),
         Line::Sample => String::from_str(alloc, "sample"),
