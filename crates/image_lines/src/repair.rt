@@ -1,9 +1,13 @@
 //! The line `repair`: the report of an image, and what is mended of it.
-ghost use Rattle.std.specs.Prelude.{◌≡◌, ◌++◌, ◌<◌, Err, IfOk, IsFalse, IsOkUnless, IsTrue, OnOk};
+ghost use Rattle.std.specs.Prelude.{◌≡◌, ◌++◌, ◌<◌, [], Err, IfOk, IsFalse, IsOkUnless, IsTrue, OnOk};
 ghost use Rattle.std.specs.String.{string_bytes};
 ghost use Rattle.layout.specs.declared.refusal.Refusal.TheVariants.{BadWorkers};
+ghost use Rattle.live_states.specs.Holdings.{IsIdle};
+ghost use Rattle.live.specs.Mounting.{IsMountable};
+ghost use Rattle.softdep.specs.Queued.{pending_of};
 ghost use Rattle.workers.specs.Workers.{may_work};
 ghost use Rattle.image_lines.specs.Status.{status_of_verdict};
+ghost use Rattle.image_lines.specs.declared.repair.Outcome.TheVariants.{Mended};
 ghost use Rattle.image_lines.specs.Repaired.{IsRepaired, device_of, done_text, repair_lines, repair_text_of};
 
 use crate::check::{allow_workers, check, check_file, told};
@@ -158,13 +162,33 @@ fn mend_device<D: Device + Drop, G: Gate>(
         → IsRepaired (D.image device) repaired.answer.text.items repaired.answer.status repaired.outcome (D.image (device_of repaired.outcome))) }
     ensures status { IfOk result (λ repaired. repaired.answer.status < 3) }
 {
-    fsck::damaged_where_a_rule_is_broken();
     let mut volume = Volume::new(mount(alloc, device)?);
-    let checked = mend(rt, alloc, &mut volume, workers, gate)?;
+    let answer = mend_volume(rt, alloc, &mut volume, workers, gate)?;
     Ok(Repaired {
-        answer: told_of_repairs(alloc, &checked)?,
+        answer,
         outcome: Outcome::Mended(volume),
     })
+}
+
+/// Mends a volume that was just mounted, and tells what was mended.
+fn mend_volume<D: Device, G: Gate>(
+    rt: &(impl Threads + Sync),
+    alloc: Global,
+    volume: &mut Volume<D>,
+    workers: u32,
+    gate: &G,
+) -> Result<Answer, Refusal>
+    requires pending { pending_of volume.old.queue ≡ [] }
+    requires idle { IsIdle volume.old.holdings }
+    requires mounted { D.honest volume.old.device → IsMountable volume.old.kept.geometry (D.image volume.old.device) }
+    requires workers { IsTrue (may_work workers) }
+    ensures repaired { IfOk result (λ answer. D.honest volume.new.device
+        → IsRepaired (D.image volume.old.device) answer.text.items answer.status (Mended volume.new) (D.image volume.new.device)) }
+    ensures status { IfOk result (λ answer. answer.status < 3) }
+{
+    fsck::damaged_where_a_rule_is_broken();
+    let checked = mend(rt, alloc, volume, workers, gate)?;
+    told_of_repairs(alloc, &checked)
 }
 
 /// What is printed of an image that was mended by this check, where it was soft.
