@@ -86,17 +86,23 @@ impl Census {
             directories,
             longest_free_run,
         } = *self;
-        writeln!(text, "groups {}", geometry.groups())?;
-        writeln!(text, "blocks-a-group {}", geometry.blocks_a_group())?;
-        writeln!(text, "inodes-a-group {}", geometry.inodes_a_group())?;
-        writeln!(text, "blocks {}", geometry.blocks())?;
-        writeln!(text, "block-bytes {BLOCK_BYTES}")?;
-        writeln!(text, "numbers-used {numbers_used}")?;
-        writeln!(text, "numbers-free {numbers_free}")?;
-        writeln!(text, "data-blocks-used {blocks_used}")?;
-        writeln!(text, "data-blocks-free {blocks_free}")?;
-        writeln!(text, "files {files}")?;
-        writeln!(text, "directories {directories}")?;
-        writeln!(text, "longest-free-run {longest_free_run}")
+        let lines = [
+            ("groups", geometry.groups()),
+            ("blocks-a-group", geometry.blocks_a_group()),
+            ("inodes-a-group", geometry.inodes_a_group()),
+            ("blocks", geometry.blocks()),
+            ("block-bytes", BLOCK_BYTES as u32),
+            ("numbers-used", numbers_used),
+            ("numbers-free", numbers_free),
+            ("data-blocks-used", blocks_used),
+            ("data-blocks-free", blocks_free),
+            ("files", files),
+            ("directories", directories),
+            ("longest-free-run", longest_free_run),
+        ];
+        for (name, number) in lines {
+            writeln!(text, "{name} {number}")?;
+        }
+        Ok(())
     }
 }

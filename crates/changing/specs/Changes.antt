@@ -1,8 +1,8 @@
 -- What a volume went through that was changed and written.
 use Rattle.std.specs.Prelude.{◌≡◌, ℕ, List, [], ◌∷◌, ◌++◌, map, Ok, Result}
 use Rattle.layout.specs.declared.refusal.Refusal.{Refusal}
-use Rattle.live.specs.Alive.{Alive}
-use Rattle.live.specs.Mounting.{IsMountable}
+use Rattle.snapshot.specs.Alive.{Alive}
+use Rattle.snapshot.specs.Mounting.{IsMountable}
 use Rattle.live_states.specs.Holdings.{IsIdle}
 use Rattle.softdep.specs.Queued.{pending_of}
 use Rattle.machine.specs.Command.{Sync as AsksSync}

@@ -1,15 +1,14 @@
 ghost use Rattle.std.specs.Prelude.{◌≡◌, [], IfOk, length, take};
 ghost use Rattle.changing.specs.Changes.{ChangesMounted};
 ghost use Rattle.changing.specs.Stops.{StopsAtRefusal};
-ghost use Rattle.live.specs.Mounting.{IsMountable};
+ghost use Rattle.snapshot.specs.Mounting.{IsMountable};
 ghost use Rattle.live_states.specs.Holdings.{IsIdle};
 ghost use Rattle.softdep.specs.Queued.{pending_of};
 
 use crate::change;
 use device::Device;
 use layout::Refusal;
-use live::{Live, NotMounted};
-use snapshot::{Command, Reply, Volume};
+use snapshot::{Command, Live, NotMounted, Reply, Volume};
 use std::alloc::Global;
 
 /// A volume that was mounted and changed, and the replies to the commands.

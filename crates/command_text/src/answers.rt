@@ -1,8 +1,7 @@
 //! What a volume answers, as it is written.
 use inode::DIRECTORY;
-use live::Status;
 use live_paths::Named;
-use snapshot::{Answer, Reply};
+use snapshot::{Answer, Reply, Status};
 use std::alloc::AllocError;
 
 /// Writes a reply behind a text: an answer, or `refused` with the number of the cause and its name.

@@ -9,6 +9,7 @@ mod words;
 
 pub use answers::{write_answer, write_reply};
 pub use commands::parse_command;
+pub use snapshot::{Answer, Command, Reply};
 pub use words::{
     first_part, first_word, is_one_word, leading_numbers, number, three_numbers, two_numbers,
 };

@@ -1,8 +1,7 @@
 use crate::{number, write_reply};
 use layout::Refusal;
-use live::Status;
 use live_paths::Named;
-use snapshot::{Answer, Reply};
+use snapshot::{Answer, Reply, Status};
 use std::alloc::{AllocError, Global};
 use std::test::Fail;
 

@@ -1,9 +1,8 @@
 //! The volume of a trial, on a device that may fail, and how its steps come out.
 use device::{Fuse, MemDevice};
 use layout::Refusal;
-use live::{Live, NotMounted};
 use recording::{Recording, Written};
-use snapshot::Volume;
+use snapshot::{Live, NotMounted, Volume};
 use std::alloc::{AllocError, Global};
 use trials::{Step, Told, Trial, Watched, bytes_of, write_told};
 

@@ -10,8 +10,8 @@ use Rattle.model.specs.Image.{IsImage, image_view}
 use Rattle.model.specs.Layout.{Geometry}
 use Rattle.model.specs.Rules.{ObeysRules}
 use Rattle.model.specs.View.{View}
-use Rattle.live.specs.Alive.{Alive, disk_of}
-use Rattle.live.specs.Mounting.{IsMountable}
+use Rattle.snapshot.specs.Alive.{Alive, disk_of}
+use Rattle.snapshot.specs.Mounting.{IsMountable}
 use Rattle.image_lines.specs.Repaired.{IsRepaired, done_text, repair_text_of}
 use Rattle.image_lines.specs.Status.{status_of_verdict}
 use Rattle.image_lines.specs.declared.repair.Outcome.TheVariants.{Left, Mended}

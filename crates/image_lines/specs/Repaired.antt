@@ -8,7 +8,7 @@ use Rattle.findings.specs.declared.repair.Repair.{Repair}
 use Rattle.findings.specs.declared.verdicts.Verdict.{Verdict}
 use Rattle.findings.specs.declared.verdicts.Verdict.TheVariants as verdict
 use Rattle.fsck.specs.Checked.{CheckedImage, IsChecked}
-use Rattle.live.specs.Alive.{disk_of}
+use Rattle.snapshot.specs.Alive.{disk_of}
 use Rattle.model.specs.Image.{IsImage, image_view}
 use Rattle.model.specs.Layout.{Geometry}
 use Rattle.image_lines.specs.declared.repair.Outcome.{Outcome}

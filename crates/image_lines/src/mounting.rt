@@ -1,12 +1,12 @@
 //! The volume of a device.
 ghost use Rattle.std.specs.Prelude.{◌≡◌, [], IfOk};
 ghost use Rattle.live_states.specs.Holdings.{IsIdle};
-ghost use Rattle.live.specs.Mounting.{IsMountable};
+ghost use Rattle.snapshot.specs.Mounting.{IsMountable};
 ghost use Rattle.softdep.specs.Queued.{pending_of};
 
 use device::Device;
 use layout::Refusal;
-use live::{Live, NotMounted};
+use snapshot::{Live, NotMounted};
 use std::alloc::Global;
 
 /// Mounts the volume of a device, which is let go where it cannot be mounted.

@@ -3,7 +3,7 @@ ghost use Rattle.std.specs.Prelude.{◌≡◌, ◌++◌, ◌<◌, [], Err, IfOk,
 ghost use Rattle.std.specs.String.{string_bytes};
 ghost use Rattle.layout.specs.declared.refusal.Refusal.TheVariants.{BadWorkers};
 ghost use Rattle.live_states.specs.Holdings.{IsIdle};
-ghost use Rattle.live.specs.Mounting.{IsMountable};
+ghost use Rattle.snapshot.specs.Mounting.{IsMountable};
 ghost use Rattle.softdep.specs.Queued.{pending_of};
 ghost use Rattle.workers.specs.Workers.{may_work};
 ghost use Rattle.image_lines.specs.Status.{status_of_verdict};

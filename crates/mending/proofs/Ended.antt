@@ -9,7 +9,7 @@ use Rattle.std.proofs.Common.{Ok}
 use Rattle.machine.specs.Snapshot.{settled}
 use Rattle.softdep.specs.Queued.{pending_of}
 use Rattle.live_states.specs.Holdings.{IsIdle}
-use Rattle.live.specs.Alive.{Alive, disk_of, state_of}
+use Rattle.snapshot.specs.Alive.{Alive, disk_of, state_of}
 use Rattle.snapshot.specs.declared.answer.Answer.{Answer as Given}
 use Rattle.snapshot.specs.Goes.{Applies, Freezes, HasBeside, IsBeside, Releases, Replies}
 use Rattle.mending.specs.Repairs.{IsSnapshotChecked, Repairs}

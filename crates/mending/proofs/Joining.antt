@@ -6,7 +6,7 @@ use Rattle.machine.specs.Command.{Answer, Check, Command, Done, Freeze, Image, I
 use Rattle.machine.specs.Snapshot.{settled}
 use Rattle.courses.specs.Serves.{Starts}
 use Rattle.live_states.specs.Holdings.{Beside}
-use Rattle.live.specs.Alive.{Alive, state_of}
+use Rattle.snapshot.specs.Alive.{Alive, state_of}
 use Rattle.snapshot.specs.declared.answer.Answer.{Answer as Given}
 use Rattle.snapshot.specs.Asked.{IsReply}
 use Rattle.snapshot.specs.Goes.{Applies, Freezes, Goes, IsBeside, Releases, Replies}

@@ -20,7 +20,7 @@ use Rattle.softdep.specs.Queued.{pending_of}
 use Rattle.live_states.proofs.Standing.{idle_mounted}
 use Rattle.live_states.specs.Holdings.{Beside, IsIdle, IsImageOf}
 use Rattle.live_states.specs.Volume.{state_over}
-use Rattle.live.specs.Alive.{Alive, disk_of, state_of}
+use Rattle.snapshot.specs.Alive.{Alive, disk_of, state_of}
 use Rattle.snapshot.specs.Goes.{IsBeside}
 use Rattle.mending.proofs.Joining.{nothing_beside}
 use Rattle.mending.specs.Repairs.{IsSnapshotChecked}

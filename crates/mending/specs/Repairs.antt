@@ -4,7 +4,7 @@ use Rattle.frozen.specs.Kept.{Kept, KeepsMetadata, frozen_view}
 use Rattle.fsck.specs.Checked.{CheckedImage, IsChecked}
 use Rattle.machine.specs.Command.{Command, Done, RepairAt, Reply}
 use Rattle.live_states.specs.Holdings.{Beside}
-use Rattle.live.specs.Alive.{Alive}
+use Rattle.snapshot.specs.Alive.{Alive}
 use Rattle.snapshot.specs.Goes.{Goes, IsBeside}
 
 -- the repairs of the places below n, the least place first

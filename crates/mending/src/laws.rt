@@ -8,8 +8,8 @@ ghost use Rattle.machine.specs.Command.{Answer, Check, Done, Freeze, Image, Inst
 ghost use Rattle.model.specs.View.{View};
 ghost use Rattle.softdep.specs.Queued.{pending_of};
 ghost use Rattle.live_states.specs.Holdings.{Beside, IsIdle};
-ghost use Rattle.live.specs.Alive.{Alive, disk_of};
-ghost use Rattle.live.specs.Mounting.{IsMountable};
+ghost use Rattle.snapshot.specs.Alive.{Alive, disk_of};
+ghost use Rattle.snapshot.specs.Mounting.{IsMountable};
 ghost use Rattle.snapshot.specs.Goes.{Goes, IsBeside};
 ghost use Rattle.mending.specs.Repairs.{all_done, repairs_below};
 
@@ -27,7 +27,7 @@ pub fn mended_images_are_clean<D: Device>()
         (Ok (Image frozen) ∷ Ok Done ∷ ((all_done n ++ Ok Done ∷ []) ++ Ok answer ∷ [])) beside' held' image' new
         → AreFindings new.kept.geometry (disk_of image' new) [] }
 {
-    live::mounted_volumes_begin::<D>();
+    snapshot::mounted_volumes_begin::<D>();
     snapshot::whole_cycles_end_exact::<D>();
     exact_images::nothing_is_found_on_exact_images();
 }

@@ -5,7 +5,7 @@ use Rattle.std.proofs.lemmas.List.Elements.{All-nil, All-push}
 use Rattle.std.proofs.lemmas.List.{append_assoc, append-nil, map-append, take_more}
 use Rattle.archives.specs.declared.entries.Kind.TheVariants as kind
 use Rattle.layout.specs.declared.refusal.Refusal.{Refusal}
-use Rattle.live.specs.Alive.{Alive}
+use Rattle.snapshot.specs.Alive.{Alive}
 use Rattle.machine.specs.Command.{Command as Request, Create, Mkdir, Open, Write, Close, Flush, Sync}
 use Rattle.model.specs.Layout.{Geometry}
 use Rattle.model.specs.Uses.{blocks_of}

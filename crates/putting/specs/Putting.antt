@@ -4,8 +4,8 @@ use Rattle.std.specs.Fork.{slice_chunk}
 use Rattle.std.proofs.Common.{Vec, Global}
 use Rattle.archives.specs.declared.entries.Kind.TheVariants as kind
 use Rattle.layout.specs.declared.refusal.Refusal.{Refusal}
-use Rattle.live.specs.Alive.{Alive}
-use Rattle.live.specs.Mounting.{IsMountable}
+use Rattle.snapshot.specs.Alive.{Alive}
+use Rattle.snapshot.specs.Mounting.{IsMountable}
 use Rattle.live_states.specs.Holdings.{IsIdle}
 use Rattle.machine.specs.Command.{Command as Request, Create, Mkdir, Open, Write, Close, Flush, Sync}
 use Rattle.model.specs.Uses.{blocks_of}

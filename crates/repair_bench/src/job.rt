@@ -3,8 +3,7 @@
 use anyhow::{Result, bail};
 use device::MemDevice;
 use layout::Refusal;
-use live::{Live, NotMounted};
-use snapshot::Volume;
+use snapshot::{Live, NotMounted, Volume};
 use std::alloc::Global;
 use std::fs;
 use std::rt::Files;

@@ -11,7 +11,7 @@ use Rattle.ordering.specs.Cuts.{Pending}
 use Rattle.queue_model.specs.Blocks.{home_of}
 use Rattle.queue_model.specs.Flush.{ready, taken}
 use Rattle.softdep.specs.Queued.{pending_of}
-use Rattle.live.specs.Alive.{Alive, disk_of, state_of}
+use Rattle.snapshot.specs.Alive.{Alive, disk_of, state_of}
 use Rattle.live_states.specs.Holdings.{Beside}
 use Rattle.snapshot.specs.declared.command.Command.{Command}
 use Rattle.snapshot.specs.declared.answer.Answer.{Answer}

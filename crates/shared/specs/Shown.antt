@@ -1,6 +1,6 @@
 -- What is seen of a volume with its trace.
 use Rattle.std.specs.Prelude.{ℕ, List}
-use Rattle.live.specs.Alive.{Alive}
+use Rattle.snapshot.specs.Alive.{Alive}
 use Rattle.shared.specs.declared.counts.Counts.{Counts}
 use Rattle.shared.specs.declared.entry.Entry.{Entry}
 

@@ -4,7 +4,7 @@ use Rattle.std.specs.List.{AllZip}
 use Rattle.machine.specs.Command.{Command, Reply as Response}
 use Rattle.model.specs.Layout.{Geometry}
 use Rattle.live_states.specs.Holdings.{Beside}
-use Rattle.live.specs.Alive.{Alive}
+use Rattle.snapshot.specs.Alive.{Alive}
 use Rattle.snapshot.specs.Asked.{asked}
 use Rattle.snapshot.specs.Goes.{Goes, IsBeside}
 use Rattle.shared.specs.Noted.{IsNoted}

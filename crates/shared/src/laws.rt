@@ -8,8 +8,8 @@ ghost use Rattle.queue_model.specs.Files.{Written};
 ghost use Rattle.courses.specs.Serves.{IsBeginning, IsSafeService, Service};
 ghost use Rattle.softdep.specs.Queued.{pending_of};
 ghost use Rattle.live_states.specs.Holdings.{Beside};
-ghost use Rattle.live.specs.Alive.{Alive, disk_of, state_of};
-ghost use Rattle.live.specs.Held.{HeldMore};
+ghost use Rattle.snapshot.specs.Alive.{Alive, disk_of, state_of};
+ghost use Rattle.snapshot.specs.Held.{HeldMore};
 ghost use Rattle.shared.specs.Traces.{AreNoted, HasOpening, asked_by};
 ghost use Rattle.shared.specs.declared.entry.Entry.{Entry};
 

@@ -2,7 +2,7 @@
 ghost use Rattle.std.specs.Prelude.{◌≡◌, ◌≢◌, ◌⊎◌, ◌+◌, ◌≤◌, Err, OnOk};
 ghost use Rattle.layout.specs.declared.refusal.Refusal.{Refusal};
 ghost use Rattle.machine.specs.Command.{RepairAt};
-ghost use Rattle.live.specs.Alive.{Alive};
+ghost use Rattle.snapshot.specs.Alive.{Alive};
 ghost use Rattle.snapshot.specs.Goes.{Applies};
 ghost use Rattle.shared.specs.Repairing.{IsEnd, ended};
 

@@ -1,7 +1,7 @@
 //! The lock round the volume, how it is shared, and what is left when it is closed.
 ghost use Rattle.std.specs.Prelude.{◌≡◌, ◌≢◌, ◌↔◌, ◌+◌, ◌<◌, ℕ, List, All, Err, IfOk, IsErrOf, IsOkUnless, vec_len};
 ghost use Rattle.std.specs.List.{count_by, sum_by};
-ghost use Rattle.live.specs.Alive.{Alive};
+ghost use Rattle.snapshot.specs.Alive.{Alive};
 ghost use Rattle.snapshot.specs.Asked.{asked};
 ghost use Rattle.snapshot.specs.Goes.{Applies};
 ghost use Rattle.shared.specs.Limits.{Within};

@@ -1,3 +1,6 @@
+pub use Rattle.live.specs.Alive
+pub use Rattle.live.specs.Held
+pub use Rattle.live.specs.Mounting
 pub mod Asked
 pub mod Goes
 pub mod Pieces

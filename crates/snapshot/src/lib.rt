@@ -22,4 +22,5 @@ pub use laws::{
     calls_join, clean_volumes_stay_exact, each_stop_of_a_run_is_safe, no_call_makes_a_debt,
     volumes_are_in_balance, whole_cycles_end_exact,
 };
+pub use live::{Live, NotMounted, Status, mounted_volumes_begin};
 pub use volume::Volume;

@@ -3,3 +3,5 @@
 
 #[cfg(test)]
 mod archived;
+#[cfg(test)]
+mod expect;

@@ -1,27 +1,30 @@
 ghost use Rattle.std.specs.Prelude.{◌≡◌, ◌+◌, ◌-◌, ◌^◌, min};
 ghost use Rattle.device.specs.Writes.{CountsFaults, image_after, images_held};
 
-use device::{Before, Device, DeviceFault, MemDevice, format};
+use crate::expect::{holds, same};
+use device::{Device, DeviceFault, MemDevice};
 use frozen::{Frozen, load};
-use layout::{BLOCK_BYTES, Block, Geometry, Refusal};
+use layout::{Block, Geometry, Refusal};
 use std::alloc::Global;
+use std::process::Abort;
 use std::test::Fail;
+use test_images::{Byte, device_with, frozen_with, set_byte, set_bytes, zeroes};
 
 /// The bytes of a superblock that are not zero, for one group of 16 blocks and 16 inodes.
-const SUPERBLOCK: [(usize, u8); 8] = [
-    (0, 0x31),
-    (1, 0x56),
-    (2, 0x55),
-    (3, 0x53),
-    (4, 1),
-    (8, 1),
-    (12, 16),
-    (16, 16),
+const SUPERBLOCK: &[Byte] = &[
+    (0, 0, 0x31),
+    (0, 1, 0x56),
+    (0, 2, 0x55),
+    (0, 3, 0x53),
+    (0, 4, 1),
+    (0, 8, 1),
+    (0, 12, 16),
+    (0, 16, 16),
 ];
 
 /// Bytes of an image of two groups, each of 16 blocks and 16 inodes, whose root has 13 blocks, 4 to 15 and 20, and whose
 /// inode 3 is a directory with block 4, the root's first, and inode 4 a file with it: an address, a byte and its value.
-const TWO_DIRECTORIES: [(u32, usize, u8); 22] = [
+const TWO_DIRECTORIES: &[Byte] = &[
     (2, 261, 52),
     (2, 268, 5),
     (2, 272, 6),
@@ -120,46 +123,34 @@ impl Device for FakeDevice {
     }
 }
 
-/// Changes one byte of a block.
-fn set_byte<D: Device>(
-    device: &mut D,
-    address: u32,
-    byte: usize,
-    value: u8,
-) -> Result<(), Refusal> {
-    if address >= device.blocks() || byte >= BLOCK_BYTES {
-        return Err(Refusal::BadIndex);
-    }
-    let mut block = [0; BLOCK_BYTES];
-    device.read(address, &mut block)?;
-    block[byte] = value;
-    device.write(address, &block)?;
-    Ok(())
-}
-
-/// A device of zeroes in memory.
-fn zeroes(alloc: Global, blocks: u32) -> Result<MemDevice, Refusal> {
-    let bytes = vec![in alloc; 0; blocks as usize * BLOCK_BYTES]?;
-    MemDevice::from_bytes(alloc, bytes.as_slice())
-}
-
 /// A device in memory with a fresh image of so many groups, each of 16 blocks and 16 inodes.
 fn fresh(alloc: Global, groups: u32) -> Result<MemDevice, Refusal> {
-    let geometry = Geometry::new(groups, 16, 16)?;
-    let mut device = zeroes(alloc, geometry.blocks())?;
-    if device.blocks() != geometry.blocks() {
-        return Err(Refusal::BadLength);
+    device_with(alloc, &Geometry::new(groups, 16, 16)?, &[])
+}
+
+/// Expects a load to be refused so, or not to be.
+fn expect_load<D: Device, R: AllocGlobal + Abort>(
+    rt: &R,
+    place: (u32, usize),
+    device: &mut D,
+    wanted: Option<Refusal>,
+) {
+    same(rt, place, load(rt.alloc(), device).err(), wanted);
+}
+
+/// The first bytes of the maps of group 0.
+fn first_bytes(frozen: &Frozen) -> Option<&[u8]> {
+    if frozen.geometry().groups() == 0 {
+        return None;
     }
-    format(&mut device, &geometry, Before::Anything)?;
-    Ok(device)
+    Some(&frozen.maps_of(0)[..4])
 }
 
 #[test]
 fn a_fresh_image_is_loaded(rt: HostRuntime) -> Result<(), Fail> {
-    let alloc = rt.alloc();
-    let frozen = load(alloc, &mut fresh(alloc, 1)?)?;
-    let geometry = frozen.geometry();
-    assert_eq!(rt; geometry, Geometry::new(1, 16, 16)?);
+    let geometry = Geometry::new(1, 16, 16)?;
+    let frozen = frozen_with(rt.alloc(), &geometry, &[])?;
+    same(&rt, "geometry", frozen.geometry(), geometry);
     for (address, is_kept) in [
         (0, true),
         (1, true),
@@ -170,131 +161,108 @@ fn a_fresh_image_is_loaded(rt: HostRuntime) -> Result<(), Fail> {
         (16, false),
         (17, false),
     ] {
-        assert_eq!(rt; frozen.block(address).is_some(), is_kept, "block {address}");
+        same(&rt, address, frozen.block(address).is_some(), is_kept);
     }
-    assert!(rt; geometry.groups() == 1);
-    assert_eq!(rt; &frozen.maps_of(0)[..4], b"GCUS".as_slice());
+    same(&rt, "groups", geometry.groups(), 1);
+    same(&rt, "maps", first_bytes(&frozen), Some(b"GCUS".as_slice()));
     Ok(())
 }
 
-/// A frozen image of a root and a second directory, as `TWO_DIRECTORIES` has them.
-fn two_directories(alloc: Global) -> Result<Frozen, Refusal> {
-    let mut device = fresh(alloc, 2)?;
-    for (address, byte, value) in TWO_DIRECTORIES {
-        set_byte(&mut device, address, byte, value)?;
-    }
-    load(alloc, &mut device)
-}
+/// Directories and positions, and the last byte of the block there.
+const LAST_BYTES: &[(u32, u32, Option<u8>)] = &[
+    (2, 0, Some(0)),
+    (2, 10, Some(0)),
+    (2, 11, Some(8)),
+    (2, 12, Some(7)),
+    (2, 13, None),
+    (2, 268, None),
+    (3, 0, Some(0)),
+    (3, 1, None),
+    (4, 0, None),
+    (5, 0, None),
+];
 
 #[test]
 fn the_blocks_of_directories_are_loaded(rt: HostRuntime) -> Result<(), Fail> {
-    let frozen = two_directories(rt.alloc())?;
-    for (directory, position, last_byte) in [
-        (2, 0, Some(0)),
-        (2, 10, Some(0)),
-        (2, 11, Some(8)),
-        (2, 12, Some(7)),
-        (2, 13, None),
-        (2, 268, None),
-        (3, 0, Some(0)),
-        (3, 1, None),
-        (4, 0, None),
-        (5, 0, None),
-    ] {
-        let block = frozen.directory_block(directory, position);
-        assert_eq!(rt;
-            block.map(|block| block[1023]),
-            last_byte,
-            "position {position} of inode {directory}"
-        );
+    let geometry = Geometry::new(2, 16, 16)?;
+    let frozen = frozen_with(rt.alloc(), &geometry, TWO_DIRECTORIES)?;
+    for (directory, position, wanted) in LAST_BYTES {
+        let block = frozen.directory_block(*directory, *position);
+        let last_byte = block.map(|block| block[1023]);
+        same(&rt, (*directory, *position), last_byte, *wanted);
     }
-    assert!(rt; frozen.is_directory_at(3) && !frozen.is_directory_at(4));
-    assert!(rt; frozen.is_sound_at(4) && !frozen.is_sound_at(5));
+    same(&rt, 3, frozen.is_directory_at(3), true);
+    same(&rt, 4, frozen.is_directory_at(4), false);
+    same(&rt, 4, frozen.is_sound_at(4), true);
+    same(&rt, 5, frozen.is_sound_at(5), false);
     Ok(())
 }
 
+/// How many groups an image has, the block and the byte that become 2, and how it is refused then.
+const CHANGED: &[(u32, u32, usize, Refusal)] = &[
+    (1, 1, 0, Refusal::BadGroup(0)),
+    (1, 0, 4, Refusal::BadSuper),
+    (2, 17, 4, Refusal::BadGroup(1)),
+    (2, 1, 0, Refusal::BadGroup(0)),
+];
+
 #[test]
 fn a_changed_image_is_refused(rt: HostRuntime) -> Result<(), Fail> {
-    let alloc = rt.alloc();
-    let changes = [
-        (1, 1, 0, Refusal::BadGroup(0)),
-        (1, 0, 4, Refusal::BadSuper),
-        (2, 17, 4, Refusal::BadGroup(1)),
-        (2, 1, 0, Refusal::BadGroup(0)),
-    ];
-    for (groups, address, byte, want) in changes {
-        let mut device = fresh(alloc, groups)?;
-        assert_eq!(rt; load(alloc, &mut device).err(), None, "of {groups} groups");
-        set_byte(&mut device, address, byte, 2)?;
-        assert_eq!(rt;
-            load(alloc, &mut device).err(),
-            Some(want),
-            "byte {byte} of block {address}"
-        );
+    for (groups, address, byte, wanted) in CHANGED {
+        let mut device = fresh(rt.alloc(), *groups)?;
+        expect_load(&rt, (*groups, 0), &mut device, None);
+        set_byte(&mut device, *address, *byte, 2)?;
+        expect_load(&rt, (*address, *byte), &mut device, Some(*wanted));
     }
     Ok(())
 }
 
 #[test]
 fn an_image_of_a_superblock_alone_is_refused(rt: HostRuntime) -> Result<(), Fail> {
-    let alloc = rt.alloc();
-    for (blocks, want) in [
+    for (blocks, wanted) in [
         (1, Refusal::BadLength),
         (16, Refusal::BadLength),
         (17, Refusal::BadGroup(0)),
         (18, Refusal::BadLength),
     ] {
-        let mut device = zeroes(alloc, blocks)?;
-        assert_eq!(rt;
-            load(alloc, &mut device).err(),
-            Some(Refusal::BadSuper),
-            "{blocks} blocks of zeroes"
-        );
-        for (byte, value) in SUPERBLOCK {
-            set_byte(&mut device, 0, byte, value)?;
-        }
-        assert_eq!(rt;
-            load(alloc, &mut device).err(),
-            Some(want),
-            "{blocks} blocks"
-        );
+        let mut device = zeroes(rt.alloc(), blocks)?;
+        expect_load(&rt, (blocks, 0), &mut device, Some(Refusal::BadSuper));
+        set_bytes(&mut device, SUPERBLOCK)?;
+        expect_load(&rt, (blocks, 1), &mut device, Some(wanted));
     }
     Ok(())
 }
 
 #[test]
 fn a_load_with_a_fault_answers_device(rt: HostRuntime) -> Result<(), Fail> {
-    let alloc = rt.alloc();
-    let mut device = FakeDevice::new(fresh(alloc, 1)?);
+    let mut device = FakeDevice::new(fresh(rt.alloc(), 1)?);
     // Block 0, the block of maps, two blocks of inodes and the root's block are read.
     for number in 0..5 {
-        for last in [number, u64::MAX] {
-            device.fail(number, last);
-            assert_eq!(rt;
-                load(alloc, &mut device).err(),
-                Some(Refusal::Device),
-                "read {number}"
-            );
-        }
+        device.fail(u64::from(number), u64::from(number));
+        expect_load(&rt, (number, 1), &mut device, Some(Refusal::Device));
+        device.fail(u64::from(number), u64::MAX);
+        expect_load(&rt, (number, 2), &mut device, Some(Refusal::Device));
     }
-    assert_eq!(rt; device.failures, 10);
+    same(&rt, "failures", device.failures, 10);
     device.fail(5, u64::MAX);
-    assert_eq!(rt; load(alloc, &mut device).err(), None);
+    expect_load(&rt, (5, 0), &mut device, None);
     Ok(())
+}
+
+/// A device of one group, whose inode 3 is a directory of one block, which is the root's block 4.
+fn shared(alloc: Global) -> Result<FakeDevice, Refusal> {
+    let geometry = Geometry::new(1, 16, 16)?;
+    let bytes = [(2, 384, 2), (2, 389, 4), (2, 392, 4)];
+    Ok(FakeDevice::new(device_with(alloc, &geometry, &bytes)?))
 }
 
 #[test]
 fn a_block_that_two_directories_share_is_read_once(rt: HostRuntime) -> Result<(), Fail> {
-    let alloc = rt.alloc();
-    let mut device = FakeDevice::new(fresh(alloc, 1)?);
-    // Inode 3 is a directory of one block, which is the root's block 4.
-    for (byte, value) in [(384, 2), (389, 4), (392, 4)] {
-        set_byte(&mut device, 2, byte, value)?;
-    }
-    device.fail(u64::MAX, u64::MAX);
-    let frozen = load(alloc, &mut device)?;
-    assert_eq!(rt; device.reads, 5);
-    assert!(rt; frozen.directory_block(2, 0).is_some());
-    assert_eq!(rt; frozen.directory_block(3, 0), frozen.directory_block(2, 0));
+    let mut device = shared(rt.alloc())?;
+    let frozen = load(rt.alloc(), &mut device)?;
+    same(&rt, "reads", device.reads, 5);
+    let of_root = frozen.directory_block(2, 0);
+    holds(&rt, "of the root", of_root.is_some());
+    same(&rt, "of the other", frozen.directory_block(3, 0), of_root);
     Ok(())
 }

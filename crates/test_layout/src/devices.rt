@@ -1,7 +1,9 @@
+use crate::expect::same;
 use device::{Device, Fuse, MemDevice};
 use layout::{BLOCK_BYTES, Block, Refusal};
-use std::alloc::Global;
+use std::alloc::{AllocError, Global};
 use std::test::Fail;
+use test_images::{set_byte, zeroes};
 
 /// The block of this address; `None` where there is none, or the device failed.
 fn read_block<D: Device>(device: &mut D, address: u32) -> Option<Block> {
@@ -15,18 +17,6 @@ fn read_block<D: Device>(device: &mut D, address: u32) -> Option<Block> {
     }
 }
 
-/// Changes one byte of a block.
-fn set_byte(device: &mut MemDevice, address: u32, byte: usize, value: u8) -> Result<(), Refusal> {
-    if address >= device.blocks() || byte >= BLOCK_BYTES {
-        return Err(Refusal::BadIndex);
-    }
-    let mut block = [0; BLOCK_BYTES];
-    device.read(address, &mut block)?;
-    block[byte] = value;
-    device.write(address, &block)?;
-    Ok(())
-}
-
 /// Writes a block of nines.
 fn write_nines<D: Device>(device: &mut D, address: u32) -> Result<(), Refusal> {
     if address >= device.blocks() {
@@ -36,83 +26,109 @@ fn write_nines<D: Device>(device: &mut D, address: u32) -> Result<(), Refusal> {
     Ok(())
 }
 
-/// A device of zeroes in memory.
-fn zeroes(alloc: Global, blocks: u32) -> Result<MemDevice, Refusal> {
-    let bytes = vec![in alloc; 0; blocks as usize * BLOCK_BYTES]?;
-    MemDevice::from_bytes(alloc, bytes.as_slice())
+/// How many bytes are given, and how many blocks they make.
+const LENGTHS: &[(usize, Result<u32, Refusal>)] = &[
+    (17_408, Ok(17)),
+    (1_024, Ok(1)),
+    (0, Err(Refusal::BadLength)),
+    (1_023, Err(Refusal::BadLength)),
+    (17_407, Err(Refusal::BadLength)),
+];
+
+/// How many blocks a device of so many bytes has.
+fn blocks_of(alloc: Global, length: usize) -> Result<Result<u32, Refusal>, AllocError> {
+    let bytes = vec![in alloc; 0; length]?;
+    Ok(MemDevice::from_bytes(alloc, bytes.as_slice()).map(|device| device.blocks()))
 }
 
 #[test]
 fn bytes_are_taken_as_whole_blocks(rt: HostRuntime) -> Result<(), Fail> {
-    let alloc = rt.alloc();
-    let lengths = [
-        (17_408, Ok(17)),
-        (1_024, Ok(1)),
-        (0, Err(Refusal::BadLength)),
-        (1_023, Err(Refusal::BadLength)),
-        (17_407, Err(Refusal::BadLength)),
-    ];
-    for (length, want) in lengths {
-        let bytes = vec![in alloc; 0; length]?;
-        let blocks = MemDevice::from_bytes(alloc, bytes.as_slice()).map(|device| device.blocks());
-        assert_eq!(rt; blocks, want, "of {length} bytes");
+    for (length, want) in LENGTHS {
+        same(&rt, *length, blocks_of(rt.alloc(), *length)?, *want);
     }
     Ok(())
 }
 
+/// A device in memory of three blocks, of which block 1 was written with 7 as its last byte.
+fn written_once(alloc: Global) -> Result<MemDevice, Refusal> {
+    let mut device = zeroes(alloc, 3)?;
+    match set_byte(&mut device, 1, 1023, 7) {
+        Ok(()) => Ok(device),
+        Err(refusal) => Err(refusal),
+    }
+}
+
 #[test]
 fn a_block_in_memory_is_read_back(rt: HostRuntime) -> Result<(), Fail> {
-    let mut device = zeroes(rt.alloc(), 3)?;
-    set_byte(&mut device, 1, 1023, 7)?;
+    let mut device = written_once(rt.alloc())?;
     let mut want = [0; BLOCK_BYTES];
-    assert_eq!(rt; read_block(&mut device, 0), Some(want));
-    assert_eq!(rt; read_block(&mut device, 2), Some(want));
+    same(&rt, 0, read_block(&mut device, 0), Some(want));
+    same(&rt, 2, read_block(&mut device, 2), Some(want));
     want[1023] = 7;
-    assert_eq!(rt; read_block(&mut device, 1), Some(want));
+    same(&rt, 1, read_block(&mut device, 1), Some(want));
     Ok(())
+}
+
+/// Writes 7 and then 8 as the first byte of block 1.
+fn write_twice(device: &mut MemDevice) -> Result<(), Refusal> {
+    set_byte(device, 1, 0, 7)?;
+    set_byte(device, 1, 0, 8)
 }
 
 /// A device in memory of three blocks, of which block 1 was written with 7 and then with 8 as its first byte.
 fn written_twice(alloc: Global) -> Result<MemDevice, Refusal> {
     let mut device = zeroes(alloc, 3)?;
-    set_byte(&mut device, 1, 0, 7)?;
-    set_byte(&mut device, 1, 0, 8)?;
-    Ok(device)
+    match write_twice(&mut device) {
+        Ok(()) => Ok(device),
+        Err(refusal) => Err(refusal),
+    }
+}
+
+/// How many writes the image that was held after so many has seen, and the first byte of its block 1.
+fn held_after(alloc: Global, device: &MemDevice, writes: usize) -> Result<(usize, u8), Refusal> {
+    let mut then = device.image_after(alloc, writes)?;
+    match read_block(&mut then, 1) {
+        Some(block) => Ok((then.writes(), block[0])),
+        None => Err(Refusal::Device),
+    }
 }
 
 #[test]
 fn each_image_that_was_held_is_given(rt: HostRuntime) -> Result<(), Fail> {
     let device = written_twice(rt.alloc())?;
-    assert_eq!(rt; device.writes(), 2);
-    for (writes, want) in [(0, 0), (1, 7), (2, 8)] {
-        let mut then = device.image_after(rt.alloc(), writes)?;
-        let block = read_block(&mut then, 1).ok_or("no block")?;
-        assert_eq!(rt; (then.writes(), block[0]), (0, want), "after {writes}");
+    same(&rt, "writes", device.writes(), 2);
+    for (writes, want) in [
+        (0, Ok((0, 0))),
+        (1, Ok((0, 7))),
+        (2, Ok((0, 8))),
+        (3, Err(Refusal::BadIndex)),
+    ] {
+        same(&rt, writes, held_after(rt.alloc(), &device, writes), want);
     }
-    assert_eq!(rt;
-        device.image_after(rt.alloc(), 3).err(),
-        Some(Refusal::BadIndex)
-    );
     Ok(())
+}
+
+/// Which of five calls the device lets through.
+fn answers_of(fuse: &mut Fuse<MemDevice>) -> [bool; 5] {
+    [
+        read_block(fuse, 1).is_some(),
+        fuse.sync().is_ok(),
+        write_nines(fuse, 0).is_ok(),
+        write_nines(fuse, 2).is_ok(),
+        read_block(fuse, 2).is_some(),
+    ]
 }
 
 #[test]
 fn a_fuse_fails_once_or_from_then_on(rt: HostRuntime) -> Result<(), Fail> {
-    for (once, want) in [
-        (false, [true, true, false, false, false]),
-        (true, [true, true, false, true, true]),
+    for (once, want, writes) in [
+        (false, [true, true, false, false, false], 2),
+        (true, [true, true, false, true, true], 3),
     ] {
         let mut fuse = Fuse::new(written_twice(rt.alloc())?, 2, once);
-        let answers = [
-            read_block(&mut fuse, 1).is_some(),
-            fuse.sync().is_ok(),
-            write_nines(&mut fuse, 0).is_ok(),
-            write_nines(&mut fuse, 2).is_ok(),
-            read_block(&mut fuse, 2).is_some(),
-        ];
-        assert_eq!(rt; answers, want, "once: {once}");
-        assert_eq!(rt; fuse.device().writes(), if once { 3 } else { 2 });
-        assert_eq!(rt; fuse.blocks(), 3);
+        same(&rt, once, answers_of(&mut fuse), want);
+        same(&rt, once, fuse.device().writes(), writes);
+        same(&rt, once, fuse.blocks(), 3);
     }
     Ok(())
 }

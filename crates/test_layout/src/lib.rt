@@ -4,6 +4,8 @@
 #[cfg(test)]
 mod devices;
 #[cfg(test)]
+mod expect;
+#[cfg(test)]
 mod geometries;
 #[cfg(test)]
 mod reports;

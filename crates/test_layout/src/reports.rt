@@ -1,5 +1,8 @@
+use crate::expect::same;
 use findings::{Finding, Repair, Verdict, in_order, repairs, report, verdict};
 use layout::Refusal;
+use std::process::Abort;
+use std::test::Fail;
 
 const CLEAN: &str = "phase 1 blocks and sizes
 phase 2 names
@@ -48,87 +51,92 @@ repairs 0
 verdict damaged
 ";
 
-#[test]
-fn reports_are_these_texts(rt: HostRuntime) -> Result<(), Refusal> {
-    let clean = report(rt.alloc(), &[])?;
-    assert_eq!(rt; clean.as_slice(), CLEAN.as_bytes());
-    assert_eq!(rt; clean.len(), 133);
-
-    let lost_block = report(rt.alloc(), &[Finding::LostBlock(9)])?;
-    assert_eq!(rt; lost_block.as_slice(), ONE_LOST_BLOCK.as_bytes());
-    assert_eq!(rt; lost_block.len(), 147);
-
-    let lost_tree = report(
-        rt.alloc(),
+/// What is found, the report of it, and how many bytes that has. Findings may stand in any order.
+const REPORTS: &[(&[Finding], &str, usize)] = &[
+    (&[], CLEAN, 133),
+    (&[Finding::LostBlock(9)], ONE_LOST_BLOCK, 147),
+    (
         &[
             Finding::LostInode(6),
             Finding::LostInode(7),
             Finding::CountHigh(2, 3, 2),
         ],
-    )?;
-    assert_eq!(rt; lost_tree.as_slice(), LOST_TREE.as_bytes());
-    assert_eq!(rt; lost_tree.len(), 195);
-    Ok(())
-}
-
-#[test]
-fn a_report_takes_findings_in_any_order(rt: HostRuntime) -> Result<(), Refusal> {
-    let damaged = report(
-        rt.alloc(),
+        LOST_TREE,
+        195,
+    ),
+    (
         &[
             Finding::LostBlock(9),
             Finding::RootBad,
             Finding::BadPointer(3, 268, 70000),
         ],
-    )?;
-    assert_eq!(rt; damaged.as_slice(), DAMAGED.as_bytes());
+        DAMAGED,
+        202,
+    ),
+];
+
+#[test]
+fn reports_are_these_texts(rt: HostRuntime) -> Result<(), Fail> {
+    for (found, text, length) in REPORTS {
+        let written = report(rt.alloc(), found)?;
+        same(&rt, *text, written.as_slice(), text.as_bytes());
+        same(&rt, *text, written.len(), *length);
+    }
+    Ok(())
+}
+
+/// Soft findings.
+const SOFT: &[Finding] = &[
+    Finding::LostInode(6),
+    Finding::CountHigh(2, 5, 2),
+    Finding::LostBlock(9),
+    Finding::LostNumber(8),
+];
+
+/// The repairs that mend them, and their lines.
+const MENDED: &[(Repair, &str)] = &[
+    (Repair::DropInode(6), "drop inode 6"),
+    (Repair::LowerCount(2, 3), "lower count 2 by 3"),
+    (Repair::FreeBlock(9), "free block 9"),
+    (Repair::FreeNumber(8), "free number 8"),
+];
+
+/// Expects this line of a repair.
+fn expect_line<R: AllocGlobal + Abort>(rt: &R, repair: Repair, text: &str) -> Result<(), Refusal> {
+    let line = repair.line(rt.alloc())?;
+    same(rt, repair, line.as_slice(), text.as_bytes());
     Ok(())
 }
 
 #[test]
-fn repairs_mend_soft_findings(rt: HostRuntime) -> Result<(), Refusal> {
-    let soft = [
-        Finding::LostInode(6),
-        Finding::CountHigh(2, 5, 2),
-        Finding::LostBlock(9),
-        Finding::LostNumber(8),
-    ];
-    let mended = repairs(rt.alloc(), &soft)?;
-    let wanted = [
-        (Repair::DropInode(6), "drop inode 6"),
-        (Repair::LowerCount(2, 3), "lower count 2 by 3"),
-        (Repair::FreeBlock(9), "free block 9"),
-        (Repair::FreeNumber(8), "free number 8"),
-    ];
-    assert_eq!(rt; mended.len(), wanted.len());
-    for (repair, (want, text)) in mended.iter().zip(wanted.iter()) {
-        assert_eq!(rt; *repair, *want);
-        let line = repair.line(rt.alloc())?;
-        assert_eq!(rt; line.as_slice(), text.as_bytes());
+fn repairs_mend_soft_findings(rt: HostRuntime) -> Result<(), Fail> {
+    let mended = repairs(rt.alloc(), SOFT)?;
+    same(&rt, "repairs", mended.len(), MENDED.len());
+    for (repair, (want, text)) in mended.iter().zip(MENDED.iter()) {
+        same(&rt, *text, *repair, *want);
+        expect_line(&rt, *repair, text)?;
     }
     Ok(())
 }
 
 #[test]
-fn damaged_images_have_no_repairs(rt: HostRuntime) -> Result<(), Refusal> {
+fn damaged_images_have_no_repairs(rt: HostRuntime) -> Result<(), Fail> {
     let damaged = [Finding::RootBad, Finding::LostInode(6)];
-    assert_eq!(rt; repairs(rt.alloc(), &damaged)?.len(), 0);
-    assert_eq!(rt; verdict(&damaged), Verdict::Damaged);
+    same(&rt, "repairs", repairs(rt.alloc(), &damaged)?.len(), 0);
+    same(&rt, "verdict", verdict(&damaged), Verdict::Damaged);
     Ok(())
 }
 
 #[test]
-fn a_finding_has_a_line(rt: HostRuntime) -> Result<(), Refusal> {
+fn a_finding_has_a_line(rt: HostRuntime) -> Result<(), Fail> {
     let line = Finding::ToUnsound(2, 5).line(rt.alloc())?;
-    assert_eq!(rt;
-        line.as_slice(),
-        "name of no sound inode 2 slot 5".as_bytes()
-    );
+    let wanted = "name of no sound inode 2 slot 5";
+    same(&rt, "line", line.as_slice(), wanted.as_bytes());
     Ok(())
 }
 
 #[test]
-fn findings_stand_in_order_once(rt: HostRuntime) -> Result<(), Refusal> {
+fn findings_stand_in_order_once(rt: HostRuntime) -> Result<(), Fail> {
     let found = vec![in rt.alloc();
         Finding::LostBlock(9),
         Finding::LostInode(7),
@@ -143,6 +151,6 @@ fn findings_stand_in_order_once(rt: HostRuntime) -> Result<(), Refusal> {
         Finding::LostInode(7),
         Finding::LostBlock(9),
     ];
-    assert_eq!(rt; sorted.as_slice(), &wanted[..]);
+    same(&rt, "in order", sorted.as_slice(), &wanted[..]);
     Ok(())
 }

@@ -1,15 +1,18 @@
-use device::{Before, Device, MemDevice, format};
-use frozen::load;
+use crate::expect::same;
+use device::{Device, MemDevice};
+use frozen::{Frozen, load};
 use layout::{BLOCK_BYTES, Geometry, Refusal};
 use live_places::{Place, Places, choose};
 use metadata::Metadata;
 use std::alloc::Global;
+use std::process::Abort;
 use std::test::Fail;
+use test_images::{Byte, device_with, set_byte, set_bytes};
 
 /// The bytes that differ from a fresh image of one group of 16 blocks and 16 inodes: the block, the byte, the value.
 /// The root, in block 4, has its dots alone. Directory 3 has one block, which is block 5; directory 4 has twelve, each
 /// of them block 5; directory 5 has 268 blocks, of which none is there.
-const CHANGES: [(u32, usize, u8); 20] = [
+const CHANGES: &[Byte] = &[
     (2, 384, 2),
     (2, 389, 4),
     (2, 392, 5),
@@ -32,43 +35,29 @@ const CHANGES: [(u32, usize, u8); 20] = [
     (2, 646, 4),
 ];
 
-/// The metadata of this image, with these marks of the data blocks from block 4 on. Each slot of block 5 is bad.
+/// Makes these changes, and gives the data blocks from block 4 on these marks. Each slot of block 5 is bad.
+fn change(device: &mut MemDevice, marks: [u8; 2]) -> Result<(), Refusal> {
+    if device.blocks() <= 5 {
+        return Err(Refusal::BadIndex);
+    }
+    device.write(5, &[255; BLOCK_BYTES])?;
+    set_bytes(device, CHANGES)?;
+    set_byte(device, 1, 160, marks[0])?;
+    set_byte(device, 1, 161, marks[1])
+}
+
+/// What is kept of this image.
+fn frozen(alloc: Global, marks: [u8; 2]) -> Result<Frozen, Refusal> {
+    let mut device = device_with(alloc, &Geometry::new(1, 16, 16)?, &[])?;
+    match change(&mut device, marks) {
+        Ok(()) => load(alloc, &mut device),
+        Err(refusal) => Err(refusal),
+    }
+}
+
+/// The metadata of this image.
 fn image(alloc: Global, marks: [u8; 2]) -> Result<Metadata, Refusal> {
-    let geometry = Geometry::new(1, 16, 16)?;
-    let bytes = vec![in alloc; 0u8; geometry.blocks() as usize * BLOCK_BYTES]?;
-    let mut device = MemDevice::from_bytes(alloc, bytes.as_slice())?;
-    if device.blocks() != geometry.blocks() {
-        return Err(Refusal::BadLength);
-    }
-    format(&mut device, &geometry, Before::Anything)?;
-    fill(&mut device, 5, 255)?;
-    for (address, byte, value) in &CHANGES {
-        set_byte(&mut device, *address, *byte, *value)?;
-    }
-    set_byte(&mut device, 1, 160, marks[0])?;
-    set_byte(&mut device, 1, 161, marks[1])?;
-    Ok(Metadata::new(alloc, load(alloc, &mut device)?)?)
-}
-
-/// Gives each byte of a block this value.
-fn fill(device: &mut MemDevice, address: u32, value: u8) -> Result<(), Refusal> {
-    if address >= device.blocks() {
-        return Err(Refusal::BadIndex);
-    }
-    device.write(address, &[value; BLOCK_BYTES])?;
-    Ok(())
-}
-
-/// Changes one byte of a block.
-fn set_byte(device: &mut MemDevice, address: u32, byte: usize, value: u8) -> Result<(), Refusal> {
-    if address >= device.blocks() || byte >= BLOCK_BYTES {
-        return Err(Refusal::BadIndex);
-    }
-    let mut block = [0; BLOCK_BYTES];
-    device.read(address, &mut block)?;
-    block[byte] = value;
-    device.write(address, &block)?;
-    Ok(())
+    Ok(Metadata::new(alloc, frozen(alloc, marks)?)?)
 }
 
 /// What is chosen for a directory.
@@ -91,54 +80,82 @@ fn empty_slot(own: Option<u32>, slot: u32, block: u32) -> Places {
     Places { own, place }
 }
 
+/// A directory, whether a block of its own is asked for, and what is chosen then.
+type Choice = (u32, bool, Result<Places, Refusal>);
+
+/// Expects these choices on the image with these marks.
+fn expect_choices<R: AllocGlobal + Abort>(
+    rt: &R,
+    marks: [u8; 2],
+    choices: &[Choice],
+) -> Result<(), Refusal> {
+    let metadata = image(rt.alloc(), marks)?;
+    for (directory, own, wanted) in choices {
+        let found = chosen(&metadata, *directory, *own);
+        same(rt, (*directory, *own), found, *wanted);
+    }
+    Ok(())
+}
+
 #[test]
 fn entries_go_into_empty_slots(rt: HostRuntime) -> Result<(), Fail> {
-    let metadata = image(rt.alloc(), [0b11, 0])?;
-    assert_eq!(rt; chosen(&metadata, 2, false), Ok(empty_slot(None, 2, 4)));
-    assert_eq!(rt; chosen(&metadata, 2, true), Ok(empty_slot(Some(6), 2, 4)));
+    let choices = [
+        (2, false, Ok(empty_slot(None, 2, 4))),
+        (2, true, Ok(empty_slot(Some(6), 2, 4))),
+    ];
+    expect_choices(&rt, [0b11, 0], &choices)?;
     Ok(())
 }
 
 #[test]
 fn directories_without_an_empty_slot_get_a_block(rt: HostRuntime) -> Result<(), Fail> {
-    let metadata = image(rt.alloc(), [0b1011, 0])?;
-    assert_eq!(rt; chosen(&metadata, 3, false), Ok(new_block(None, 6, None)));
-    assert_eq!(rt; chosen(&metadata, 3, true), Ok(new_block(Some(6), 8, None)));
+    let choices = [
+        (3, false, Ok(new_block(None, 6, None))),
+        (3, true, Ok(new_block(Some(6), 8, None))),
+    ];
+    expect_choices(&rt, [0b1011, 0], &choices)?;
     Ok(())
 }
 
 #[test]
 fn the_block_after_twelve_needs_another_one(rt: HostRuntime) -> Result<(), Fail> {
-    let metadata = image(rt.alloc(), [0b11, 0])?;
-    assert_eq!(rt;
-        chosen(&metadata, 4, false),
-        Ok(new_block(None, 6, Some(7)))
-    );
-    assert_eq!(rt;
-        chosen(&metadata, 4, true),
-        Ok(new_block(Some(6), 7, Some(8)))
-    );
+    let choices = [
+        (4, false, Ok(new_block(None, 6, Some(7)))),
+        (4, true, Ok(new_block(Some(6), 7, Some(8)))),
+    ];
+    expect_choices(&rt, [0b11, 0], &choices)?;
     Ok(())
 }
 
 #[test]
 fn too_few_blocks_are_refused(rt: HostRuntime) -> Result<(), Fail> {
-    let one = image(rt.alloc(), [0xff, 0x0f])?;
-    assert_eq!(rt; chosen(&one, 2, true), Ok(empty_slot(Some(16), 2, 4)));
-    assert_eq!(rt; chosen(&one, 3, false), Ok(new_block(None, 16, None)));
-    assert_eq!(rt; chosen(&one, 3, true), Err(Refusal::NoBlock));
-    assert_eq!(rt; chosen(&one, 4, false), Err(Refusal::NoBlock));
-    let none = image(rt.alloc(), [0xff, 0x1f])?;
-    assert_eq!(rt; chosen(&none, 2, false), Ok(empty_slot(None, 2, 4)));
-    assert_eq!(rt; chosen(&none, 2, true), Err(Refusal::NoBlock));
-    assert_eq!(rt; chosen(&none, 3, false), Err(Refusal::NoBlock));
+    let one = [
+        (2, true, Ok(empty_slot(Some(16), 2, 4))),
+        (3, false, Ok(new_block(None, 16, None))),
+        (3, true, Err(Refusal::NoBlock)),
+        (4, false, Err(Refusal::NoBlock)),
+    ];
+    expect_choices(&rt, [0xff, 0x0f], &one)?;
+    Ok(())
+}
+
+#[test]
+fn no_block_at_all_is_refused(rt: HostRuntime) -> Result<(), Fail> {
+    let none = [
+        (2, false, Ok(empty_slot(None, 2, 4))),
+        (2, true, Err(Refusal::NoBlock)),
+        (3, false, Err(Refusal::NoBlock)),
+    ];
+    expect_choices(&rt, [0xff, 0x1f], &none)?;
     Ok(())
 }
 
 #[test]
 fn full_directories_are_refused_first(rt: HostRuntime) -> Result<(), Fail> {
-    let metadata = image(rt.alloc(), [0xff, 0x1f])?;
-    assert_eq!(rt; chosen(&metadata, 5, false), Err(Refusal::TooBig));
-    assert_eq!(rt; chosen(&metadata, 5, true), Err(Refusal::TooBig));
+    let choices = [
+        (5, false, Err(Refusal::TooBig)),
+        (5, true, Err(Refusal::TooBig)),
+    ];
+    expect_choices(&rt, [0xff, 0x1f], &choices)?;
     Ok(())
 }

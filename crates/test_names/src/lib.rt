@@ -6,6 +6,8 @@ mod chosen;
 #[cfg(test)]
 mod counted;
 #[cfg(test)]
+mod expect;
+#[cfg(test)]
 mod read;
 #[cfg(test)]
 mod walks;

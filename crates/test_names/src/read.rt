@@ -1,14 +1,17 @@
-use device::{Before, Device, MemDevice, format};
-use frozen::load;
-use layout::{BLOCK_BYTES, Geometry, Refusal};
+use crate::expect::same;
+use device::{Device, MemDevice};
+use frozen::{Frozen, load};
+use layout::{Geometry, Refusal};
 use reading::{list, read, stat, tree};
 use std::alloc::Global;
+use std::process::Abort;
 use std::test::Fail;
+use test_images::{Byte, device_with, frozen_with};
 
 /// What differs from a fresh image of one group of 16 blocks and 16 inodes: the block, the byte, the value. The root, in
 /// block 4, names file 3 "f" and directory 4 "d"; directory 4, in block 7, names the same file "g". The file has 1,500
 /// bytes in blocks 5 and 6.
-const CHANGES: &[(u32, usize, u8)] = &[
+const CHANGES: &[Byte] = &[
     (2, 258, 3),
     (2, 384, 1),
     (2, 386, 2),
@@ -45,71 +48,71 @@ const CHANGES: &[(u32, usize, u8)] = &[
 
 /// The device with such an image.
 fn device(alloc: Global) -> Result<MemDevice, Refusal> {
-    let geometry = Geometry::new(1, 16, 16)?;
-    let bytes = vec![in alloc; 0; geometry.blocks() as usize * BLOCK_BYTES]?;
-    let mut device = MemDevice::from_bytes(alloc, bytes.as_slice())?;
-    if device.blocks() != geometry.blocks() {
-        return Err(Refusal::BadLength);
-    }
-    format(&mut device, &geometry, Before::Anything)?;
-    for (address, place, value) in CHANGES {
-        set_byte(&mut device, *address, *place, *value)?;
-    }
-    Ok(device)
+    device_with(alloc, &Geometry::new(1, 16, 16)?, CHANGES)
 }
 
-/// Changes one byte of a block.
-fn set_byte(device: &mut MemDevice, address: u32, place: usize, value: u8) -> Result<(), Refusal> {
-    if address >= device.blocks() || place >= BLOCK_BYTES {
-        return Err(Refusal::BadIndex);
-    }
-    let mut block = [0; BLOCK_BYTES];
-    device.read(address, &mut block)?;
-    block[place] = value;
-    device.write(address, &block)?;
-    Ok(())
+/// What is kept of such an image.
+fn image(alloc: Global) -> Result<Frozen, Refusal> {
+    frozen_with(alloc, &Geometry::new(1, 16, 16)?, CHANGES)
 }
+
+/// Paths, and the number and the size of what they lead to.
+const PATHS: &[(&[u8], Result<(u32, u32), Refusal>)] = &[
+    (b"/", Ok((2, 1_024))),
+    (b"/f", Ok((3, 1_500))),
+    (b"/d", Ok((4, 1_024))),
+    (b"/d/g", Ok((3, 1_500))),
+    (b"/d/f", Err(Refusal::NotFound)),
+    (b"/f/g", Err(Refusal::NotDirectory)),
+    (b"f", Err(Refusal::BadName)),
+];
 
 #[test]
 fn paths_lead_somewhere(rt: HostRuntime) -> Result<(), Fail> {
-    let frozen = load(rt.alloc(), &mut device(rt.alloc())?)?;
-    for (path, wanted) in [
-        (b"/".as_slice(), Ok((2, 1_024))),
-        (b"/f", Ok((3, 1_500))),
-        (b"/d", Ok((4, 1_024))),
-        (b"/d/g", Ok((3, 1_500))),
-        (b"/d/f", Err(Refusal::NotFound)),
-        (b"/f/g", Err(Refusal::NotDirectory)),
-        (b"f", Err(Refusal::BadName)),
-    ] {
+    let frozen = image(rt.alloc())?;
+    for (path, wanted) in PATHS {
         let found = stat(&frozen, path).map(|found| (found.number, found.record.size));
-        assert_eq!(rt; found, wanted, "{path:?}");
+        same(&rt, *path, found, *wanted);
     }
     Ok(())
 }
 
 #[test]
-fn names_and_bytes_are_read(rt: HostRuntime) -> Result<(), Fail> {
-    let mut device = device(rt.alloc())?;
-    let frozen = load(rt.alloc(), &mut device)?;
+fn names_are_read(rt: HostRuntime) -> Result<(), Fail> {
+    let frozen = image(rt.alloc())?;
     let names = list(rt.alloc(), &frozen, b"/")?;
-    let [file, directory] = names.as_slice() else {
-        return Err(Fail::from("two names"));
-    };
-    assert_eq!(rt; (file.name.as_slice(), file.number), (b"f".as_slice(), 3));
-    assert_eq!(rt;
-        (directory.name.as_slice(), directory.number),
-        (b"d".as_slice(), 4)
-    );
-    assert_eq!(rt;
-        list(rt.alloc(), &frozen, b"/f").err(),
-        Some(Refusal::NotDirectory)
-    );
-    if device.blocks() != frozen.geometry().blocks() {
-        return Err(Fail::from("a device of the volume"));
+    let wanted = [(b"f".as_slice(), 3), (b"d", 4)];
+    same(&rt, "names", names.len(), wanted.len());
+    for (name, wanted) in names.iter().zip(wanted) {
+        same(&rt, wanted, (name.name.as_slice(), name.number), wanted);
     }
-    let bytes = read(rt.alloc(), &frozen, &mut device, b"/d/g")?;
-    assert_eq!(rt; bytes.len(), 1_500);
+    Ok(())
+}
+
+#[test]
+fn names_of_a_file_are_refused(rt: HostRuntime) -> Result<(), Fail> {
+    let frozen = image(rt.alloc())?;
+    let refused = list(rt.alloc(), &frozen, b"/f").err();
+    same(&rt, "file", refused, Some(Refusal::NotDirectory));
+    Ok(())
+}
+
+/// The bytes of the file at a path of this image, which stands on this device.
+fn bytes_at(
+    alloc: Global,
+    frozen: &Frozen,
+    device: &mut MemDevice,
+    path: &[u8],
+) -> Result<Vec<u8>, Refusal> {
+    if device.blocks() != frozen.geometry().blocks() {
+        return Err(Refusal::BadLength);
+    }
+    read(alloc, frozen, device, path)
+}
+
+/// Expects the bytes of the file.
+fn expect_bytes(rt: &impl Abort, bytes: &[u8]) {
+    same(rt, "length", bytes.len(), 1_500);
     for (place, wanted) in [
         (0, b'a'),
         (1, 0),
@@ -117,29 +120,36 @@ fn names_and_bytes_are_read(rt: HostRuntime) -> Result<(), Fail> {
         (1_024, b'c'),
         (1_499, b'd'),
     ] {
-        assert_eq!(rt; bytes.get(place).copied(), Some(wanted), "{place}");
+        same(rt, place, bytes.get(place).copied(), Some(wanted));
     }
-    assert_eq!(rt;
-        read(rt.alloc(), &frozen, &mut device, b"/d").err(),
-        Some(Refusal::IsDirectory)
-    );
+}
+
+/// Expects what is read of an image on this device.
+fn expect_read<R: AllocGlobal + Abort>(rt: &R, device: &mut MemDevice) -> Result<(), Refusal> {
+    let frozen = load(rt.alloc(), device)?;
+    let refused = bytes_at(rt.alloc(), &frozen, device, b"/d").err();
+    same(rt, "directory", refused, Some(Refusal::IsDirectory));
+    let bytes = bytes_at(rt.alloc(), &frozen, device, b"/d/g")?;
+    expect_bytes(rt, bytes.as_slice());
+    Ok(())
+}
+
+#[test]
+fn bytes_are_read(rt: HostRuntime) -> Result<(), Fail> {
+    let mut device = device(rt.alloc())?;
+    expect_read(&rt, &mut device)?;
     Ok(())
 }
 
 #[test]
 fn trees_are_listed(rt: HostRuntime) -> Result<(), Fail> {
-    let frozen = load(rt.alloc(), &mut device(rt.alloc())?)?;
+    let frozen = image(rt.alloc())?;
     let listings = tree(rt.alloc(), &frozen, b"/")?;
-    let [root, directory] = listings.as_slice() else {
-        return Err(Fail::from("two directories"));
-    };
-    assert_eq!(rt;
-        (root.path.as_slice(), root.names.len()),
-        (b"/".as_slice(), 2)
-    );
-    assert_eq!(rt;
-        (directory.path.as_slice(), directory.names.len()),
-        (b"/d".as_slice(), 1)
-    );
+    let wanted = [(b"/".as_slice(), 2), (b"/d", 1)];
+    same(&rt, "directories", listings.len(), wanted.len());
+    for (listing, wanted) in listings.iter().zip(wanted) {
+        let found = (listing.path.as_slice(), listing.names.len());
+        same(&rt, wanted, found, wanted);
+    }
     Ok(())
 }

@@ -1,15 +1,18 @@
-use device::{Before, Device, MemDevice, format};
-use frozen::{Frozen, load};
-use layout::{BLOCK_BYTES, Geometry, Refusal};
+use crate::expect::same;
+use frozen::Frozen;
+use layout::{Geometry, Refusal};
 use live_paths::{Entry, Path, empty_slot, find, has_names, names, target, walk};
 use std::alloc::Global;
+use std::process::Abort;
+use std::test::Fail;
+use test_images::{Byte, frozen_with};
 
 /// The bytes that differ from a fresh image of one group of 16 blocks and 16 inodes: the block, the byte, the value.
 /// The root, in block 4, names directory 3 "a" in slot 3 and file 4 "f" in slot 4; its slot 2 is bad. Directory 3, in
 /// block 5, names directory 5 "b" in slot 2 and file 4 "g" in its last slot, and all slots between are empty. Directory
 /// 5, in blocks 6 and 7, names file 4 "x" in slot 16 and file 6 "x" in slot 18; its block 6 is full of bad slots behind
 /// its dots. Directory 7, in block 8, has its dots alone. Inode 9 is not sound.
-const CHANGES: [(u32, usize, u8); 67] = [
+const CHANGES: &[Byte] = &[
     (2, 384, 2),
     (2, 389, 4),
     (2, 392, 5),
@@ -80,39 +83,17 @@ const CHANGES: [(u32, usize, u8); 67] = [
 ];
 
 /// Bytes that are paths. A part may have any bytes but 0 and `/`.
-const GOOD: [&[u8]; 6] = [b"/", b"/a", b"/a/b", b"/...", b"/.a/..b", b"/\xff\x01/ "];
+const GOOD: &[&[u8]] = &[b"/", b"/a", b"/a/b", b"/...", b"/.a/..b", b"/\xff\x01/ "];
 
 /// Bytes that are none: nothing; a part without a byte; the dots; no `/` at the start; a byte that is 0.
-const BAD: [&[u8]; 13] = [
+const BAD: &[&[u8]] = &[
     b"", b"//", b"/a/", b"/a//b", b"//a", b"/.", b"/..", b"/a/.", b"/../a", b"a", b"a/b", b"/a\0",
     b"/\0/b",
 ];
 
-/// The metadata of this image.
+/// What is kept of this image.
 fn image(alloc: Global) -> Result<Frozen, Refusal> {
-    let geometry = Geometry::new(1, 16, 16)?;
-    let bytes = vec![in alloc; 0u8; geometry.blocks() as usize * BLOCK_BYTES]?;
-    let mut device = MemDevice::from_bytes(alloc, bytes.as_slice())?;
-    if device.blocks() != geometry.blocks() {
-        return Err(Refusal::BadLength);
-    }
-    format(&mut device, &geometry, Before::Anything)?;
-    for (address, byte, value) in &CHANGES {
-        set_byte(&mut device, *address, *byte, *value)?;
-    }
-    load(alloc, &mut device)
-}
-
-/// Changes one byte of a block.
-fn set_byte(device: &mut MemDevice, address: u32, byte: usize, value: u8) -> Result<(), Refusal> {
-    if address >= device.blocks() || byte >= BLOCK_BYTES {
-        return Err(Refusal::BadIndex);
-    }
-    let mut block = [0; BLOCK_BYTES];
-    device.read(address, &mut block)?;
-    block[byte] = value;
-    device.write(address, &block)?;
-    Ok(())
+    frozen_with(alloc, &Geometry::new(1, 16, 16)?, CHANGES)
 }
 
 /// What a walk of these bytes answers.
@@ -146,137 +127,167 @@ fn long_path(alloc: Global, whole: usize, rest: usize) -> Result<Vec<u8>, Refusa
     Ok(bytes)
 }
 
+/// Whether the path of such parts is one, and how many bytes it has.
+fn seen(alloc: Global, whole: usize, rest: usize) -> Result<(usize, bool), Refusal> {
+    let path = long_path(alloc, whole, rest)?;
+    Ok((path.len(), is_path(path.as_slice())))
+}
+
 #[test]
-fn paths_are_told_from_other_bytes(rt: HostRuntime) -> Result<(), Refusal> {
+fn paths_are_told_from_other_bytes(rt: HostRuntime) {
     for bytes in GOOD {
-        assert!(rt; is_path(bytes));
+        same(&rt, *bytes, is_path(bytes), true);
     }
     for bytes in BAD {
-        assert!(rt; !is_path(bytes));
+        same(&rt, *bytes, is_path(bytes), false);
+    }
+}
+
+#[test]
+fn names_of_57_bytes_are_refused(rt: HostRuntime) -> Result<(), Fail> {
+    same(&rt, 56, seen(rt.alloc(), 0, 56)?, (57, true));
+    same(&rt, 57, seen(rt.alloc(), 0, 57)?, (58, false));
+    Ok(())
+}
+
+#[test]
+fn paths_of_4097_bytes_are_refused(rt: HostRuntime) -> Result<(), Fail> {
+    same(&rt, 48, seen(rt.alloc(), 71, 48)?, (4096, true));
+    same(&rt, 49, seen(rt.alloc(), 71, 49)?, (4097, false));
+    Ok(())
+}
+
+/// Expects a path to be the root's or not, and this name of its last part.
+fn expect_name(rt: &impl Abort, bytes: &[u8], is_root: bool, name: &[u8]) -> Result<(), Refusal> {
+    let path = Path::parse(bytes)?;
+    same(rt, bytes, path.is_root(), is_root);
+    same(rt, bytes, path.name(), name);
+    Ok(())
+}
+
+#[test]
+fn the_last_part_is_the_name(rt: HostRuntime) -> Result<(), Fail> {
+    expect_name(&rt, b"/", true, b"")?;
+    expect_name(&rt, b"/usr/local/bin", false, b"bin")?;
+    expect_name(&rt, b"/usr", false, b"usr")?;
+    Ok(())
+}
+
+/// Paths, and the directory in which the walk ends.
+const WALKS: &[(&[u8], Result<u32, Refusal>)] = &[
+    (b"/a", Ok(2)),
+    (b"/none", Ok(2)),
+    (b"/a/none", Ok(3)),
+    (b"/a/b/x", Ok(5)),
+    (b"/", Err(Refusal::IsRoot)),
+    (b"/f/x", Err(Refusal::NotDirectory)),
+    (b"/f/x/y", Err(Refusal::NotDirectory)),
+    (b"/none/x", Err(Refusal::NotFound)),
+    (b"/a/none/x", Err(Refusal::NotFound)),
+];
+
+#[test]
+fn walks_end_in_the_directory_of_the_last_part(rt: HostRuntime) -> Result<(), Fail> {
+    let frozen = image(rt.alloc())?;
+    for (path, wanted) in WALKS {
+        same(&rt, *path, walked(&frozen, path), *wanted);
+    }
+    Ok(())
+}
+
+/// Paths, and what they lead to.
+const TARGETS: &[(&[u8], Result<u32, Refusal>)] = &[
+    (b"/", Ok(2)),
+    (b"/a", Ok(3)),
+    (b"/f", Ok(4)),
+    (b"/a/b", Ok(5)),
+    (b"/a/g", Ok(4)),
+    (b"/a/b/x", Ok(4)),
+    (b"/none", Err(Refusal::NotFound)),
+    (b"/a/b/none", Err(Refusal::NotFound)),
+    (b"/f/x", Err(Refusal::NotDirectory)),
+    (b"/a/g/x", Err(Refusal::NotDirectory)),
+];
+
+#[test]
+fn paths_lead_where_their_names_stand(rt: HostRuntime) -> Result<(), Fail> {
+    let frozen = image(rt.alloc())?;
+    for (path, wanted) in TARGETS {
+        same(&rt, *path, led(&frozen, path), *wanted);
+    }
+    Ok(())
+}
+
+/// Inodes and names, and the slot and the number of the first entry there.
+const ENTRIES: &[(u32, &[u8], Option<(u32, u32)>)] = &[
+    (2, b"a", Some((3, 3))),
+    (3, b".", Some((0, 3))),
+    (3, b"g", Some((15, 4))),
+    (5, b"x", Some((16, 4))),
+    (3, b"a", None),
+    (4, b"a", None),
+    (0, b"a", None),
+    (u32::MAX, b"a", None),
+];
+
+#[test]
+fn the_first_entry_of_a_name_is_found(rt: HostRuntime) -> Result<(), Fail> {
+    let frozen = image(rt.alloc())?;
+    for (directory, name, wanted) in ENTRIES {
+        let wanted = wanted.map(|(slot, number)| Entry { slot, number });
+        same(
+            &rt,
+            (*directory, *name),
+            find(&frozen, *directory, name),
+            wanted,
+        );
     }
     Ok(())
 }
 
 #[test]
-fn names_of_57_bytes_are_refused(rt: HostRuntime) -> Result<(), Refusal> {
-    let alloc = rt.alloc();
-    assert!(rt; is_path(&long_path(alloc, 0, 56)?));
-    assert!(rt; !is_path(&long_path(alloc, 0, 57)?));
-    Ok(())
-}
-
-#[test]
-fn paths_of_4097_bytes_are_refused(rt: HostRuntime) -> Result<(), Refusal> {
-    let alloc = rt.alloc();
-    let longest = long_path(alloc, 71, 48)?;
-    assert_eq!(rt; longest.len(), 4096);
-    assert!(rt; is_path(&longest));
-    let longer = long_path(alloc, 71, 49)?;
-    assert_eq!(rt; longer.len(), 4097);
-    assert!(rt; !is_path(&longer));
-    Ok(())
-}
-
-#[test]
-fn the_last_part_is_the_name(rt: HostRuntime) -> Result<(), Refusal> {
-    let root = Path::parse(b"/")?;
-    assert!(rt; root.is_root());
-    assert_eq!(rt; root.name(), &b""[..]);
-    let path = Path::parse(b"/usr/local/bin")?;
-    assert!(rt; !path.is_root());
-    assert_eq!(rt; path.name(), &b"bin"[..]);
-    assert_eq!(rt; Path::parse(b"/usr")?.name(), &b"usr"[..]);
-    Ok(())
-}
-
-#[test]
-fn walks_end_in_the_directory_of_the_last_part(rt: HostRuntime) -> Result<(), Refusal> {
+fn the_first_empty_slot_is_found(rt: HostRuntime) -> Result<(), Fail> {
     let frozen = image(rt.alloc())?;
-    assert_eq!(rt; walked(&frozen, b"/a")?, 2);
-    assert_eq!(rt; walked(&frozen, b"/none")?, 2);
-    assert_eq!(rt; walked(&frozen, b"/a/none")?, 3);
-    assert_eq!(rt; walked(&frozen, b"/a/b/x")?, 5);
-    assert_eq!(rt; walked(&frozen, b"/"), Err(Refusal::IsRoot));
-    assert_eq!(rt; walked(&frozen, b"/f/x"), Err(Refusal::NotDirectory));
-    assert_eq!(rt; walked(&frozen, b"/f/x/y"), Err(Refusal::NotDirectory));
-    assert_eq!(rt; walked(&frozen, b"/none/x"), Err(Refusal::NotFound));
-    assert_eq!(rt; walked(&frozen, b"/a/none/x"), Err(Refusal::NotFound));
+    for (directory, wanted) in [(2, Some(5)), (3, Some(3)), (5, Some(17)), (4, None)] {
+        same(&rt, directory, empty_slot(&frozen, directory), wanted);
+    }
     Ok(())
 }
 
 #[test]
-fn paths_lead_where_their_names_stand(rt: HostRuntime) -> Result<(), Refusal> {
+fn names_besides_the_dots_are_seen(rt: HostRuntime) -> Result<(), Fail> {
     let frozen = image(rt.alloc())?;
-    assert_eq!(rt; led(&frozen, b"/")?, 2);
-    assert_eq!(rt; led(&frozen, b"/a")?, 3);
-    assert_eq!(rt; led(&frozen, b"/f")?, 4);
-    assert_eq!(rt; led(&frozen, b"/a/b")?, 5);
-    assert_eq!(rt; led(&frozen, b"/a/g")?, 4);
-    assert_eq!(rt; led(&frozen, b"/a/b/x")?, 4);
-    assert_eq!(rt; led(&frozen, b"/none"), Err(Refusal::NotFound));
-    assert_eq!(rt; led(&frozen, b"/a/b/none"), Err(Refusal::NotFound));
-    assert_eq!(rt; led(&frozen, b"/f/x"), Err(Refusal::NotDirectory));
-    assert_eq!(rt; led(&frozen, b"/a/g/x"), Err(Refusal::NotDirectory));
+    for (directory, wanted) in [(2, true), (5, true), (7, false), (4, false)] {
+        same(&rt, directory, has_names(&frozen, directory), wanted);
+    }
+    Ok(())
+}
+
+/// Expects these names and numbers in a directory, in this order.
+fn expect_names<R: AllocGlobal + Abort>(
+    rt: &R,
+    frozen: &Frozen,
+    directory: u32,
+    wanted: &[(&[u8], u32)],
+) -> Result<(), Refusal> {
+    let listed = names(rt.alloc(), frozen, directory)?;
+    same(rt, directory, listed.len(), wanted.len());
+    for (found, wanted) in listed.iter().zip(wanted) {
+        same(
+            rt,
+            directory,
+            (found.name.as_slice(), found.number),
+            *wanted,
+        );
+    }
     Ok(())
 }
 
 #[test]
-fn the_first_entry_of_a_name_is_found(rt: HostRuntime) -> Result<(), Refusal> {
+fn names_are_listed_in_the_order_of_the_slots(rt: HostRuntime) -> Result<(), Fail> {
     let frozen = image(rt.alloc())?;
-    assert_eq!(rt; find(&frozen, 2, b"a"), Some(Entry { slot: 3, number: 3 }));
-    assert_eq!(rt; find(&frozen, 3, b"."), Some(Entry { slot: 0, number: 3 }));
-    assert_eq!(rt;
-        find(&frozen, 3, b"g"),
-        Some(Entry {
-            slot: 15,
-            number: 4
-        })
-    );
-    assert_eq!(rt;
-        find(&frozen, 5, b"x"),
-        Some(Entry {
-            slot: 16,
-            number: 4
-        })
-    );
-    assert_eq!(rt; find(&frozen, 3, b"a"), None);
-    assert_eq!(rt; find(&frozen, 4, b"a"), None);
-    assert_eq!(rt; find(&frozen, 0, b"a"), None);
-    assert_eq!(rt; find(&frozen, u32::MAX, b"a"), None);
-    Ok(())
-}
-
-#[test]
-fn the_first_empty_slot_is_found(rt: HostRuntime) -> Result<(), Refusal> {
-    let frozen = image(rt.alloc())?;
-    assert_eq!(rt; empty_slot(&frozen, 2), Some(5));
-    assert_eq!(rt; empty_slot(&frozen, 3), Some(3));
-    assert_eq!(rt; empty_slot(&frozen, 5), Some(17));
-    assert_eq!(rt; empty_slot(&frozen, 4), None);
-    Ok(())
-}
-
-#[test]
-fn names_besides_the_dots_are_seen(rt: HostRuntime) -> Result<(), Refusal> {
-    let frozen = image(rt.alloc())?;
-    assert!(rt; has_names(&frozen, 2));
-    assert!(rt; has_names(&frozen, 5));
-    assert!(rt; !has_names(&frozen, 7));
-    assert!(rt; !has_names(&frozen, 4));
-    Ok(())
-}
-
-#[test]
-fn names_are_listed_in_the_order_of_the_slots(rt: HostRuntime) -> Result<(), Refusal> {
-    let alloc = rt.alloc();
-    let frozen = image(alloc)?;
-    let listed = names(alloc, &frozen, 3)?;
-    assert_eq!(rt; listed.len(), 2);
-    assert_eq!(rt; listed[0].number, 5);
-    assert_eq!(rt; listed[0].name.as_slice(), &b"b"[..]);
-    assert_eq!(rt; listed[1].number, 4);
-    assert_eq!(rt; listed[1].name.as_slice(), &b"g"[..]);
-    assert_eq!(rt; names(alloc, &frozen, 7)?.len(), 0);
-    assert_eq!(rt; names(alloc, &frozen, 4)?.len(), 0);
+    expect_names(&rt, &frozen, 3, &[(b"b", 5), (b"g", 4)])?;
+    expect_names(&rt, &frozen, 7, &[])?;
+    expect_names(&rt, &frozen, 4, &[])?;
     Ok(())
 }

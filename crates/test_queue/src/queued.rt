@@ -4,6 +4,7 @@ ghost use Rattle.model.specs.Layout.{is_number};
 ghost use Rattle.updates.specs.Places.{IsCell, IsUpdate};
 ghost use Rattle.updates.specs.Values.{cell};
 
+use crate::expect::{holds, same};
 use device::{Device, Fuse, MemDevice};
 use inode::{DIRECT_POINTERS, FILE, FREE, Record};
 use layout::{BLOCK_BYTES, Block, Geometry, ROOT, Refusal};
@@ -191,6 +192,24 @@ struct Seen {
     least: Option<u32>,
 }
 
+/// The blocks of the volume, where each byte of a block is the block's address.
+fn addresses(alloc: Global) -> Result<Vec<Block>, Refusal> {
+    let mut blocks = Vec::new(alloc);
+    for address in 0..BLOCKS {
+        blocks.push([address; BLOCK_BYTES])?;
+    }
+    Ok(blocks)
+}
+
+/// A device in memory of these blocks.
+fn device_of(alloc: Global, blocks: &[Block]) -> Result<MemDevice, Refusal> {
+    let mut bytes = Vec::new(alloc);
+    for block in blocks {
+        bytes.extend_from_slice(block)?;
+    }
+    MemDevice::from_bytes(alloc, bytes.as_slice())
+}
+
 /// A queue and its device, and what is expected of them.
 #[derive(Drop)]
 struct Bed {
@@ -208,13 +227,8 @@ struct Bed {
 impl Bed {
     /// A queue with nothing issued, over a device where each byte of a block is the block's address.
     fn new(alloc: Global, faults: Faults) -> Result<Bed, Refusal> {
-        let mut bytes = Vec::new(alloc);
-        let mut expected = Vec::new(alloc);
-        for address in 0..BLOCKS {
-            bytes.extend_from_slice(&[address; BLOCK_BYTES])?;
-            expected.push([address; BLOCK_BYTES])?;
-        }
-        let device = MemDevice::from_bytes(alloc, bytes.as_slice())?;
+        let expected = addresses(alloc)?;
+        let device = device_of(alloc, expected.as_slice())?;
         Ok(Bed {
             queue: Queue::new(alloc, Geometry::new(2, 16, 16)?)?,
             device: Fuse::new(device, faults.after, faults.once),
@@ -318,18 +332,46 @@ fn at_step(case: &Case, faults: Faults, step: usize) -> Moment {
 /// Goes through a case. Answers whether the device failed; where it fails for good, the run ends there.
 fn run<R: AllocGlobal + Abort>(rt: &R, case: &Case, faults: Faults) -> Result<bool, Fail> {
     let mut bed = Bed::new(rt.alloc(), faults)?;
+    run_on(rt, &mut bed, case, faults)
+}
+
+/// Goes through a case on this queue.
+fn run_on<R: AllocGlobal + Abort>(
+    rt: &R,
+    bed: &mut Bed,
+    case: &Case,
+    faults: Faults,
+) -> Result<bool, Fail> {
     let mut failed = false;
     for (number, step) in case.steps.iter().enumerate() {
-        let at = at_step(case, faults, number);
-        let fails = take_step(rt, &mut bed, step, at)?;
+        let fails = take_step(rt, bed, step, at_step(case, faults, number))?;
         if fails && !faults.once {
             return Ok(true);
         }
         failed = failed || fails;
     }
     let at = at_step(case, faults, case.steps.len());
-    let fails = sync(rt, &mut bed, case.synced, at)?;
+    let fails = sync(rt, bed, case.synced, at)?;
     Ok(failed || fails)
+}
+
+/// Expects this of the queue and its device.
+fn expect_seen<R: AllocGlobal + Abort>(
+    rt: &R,
+    bed: &Bed,
+    wanted: Seen,
+    at: Moment,
+) -> Result<(), Fail> {
+    let seen = bed.seen(rt.alloc(), bed.writes)?;
+    same(rt, at, seen, wanted);
+    Ok(())
+}
+
+/// Expects the device to hold what it is to hold.
+fn expect_blocks<R: AllocGlobal + Abort>(rt: &R, bed: &Bed, at: Moment) -> Result<(), Fail> {
+    let seen = bed.seen(rt.alloc(), bed.writes)?;
+    same(rt, at, seen.wrong, None);
+    Ok(())
 }
 
 /// Takes a step. Answers whether the device failed.
@@ -342,7 +384,7 @@ fn take_step<R: AllocGlobal + Abort>(
     match step {
         Step::Issue(list) => {
             bed.issue(updates_of(rt.alloc(), list)?)?;
-            assert_eq!(rt; bed.queue.pending(), bed.pending, "{at:?}");
+            same(rt, at, bed.queue.pending(), bed.pending);
             Ok(false)
         }
         Step::Flush(write, left) => flush(rt, bed, write, left, at),
@@ -364,22 +406,20 @@ fn flush<R: AllocGlobal + Abort>(
     let mut answer = bed.flush(address);
     let fails = answer == Err(Refusal::Device);
     if fails {
-        let seen = bed.seen(rt.alloc(), bed.writes)?;
-        assert_eq!(rt; seen, before, "{at:?}");
+        expect_seen(rt, bed, before, at)?;
         answer = bed.flush(address);
     }
     if fails && !at.faults.once {
-        assert_eq!(rt; answer, Err(Refusal::Device), "{at:?}");
+        same(rt, at, answer, Err(Refusal::Device));
         stays_refused(rt, bed, at)?;
         return Ok(true);
     }
-    assert_eq!(rt; answer, Ok(count), "{at:?}");
+    same(rt, at, answer, Ok(count));
     if count > 0 {
         bed.expect(rt.alloc(), address, count, puts)?;
     }
     bed.pending = pending;
-    let seen = bed.seen(rt.alloc(), bed.writes)?;
-    assert_eq!(rt; seen, bed.told(least), "{at:?}");
+    expect_seen(rt, bed, bed.told(least), at)?;
     Ok(fails)
 }
 
@@ -396,14 +436,14 @@ fn sync<R: AllocGlobal + Abort>(
         follow(rt, bed, told, None, at)?;
         return Ok(false);
     }
-    assert_eq!(rt; answer, Err(Refusal::Device), "{at:?}");
+    same(rt, at, answer, Err(Refusal::Device));
     let count = bed.device.device().writes().saturating_sub(bed.writes);
     let made = told.get(..count).ok_or("more writes than told")?;
     let left = told.get(count..).ok_or("more writes than told")?;
     let least = left.first().map(|written| written.0);
     follow(rt, bed, made, least, at)?;
     if at.faults.once {
-        assert_eq!(rt; bed.sync(), Ok(()), "{at:?}");
+        same(rt, at, bed.sync(), Ok(()));
         follow(rt, bed, left, None, at)?;
     } else {
         stays_refused(rt, bed, at)?;
@@ -420,15 +460,12 @@ fn follow<R: AllocGlobal + Abort>(
     at: Moment,
 ) -> Result<(), Fail> {
     let writes = bed.writes.saturating_add(made.len());
-    assert_eq!(rt; bed.device.device().writes(), writes, "{at:?}");
+    same(rt, at, bed.device.device().writes(), writes);
     for (address, count, puts) in made {
         bed.expect(rt.alloc(), *address, *count, puts)?;
-        let seen = bed.seen(rt.alloc(), bed.writes)?;
-        assert_eq!(rt; seen.wrong, None, "the write of {address} {at:?}");
+        expect_blocks(rt, bed, at)?;
     }
-    let seen = bed.seen(rt.alloc(), bed.writes)?;
-    assert_eq!(rt; seen, bed.told(least), "{at:?}");
-    Ok(())
+    expect_seen(rt, bed, bed.told(least), at)
 }
 
 /// On a device that has failed for good a flush of a block with an update that may go fails, and one of another block
@@ -437,17 +474,19 @@ fn stays_refused<R: AllocGlobal + Abort>(rt: &R, bed: &mut Bed, at: Moment) -> R
     let before = bed.told(bed.queue.least_ready());
     for address in 0..u32::from(BLOCKS) {
         let answer = bed.flush(address);
-        let is_right = match answer {
-            Ok(count) => count == 0 && before.least != Some(address),
-            Err(Refusal::Device) => before.least.is_some_and(|least| least <= address),
-            Err(_) => false,
-        };
-        assert!(rt; is_right, "block {address} answers {answer:?} {at:?}");
+        holds(rt, at, is_refused(answer, address, before.least));
     }
-    assert_eq!(rt; bed.sync(), Err(Refusal::Device), "{at:?}");
-    let seen = bed.seen(rt.alloc(), bed.writes)?;
-    assert_eq!(rt; seen, before, "{at:?}");
-    Ok(())
+    same(rt, at, bed.sync(), Err(Refusal::Device));
+    expect_seen(rt, bed, before, at)
+}
+
+/// Whether a flush of a block is answered so on a device that has failed for good, where this is the least ready block.
+fn is_refused(answer: Result<usize, Refusal>, address: u32, least: Option<u32>) -> bool {
+    match answer {
+        Ok(count) => count == 0 && least != Some(address),
+        Err(Refusal::Device) => least.is_some_and(|least| least <= address),
+        Err(_) => false,
+    }
 }
 
 /// How many calls of the device a write makes: its own, and a read before it, but for a data block.
@@ -485,11 +524,10 @@ fn run_with_each_fault<R: AllocGlobal + Abort>(
     let calls = calls_of(case);
     for after in 0..calls {
         let failed = run(rt, case, Faults { after, once })?;
-        assert!(rt; failed, "{} after {after} calls", case.name);
+        same(rt, (case.name, after), failed, true);
     }
-    let after = calls;
-    let failed = run(rt, case, Faults { after, once })?;
-    assert!(rt; !failed, "{} makes more than {calls} calls", case.name);
+    let failed = run(rt, case, Faults { after: calls, once })?;
+    same(rt, (case.name, calls), failed, false);
     Ok(())
 }
 
@@ -497,7 +535,7 @@ fn run_with_each_fault<R: AllocGlobal + Abort>(
 fn run_all<R: AllocGlobal + Abort>(rt: &R, cases: &[Case]) -> Result<(), Fail> {
     for case in cases {
         let failed = run(rt, case, NONE)?;
-        assert!(rt; !failed, "{}", case.name);
+        same(rt, case.name, failed, false);
     }
     Ok(())
 }
@@ -543,75 +581,130 @@ fn a_device_that_failed_for_good_is_written_no_more(rt: HostRuntime) -> Result<(
     Ok(())
 }
 
+/// Updates of block 6, of the record that the second of them comes after, and of the bits of both blocks.
+const OF_TWO_BLOCKS: &[Told] = &[
+    Told(Put::Bytes(6, 1), &[]),
+    Told(Put::Record(9, 1), &[]),
+    Told(Put::Bytes(6, 2), &[Cell::Record(9)]),
+    Told(Put::Bit(6, true), &[]),
+    Told(Put::Bit(7, true), &[]),
+];
+
+/// Blocks that are flushed, how many updates each takes, and the byte of block 6 that is pending then. A block of which
+/// nothing may go is flushed first.
+const FLUSHES: &[(u32, usize, Option<u8>)] = &[
+    (2, 0, Some(2)),
+    (6, 1, Some(2)),
+    (3, 1, Some(2)),
+    (6, 1, None),
+];
+
+/// Expects these bytes of a block to be pending, each of them the same one.
+fn expect_contents(rt: &impl Abort, place: u32, bed: &Bed, address: u32, byte: Option<u8>) {
+    let wanted = byte.map(|byte| [byte; BLOCK_BYTES]);
+    holds(
+        rt,
+        (place, address),
+        contents(&bed.queue, address) == wanted,
+    );
+}
+
+/// Expects the contents of blocks 6 and 7 after each flush.
+fn expect_flushes(rt: &impl Abort, bed: &mut Bed) {
+    for (address, count, byte) in FLUSHES {
+        same(rt, *address, bed.flush(*address), Ok(*count));
+        expect_contents(rt, *address, bed, 6, *byte);
+        expect_contents(rt, *address, bed, 7, None);
+    }
+}
+
+/// Issues updates and flushes blocks, and expects the contents of blocks 6 and 7 to follow.
+fn follow_contents<R: AllocGlobal + Abort>(rt: &R, bed: &mut Bed) -> Result<(), Refusal> {
+    expect_contents(rt, 0, bed, 6, None);
+    bed.issue(updates_of(rt.alloc(), OF_TWO_BLOCKS)?)?;
+    expect_flushes(rt, bed);
+    bed.issue(updates_of(rt.alloc(), &[Told(Put::Bytes(7, 3), &[])])?)?;
+    expect_contents(rt, 1, bed, 7, Some(3));
+    expect_contents(rt, 1, bed, 6, None);
+    Ok(())
+}
+
 #[test]
 fn contents_are_those_of_the_last_pending_update(rt: HostRuntime) -> Result<(), Fail> {
-    let alloc = rt.alloc();
-    let mut bed = Bed::new(alloc, NONE)?;
-    assert!(rt; contents(&bed.queue, 6).is_none(), "nothing is issued");
-    let list = [
-        Told(Put::Bytes(6, 1), &[]),
-        Told(Put::Record(9, 1), &[]),
-        Told(Put::Bytes(6, 2), &[Cell::Record(9)]),
-        Told(Put::Bit(6, true), &[]),
-        Told(Put::Bit(7, true), &[]),
-    ];
-    bed.issue(updates_of(alloc, &list)?)?;
-    // A block of which nothing may go is flushed first.
-    for (address, count, byte) in [
-        (2, 0, Some(2)),
-        (6, 1, Some(2)),
-        (3, 1, Some(2)),
-        (6, 1, None),
-    ] {
-        assert_eq!(rt; bed.flush(address), Ok(count), "block {address}");
-        let wanted = byte.map(|byte| [byte; BLOCK_BYTES]);
-        assert!(rt; contents(&bed.queue, 6) == wanted, "after block {address}");
-        assert!(rt; contents(&bed.queue, 7).is_none(), "after block {address}");
+    let mut bed = Bed::new(rt.alloc(), NONE)?;
+    follow_contents(&rt, &mut bed)?;
+    Ok(())
+}
+
+/// Many updates of one record.
+fn of_one_record(alloc: Global) -> Result<Vec<Update>, Refusal> {
+    let mut list = Vec::new(alloc);
+    for links in 1..=MANY {
+        list.push(Told(Put::Record(5, links), &[]))?;
     }
-    bed.issue(updates_of(alloc, &[Told(Put::Bytes(7, 3), &[])])?)?;
-    assert!(rt;
-        contents(&bed.queue, 7) == Some([3; BLOCK_BYTES]),
-        "issued anew"
-    );
-    assert!(rt; contents(&bed.queue, 6).is_none(), "issued anew");
+    updates_of(alloc, list.as_slice())
+}
+
+/// Expects many updates of one record to go in one write.
+fn expect_one_write<R: AllocGlobal + Abort>(rt: &R, bed: &mut Bed) -> Result<(), Refusal> {
+    bed.issue(of_one_record(rt.alloc())?)?;
+    let count = usize::from(MANY);
+    same(rt, "flush", bed.flush(2), Ok(count));
+    bed.expect(rt.alloc(), 2, count, &[Put::Record(5, MANY)])?;
+    same(rt, "seen", bed.seen(rt.alloc(), 1)?, bed.told(None));
     Ok(())
 }
 
 #[test]
 fn many_updates_of_one_cell_go_at_once(rt: HostRuntime) -> Result<(), Fail> {
-    let alloc = rt.alloc();
-    let mut bed = Bed::new(alloc, NONE)?;
-    let mut list = Vec::new(alloc);
-    for links in 1..=MANY {
-        list.push(Told(Put::Record(5, links), &[]))?;
-    }
-    bed.issue(updates_of(alloc, list.as_slice())?)?;
-    assert_eq!(rt; bed.flush(2), Ok(usize::from(MANY)));
-    bed.expect(alloc, 2, usize::from(MANY), &[Put::Record(5, MANY)])?;
-    assert_eq!(rt; bed.seen(alloc, 1)?, bed.told(None));
+    let mut bed = Bed::new(rt.alloc(), NONE)?;
+    expect_one_write(&rt, &mut bed)?;
     Ok(())
 }
 
-#[test]
-fn a_long_chain_goes_to_and_fro(rt: HostRuntime) -> Result<(), Fail> {
-    let alloc = rt.alloc();
-    let mut bed = Bed::new(alloc, NONE)?;
+/// Updates of two records in turn, each after the other record.
+fn to_and_fro(alloc: Global) -> Result<Vec<Told>, Refusal> {
     let mut list = Vec::new(alloc);
     for links in 1..=MANY {
         list.push(Told(Put::Record(5, links), &[Cell::Record(8)]))?;
         list.push(Told(Put::Record(8, links), &[Cell::Record(5)]))?;
     }
-    bed.issue(updates_of(alloc, list.as_slice())?)?;
-    assert_eq!(rt; bed.sync(), Ok(()));
+    Ok(list)
+}
+
+/// Expects a write for each of these updates of two records, one after the other.
+fn expect_each<R: AllocGlobal + Abort>(
+    rt: &R,
+    bed: &mut Bed,
+    list: &[Told],
+) -> Result<(), Refusal> {
     for told in list {
         let address = if matches!(told.0, Put::Record(5, _)) {
             2
         } else {
             3
         };
-        bed.expect(alloc, address, 1, &[told.0])?;
-        assert_eq!(rt; bed.seen(alloc, bed.writes)?.wrong, None, "{}", bed.writes);
+        bed.expect(rt.alloc(), address, 1, &[told.0])?;
+        let seen = bed.seen(rt.alloc(), bed.writes)?;
+        same(rt, bed.writes, seen.wrong, None);
     }
-    assert_eq!(rt; bed.seen(alloc, bed.writes)?, bed.told(None));
+    Ok(())
+}
+
+/// Expects a sync to write both records in turn.
+fn expect_turns<R: AllocGlobal + Abort>(rt: &R, bed: &mut Bed) -> Result<(), Refusal> {
+    let list = to_and_fro(rt.alloc())?;
+    bed.issue(updates_of(rt.alloc(), list.as_slice())?)?;
+    same(rt, "sync", bed.sync(), Ok(()));
+    expect_each(rt, bed, list.as_slice())?;
+    let seen = bed.seen(rt.alloc(), bed.writes)?;
+    same(rt, "seen", seen, bed.told(None));
+    Ok(())
+}
+
+#[test]
+fn a_long_chain_goes_to_and_fro(rt: HostRuntime) -> Result<(), Fail> {
+    let mut bed = Bed::new(rt.alloc(), NONE)?;
+    expect_turns(&rt, &mut bed)?;
     Ok(())
 }

@@ -1,8 +1,7 @@
 use changing::{Outcome, change, outcome_of};
 use device::{Before, Device, MemDevice, format};
 use layout::{BLOCK_BYTES, Geometry, Refusal};
-use live::{Live, NotMounted};
-use snapshot::{Command, Volume};
+use snapshot::{Command, Live, NotMounted, Volume};
 use std::alloc::Global;
 use std::test::Fail;
 

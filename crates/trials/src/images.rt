@@ -1,12 +1,12 @@
 //! Small images, and the volumes that are mounted of them.
 ghost use Rattle.std.specs.Prelude.{◌≡◌, [], IfOk};
 ghost use Rattle.live_states.specs.Holdings.{IsIdle};
-ghost use Rattle.live.specs.Mounting.{IsMountable};
+ghost use Rattle.snapshot.specs.Mounting.{IsMountable};
 ghost use Rattle.softdep.specs.Queued.{pending_of};
 
 use device::Device;
 use layout::{BLOCK_BYTES, Block, Geometry, Refusal, fresh_block};
-use live::{Live, NotMounted};
+use snapshot::{Live, NotMounted};
 use std::alloc::Global;
 
 /// Bytes that an image has in place of a fresh one's: where the first one stands, and what they are.

@@ -1,5 +1,5 @@
 //! The handles of a user.
-use snapshot::{Answer, Command, Reply};
+use command_text::{Answer, Command, Reply};
 use std::alloc::{AllocError, Global};
 
 /// What a user's `open` lines were answered, so that the handle of a line, which counts them, leads to the volume's.

@@ -1,7 +1,7 @@
 ghost use Rattle.std.specs.Prelude.{◌≡◌, ◌≤◌};
 ghost use Rattle.user_scripts.specs.declared.lines.BadScript.TheVariants as bad;
 
-use snapshot::Command;
+use command_text::Command;
 use std::alloc::{AllocError, AllocFailed};
 use thiserror::Error;
 

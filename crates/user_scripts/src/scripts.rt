@@ -3,8 +3,7 @@ ghost use Rattle.std.specs.Prelude.{◌≡◌, ◌≤◌, All, IfErr, IfOk, IfSo
 ghost use Rattle.user_scripts.specs.Script.{BreaksAt, IsBeginning, IsWhole, IsOfUser, script_of};
 
 use crate::{BadScript, Commands, UserLine};
-use command_text::{first_part, first_word, number, parse_command};
-use snapshot::Command;
+use command_text::{Command, first_part, first_word, number, parse_command};
 use std::alloc::{AllocError, Global};
 
 /// Reads the lines of a script. It is refused with the number of the first line of another form, which may be one that lacks

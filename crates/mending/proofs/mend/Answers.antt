@@ -2,7 +2,7 @@ use Rattle.std.proofs.Common.{◌≡◌, ◌∙◌, sym, ap, subst, length}
 use Rattle.std.specs.Arc.{arc_value}
 use Rattle.fsck.specs.Checked.{CheckedImage, IsChecked}
 use Rattle.machine.specs.Snapshot.{settled}
-use Rattle.live.specs.Alive.{disk_of, state_of}
+use Rattle.snapshot.specs.Alive.{disk_of, state_of}
 use Rattle.snapshot.specs.Asked.{check_of}
 use Rattle.mending.proofs.Ended.{Ended, ends}
 use Rattle.mending.proofs.Joining.{nothing_beside}

@@ -1,6 +1,6 @@
 use Rattle.std.proofs.Common.{sym, subst}
-use Rattle.live.specs.Alive.{Alive}
-use Rattle.live.specs.Mounting.{IsMountable}
+use Rattle.snapshot.specs.Alive.{Alive}
+use Rattle.snapshot.specs.Mounting.{IsMountable}
 use Rattle.changing.proofs.mounted.mount.Goals as goal
 
 pub returns-in-Ok-clause-mounted : goal.returns-in-Ok-clause-mounted

@@ -1,7 +1,7 @@
 use Rattle.std.proofs.Common.{◌≡◌, ◌∙◌, sym, ap, subst, List, ℕ}
 use Rattle.std.specs.Arc.{arc_value}
-use Rattle.live.specs.Alive.{Alive}
-use Rattle.live.specs.Mounting.{IsMountable}
+use Rattle.snapshot.specs.Alive.{Alive}
+use Rattle.snapshot.specs.Mounting.{IsMountable}
 use Rattle.image_lines.proofs.RepairLemmas.{mended_well}
 use Rattle.image_lines.proofs.repair.mend_device.Goals as goal
 

@@ -7,7 +7,7 @@ use Rattle.machine.specs.Command.{Done, Freeze, Image, Install, Release}
 use Rattle.machine.specs.State.{State, open_at}
 use Rattle.ordering.specs.Cuts.{users_view}
 use Rattle.softdep.specs.Queued.{pending_of}
-use Rattle.live.specs.Alive.{disk_of, state_of}
+use Rattle.snapshot.specs.Alive.{disk_of, state_of}
 use Rattle.mending.specs.Repairs.{all_done, repairs_below}
 use Rattle.mending.proofs.Cycle.{each_repaired, no_freeze, stands_alone, stays_open, then_asked, then_replied}
 use Rattle.mending.proofs.Syncing.{none_left}

@@ -5,7 +5,7 @@ use Rattle.ordering.specs.Cuts.{Pending}
 use Rattle.queue_model.specs.Blocks.{home_of}
 use Rattle.queue_model.specs.Sync.{IsLeastReady}
 use Rattle.softdep.specs.Queued.{pending_of}
-use Rattle.live.specs.Alive.{Alive}
+use Rattle.snapshot.specs.Alive.{Alive}
 use Rattle.shared.specs.Next.{IsNext}
 use Rattle.shared.proofs.booked.next_block.Goals as goal
 

@@ -3,7 +3,7 @@ use Rattle.std.proofs.lemmas.List.{take_all}
 use Rattle.std.proofs.lemmas.List.Elements.{All-more, All-map}
 use Rattle.updates.specs.Places.{IsCell}
 use Rattle.updates.specs.Values.{cell}
-use Rattle.softdep.proofs.tests.are_cells.Goals as goal
+use Rattle.test_queue.proofs.queued.are_cells.Goals as goal
 
 pub loop-candidate-preserved : goal.loop-candidate-preserved
 loop-candidate-preserved c =

@@ -2,7 +2,7 @@ use Rattle.std.proofs.Common.{All, subst}
 use Rattle.std.proofs.lemmas.List.{take_all}
 use Rattle.std.proofs.lemmas.List.Elements.{All-more}
 use Rattle.updates.specs.Places.{IsUpdate}
-use Rattle.softdep.proofs.tests.are_updates.Goals as goal
+use Rattle.test_queue.proofs.queued.are_updates.Goals as goal
 
 pub loop-update-preserved : goal.loop-update-preserved
 loop-update-preserved c =

@@ -1,4 +1,4 @@
-use Rattle.shared.proofs.tests.may_share.Given as goal
+use Rattle.test_shared.proofs.threads.may_share.Given as goal
 
 abbrev pub ghosts-may_share_on-L-Ledger : goal.ghosts-may_share_on-L-Ledger
 ghosts-may_share_on-L-Ledger a = record { name = a.repairs.name; parts = a.repairs.parts }

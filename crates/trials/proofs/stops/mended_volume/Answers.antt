@@ -1,6 +1,6 @@
 use Rattle.std.proofs.Common.{sym, subst}
-use Rattle.live.specs.Alive.{Alive}
-use Rattle.live.specs.Mounting.{IsMountable}
+use Rattle.snapshot.specs.Alive.{Alive}
+use Rattle.snapshot.specs.Mounting.{IsMountable}
 use Rattle.trials.proofs.stops.mended_volume.Goals as goal
 
 pub mend-requires-clause-mounted : goal.mend-requires-clause-mounted

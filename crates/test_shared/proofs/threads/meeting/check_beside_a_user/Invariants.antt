@@ -1,4 +1,4 @@
-use Rattle.shared.proofs.tests.meeting.check_beside_a_user.Given as goal
+use Rattle.test_shared.proofs.threads.meeting.check_beside_a_user.Given as goal
 
 abbrev pub ghosts-check_beside_on-L-Ledger : goal.ghosts-check_beside_on-L-Ledger
 ghosts-check_beside_on-L-Ledger g a = record { name = a.repairs.name; parts = a.repairs.parts }

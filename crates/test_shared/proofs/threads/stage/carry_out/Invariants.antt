@@ -1,4 +1,4 @@
-use Rattle.shared.proofs.tests.stage.carry_out.Given as goal
+use Rattle.test_shared.proofs.threads.stage.carry_out.Given as goal
 
 abbrev pub ghosts-carry_out_on-L-Ledger : goal.ghosts-carry_out_on-L-Ledger
 ghosts-carry_out_on-L-Ledger g a = record { name = a.repairs.name; parts = a.repairs.parts }
