@@ -7,6 +7,7 @@ pub mod arguments;
 mod failure;
 mod files;
 mod watching;
+pub mod words;
 
 pub use answer::Answer;
 pub use failure::{DAMAGED, Failure, GAVE_OUT, REFUSED, SOFT};

@@ -3,8 +3,9 @@ ghost use Rattle.std.specs.Prelude.{◌≡◌, IfOk};
 
 use crate::ends::{printed, silent};
 use crate::input::ARCHIVE;
+use crate::words::of_host;
 use clap::{ArgMatches, Command};
-use command_line::{Answer, Failure, arguments};
+use command_line::{Answer, Failure};
 use hosts::get_from_file;
 use packing::pack_from_file;
 use progress::Watcher;
@@ -23,12 +24,11 @@ pub struct GetLine<'a> {
 
 /// The words of the line.
 pub fn command<'a>(alloc: Global) -> Result<Command<'a>, AllocError> {
-    Command::new(alloc, "get")
-        .about("Makes a file or a whole tree of an image on the host, where nothing stands")
-        .arg(arguments::image(alloc))?
-        .arg(arguments::path(alloc))?
-        .arg(arguments::host(alloc))?
-        .arg(arguments::progress(alloc))
+    of_host(
+        alloc,
+        "get",
+        "Makes a file or a whole tree of an image on the host, where nothing stands",
+    )
 }
 
 /// What these words ask for.

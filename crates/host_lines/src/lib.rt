@@ -6,5 +6,6 @@ pub mod get;
 mod input;
 pub mod mkfs;
 pub mod put;
+mod words;
 
 pub use ends::silent;

@@ -4,7 +4,7 @@ ghost use Rattle.std.specs.Prelude.{◌≡◌, [], IfOk};
 use crate::ends::{failure_of, silent};
 use crate::input::{ARCHIVE, archive_given};
 use clap::{Arg, ArgMatches, Command};
-use command_line::{Answer, Failure, arguments};
+use command_line::{Answer, Failure, arguments, words};
 use device::Before;
 use file_device::FileDevice;
 use image_lines::make::make;
@@ -36,9 +36,7 @@ pub fn command<'a>(alloc: Global) -> Result<Command<'a>, AllocError> {
 
 /// The line, its image and its geometry.
 fn with_geometry<'a>(alloc: Global) -> Result<Command<'a>, AllocError> {
-    Command::new(alloc, "mkfs")
-        .about("Writes a fresh image")
-        .arg(arguments::image(alloc))?
+    words::of_image(alloc, "mkfs", "Writes a fresh image")?
         .arg(arguments::number(alloc, "groups").help("How many cylinder groups"))?
         .arg(arguments::number(alloc, "blocks").help("How many blocks a group"))?
         .arg(arguments::number(alloc, "inodes").help("How many inodes a group"))

@@ -3,8 +3,9 @@ ghost use Rattle.std.specs.Prelude.{◌≡◌, IfOk};
 
 use crate::ends::silent;
 use crate::input::{ARCHIVE, archive_given};
+use crate::words::of_host;
 use clap::{ArgMatches, Command};
-use command_line::{Answer, Failure, arguments};
+use command_line::{Answer, Failure};
 use progress::Watcher;
 use putting::{put_archive_into_file, put_into_file};
 use std::alloc::{AllocError, Global};
@@ -22,12 +23,11 @@ pub struct PutLine<'a> {
 
 /// The words of the line.
 pub fn command<'a>(alloc: Global) -> Result<Command<'a>, AllocError> {
-    Command::new(alloc, "put")
-        .about("Puts a file or a whole tree of the host into an image, where nothing stands")
-        .arg(arguments::image(alloc))?
-        .arg(arguments::path(alloc))?
-        .arg(arguments::host(alloc))?
-        .arg(arguments::progress(alloc))
+    of_host(
+        alloc,
+        "put",
+        "Puts a file or a whole tree of the host into an image, where nothing stands",
+    )
 }
 
 /// What these words ask for.

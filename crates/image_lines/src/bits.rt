@@ -12,7 +12,7 @@ ghost use Rattle.image_lines.specs.Bits.{bits_text, finding_lines};
 
 use crate::check::status_of_verdict;
 use clap::{ArgMatches, Command};
-use command_line::{Answer, Failure, arguments};
+use command_line::{Answer, Failure, words};
 use device::Device;
 use file_device::FileDevice;
 use findings::{Finding, verdict};
@@ -32,9 +32,11 @@ pub struct BitsLine<'a> {
 
 /// The words of the line.
 pub fn command<'a>(alloc: Global) -> Result<Command<'a>, AllocError> {
-    Command::new(alloc, "bits")
-        .about("Prints the findings of an image's number maps")
-        .arg(arguments::image(alloc))
+    words::of_image(
+        alloc,
+        "bits",
+        "Prints the findings of an image's number maps",
+    )
 }
 
 /// What these words ask for.

@@ -10,7 +10,7 @@ ghost use Rattle.workers.specs.Workers.{may_work};
 ghost use Rattle.image_lines.specs.Status.{status_of_verdict};
 
 use clap::{ArgMatches, Command};
-use command_line::{Answer, DAMAGED, Failure, SOFT, Watched, arguments};
+use command_line::{Answer, DAMAGED, Failure, SOFT, Watched, arguments, words};
 use device::Device;
 use file_device::FileDevice;
 use findings::Verdict;
@@ -36,9 +36,16 @@ pub struct CheckLine<'a> {
 
 /// The words of the line.
 pub fn command<'a>(alloc: Global) -> Result<Command<'a>, AllocError> {
-    Command::new(alloc, "check")
-        .about("Prints the report of an image")
-        .arg(arguments::image(alloc))?
+    by_workers(alloc, "check", "Prints the report of an image")
+}
+
+/// A line that takes an image and a number of workers, and may show how far it has come.
+pub(crate) fn by_workers<'a>(
+    alloc: Global,
+    name: &'a str,
+    about: &'a str,
+) -> Result<Command<'a>, AllocError> {
+    words::of_image(alloc, name, about)?
         .arg(arguments::workers(alloc))?
         .arg(arguments::progress(alloc))
 }

@@ -10,10 +10,10 @@ ghost use Rattle.image_lines.specs.Status.{status_of_verdict};
 ghost use Rattle.image_lines.specs.declared.repair.Outcome.TheVariants.{Mended};
 ghost use Rattle.image_lines.specs.Repaired.{IsRepaired, device_of, done_text, repair_lines, repair_text_of};
 
-use crate::check::{allow_workers, check, check_file, told};
+use crate::check::{allow_workers, by_workers, check, check_file, told};
 use crate::mounting::mount;
 use clap::{ArgMatches, Command};
-use command_line::{Answer, Failure, SOFT, Watched, arguments};
+use command_line::{Answer, Failure, SOFT, Watched};
 use device::Device;
 use file_device::FileDevice;
 use findings::{Repair, Verdict};
@@ -39,11 +39,11 @@ pub struct RepairLine<'a> {
 
 /// The words of the line.
 pub fn command<'a>(alloc: Global) -> Result<Command<'a>, AllocError> {
-    Command::new(alloc, "repair")
-        .about("Prints the report of an image, and mends what soft updates may leave")
-        .arg(arguments::image(alloc))?
-        .arg(arguments::workers(alloc))?
-        .arg(arguments::progress(alloc))
+    by_workers(
+        alloc,
+        "repair",
+        "Prints the report of an image, and mends what soft updates may leave",
+    )
 }
 
 /// What these words ask for.

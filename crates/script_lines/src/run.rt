@@ -3,7 +3,7 @@ ghost use Rattle.std.specs.Prelude.{◌≡◌, Err, IfOk, IsFalse};
 ghost use Rattle.layout.specs.declared.refusal.Refusal.TheVariants.{BadWorkers};
 ghost use Rattle.workers.specs.Workers.{may_work};
 
-use crate::scripts::lines_of_file;
+use crate::scripts::{lines_of_file, of_script};
 use clap::{ArgMatches, Command};
 use command_line::{Answer, Failure, arguments};
 use command_text::write_reply;
@@ -33,13 +33,12 @@ pub struct RunLine<'a> {
 
 /// The words of the line.
 pub fn command<'a>(alloc: Global) -> Result<Command<'a>, AllocError> {
-    Command::new(alloc, "run")
-        .about(
-            "Carries out a script of users while an image is checked and mended, and prints their answers",
-        )
-        .arg(arguments::image(alloc))?
-        .arg(arguments::script(alloc))?
-        .arg(arguments::workers(alloc))
+    of_script(
+        alloc,
+        "run",
+        "Carries out a script of users while an image is checked and mended, and prints their answers",
+    )?
+    .arg(arguments::workers(alloc))
 }
 
 /// What these words ask for.

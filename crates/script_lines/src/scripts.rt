@@ -1,11 +1,21 @@
-//! The file of a script.
+//! The word for a script, and the file of it.
 ghost use Rattle.std.specs.Prelude.{◌≡◌};
 
-use command_line::{Failure, bytes_of_file};
+use clap::Command;
+use command_line::{Failure, arguments, bytes_of_file, words};
 use layout::Refusal;
 use std::alloc::{AllocError, Global};
 use std::rt::Files;
 use user_scripts::{BadScript, Commands, UserLine};
+
+/// A line that takes an image and a script.
+pub(crate) fn of_script<'a>(
+    alloc: Global,
+    name: &'a str,
+    about: &'a str,
+) -> Result<Command<'a>, AllocError> {
+    words::of_image(alloc, name, about)?.arg(arguments::script(alloc))
+}
 
 /// The lines of a file's script.
 pub(crate) fn lines_of_file<R: Files + AllocGlobal>(

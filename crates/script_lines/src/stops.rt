@@ -1,9 +1,9 @@
 //! The line `stops`: what a stop after each write of a script leaves of an image.
 ghost use Rattle.std.specs.Prelude.{◌<◌, IfOk};
 
-use crate::scripts::lines_of_file;
+use crate::scripts::{lines_of_file, of_script};
 use clap::{ArgMatches, Command as Words};
-use command_line::{Answer, DAMAGED, Failure, arguments, bytes_of_file};
+use command_line::{Answer, DAMAGED, Failure, bytes_of_file};
 use device::{Device, MemDevice};
 use findings::Verdict;
 use image_lines::check::check;
@@ -29,12 +29,11 @@ pub struct StopsLine<'a> {
 
 /// The words of the line.
 pub fn command<'a>(alloc: Global) -> Result<Words<'a>, AllocError> {
-    Words::new(alloc, "stops")
-        .about(
-            "Prints what a check finds where a script stops after each of its writes; writes no file",
-        )
-        .arg(arguments::image(alloc))?
-        .arg(arguments::script(alloc))
+    of_script(
+        alloc,
+        "stops",
+        "Prints what a check finds where a script stops after each of its writes; writes no file",
+    )
 }
 
 /// What these words ask for.

@@ -2,7 +2,7 @@
 ghost use Rattle.std.specs.Prelude.{◌≡◌, IfOk};
 
 use clap::{ArgMatches, Command};
-use command_line::{Answer, Failure, arguments};
+use command_line::{Answer, Failure, words};
 use file_device::FileDevice;
 use std::alloc::{AllocError, Global};
 use std::marker::Brand;
@@ -19,10 +19,11 @@ pub struct CatLine<'a> {
 
 /// The words of the line.
 pub fn command<'a>(alloc: Global) -> Result<Command<'a>, AllocError> {
-    Command::new(alloc, "cat")
-        .about("Writes the bytes of a file in an image to standard output")
-        .arg(arguments::image(alloc))?
-        .arg(arguments::path(alloc))
+    words::of_path(
+        alloc,
+        "cat",
+        "Writes the bytes of a file in an image to standard output",
+    )
 }
 
 /// What these words ask for.

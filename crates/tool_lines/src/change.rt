@@ -3,7 +3,7 @@ ghost use Rattle.std.specs.Prelude.{◌≡◌, IfOk};
 
 use changing::{Outcome, change_device, outcome_of};
 use clap::{Arg, ArgMatches, Command as Words};
-use command_line::{Answer, Failure, arguments};
+use command_line::{Answer, Failure, words};
 use device::Device;
 use file_device::FileDevice;
 use frozen::load;
@@ -34,46 +34,52 @@ pub struct ChangeLine<'a> {
 
 /// The words of the line `mkdir`.
 pub fn mkdir<'a>(alloc: Global) -> Result<Words<'a>, AllocError> {
-    Words::new(alloc, "mkdir")
-        .about("Makes directories in an image")
-        .arg(arguments::image(alloc))?
-        .arg(paths(alloc).num_args(1..))
+    of_paths(alloc, "mkdir", "Makes directories in an image", 1)
 }
 
 /// The words of the line `rm`.
 pub fn rm<'a>(alloc: Global) -> Result<Words<'a>, AllocError> {
-    Words::new(alloc, "rm")
-        .about("Takes names from files in an image; a file without a name goes")
-        .arg(arguments::image(alloc))?
-        .arg(paths(alloc).num_args(1..))
+    of_paths(
+        alloc,
+        "rm",
+        "Takes names from files in an image; a file without a name goes",
+        1,
+    )
 }
 
 /// The words of the line `rmdir`.
 pub fn rmdir<'a>(alloc: Global) -> Result<Words<'a>, AllocError> {
-    Words::new(alloc, "rmdir")
-        .about("Removes empty directories from an image")
-        .arg(arguments::image(alloc))?
-        .arg(paths(alloc).num_args(1..))
+    of_paths(alloc, "rmdir", "Removes empty directories from an image", 1)
 }
 
 /// The words of the line `mv`.
 pub fn mv<'a>(alloc: Global) -> Result<Words<'a>, AllocError> {
-    Words::new(alloc, "mv")
-        .about(
-            "Gives what stands in an image another name; the last path is the name, or a directory for all",
-        )
-        .arg(arguments::image(alloc))?
-        .arg(paths(alloc).num_args(2..))
+    of_paths(
+        alloc,
+        "mv",
+        "Gives what stands in an image another name; the last path is the name, or a directory for all",
+        2,
+    )
 }
 
 /// The words of the line `ln`.
 pub fn ln<'a>(alloc: Global) -> Result<Words<'a>, AllocError> {
-    Words::new(alloc, "ln")
-        .about(
-            "Gives files in an image one more name; the last path is the name, or a directory for all",
-        )
-        .arg(arguments::image(alloc))?
-        .arg(paths(alloc).num_args(2..))
+    of_paths(
+        alloc,
+        "ln",
+        "Gives files in an image one more name; the last path is the name, or a directory for all",
+        2,
+    )
+}
+
+/// A line that takes an image and so many paths in it, or more.
+fn of_paths<'a>(
+    alloc: Global,
+    name: &'a str,
+    about: &'a str,
+    least: usize,
+) -> Result<Words<'a>, AllocError> {
+    words::of_image(alloc, name, about)?.arg(paths(alloc).num_args(least..))
 }
 
 /// Paths in an image.

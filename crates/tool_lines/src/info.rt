@@ -2,7 +2,7 @@
 ghost use Rattle.std.specs.Prelude.{◌≡◌, IfOk};
 
 use clap::{ArgMatches, Command};
-use command_line::{Answer, Failure, arguments};
+use command_line::{Answer, Failure, words};
 use file_device::FileDevice;
 use std::alloc::{AllocError, Global};
 use std::marker::Brand;
@@ -18,9 +18,7 @@ pub struct InfoLine<'a> {
 
 /// The words of the line.
 pub fn command<'a>(alloc: Global) -> Result<Command<'a>, AllocError> {
-    Command::new(alloc, "info")
-        .about("Prints the numbers of an image")
-        .arg(arguments::image(alloc))
+    words::of_image(alloc, "info", "Prints the numbers of an image")
 }
 
 /// What these words ask for.

@@ -2,7 +2,7 @@
 ghost use Rattle.std.specs.Prelude.{◌≡◌, IfOk};
 
 use clap::{ArgMatches, Command};
-use command_line::{Answer, Failure, arguments};
+use command_line::{Answer, Failure, words};
 use device::Device;
 use file_device::FileDevice;
 use layout::Refusal;
@@ -20,11 +20,11 @@ pub struct MapLine<'a> {
 
 /// The words of the line.
 pub fn command<'a>(alloc: Global) -> Result<Command<'a>, AllocError> {
-    Command::new(alloc, "map")
-        .about(
-            "Writes a picture of an image to standard output, in SVG: what each block is used for",
-        )
-        .arg(arguments::image(alloc))
+    words::of_image(
+        alloc,
+        "map",
+        "Writes a picture of an image to standard output, in SVG: what each block is used for",
+    )
 }
 
 /// What these words ask for.

@@ -2,7 +2,7 @@
 ghost use Rattle.std.specs.Prelude.{◌≡◌, IfOk};
 
 use clap::{ArgMatches, Command};
-use command_line::{Answer, Failure, arguments};
+use command_line::{Answer, Failure, words};
 use file_device::FileDevice;
 use std::alloc::{AllocError, Global};
 use std::marker::Brand;
@@ -19,10 +19,7 @@ pub struct StatLine<'a> {
 
 /// The words of the line.
 pub fn command<'a>(alloc: Global) -> Result<Command<'a>, AllocError> {
-    Command::new(alloc, "stat")
-        .about("Prints what a path in an image leads to")
-        .arg(arguments::image(alloc))?
-        .arg(arguments::path(alloc))
+    words::of_path(alloc, "stat", "Prints what a path in an image leads to")
 }
 
 /// What these words ask for.
