@@ -43,17 +43,32 @@ fn block_with(slot: u32, bytes: &[u8]) -> Block {
     block
 }
 
-#[test]
-fn slots_are_told_apart(rt: HostRuntime) {
+/// The slot of the first entry that is read otherwise.
+fn first_other_entry() -> Option<u32> {
     for &(slot, bytes, number, name) in ENTRIES {
         let block = block_with(slot, bytes);
-        let wanted = Slot::Good { number, name };
-        assert_eq!(rt; slot_in(&block, slot, INODES), wanted, "slot {slot}");
+        if slot_in(&block, slot, INODES) != (Slot::Good { number, name }) {
+            return Some(slot);
+        }
     }
+    None
+}
+
+/// The bytes of the first bad slot that is read otherwise.
+fn first_that_is_not_bad() -> Option<&'static [u8]> {
     for &(slot, bytes) in BAD {
         let block = block_with(slot, bytes);
-        assert_eq!(rt; slot_in(&block, slot, INODES), Slot::Bad, "slot {slot}");
+        if slot_in(&block, slot, INODES) != Slot::Bad {
+            return Some(bytes);
+        }
     }
+    None
+}
+
+#[test]
+fn slots_are_told_apart(rt: HostRuntime) {
+    assert_eq!(rt; first_other_entry(), None);
+    assert_eq!(rt; first_that_is_not_bad(), None);
     let block = block_with(3, b"\0\0\0\0\xff");
     assert_eq!(rt; slot_in(&block, 3, INODES), Slot::Empty);
 }
@@ -61,49 +76,63 @@ fn slots_are_told_apart(rt: HostRuntime) {
 #[test]
 fn names_are_told_apart(rt: HostRuntime) {
     for name in [b"a".as_slice(), b".", b"..", b"\xff\x01 ", &LONG_NAME] {
-        assert!(rt; name_ok(name), "{name:?}");
+        assert!(rt; name_ok(name));
     }
     for name in [b"".as_slice(), b"/", b"a/b", b"a\0", &[b'n'; 57]] {
-        assert!(rt; !name_ok(name), "{name:?}");
+        assert!(rt; !name_ok(name));
     }
+}
+
+/// Whether a name fits the slots 0, 1, 2 and 16.
+fn fits(name: &[u8]) -> [bool; 4] {
+    [
+        fits_slot(0, name),
+        fits_slot(1, name),
+        fits_slot(2, name),
+        fits_slot(16, name),
+    ]
 }
 
 #[test]
 fn dots_fit_their_slots(rt: HostRuntime) {
-    let table = [
-        (b".".as_slice(), [true, false, false, false]),
-        (b"..", [false, true, false, false]),
-        (b"...", [false, false, true, true]),
-        (b"a", [false, false, true, true]),
-    ];
-    for (name, wanted) in table {
-        for (slot, fits) in [0, 1, 2, 16].into_iter().zip(wanted) {
-            assert_eq!(rt; fits_slot(slot, name), fits, "{name:?} in slot {slot}");
-        }
-    }
+    assert_eq!(rt; fits(b"."), [true, false, false, false]);
+    assert_eq!(rt; fits(b".."), [false, true, false, false]);
+    assert_eq!(rt; fits(b"..."), [false, false, true, true]);
+    assert_eq!(rt; fits(b"a"), [false, false, true, true]);
 }
 
 #[test]
-fn an_entry_is_put_found_and_cleared(rt: HostRuntime) {
-    let mut block = [0xee; BLOCK_BYTES];
-    let mut slots = Slots::read(&block, 1, INODES);
+fn a_block_of_bad_slots_has_no_room(rt: HostRuntime) {
+    let slots = Slots::read(&[0xee; BLOCK_BYTES], 1, INODES);
     assert_eq!(rt; slots.slot(14), Slot::Bad);
     assert_eq!(rt; slots.find(&LONG_NAME), None);
     assert_eq!(rt; slots.free_slot(), None);
+}
 
+#[test]
+fn an_entry_is_put_and_found(rt: HostRuntime) {
+    let mut block = [0xee; BLOCK_BYTES];
+    let mut slots = Slots::read(&block, 1, INODES);
     slots.put(15, 5, &LONG_NAME);
     assert_eq!(rt; slots.find(&LONG_NAME), Some(15));
     slots.write(&mut block);
     let mut wanted = [0xee; BLOCK_BYTES];
     wanted[960..968].copy_from_slice(&[5, 0, 0, 0, 56, 0, 0, 0]);
     wanted[968..].copy_from_slice(&LONG_NAME);
-    assert!(rt; block == wanted, "with the entry");
+    assert!(rt; block == wanted);
+}
 
+#[test]
+fn an_entry_is_cleared(rt: HostRuntime) {
+    let mut block = [0xee; BLOCK_BYTES];
+    let mut slots = Slots::read(&block, 1, INODES);
+    slots.put(15, 5, &LONG_NAME);
     slots.clear(15);
     assert_eq!(rt; slots.free_slot(), Some(15));
     slots.write(&mut block);
+    let mut wanted = [0xee; BLOCK_BYTES];
     wanted[960..].copy_from_slice(&[0; SLOT_BYTES]);
-    assert!(rt; block == wanted, "with the slot empty");
+    assert!(rt; block == wanted);
 }
 
 /// The bytes after a short name are zeroes.

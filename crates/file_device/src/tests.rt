@@ -47,22 +47,45 @@ pub(crate) fn format_groups<D: Device>(device: &mut D, groups: u32) -> Result<()
     format(device, &geometry, Before::Anything)
 }
 
+/// Whether each is opened for one use: what was made for writing alone, and what was opened for reading alone.
+fn have_one_use(made: &mut FileDevice<File, Brand>, opened: &mut FileDevice<File, Brand>) -> bool {
+    made.blocks() == 17
+        && opened.blocks() == 17
+        && read_block(made, 0).is_none()
+        && read_block(opened, 16) == Some([0; BLOCK_BYTES])
+}
+
+/// Whether one shows what is written through the other, and changes nothing.
+fn shows_a_format(
+    made: &mut FileDevice<File, Brand>,
+    opened: &mut FileDevice<File, Brand>,
+) -> Result<bool, Refusal> {
+    format_groups(made, 1)?;
+    let maps = read_block(opened, 1).ok_or(Refusal::Device)?;
+    let refused = set_byte(opened, 1, 0, 2).err();
+    let is_kept = read_block(opened, 1) == Some(maps);
+    Ok(maps[..4] == b"GCUS"[..] && refused == Some(Refusal::Device) && is_kept)
+}
+
+/// Whether a file that is made, and opened while it stands, is as it has to be.
+fn is_made_and_opened(rt: &HostRuntime) -> Result<bool, Refusal> {
+    let mut made: FileDevice<File, Brand> = FileDevice::create(rt, IMAGE_PATH, 17)?;
+    let mut opened: FileDevice<File, Brand> = FileDevice::open(rt, IMAGE_PATH)?;
+    Ok(have_one_use(&mut made, &mut opened) && shows_a_format(&mut made, &mut opened)?)
+}
+
+/// Why a file is not opened to be read.
+fn why_not_opened(rt: &HostRuntime, path: &str) -> Option<Refusal> {
+    let opened: Result<FileDevice<File, Brand>, Refusal> = FileDevice::open(rt, path);
+    opened.err()
+}
+
 #[test]
 fn a_file_is_made_and_opened(rt: HostRuntime) -> Result<(), Fail> {
-    let mut made: FileDevice<File, Brand> = FileDevice::create(&rt, IMAGE_PATH, 17)?;
-    let mut opened: FileDevice<File, Brand> = FileDevice::open(&rt, IMAGE_PATH)?;
-    assert_eq!(rt; (made.blocks(), opened.blocks()), (17, 17));
-    // Each is opened for one use: `create` for writing alone, and `open` for reading alone.
-    assert_eq!(rt; read_block(&mut made, 0), None);
-    assert_eq!(rt; read_block(&mut opened, 16), Some([0; BLOCK_BYTES]));
-    format_groups(&mut made, 1)?;
-    let maps = read_block(&mut opened, 1).ok_or("no block")?;
-    assert_eq!(rt; &maps[..4], b"GCUS".as_slice());
-    assert_eq!(rt; set_byte(&mut opened, 1, 0, 2), Err(Refusal::Device));
-    assert_eq!(rt; read_block(&mut opened, 1), Some(maps));
+    let is_so = is_made_and_opened(&rt)?;
     fs::remove_file(&rt, IMAGE_PATH)?;
-    let missing: Result<FileDevice<File, Brand>, Refusal> = FileDevice::open(&rt, IMAGE_PATH);
-    assert_eq!(rt; missing.err(), Some(Refusal::Device));
+    assert!(rt; is_so);
+    assert_eq!(rt; why_not_opened(&rt, IMAGE_PATH), Some(Refusal::Device));
     Ok(())
 }
 
@@ -72,26 +95,43 @@ fn a_file_of_no_whole_blocks_is_refused(rt: HostRuntime) -> Result<(), Fail> {
     let alloc = rt.alloc();
     for length in [0, 1_023, 17_407] {
         fs::write(&rt, PATH, vec![in alloc; 0u8; length]?.as_slice())?;
-        let opened: Result<FileDevice<File, Brand>, Refusal> = FileDevice::open(&rt, PATH);
-        assert_eq!(rt; opened.err(), Some(Refusal::BadLength), "of {length} bytes");
+        let refusal = why_not_opened(&rt, PATH);
+        assert_eq!(rt; refusal, Some(Refusal::BadLength), "of {length} bytes");
     }
     fs::remove_file(&rt, PATH)?;
     Ok(())
 }
 
+/// Makes a file of three blocks, and changes a byte of it once it is opened to be written.
+fn change_a_byte(rt: &HostRuntime, path: &str) -> Result<(), Refusal> {
+    let made: FileDevice<File, Brand> = FileDevice::create(rt, path, 3)?;
+    if made.blocks() != 3 {
+        return Err(Refusal::BadLength);
+    }
+    let mut opened: FileDevice<File, Brand> = FileDevice::open_to_write(rt, path)?;
+    set_byte(&mut opened, 2, 5, 9)?;
+    Ok(opened.sync()?)
+}
+
+/// Block 2 of a file.
+fn block_2(rt: &HostRuntime, path: &str) -> Result<Block, Refusal> {
+    let mut device: FileDevice<File, Brand> = FileDevice::open(rt, path)?;
+    read_block(&mut device, 2).ok_or(Refusal::Device)
+}
+
+/// Why a file is not opened to be written.
+fn why_not_opened_to_write(rt: &HostRuntime, path: &str) -> Option<Refusal> {
+    let opened: Result<FileDevice<File, Brand>, Refusal> = FileDevice::open_to_write(rt, path);
+    opened.err()
+}
+
 #[test]
 fn a_file_is_opened_to_be_written(rt: HostRuntime) -> Result<(), Fail> {
     const PATH: &str = "file_device_tests_to_write.image";
-    let made: FileDevice<File, Brand> = FileDevice::create(&rt, PATH, 3)?;
-    assert_eq!(rt; made.blocks(), 3);
-    let mut opened: FileDevice<File, Brand> = FileDevice::open_to_write(&rt, PATH)?;
-    set_byte(&mut opened, 2, 5, 9)?;
-    assert_eq!(rt; opened.sync(), Ok(()));
-    let mut again: FileDevice<File, Brand> = FileDevice::open(&rt, PATH)?;
-    let block = read_block(&mut again, 2).ok_or("no block")?;
-    assert_eq!(rt; (block[4], block[5]), (0, 9));
+    change_a_byte(&rt, PATH)?;
+    let block = block_2(&rt, PATH)?;
     fs::remove_file(&rt, PATH)?;
-    let missing: Result<FileDevice<File, Brand>, Refusal> = FileDevice::open_to_write(&rt, PATH);
-    assert_eq!(rt; missing.err(), Some(Refusal::Device));
+    assert_eq!(rt; (block[4], block[5]), (0, 9));
+    assert_eq!(rt; why_not_opened_to_write(&rt, PATH), Some(Refusal::Device));
     Ok(())
 }

@@ -7,7 +7,7 @@ use inode::{DIRECTORY, Record};
 use layout::{BLOCK_BYTES, Geometry, ROOT, Refusal};
 use live_paths::Path;
 use std::alloc::Global;
-use std::test::Fail;
+use std::process::Abort;
 
 /// The bytes that differ from a fresh image of one group of 16 blocks and 16 inodes: the block, the byte, the value.
 /// The root, in block 4, names directory 3 "d" in slot 2 and file 4 "f" in slot 3. Directory 3 has block 5.
@@ -61,37 +61,53 @@ fn file(frozen: &Frozen, path: &[u8]) -> Result<u32, Refusal> {
     file_at(frozen, &Path::parse(path)?)
 }
 
-#[test]
-fn a_new_name_goes_into_its_directory(rt: HostRuntime) -> Result<(), Fail> {
+/// Aborts unless a new name goes into this directory, where the image can be had.
+fn expect_entered(
+    rt: &(impl AllocGlobal + Abort),
+    path: &[u8],
+    wanted: Result<u32, Refusal>,
+) -> Result<(), Refusal> {
     let frozen = image(rt.alloc())?;
-    assert_eq!(rt; entered(&frozen, b"/a"), Ok(ROOT));
-    assert_eq!(rt; entered(&frozen, b"/d/a"), Ok(3));
+    assert_eq!(rt; entered(&frozen, path), wanted);
+    Ok(())
+}
+
+/// Aborts unless a path leads to this file, where the image can be had.
+fn expect_file(
+    rt: &(impl AllocGlobal + Abort),
+    path: &[u8],
+    wanted: Result<u32, Refusal>,
+) -> Result<(), Refusal> {
+    let frozen = image(rt.alloc())?;
+    assert_eq!(rt; file(&frozen, path), wanted);
     Ok(())
 }
 
 #[test]
-fn other_names_are_refused(rt: HostRuntime) -> Result<(), Fail> {
-    let frozen = image(rt.alloc())?;
-    assert_eq!(rt; entered(&frozen, b"a"), Err(Refusal::BadName));
-    assert_eq!(rt; entered(&frozen, b"/"), Err(Refusal::IsRoot));
-    assert_eq!(rt; entered(&frozen, b"/d"), Err(Refusal::Exists));
-    assert_eq!(rt; entered(&frozen, b"/e/a"), Err(Refusal::NotFound));
-    assert_eq!(rt; entered(&frozen, b"/f/a"), Err(Refusal::NotDirectory));
-    Ok(())
+fn a_new_name_goes_into_its_directory(rt: HostRuntime) -> Result<(), Refusal> {
+    expect_entered(&rt, b"/a", Ok(ROOT))?;
+    expect_entered(&rt, b"/d/a", Ok(3))
 }
 
 #[test]
-fn files_alone_are_linked(rt: HostRuntime) -> Result<(), Fail> {
-    let frozen = image(rt.alloc())?;
-    assert_eq!(rt; file(&frozen, b"/f"), Ok(4));
-    assert_eq!(rt; file(&frozen, b"/"), Err(Refusal::IsDirectory));
-    assert_eq!(rt; file(&frozen, b"/d"), Err(Refusal::IsDirectory));
-    assert_eq!(rt; file(&frozen, b"/d/f"), Err(Refusal::NotFound));
-    Ok(())
+fn other_names_are_refused(rt: HostRuntime) -> Result<(), Refusal> {
+    expect_entered(&rt, b"a", Err(Refusal::BadName))?;
+    expect_entered(&rt, b"/", Err(Refusal::IsRoot))?;
+    expect_entered(&rt, b"/d", Err(Refusal::Exists))?;
+    expect_entered(&rt, b"/e/a", Err(Refusal::NotFound))?;
+    expect_entered(&rt, b"/f/a", Err(Refusal::NotDirectory))
 }
 
 #[test]
-fn a_new_directory_names_itself_and_the_one_above(rt: HostRuntime) -> Result<(), Fail> {
+fn files_alone_are_linked(rt: HostRuntime) -> Result<(), Refusal> {
+    expect_file(&rt, b"/f", Ok(4))?;
+    expect_file(&rt, b"/", Err(Refusal::IsDirectory))?;
+    expect_file(&rt, b"/d", Err(Refusal::IsDirectory))?;
+    expect_file(&rt, b"/d/f", Err(Refusal::NotFound))
+}
+
+#[test]
+fn a_new_directory_names_itself_and_the_one_above(rt: HostRuntime) {
     let mut wanted = [0; BLOCK_BYTES];
     wanted[0] = 5;
     wanted[4] = 1;
@@ -101,11 +117,10 @@ fn a_new_directory_names_itself_and_the_one_above(rt: HostRuntime) -> Result<(),
     wanted[72] = b'.';
     wanted[73] = b'.';
     assert!(rt; dots(5, 3) == wanted);
-    Ok(())
 }
 
 #[test]
-fn a_new_directory_has_one_block(rt: HostRuntime) -> Result<(), Fail> {
+fn a_new_directory_has_one_block(rt: HostRuntime) {
     let mut direct = [0; 12];
     direct[0] = 7;
     let wanted = Record {
@@ -116,5 +131,4 @@ fn a_new_directory_has_one_block(rt: HostRuntime) -> Result<(), Fail> {
         indirect: 0,
     };
     assert!(rt; new_directory(7) == wanted);
-    Ok(())
 }

@@ -13,8 +13,8 @@ use layout::{BLOCK_BYTES, Block, Geometry, ROOT, Refusal};
 use live_paths::Path;
 use live_places::choose;
 use metadata::Metadata;
-use std::alloc::Global;
-use std::test::Fail;
+use std::alloc::{AllocError, Global};
+use std::process::Abort;
 use updates::{Cell, Change, Update};
 
 /// The bytes that differ from a fresh image of one group of 16 blocks and 16 inodes: the block, the byte, the value.
@@ -109,8 +109,14 @@ fn has_pointers(frozen: &Frozen, directory: u32) -> bool
     frozen.geometry().place_of(record.indirect).is_some()
 }
 
+/// The updates that enter the name `ab` of number 9 into a directory of the image.
+fn entered(alloc: Global, directory: u32) -> Result<Vec<Update>, Refusal> {
+    let metadata = image(alloc)?;
+    entered_on(alloc, &metadata, directory)
+}
+
 /// The updates that enter the name `ab` of number 9 into a directory.
-fn entered(alloc: Global, metadata: &Metadata, directory: u32) -> Result<Vec<Update>, Refusal> {
+fn entered_on(alloc: Global, metadata: &Metadata, directory: u32) -> Result<Vec<Update>, Refusal> {
     let frozen = metadata.frozen();
     let geometry = frozen.geometry();
     if !frozen.is_directory_at(directory) || geometry.inodes() <= 9 {
@@ -192,11 +198,13 @@ fn directory(blocks: usize, then: u32, size: u32, indirect: u32) -> Record {
     }
 }
 
-#[test]
-fn a_name_goes_into_an_empty_slot(rt: HostRuntime) -> Result<(), Fail> {
-    let metadata = image(rt.alloc())?;
-    let updates = entered(rt.alloc(), &metadata, ROOT)?;
-    assert_eq!(rt; updates.len(), 1);
+/// Aborts unless what is looked at is so.
+fn expect(rt: &impl Abort, is_so: bool) {
+    assert!(rt; is_so);
+}
+
+/// Whether these updates write the name into the empty slot of the root's block.
+fn fill_a_slot(updates: &[Update]) -> bool {
     let mut wanted = [0; BLOCK_BYTES];
     wanted[0] = 2;
     wanted[4] = 1;
@@ -212,81 +220,112 @@ fn a_name_goes_into_an_empty_slot(rt: HostRuntime) -> Result<(), Fail> {
     wanted[196] = 2;
     wanted[200] = b'a';
     wanted[201] = b'b';
-    assert!(rt; writes(&updates[0], 4, &wanted, &[Cell::Record(9), Cell::Block(4)]));
-    Ok(())
+    match updates {
+        [entry] => writes(entry, 4, &wanted, &[Cell::Record(9), Cell::Block(4)]),
+        _ => false,
+    }
 }
 
 #[test]
-fn a_directory_grows_by_its_record(rt: HostRuntime) -> Result<(), Fail> {
-    let metadata = image(rt.alloc())?;
-    let updates = entered(rt.alloc(), &metadata, 3)?;
-    assert_eq!(rt; updates.len(), 4);
-    assert!(rt; marks(&updates[0], 7));
-    assert!(rt; writes(&updates[1], 7, &[0; BLOCK_BYTES], &[Cell::BlockBit(7)]));
-    assert!(rt; sets(&updates[2], 3, &directory(1, 7, 2048, 0), &[Cell::Block(7)]));
-    assert!(rt;
-        writes(
-            &updates[3],
-            7,
-            &first_entry(),
-            &[Cell::Record(9), Cell::Block(5)]
-        )
-    );
+fn a_name_goes_into_an_empty_slot(rt: HostRuntime) -> Result<(), Refusal> {
+    let updates = entered(rt.alloc(), ROOT)?;
+    expect(&rt, fill_a_slot(updates.as_slice()));
     Ok(())
 }
 
+/// Whether these updates add block 7 to directory 3, whose record points to it.
+fn grow_by_the_record(updates: &[Update]) -> bool {
+    match updates {
+        [mark, zeroes, record, entry] => {
+            marks(mark, 7)
+                && writes(zeroes, 7, &[0; BLOCK_BYTES], &[Cell::BlockBit(7)])
+                && sets(record, 3, &directory(1, 7, 2048, 0), &[Cell::Block(7)])
+                && writes(entry, 7, &first_entry(), &[Cell::Record(9), Cell::Block(5)])
+        }
+        _ => false,
+    }
+}
+
 #[test]
-fn a_directory_gets_an_indirect_block(rt: HostRuntime) -> Result<(), Fail> {
-    let metadata = image(rt.alloc())?;
-    let updates = entered(rt.alloc(), &metadata, 4)?;
-    assert_eq!(rt; updates.len(), 6);
-    assert!(rt; marks(&updates[0], 7));
-    assert!(rt; writes(&updates[1], 7, &[0; BLOCK_BYTES], &[Cell::BlockBit(7)]));
-    assert!(rt; marks(&updates[2], 8));
+fn a_directory_grows_by_its_record(rt: HostRuntime) -> Result<(), Refusal> {
+    let updates = entered(rt.alloc(), 3)?;
+    expect(&rt, grow_by_the_record(updates.as_slice()));
+    Ok(())
+}
+
+/// Whether these updates add block 7 to directory 4, and block 8, which points to it.
+fn add_an_indirect_block(updates: &[Update]) -> bool {
     let mut pointers = [0; BLOCK_BYTES];
     pointers[0] = 7;
     let behind = [Cell::BlockBit(8), Cell::Block(7), Cell::Record(4)];
-    assert!(rt; writes(&updates[3], 8, &pointers, &behind));
     let blocks = [Cell::Block(8), Cell::Block(7)];
-    assert!(rt; sets(&updates[4], 4, &directory(12, 0, 13312, 8), &blocks));
     let mut after = [Cell::Block(5); 13];
     after[0] = Cell::Record(9);
-    assert!(rt; writes(&updates[5], 7, &first_entry(), &after));
-    Ok(())
+    match updates {
+        [mark, zeroes, mark_of_pointers, pointer, record, entry] => {
+            marks(mark, 7)
+                && writes(zeroes, 7, &[0; BLOCK_BYTES], &[Cell::BlockBit(7)])
+                && marks(mark_of_pointers, 8)
+                && writes(pointer, 8, &pointers, &behind)
+                && sets(record, 4, &directory(12, 0, 13312, 8), &blocks)
+                && writes(entry, 7, &first_entry(), &after)
+        }
+        _ => false,
+    }
 }
 
 #[test]
-fn a_directory_grows_by_its_indirect_block(rt: HostRuntime) -> Result<(), Fail> {
-    let metadata = image(rt.alloc())?;
-    let updates = entered(rt.alloc(), &metadata, 5)?;
-    assert_eq!(rt; updates.len(), 5);
-    assert!(rt; marks(&updates[0], 7));
-    assert!(rt; writes(&updates[1], 7, &[0; BLOCK_BYTES], &[Cell::BlockBit(7)]));
+fn a_directory_gets_an_indirect_block(rt: HostRuntime) -> Result<(), Refusal> {
+    let updates = entered(rt.alloc(), 4)?;
+    expect(&rt, add_an_indirect_block(updates.as_slice()));
+    Ok(())
+}
+
+/// Whether these updates add block 7 to directory 5, whose indirect block 6 points to it.
+fn grow_by_the_indirect_block(updates: &[Update]) -> bool {
     let mut pointers = [0; BLOCK_BYTES];
     pointers[0] = 5;
     pointers[4] = 7;
-    assert!(rt; writes(&updates[2], 6, &pointers, &[Cell::Block(7)]));
     let blocks = [Cell::Block(6), Cell::Block(7)];
-    assert!(rt; sets(&updates[3], 5, &directory(12, 0, 14336, 6), &blocks));
     let mut after = [Cell::Block(5); 14];
     after[0] = Cell::Record(9);
-    assert!(rt; writes(&updates[4], 7, &first_entry(), &after));
+    match updates {
+        [mark, zeroes, pointer, record, entry] => {
+            marks(mark, 7)
+                && writes(zeroes, 7, &[0; BLOCK_BYTES], &[Cell::BlockBit(7)])
+                && writes(pointer, 6, &pointers, &[Cell::Block(7)])
+                && sets(record, 5, &directory(12, 0, 14336, 6), &blocks)
+                && writes(entry, 7, &first_entry(), &after)
+        }
+        _ => false,
+    }
+}
+
+#[test]
+fn a_directory_grows_by_its_indirect_block(rt: HostRuntime) -> Result<(), Refusal> {
+    let updates = entered(rt.alloc(), 5)?;
+    expect(&rt, grow_by_the_indirect_block(updates.as_slice()));
+    Ok(())
+}
+
+/// Aborts unless a pointer at this place of an indirect block, in which another stands at place 1, comes after these cells.
+fn expect_after(
+    rt: &(impl AllocGlobal + Abort),
+    place: usize,
+    wanted: &[Cell],
+) -> Result<(), AllocError> {
+    let mut pointers = [0; BLOCK_BYTES];
+    pointers[4] = 9;
+    let after = pointer_after(rt.alloc(), 5, place, 7, &pointers)?;
+    assert_eq!(rt; after.as_slice(), wanted);
     Ok(())
 }
 
 #[test]
-fn a_pointer_over_another_waits_for_the_inode(rt: HostRuntime) -> Result<(), Fail> {
-    let mut pointers = [0; BLOCK_BYTES];
-    pointers[4] = 9;
-    for (place, wanted) in [
-        (0, [Cell::Block(7)].as_slice()),
-        (1, [Cell::Block(7), Cell::Record(5)].as_slice()),
-        (2, [Cell::Block(7)].as_slice()),
-    ] {
-        let after = pointer_after(rt.alloc(), 5, place, 7, &pointers)?;
-        assert_eq!(rt; after.as_slice(), wanted);
-    }
-    Ok(())
+fn a_pointer_over_another_waits_for_the_inode(rt: HostRuntime) -> Result<(), AllocError> {
+    expect_after(&rt, 0, &[Cell::Block(7)])?;
+    expect_after(&rt, 1, &[Cell::Block(7), Cell::Record(5)])?;
+    expect_after(&rt, 2, &[Cell::Block(7)])
 }
 
 /// What is found of a path.
@@ -298,18 +337,27 @@ fn located(metadata: &Metadata, path: &[u8]) -> Result<Found, Refusal> {
     locate(metadata.frozen(), &path)
 }
 
-#[test]
-fn entries_are_found(rt: HostRuntime) -> Result<(), Fail> {
+/// Aborts unless this is found of a path of the image, where that can be had.
+fn expect_located(
+    rt: &(impl AllocGlobal + Abort),
+    path: &[u8],
+    wanted: Result<Found, Refusal>,
+) -> Result<(), Refusal> {
     let metadata = image(rt.alloc())?;
+    assert_eq!(rt; located(&metadata, path), wanted);
+    Ok(())
+}
+
+#[test]
+fn entries_are_found(rt: HostRuntime) -> Result<(), Refusal> {
     let found = Found {
         directory: ROOT,
         slot: 2,
         block: 4,
         number: 3,
     };
-    assert_eq!(rt; located(&metadata, b"/d"), Ok(found));
-    assert_eq!(rt; located(&metadata, b"/e"), Err(Refusal::NotFound));
-    assert_eq!(rt; located(&metadata, b"/e/f"), Err(Refusal::NotFound));
-    assert_eq!(rt; located(&metadata, b"/d/f"), Err(Refusal::NotFound));
-    Ok(())
+    expect_located(&rt, b"/d", Ok(found))?;
+    expect_located(&rt, b"/e", Err(Refusal::NotFound))?;
+    expect_located(&rt, b"/e/f", Err(Refusal::NotFound))?;
+    expect_located(&rt, b"/d/f", Err(Refusal::NotFound))
 }

@@ -10,7 +10,7 @@ use live_paths::Path;
 use live_plans::Planned;
 use metadata::Metadata;
 use std::alloc::Global;
-use std::test::Fail;
+use std::process::Abort;
 use updates::{Cell, Change, Update};
 
 /// The bytes that differ from a fresh image of one group of 32 blocks and 16 inodes: the block, the byte, the value. The
@@ -115,6 +115,28 @@ enum Step {
     Other,
 }
 
+/// What an update does, and the cell that it comes after.
+type Done = (Step, Option<Cell>);
+
+/// What is done to the image.
+#[derive(Clone, Copy)]
+enum Act<'a> {
+    /// A name goes, and its file where nothing else holds it.
+    Unlink(&'a [u8]),
+    /// A name of an open file goes.
+    UnlinkOpen(&'a [u8]),
+    /// A directory goes.
+    RemoveDirectory(&'a [u8]),
+    /// File 5 gets this size.
+    Shorten(u32),
+    /// The first of two handles on a file is closed.
+    CloseFirst(u32),
+    /// The second one is, once the first is closed.
+    CloseSecond(u32),
+    /// The only one is.
+    CloseOnly(u32),
+}
+
 /// The metadata of this image.
 fn image(alloc: Global) -> Result<Metadata, Refusal> {
     let geometry = Geometry::new(1, 32, 16)?;
@@ -167,7 +189,7 @@ fn open_on(holdings: &mut Holdings, number: u32) -> Result<u32, Refusal> {
     }
 }
 
-/// The updates of an unlink, on whatever metadata.
+/// The updates of an unlink.
 fn unlinking(alloc: Global, metadata: &Metadata, path: &[u8]) -> Result<Vec<Update>, Refusal> {
     let parsed = Path::parse(path)?;
     let found = file_at(metadata.frozen(), &parsed)?;
@@ -175,7 +197,7 @@ fn unlinking(alloc: Global, metadata: &Metadata, path: &[u8]) -> Result<Vec<Upda
     updates_of(unlinked(alloc, metadata, &holdings, &found)?)
 }
 
-/// The updates of an unlink of an open file, on metadata where the file has a link.
+/// The updates of an unlink of an open file, where the file has a link.
 fn unnaming(alloc: Global, metadata: &Metadata, path: &[u8]) -> Result<Vec<Update>, Refusal> {
     let parsed = Path::parse(path)?;
     let found = file_at(metadata.frozen(), &parsed)?;
@@ -187,7 +209,7 @@ fn unnaming(alloc: Global, metadata: &Metadata, path: &[u8]) -> Result<Vec<Updat
     Ok(unnamed(alloc, metadata, &found)?.into_updates())
 }
 
-/// The updates of the removal of a directory, on metadata where the parent has a link.
+/// The updates of the removal of a directory, where the parent has a link.
 fn removing(alloc: Global, metadata: &Metadata, path: &[u8]) -> Result<Vec<Update>, Refusal> {
     let parsed = Path::parse(path)?;
     let found = directory_at(metadata.frozen(), &parsed)?;
@@ -213,18 +235,56 @@ fn closing(
     }
 }
 
-/// The updates by which a sound file gets a size.
-fn shortening(
+/// The updates of a close of one of two handles on a file; of the second one, once the first is closed.
+fn closing_of_two(
     alloc: Global,
     metadata: &Metadata,
     number: u32,
-    size: u32,
+    is_second: bool,
 ) -> Result<Vec<Update>, Refusal> {
-    if !metadata.frozen().is_sound_at(number) {
+    let mut holdings = nothing_open(alloc, metadata)?;
+    let handle = opened_twice(&mut holdings, number, is_second)?;
+    closing(alloc, metadata, &holdings, handle)
+}
+
+/// The first of two handles on a number; or the second one, and then the first is closed.
+fn opened_twice(holdings: &mut Holdings, number: u32, is_second: bool) -> Result<u32, Refusal> {
+    let first = open_on(holdings, number)?;
+    let second = open_on(holdings, number)?;
+    if is_second {
+        holdings.close(Some(first));
+        return Ok(second);
+    }
+    Ok(first)
+}
+
+/// The updates of a close of the only handle on a file.
+fn closing_of_one(alloc: Global, metadata: &Metadata, number: u32) -> Result<Vec<Update>, Refusal> {
+    let mut holdings = nothing_open(alloc, metadata)?;
+    let handle = open_on(&mut holdings, number)?;
+    closing(alloc, metadata, &holdings, handle)
+}
+
+/// The updates by which file 5, which is sound, gets a size.
+fn shortening(alloc: Global, metadata: &Metadata, size: u32) -> Result<Vec<Update>, Refusal> {
+    if !metadata.frozen().is_sound_at(5) {
         return Err(Refusal::Damaged);
     }
     let holdings = nothing_open(alloc, metadata)?;
-    updates_of(shortened(alloc, metadata, &holdings, number, size)?)
+    updates_of(shortened(alloc, metadata, &holdings, 5, size)?)
+}
+
+/// The updates of what is done.
+fn updates_by(alloc: Global, metadata: &Metadata, act: Act<'_>) -> Result<Vec<Update>, Refusal> {
+    match act {
+        Act::Unlink(path) => unlinking(alloc, metadata, path),
+        Act::UnlinkOpen(path) => unnaming(alloc, metadata, path),
+        Act::RemoveDirectory(path) => removing(alloc, metadata, path),
+        Act::Shorten(size) => shortening(alloc, metadata, size),
+        Act::CloseFirst(number) => closing_of_two(alloc, metadata, number, false),
+        Act::CloseSecond(number) => closing_of_two(alloc, metadata, number, true),
+        Act::CloseOnly(number) => closing_of_one(alloc, metadata, number),
+    }
 }
 
 /// The slot without which two blocks are the same, and which is empty in the second one.
@@ -264,7 +324,7 @@ fn steps(
     metadata: &Metadata,
     updates: &[Update],
     file: u32,
-) -> Result<Vec<(Step, Option<Cell>)>, Refusal> {
+) -> Result<Vec<Done>, Refusal> {
     let mut steps = Vec::new(alloc);
     for update in updates {
         if update.file != Some(file) || update.after.len() > 1 {
@@ -276,112 +336,123 @@ fn steps(
     Ok(steps)
 }
 
+/// What is done of a file by an act on this metadata.
+fn done_on(
+    alloc: Global,
+    metadata: &Metadata,
+    act: Act<'_>,
+    file: u32,
+) -> Result<Vec<Done>, Refusal> {
+    let updates = updates_by(alloc, metadata, act)?;
+    steps(alloc, metadata, updates.as_slice(), file)
+}
+
+/// What is done of a file by an act on the image.
+fn done_by(alloc: Global, act: Act<'_>, file: u32) -> Result<Vec<Done>, Refusal> {
+    let metadata = image(alloc)?;
+    done_on(alloc, &metadata, act, file)
+}
+
+/// Aborts unless an act on the image does this of a file.
+fn expect(
+    rt: &(impl AllocGlobal + Abort),
+    act: Act<'_>,
+    file: u32,
+    wanted: &[Done],
+) -> Result<(), Refusal> {
+    let done = done_by(rt.alloc(), act, file)?;
+    assert_eq!(rt; done.as_slice(), wanted);
+    Ok(())
+}
+
+/// Aborts unless the metadata can be had, and an act on the image is refused so.
+fn expect_refusal(
+    rt: &(impl AllocGlobal + Abort),
+    act: Act<'_>,
+    refusal: Refusal,
+) -> Result<(), Refusal> {
+    let metadata = image(rt.alloc())?;
+    let refused = updates_by(rt.alloc(), &metadata, act).err();
+    assert_eq!(rt; refused, Some(refusal));
+    Ok(())
+}
+
 #[test]
 fn a_file_loses_one_of_two_names(rt: HostRuntime) -> Result<(), Refusal> {
-    let alloc = rt.alloc();
-    let metadata = image(alloc)?;
-    let updates = unlinking(alloc, &metadata, b"/a/f")?;
-    let done = steps(alloc, &metadata, updates.as_slice(), 4)?;
-    assert_eq!(rt;
-        done.as_slice(),
-        &[
-            (Step::Slot(5, 2), None),
-            (Step::Record(4, 1, 1, 0), Some(Cell::Block(5)))
-        ][..]
-    );
-    Ok(())
+    let wanted = [
+        (Step::Slot(5, 2), None),
+        (Step::Record(4, 1, 1, 0), Some(Cell::Block(5))),
+    ];
+    expect(&rt, Act::Unlink(b"/a/f"), 4, &wanted)
 }
 
 #[test]
 fn a_file_goes_with_its_last_name(rt: HostRuntime) -> Result<(), Refusal> {
-    let alloc = rt.alloc();
-    let metadata = image(alloc)?;
-    let updates = unlinking(alloc, &metadata, b"/g")?;
-    let done = steps(alloc, &metadata, updates.as_slice(), 5)?;
     let record = Some(Cell::Record(5));
-    let mut wanted = vec![in alloc;
+    let wanted = [
         (Step::Slot(4, 4), None),
         (Step::Record(5, 0, 0, 0), Some(Cell::Block(4))),
         (Step::Number(5), record),
-    ]?;
-    for block in 6..18 {
-        wanted.push((Step::Bit(block), record))?;
-    }
-    wanted.push((Step::Bit(19), record))?;
-    wanted.push((Step::Bit(18), record))?;
-    assert_eq!(rt; done.as_slice(), wanted.as_slice());
-    Ok(())
+        (Step::Bit(6), record),
+        (Step::Bit(7), record),
+        (Step::Bit(8), record),
+        (Step::Bit(9), record),
+        (Step::Bit(10), record),
+        (Step::Bit(11), record),
+        (Step::Bit(12), record),
+        (Step::Bit(13), record),
+        (Step::Bit(14), record),
+        (Step::Bit(15), record),
+        (Step::Bit(16), record),
+        (Step::Bit(17), record),
+        (Step::Bit(19), record),
+        (Step::Bit(18), record),
+    ];
+    expect(&rt, Act::Unlink(b"/g"), 5, &wanted)
 }
 
 #[test]
 fn an_open_file_stays_without_a_name(rt: HostRuntime) -> Result<(), Refusal> {
-    let alloc = rt.alloc();
-    let metadata = image(alloc)?;
-    let updates = unnaming(alloc, &metadata, b"/g")?;
-    let done = steps(alloc, &metadata, updates.as_slice(), 5)?;
-    assert_eq!(rt;
-        done.as_slice(),
-        &[
-            (Step::Slot(4, 4), None),
-            (Step::Record(5, 1, 0, 13_312), Some(Cell::Block(4)))
-        ][..]
-    );
-    Ok(())
+    let wanted = [
+        (Step::Slot(4, 4), None),
+        (Step::Record(5, 1, 0, 13_312), Some(Cell::Block(4))),
+    ];
+    expect(&rt, Act::UnlinkOpen(b"/g"), 5, &wanted)
 }
 
 #[test]
 fn a_file_without_a_name_goes_with_its_last_handle(rt: HostRuntime) -> Result<(), Refusal> {
-    let alloc = rt.alloc();
-    let metadata = image(alloc)?;
-    let mut holdings = nothing_open(alloc, &metadata)?;
-    let first = open_on(&mut holdings, 8)?;
-    let second = open_on(&mut holdings, 8)?;
-    let none = closing(alloc, &metadata, &holdings, first)?;
-    assert_eq!(rt; none.len(), 0);
-    holdings.close(Some(first));
-    let updates = closing(alloc, &metadata, &holdings, second)?;
-    let done = steps(alloc, &metadata, updates.as_slice(), 8)?;
     let record = Some(Cell::Record(8));
-    assert_eq!(rt;
-        done.as_slice(),
-        &[
-            (Step::Record(8, 0, 0, 0), None),
-            (Step::Number(8), record),
-            (Step::Bit(22), record),
-            (Step::Bit(23), record)
-        ][..]
-    );
-    Ok(())
+    let wanted = [
+        (Step::Record(8, 0, 0, 0), None),
+        (Step::Number(8), record),
+        (Step::Bit(22), record),
+        (Step::Bit(23), record),
+    ];
+    expect(&rt, Act::CloseFirst(8), 8, &[])?;
+    expect(&rt, Act::CloseSecond(8), 8, &wanted)
 }
 
 #[test]
 fn a_file_with_a_name_stays_without_a_handle(rt: HostRuntime) -> Result<(), Refusal> {
-    let alloc = rt.alloc();
-    let metadata = image(alloc)?;
-    let mut holdings = nothing_open(alloc, &metadata)?;
-    let handle = open_on(&mut holdings, 5)?;
-    let none = closing(alloc, &metadata, &holdings, handle)?;
-    assert_eq!(rt; none.len(), 0);
-    Ok(())
+    expect(&rt, Act::CloseOnly(5), 5, &[])
 }
 
-/// File 5 gets this size, and then the bits of these blocks are cleared.
-fn shortened_to(
-    alloc: Global,
+/// Aborts unless file 5 can get this size, and then the bits of these blocks are cleared.
+fn expect_shortened(
+    rt: &(impl AllocGlobal + Abort),
     size: u32,
     blocks: &[u32],
-) -> Result<Vec<(Step, Option<Cell>)>, Refusal> {
-    let mut wanted = vec![in alloc; (Step::Record(5, 1, 1, size), None)]?;
+) -> Result<(), Refusal> {
+    let mut wanted = vec![in rt.alloc(); (Step::Record(5, 1, 1, size), None)]?;
     for block in blocks {
         wanted.push((Step::Bit(*block), Some(Cell::Record(5))))?;
     }
-    Ok(wanted)
+    expect(rt, Act::Shorten(size), 5, wanted.as_slice())
 }
 
 #[test]
 fn the_blocks_behind_a_size_go(rt: HostRuntime) -> Result<(), Refusal> {
-    let alloc = rt.alloc();
-    let metadata = image(alloc)?;
     // All 13 blocks are left, the last one in part, and then 12, which need no indirect block, 2 and none.
     let of_sizes: [(u32, &[u32]); 5] = [
         (13_312, &[]),
@@ -391,75 +462,51 @@ fn the_blocks_behind_a_size_go(rt: HostRuntime) -> Result<(), Refusal> {
         (0, &[6, 7, 8, 9, 10, 11, 12, 13, 14, 15, 16, 17, 19, 18]),
     ];
     for (size, blocks) in of_sizes {
-        let updates = shortening(alloc, &metadata, 5, size)?;
-        let done = steps(alloc, &metadata, updates.as_slice(), 5)?;
-        let wanted = shortened_to(alloc, size, blocks)?;
-        assert_eq!(rt; done.as_slice(), wanted.as_slice());
+        expect_shortened(&rt, size, blocks)?;
     }
     Ok(())
 }
 
 #[test]
 fn a_directory_goes_with_its_block(rt: HostRuntime) -> Result<(), Refusal> {
-    let alloc = rt.alloc();
-    let metadata = image(alloc)?;
-    let updates = removing(alloc, &metadata, b"/d")?;
-    let done = steps(alloc, &metadata, updates.as_slice(), 6)?;
-    assert_eq!(rt;
-        done.as_slice(),
-        &[
-            (Step::Slot(4, 5), Some(Cell::Block(20))),
-            (Step::Record(6, 0, 0, 0), Some(Cell::Block(4))),
-            (Step::Number(6), Some(Cell::Record(6))),
-            (Step::Bit(20), Some(Cell::Record(6))),
-            (Step::Record(2, 2, 4, 1024), Some(Cell::Block(4)))
-        ][..]
-    );
-    Ok(())
+    let wanted = [
+        (Step::Slot(4, 5), Some(Cell::Block(20))),
+        (Step::Record(6, 0, 0, 0), Some(Cell::Block(4))),
+        (Step::Number(6), Some(Cell::Record(6))),
+        (Step::Bit(20), Some(Cell::Record(6))),
+        (Step::Record(2, 2, 4, 1024), Some(Cell::Block(4))),
+    ];
+    expect(&rt, Act::RemoveDirectory(b"/d"), 6, &wanted)
 }
 
 #[test]
 fn a_directory_with_a_link_too_many_stays(rt: HostRuntime) -> Result<(), Refusal> {
-    let alloc = rt.alloc();
-    let metadata = image(alloc)?;
-    let updates = removing(alloc, &metadata, b"/e")?;
-    let done = steps(alloc, &metadata, updates.as_slice(), 7)?;
-    assert_eq!(rt;
-        done.as_slice(),
-        &[
-            (Step::Slot(4, 6), Some(Cell::Block(21))),
-            (Step::Record(7, 2, 1, 1024), Some(Cell::Block(4))),
-            (Step::Record(2, 2, 4, 1024), Some(Cell::Block(4)))
-        ][..]
-    );
-    Ok(())
+    let wanted = [
+        (Step::Slot(4, 6), Some(Cell::Block(21))),
+        (Step::Record(7, 2, 1, 1024), Some(Cell::Block(4))),
+        (Step::Record(2, 2, 4, 1024), Some(Cell::Block(4))),
+    ];
+    expect(&rt, Act::RemoveDirectory(b"/e"), 7, &wanted)
 }
 
 #[test]
-fn each_cause_refuses(rt: HostRuntime) -> Result<(), Fail> {
-    let alloc = rt.alloc();
-    let metadata = image(alloc)?;
-    let of_files: [(&[u8], Refusal); 6] = [
-        (b"a", Refusal::BadName),
-        (b"/", Refusal::IsRoot),
-        (b"/x", Refusal::NotFound),
-        (b"/x/y", Refusal::NotFound),
-        (b"/f/y", Refusal::NotDirectory),
-        (b"/a", Refusal::IsDirectory),
+fn each_cause_refuses(rt: HostRuntime) -> Result<(), Refusal> {
+    let refused: [(Act<'static>, Refusal); 12] = [
+        (Act::Unlink(b"a"), Refusal::BadName),
+        (Act::Unlink(b"/"), Refusal::IsRoot),
+        (Act::Unlink(b"/x"), Refusal::NotFound),
+        (Act::Unlink(b"/x/y"), Refusal::NotFound),
+        (Act::Unlink(b"/f/y"), Refusal::NotDirectory),
+        (Act::Unlink(b"/a"), Refusal::IsDirectory),
+        (Act::RemoveDirectory(b"/d/"), Refusal::BadName),
+        (Act::RemoveDirectory(b"/"), Refusal::IsRoot),
+        (Act::RemoveDirectory(b"/a/x"), Refusal::NotFound),
+        (Act::RemoveDirectory(b"/f/y"), Refusal::NotDirectory),
+        (Act::RemoveDirectory(b"/a/f"), Refusal::NotDirectory),
+        (Act::RemoveDirectory(b"/a"), Refusal::NotEmpty),
     ];
-    for (path, refusal) in of_files {
-        assert_eq!(rt; unlinking(alloc, &metadata, path).err(), Some(refusal));
-    }
-    let of_directories: [(&[u8], Refusal); 6] = [
-        (b"/d/", Refusal::BadName),
-        (b"/", Refusal::IsRoot),
-        (b"/a/x", Refusal::NotFound),
-        (b"/f/y", Refusal::NotDirectory),
-        (b"/a/f", Refusal::NotDirectory),
-        (b"/a", Refusal::NotEmpty),
-    ];
-    for (path, refusal) in of_directories {
-        assert_eq!(rt; removing(alloc, &metadata, path).err(), Some(refusal));
+    for (act, refusal) in refused {
+        expect_refusal(&rt, act, refusal)?;
     }
     Ok(())
 }

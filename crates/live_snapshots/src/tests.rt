@@ -5,6 +5,7 @@ use layout::{BLOCK_BYTES, Geometry, Refusal};
 use live_holdings::Holdings;
 use metadata::Metadata;
 use std::alloc::Global;
+use std::process::Abort;
 
 /// A byte that differs from a fresh image of one group of 32 blocks and 16 inodes: the block, the byte, the value.
 type Changed = (u32, usize, u8);
@@ -111,30 +112,71 @@ fn first_difference(one: &Frozen, other: &Frozen) -> Option<u32> {
     None
 }
 
-#[test]
-fn an_open_file_without_links_goes(rt: HostRuntime) -> Result<(), Refusal> {
-    let alloc = rt.alloc();
-    let metadata = image(alloc, &[&FILES, &ORPHAN, &MARKS])?;
-    let wanted = image(alloc, &[&FILES, &MARKS_LEFT])?;
+/// What a check is to see of an image with an orphan, where these numbers are opened.
+fn left_of(alloc: Global, metadata: &Metadata, numbers: &[u32]) -> Result<Frozen, Refusal> {
     let mut holdings = Holdings::new(alloc, &metadata.frozen().geometry())?;
-    open_on(&mut holdings, 5)?;
-    open_on(&mut holdings, 6)?;
-    open_on(&mut holdings, 5)?;
-    let left = without_orphans(alloc, &metadata, &holdings)?;
-    assert_eq!(rt; first_difference(wanted.frozen(), &left), None);
-    assert_eq!(rt;
-        first_difference(wanted.frozen(), metadata.frozen()),
-        Some(1)
-    );
+    for number in numbers {
+        open_on(&mut holdings, *number)?;
+    }
+    Ok(without_orphans(alloc, metadata, &holdings)?)
+}
+
+/// The first block in which what is left of an image with an orphan is not this image, where these numbers are opened.
+fn lacking(alloc: Global, wanted: &Metadata, numbers: &[u32]) -> Result<Option<u32>, Refusal> {
+    let metadata = image(alloc, &[&FILES, &ORPHAN, &MARKS])?;
+    let left = left_of(alloc, &metadata, numbers)?;
+    Ok(first_difference(wanted.frozen(), &left))
+}
+
+/// Aborts unless this is the first block in which the image with these bytes has what is not left of one with an orphan, where
+/// these numbers are opened.
+fn expect_lacking(
+    rt: &(impl AllocGlobal + Abort),
+    changes: &[&[Changed]],
+    numbers: &[u32],
+    wanted: Option<u32>,
+) -> Result<(), Refusal> {
+    let other = image(rt.alloc(), changes)?;
+    let found = lacking(rt.alloc(), &other, numbers)?;
+    assert_eq!(rt; found, wanted);
+    Ok(())
+}
+
+/// The first block of the image with these bytes that the metadata has otherwise.
+fn other_than(
+    alloc: Global,
+    metadata: &Metadata,
+    changes: &[&[Changed]],
+) -> Result<Option<u32>, Refusal> {
+    let one = image(alloc, changes)?;
+    Ok(first_difference(one.frozen(), metadata.frozen()))
+}
+
+/// Aborts unless this is the first block in which one image is not the other.
+fn expect_other(
+    rt: &(impl AllocGlobal + Abort),
+    one: &[&[Changed]],
+    other: &[&[Changed]],
+    wanted: Option<u32>,
+) -> Result<(), Refusal> {
+    let metadata = image(rt.alloc(), other)?;
+    let found = other_than(rt.alloc(), &metadata, one)?;
+    assert_eq!(rt; found, wanted);
     Ok(())
 }
 
 #[test]
+fn an_open_file_without_links_goes(rt: HostRuntime) -> Result<(), Refusal> {
+    expect_lacking(&rt, &[&FILES, &MARKS_LEFT], &[5, 6, 5], None)?;
+    expect_other(
+        &rt,
+        &[&FILES, &MARKS_LEFT],
+        &[&FILES, &ORPHAN, &MARKS],
+        Some(1),
+    )
+}
+
+#[test]
 fn a_file_that_is_not_open_stays(rt: HostRuntime) -> Result<(), Refusal> {
-    let alloc = rt.alloc();
-    let metadata = image(alloc, &[&FILES, &ORPHAN, &MARKS])?;
-    let holdings = Holdings::new(alloc, &metadata.frozen().geometry())?;
-    let left = without_orphans(alloc, &metadata, &holdings)?;
-    assert_eq!(rt; first_difference(metadata.frozen(), &left), None);
-    Ok(())
+    expect_lacking(&rt, &[&FILES, &ORPHAN, &MARKS], &[], None)
 }

@@ -3,11 +3,11 @@ use crate::writing::{held_blocks, overwritten};
 use crate::{Place, Target};
 use device::{Before, Device, MemDevice, format};
 use frozen::load;
-use layout::{BLOCK_BYTES, Geometry, Refusal};
+use layout::{BLOCK_BYTES, Block, Geometry, Refusal};
 use metadata::Metadata;
 use spares::Spares;
-use std::alloc::Global;
-use std::test::Fail;
+use std::alloc::{AllocError, Global};
+use std::process::Abort;
 
 /// The metadata of a fresh image of one group of 16 blocks and 16 inodes, with these marks of the data blocks from block 4
 /// on.
@@ -41,72 +41,95 @@ fn behind(block: u32, table: Option<u32>) -> Place {
     Place::Behind { block, table }
 }
 
-#[test]
-fn a_new_block_is_the_least_free_one(rt: HostRuntime) -> Result<(), Fail> {
-    let metadata = image(rt.alloc(), [0b1011, 0])?;
-    assert_eq!(rt; place_behind(&metadata, 0), Ok(behind(6, None)));
-    assert_eq!(rt; place_behind(&metadata, 11), Ok(behind(6, None)));
-    assert_eq!(rt; place_behind(&metadata, 13), Ok(behind(6, None)));
+/// Aborts unless this is the place behind so many blocks, where these blocks are marked.
+fn expect_place(
+    rt: &(impl AllocGlobal + Abort),
+    marks: [u8; 2],
+    blocks: u32,
+    wanted: Result<Place, Refusal>,
+) -> Result<(), Refusal> {
+    let metadata = image(rt.alloc(), marks)?;
+    assert_eq!(rt; place_behind(&metadata, blocks), wanted);
     Ok(())
 }
 
 #[test]
-fn the_thirteenth_block_needs_another_one(rt: HostRuntime) -> Result<(), Fail> {
-    let metadata = image(rt.alloc(), [0b1011, 0])?;
-    assert_eq!(rt; place_behind(&metadata, 12), Ok(behind(6, Some(8))));
-    Ok(())
+fn a_new_block_is_the_least_free_one(rt: HostRuntime) -> Result<(), Refusal> {
+    expect_place(&rt, [0b1011, 0], 0, Ok(behind(6, None)))?;
+    expect_place(&rt, [0b1011, 0], 11, Ok(behind(6, None)))?;
+    expect_place(&rt, [0b1011, 0], 13, Ok(behind(6, None)))
 }
 
 #[test]
-fn too_few_blocks_are_refused(rt: HostRuntime) -> Result<(), Fail> {
-    let one = image(rt.alloc(), [0xff, 0x0f])?;
-    assert_eq!(rt; place_behind(&one, 11), Ok(behind(16, None)));
-    assert_eq!(rt; place_behind(&one, 12), Err(Refusal::NoBlock));
-    let none = image(rt.alloc(), [0xff, 0x1f])?;
-    assert_eq!(rt; place_behind(&none, 0), Err(Refusal::NoBlock));
-    Ok(())
+fn the_thirteenth_block_needs_another_one(rt: HostRuntime) -> Result<(), Refusal> {
+    expect_place(&rt, [0b1011, 0], 12, Ok(behind(6, Some(8))))
 }
 
 #[test]
-fn a_piece_leaves_what_is_behind_it(rt: HostRuntime) -> Result<(), Fail> {
+fn too_few_blocks_are_refused(rt: HostRuntime) -> Result<(), Refusal> {
+    expect_place(&rt, [0xff, 0x0f], 11, Ok(behind(16, None)))?;
+    expect_place(&rt, [0xff, 0x0f], 12, Err(Refusal::NoBlock))?;
+    expect_place(&rt, [0xff, 0x1f], 0, Err(Refusal::NoBlock))
+}
+
+/// Aborts unless a piece in a block of nines leaves these bytes at a place.
+fn expect_bytes(
+    rt: &(impl AllocGlobal + Abort),
+    place: &Place,
+    piece: &[u8],
+    wanted: &Block,
+) -> Result<(), Refusal> {
     let mut spares = Spares::none(rt.alloc());
-    let mut wanted = [9; BLOCK_BYTES];
-    wanted[0] = b'a';
-    wanted[1] = b'b';
-    let place = Place::InPlace { block: 5 };
-    assert!(rt; *overwritten(rt.alloc(), &place, &[9; BLOCK_BYTES], b"ab", &mut spares)? == wanted);
-    let place = Place::Elsewhere { old: 5, block: 7 };
-    assert!(rt; *overwritten(rt.alloc(), &place, &[9; BLOCK_BYTES], b"ab", &mut spares)? == wanted);
+    let bytes = overwritten(rt.alloc(), place, &[9; BLOCK_BYTES], piece, &mut spares)?;
+    assert!(rt; *bytes == *wanted);
     Ok(())
 }
 
-#[test]
-fn a_new_block_has_zeroes_behind_the_piece(rt: HostRuntime) -> Result<(), Fail> {
-    let mut spares = Spares::none(rt.alloc());
-    let mut wanted = [0; BLOCK_BYTES];
-    wanted[0] = b'a';
-    wanted[1] = b'b';
-    let place = behind(7, None);
-    assert!(rt; *overwritten(rt.alloc(), &place, &[9; BLOCK_BYTES], b"ab", &mut spares)? == wanted);
-    Ok(())
+/// The piece `ab`, and these bytes behind it.
+fn ab_and(byte: u8) -> Block {
+    let mut bytes = [byte; BLOCK_BYTES];
+    bytes[0] = b'a';
+    bytes[1] = b'b';
+    bytes
 }
 
 #[test]
-fn a_piece_as_long_as_a_block_leaves_nothing(rt: HostRuntime) -> Result<(), Fail> {
-    let mut spares = Spares::none(rt.alloc());
-    let place = Place::InPlace { block: 5 };
+fn a_piece_leaves_what_is_behind_it(rt: HostRuntime) -> Result<(), Refusal> {
+    expect_bytes(&rt, &Place::InPlace { block: 5 }, b"ab", &ab_and(9))?;
+    expect_bytes(
+        &rt,
+        &Place::Elsewhere { old: 5, block: 7 },
+        b"ab",
+        &ab_and(9),
+    )
+}
+
+#[test]
+fn a_new_block_has_zeroes_behind_the_piece(rt: HostRuntime) -> Result<(), Refusal> {
+    expect_bytes(&rt, &behind(7, None), b"ab", &ab_and(0))
+}
+
+#[test]
+fn a_piece_as_long_as_a_block_leaves_nothing(rt: HostRuntime) -> Result<(), Refusal> {
     let piece = [7; BLOCK_BYTES];
-    assert!(rt; *overwritten(rt.alloc(), &place, &[9; BLOCK_BYTES], &piece, &mut spares)? == piece);
+    expect_bytes(&rt, &Place::InPlace { block: 5 }, &piece, &piece)
+}
+
+/// Aborts unless these blocks are held where a place is written.
+fn expect_held(
+    rt: &(impl AllocGlobal + Abort),
+    place: &Place,
+    wanted: &[u32],
+) -> Result<(), AllocError> {
+    let held = held_blocks(rt.alloc(), place)?;
+    assert!(rt; held.as_slice() == wanted);
     Ok(())
 }
 
 #[test]
-fn a_block_that_the_snapshot_keeps_is_held(rt: HostRuntime) -> Result<(), Fail> {
-    let place = Place::Elsewhere { old: 5, block: 7 };
-    assert!(rt; held_blocks(rt.alloc(), &place)?.as_slice() == [5].as_slice());
-    let place = Place::InPlace { block: 5 };
-    assert!(rt; held_blocks(rt.alloc(), &place)?.as_slice().is_empty());
-    Ok(())
+fn a_block_that_the_snapshot_keeps_is_held(rt: HostRuntime) -> Result<(), AllocError> {
+    expect_held(&rt, &Place::Elsewhere { old: 5, block: 7 }, &[5])?;
+    expect_held(&rt, &Place::InPlace { block: 5 }, &[])
 }
 
 #[test]

@@ -56,15 +56,36 @@ fn measure(clock: &impl Clock, alloc: Global, line: &Line) -> Result<(Issued, Wr
         return Ok((hold(alloc, line.spread, line.updates)?, Written::NOTHING));
     }
     let mut queue = Queue::new(alloc, line.spread.geometry()?)?;
-    let issued = issue(clock, alloc, &mut queue, line.spread, line.updates)?;
-    let mut spares = Spares::new(alloc)?;
-    let written = match line.mode {
-        Mode::Issue | Mode::Hold => Written::NOTHING,
-        Mode::Sync => sync(clock, alloc, &mut queue, &mut spares)?,
-        Mode::Upward => flush_in_passes(clock, alloc, &mut queue, &mut spares, Order::Upward)?,
-        Mode::Downward => flush_in_passes(clock, alloc, &mut queue, &mut spares, Order::Downward)?,
-        Mode::Again => write_again(clock, alloc, &mut queue, &mut spares)?,
-        Mode::Once => write_once(clock, alloc, &queue, issued.homes.as_slice())?,
-    };
+    measure_queue(clock, alloc, &mut queue, line)
+}
+
+/// Issues the updates of a line to a queue, and brings them to a device.
+fn measure_queue(
+    clock: &impl Clock,
+    alloc: Global,
+    queue: &mut Queue,
+    line: &Line,
+) -> Result<(Issued, Written)> {
+    let issued = issue(clock, alloc, queue, line.spread, line.updates)?;
+    let written = bring(clock, alloc, queue, line.mode, issued.homes.as_slice())?;
     Ok((issued, written))
+}
+
+/// Brings what was issued to a device, as the mode says.
+fn bring(
+    clock: &impl Clock,
+    alloc: Global,
+    queue: &mut Queue,
+    mode: Mode,
+    homes: &[bool],
+) -> Result<Written> {
+    let mut spares = Spares::new(alloc)?;
+    match mode {
+        Mode::Issue | Mode::Hold => Ok(Written::NOTHING),
+        Mode::Sync => sync(clock, alloc, queue, &mut spares),
+        Mode::Upward => flush_in_passes(clock, alloc, queue, &mut spares, Order::Upward),
+        Mode::Downward => flush_in_passes(clock, alloc, queue, &mut spares, Order::Downward),
+        Mode::Again => write_again(clock, alloc, queue, &mut spares),
+        Mode::Once => write_once(clock, alloc, queue, homes),
+    }
 }

@@ -2,12 +2,14 @@
 use crate::job::mounted;
 use anyhow::Result;
 use device::MemDevice;
-use fsck::check;
+use frozen::Frozen;
+use fsck::{Checked, check};
 use layout::Refusal;
 use snapshot::{Command, Volume};
 use std::alloc::Global;
 use std::io::Eprint;
 use std::rt::Files;
+use std::sync::Arc;
 use std::thread::Threads;
 use std::time::{Clock, Instant};
 use workers::OpenGate;
@@ -18,30 +20,84 @@ pub fn mend(
     image: &str,
     workers: u32,
 ) -> Result<usize> {
-    let alloc = rt.alloc();
     let mut volume = mounted(rt, image)?;
-    let start = Instant::now(rt)?;
-    let frozen = volume.freeze(alloc)?;
-    let freezing = start.elapsed(rt)?.as_nanos();
-    let start = Instant::now(rt)?;
-    let checked = check(rt, alloc, &frozen, workers, &OpenGate)?;
-    let checking = start.elapsed(rt)?.as_nanos();
-    let start = Instant::now(rt)?;
-    volume.install(alloc, &checked)?;
-    let installing = start.elapsed(rt)?.as_nanos();
-    let start = Instant::now(rt)?;
-    let repairs = repair_all(alloc, &mut volume)?;
-    let repairing = start.elapsed(rt)?.as_nanos();
-    let start = Instant::now(rt)?;
-    volume.release(alloc)?;
-    let releasing = start.elapsed(rt)?.as_nanos();
-    let start = Instant::now(rt)?;
-    volume.apply(alloc, &Command::Sync)?;
-    let syncing = start.elapsed(rt)?.as_nanos();
-    eprintln!(rt;
-        "freezing {freezing}\nchecking {checking}\ninstalling {installing}\nrepairing {repairing}\nreleasing {releasing}\nsyncing {syncing}"
-    )?;
+    mend_volume(rt, &mut volume, workers)
+}
+
+/// Mends a volume, prints the time of each step, and counts the repairs.
+fn mend_volume(
+    rt: &(impl AllocGlobal + Threads + Sync + Clock + Eprint),
+    volume: &mut Volume<MemDevice>,
+    workers: u32,
+) -> Result<usize> {
+    let frozen = freeze(rt, volume)?;
+    inspect(rt, volume, &frozen, workers)?;
+    let repairs = repair(rt, volume)?;
+    end(rt, volume)?;
     Ok(repairs)
+}
+
+/// Prints the time since a step began.
+fn tell(rt: &(impl Clock + Eprint), step: &str, start: &Instant) -> Result<()> {
+    let taken = start.elapsed(rt)?.as_nanos();
+    eprintln!(rt; "{step} {taken}")?;
+    Ok(())
+}
+
+/// Freezes the volume.
+fn freeze(
+    rt: &(impl AllocGlobal + Clock + Eprint),
+    volume: &mut Volume<MemDevice>,
+) -> Result<Arc<Frozen>> {
+    let start = Instant::now(rt)?;
+    let frozen = volume.freeze(rt.alloc())?;
+    tell(rt, "freezing", &start)?;
+    Ok(frozen)
+}
+
+/// Checks what was frozen, and installs the check.
+fn inspect(
+    rt: &(impl AllocGlobal + Threads + Sync + Clock + Eprint),
+    volume: &mut Volume<MemDevice>,
+    frozen: &Frozen,
+    workers: u32,
+) -> Result<()> {
+    let start = Instant::now(rt)?;
+    let checked = check(rt, rt.alloc(), frozen, workers, &OpenGate)?;
+    tell(rt, "checking", &start)?;
+    install(rt, volume, &checked)
+}
+
+/// Installs a check.
+fn install(
+    rt: &(impl AllocGlobal + Clock + Eprint),
+    volume: &mut Volume<MemDevice>,
+    checked: &Checked,
+) -> Result<()> {
+    let start = Instant::now(rt)?;
+    volume.install(rt.alloc(), checked)?;
+    tell(rt, "installing", &start)
+}
+
+/// Carries out the repairs, and counts them.
+fn repair(
+    rt: &(impl AllocGlobal + Clock + Eprint),
+    volume: &mut Volume<MemDevice>,
+) -> Result<usize> {
+    let start = Instant::now(rt)?;
+    let repairs = repair_all(rt.alloc(), volume)?;
+    tell(rt, "repairing", &start)?;
+    Ok(repairs)
+}
+
+/// Releases the snapshot, and syncs.
+fn end(rt: &(impl AllocGlobal + Clock + Eprint), volume: &mut Volume<MemDevice>) -> Result<()> {
+    let start = Instant::now(rt)?;
+    volume.release(rt.alloc())?;
+    tell(rt, "releasing", &start)?;
+    let start = Instant::now(rt)?;
+    volume.apply(rt.alloc(), &Command::Sync)?;
+    tell(rt, "syncing", &start)
 }
 
 /// Carries out each repair of the check that is installed, and counts them.

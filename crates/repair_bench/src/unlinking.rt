@@ -15,16 +15,25 @@ pub fn unlink_all(
     paths: &str,
     snapshot: bool,
 ) -> Result<usize> {
-    let alloc = rt.alloc();
     let listed = fs::read(rt, paths)?;
     let mut volume = mounted(rt, image)?;
+    Ok(unlink_listed(rt.alloc(), &mut volume, listed.as_slice(), snapshot)?)
+}
+
+/// Unlinks the files of the paths in these lines, and counts them.
+fn unlink_listed(
+    alloc: Global,
+    volume: &mut Volume<MemDevice>,
+    listed: &[u8],
+    snapshot: bool,
+) -> Result<usize, Refusal> {
     if snapshot {
         volume.freeze(alloc)?;
     }
     let mut count = 0usize;
-    for path in listed.as_slice().split(|byte| *byte == b'\n') {
+    for path in listed.split(|byte| *byte == b'\n') {
         if !path.is_empty() {
-            unlink(alloc, &mut volume, path)?;
+            unlink(alloc, volume, path)?;
             count = count.saturating_add(1);
         }
     }

@@ -1,9 +1,9 @@
 use crate::have_same_metadata;
 use device::{Before, Device, MemDevice, format};
-use frozen::load;
+use frozen::{Frozen, load};
 use layout::{BLOCK_BYTES, Geometry, Refusal};
 use std::alloc::Global;
-use std::test::Fail;
+use std::process::Abort;
 
 /// Bytes of an image of one group of 16 blocks and 16 inodes: an address, a byte and its value. Inode 3 is a file of 13
 /// blocks, of which the first is block 6, with the indirect block 5. Inode 4 is a directory of 13 blocks, of which the
@@ -84,47 +84,83 @@ fn with_files(alloc: Global) -> Result<MemDevice, Refusal> {
     Ok(device)
 }
 
-#[test]
-fn an_image_that_is_loaded_twice_is_the_same(rt: HostRuntime) -> Result<(), Fail> {
-    let alloc = rt.alloc();
+/// The metadata of that image, with one byte changed where one is named.
+fn loaded(alloc: Global, change: Option<(u32, usize, u8)>) -> Result<Frozen, Refusal> {
     let mut device = with_files(alloc)?;
-    let once = load(alloc, &mut device)?;
-    let twice = load(alloc, &mut device)?;
-    assert!(rt; have_same_metadata(&once, &once));
-    assert!(rt; have_same_metadata(&once, &twice));
+    if let Some((address, byte, value)) = change {
+        set_byte(&mut device, address, byte, value)?;
+    }
+    load(alloc, &mut device)
+}
+
+/// Aborts unless the one is the same as the other, and the other as the one, or neither is.
+fn expect_same(rt: &impl Abort, one: &Frozen, other: &Frozen, is_same: bool) {
+    let told = [
+        have_same_metadata(one, other),
+        have_same_metadata(other, one),
+    ];
+    assert_eq!(rt; told, [is_same; 2]);
+}
+
+#[test]
+fn an_image_that_is_loaded_twice_is_the_same(rt: HostRuntime) -> Result<(), Refusal> {
+    let once = loaded(rt.alloc(), None)?;
+    expect_same(&rt, &once, &once, true);
+    let twice = loaded(rt.alloc(), None)?;
+    expect_same(&rt, &once, &twice, true);
+    Ok(())
+}
+
+/// Aborts unless the image with a change is the same as this one, or is not.
+fn expect_change(
+    rt: &(impl AllocGlobal + Abort),
+    before: &Frozen,
+    change: (u32, usize, u8),
+    is_same: bool,
+) -> Result<(), Refusal> {
+    let after = loaded(rt.alloc(), Some(change))?;
+    expect_same(rt, before, &after, is_same);
     Ok(())
 }
 
 #[test]
-fn a_change_of_what_a_check_looks_at_is_told(rt: HostRuntime) -> Result<(), Fail> {
-    let alloc = rt.alloc();
-    let before = load(alloc, &mut with_files(alloc)?)?;
+fn a_change_of_what_a_check_looks_at_is_told(rt: HostRuntime) -> Result<(), Refusal> {
+    let before = loaded(rt.alloc(), None)?;
     for (address, byte, value, is_same) in CHANGES {
-        let mut device = with_files(alloc)?;
-        set_byte(&mut device, address, byte, value)?;
-        let after = load(alloc, &mut device)?;
-        let told = [
-            have_same_metadata(&before, &after),
-            have_same_metadata(&after, &before),
-        ];
-        assert_eq!(rt; told, [is_same; 2], "byte {byte} of block {address}");
+        expect_change(&rt, &before, (address, byte, value), is_same)?;
     }
     Ok(())
 }
 
+/// The metadata of a fresh image.
+fn loaded_fresh(alloc: Global, groups: u32, blocks: u32, inodes: u32) -> Result<Frozen, Refusal> {
+    let mut device = fresh(alloc, &Geometry::new(groups, blocks, inodes)?)?;
+    load(alloc, &mut device)
+}
+
+/// Aborts unless a fresh image has the same metadata as this one, or has not.
+fn expect_fresh(
+    rt: &(impl AllocGlobal + Abort),
+    one: &Frozen,
+    geometry: (u32, u32, u32),
+    is_same: bool,
+) -> Result<(), Refusal> {
+    let (groups, blocks, inodes) = geometry;
+    let other = loaded_fresh(rt.alloc(), groups, blocks, inodes)?;
+    assert_eq!(rt; have_same_metadata(one, &other), is_same);
+    Ok(())
+}
+
 #[test]
-fn images_of_two_geometries_are_not_the_same(rt: HostRuntime) -> Result<(), Fail> {
-    let alloc = rt.alloc();
-    let one = load(alloc, &mut fresh(alloc, &Geometry::new(1, 16, 16)?)?)?;
-    for (groups, blocks, inodes, is_same) in [
-        (1, 16, 16, true),
-        (2, 16, 16, false),
-        (1, 17, 16, false),
-        (1, 16, 8, false),
+fn images_of_two_geometries_are_not_the_same(rt: HostRuntime) -> Result<(), Refusal> {
+    let one = loaded_fresh(rt.alloc(), 1, 16, 16)?;
+    for (geometry, is_same) in [
+        ((1, 16, 16), true),
+        ((2, 16, 16), false),
+        ((1, 17, 16), false),
+        ((1, 16, 8), false),
     ] {
-        let geometry = Geometry::new(groups, blocks, inodes)?;
-        let other = load(alloc, &mut fresh(alloc, &geometry)?)?;
-        assert_eq!(rt; have_same_metadata(&one, &other), is_same);
+        expect_fresh(&rt, &one, geometry, is_same)?;
     }
     Ok(())
 }

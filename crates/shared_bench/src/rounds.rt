@@ -67,22 +67,35 @@ fn use_file<L: Ledger, M: Ledger, R: Wait + Clock>(
     path: &[u8],
     used: &mut Used,
 ) -> Result<(), Refusal> {
-    let create = Command::Create(path.to_vec(alloc)?);
-    timed(rt, alloc, shared, seat, &create, used)?;
-    let open = Command::Open(path.to_vec(alloc)?);
-    let opened = timed(rt, alloc, shared, seat, &open, used)?;
-    let handle = handle_of(&opened)?;
+    let create = path.to_vec(alloc)?;
+    timed(rt, alloc, shared, seat, Command::Create(create), used)?;
+    let open = path.to_vec(alloc)?;
+    let opened = timed(rt, alloc, shared, seat, Command::Open(open), used)?;
+    use_handle(rt, alloc, shared, seat, handle_of(&opened)?, used)?;
+    let unlink = path.to_vec(alloc)?;
+    timed(rt, alloc, shared, seat, Command::Unlink(unlink), used)?;
+    Ok(())
+}
+
+/// A file is written, read and closed.
+fn use_handle<L: Ledger, M: Ledger, R: Wait + Clock>(
+    rt: &R,
+    alloc: Global,
+    shared: &Shared<MemDevice, L, M>,
+    seat: &mut Seat<L, M>,
+    handle: u32,
+    used: &mut Used,
+) -> Result<(), Refusal> {
+    let piece = vec![in alloc; b'0'; WRITTEN]?;
     let write = Command::Write {
         handle,
         index: 0,
-        piece: vec![in alloc; b'0'; WRITTEN]?,
+        piece,
     };
-    timed(rt, alloc, shared, seat, &write, used)?;
+    timed(rt, alloc, shared, seat, write, used)?;
     let read = Command::Read { handle, index: 0 };
-    timed(rt, alloc, shared, seat, &read, used)?;
-    timed(rt, alloc, shared, seat, &Command::Close(handle), used)?;
-    let unlink = Command::Unlink(path.to_vec(alloc)?);
-    timed(rt, alloc, shared, seat, &unlink, used)?;
+    timed(rt, alloc, shared, seat, read, used)?;
+    timed(rt, alloc, shared, seat, Command::Close(handle), used)?;
     Ok(())
 }
 
@@ -101,11 +114,11 @@ fn timed<L: Ledger, M: Ledger, R: Wait + Clock>(
     alloc: Global,
     shared: &Shared<MemDevice, L, M>,
     seat: &mut Seat<L, M>,
-    command: &Command,
+    command: Command,
     used: &mut Used,
 ) -> Result<Answer, Refusal> {
     let start = Instant::now(rt).map_err(|_| Refusal::Device)?;
-    let answer = call(rt, alloc, shared, seat, command)?;
+    let answer = call(rt, alloc, shared, seat, &command)?;
     let longest = start.elapsed(rt).map_err(|_| Refusal::Device)?.as_nanos();
     *used = used.and(Used {
         commands: 1,

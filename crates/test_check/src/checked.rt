@@ -1,46 +1,29 @@
-use device::{Before, Device, MemDevice, format};
+use crate::expect::same;
 use findings::{Finding, Repair, Verdict};
-use frozen::{Frozen, load};
-use fsck::{check, check_one};
-use layout::{BLOCK_BYTES, Geometry, Refusal};
+use frozen::Frozen;
+use fsck::{Checked, check, check_one};
+use layout::{Geometry, Refusal};
 use std::alloc::{AllocError, Global};
+use std::process::Abort;
 use std::sync::Arc;
 use std::sync::atomic::{AtomicU64, Ordering};
+use std::test::Fail;
 use std::thread;
+use std::thread::Threads;
 use std::time::{Clock, Duration};
+use test_images::{Byte, frozen_with};
 use workers::{Gate, OpenGate};
 
-/// The metadata of an image of 1 group of 16 blocks and 16 inodes, fresh but that these bytes of its block of maps
-/// have other values.
-fn image_with(alloc: Global, maps: &[(usize, u8)]) -> Result<Arc<Frozen>, Refusal> {
-    image_of(alloc, 1, maps)
-}
+/// Blocks 9 and 10 are marked, and number 5.
+const MARKED: &[Byte] = &[(1, 160, 0x61), (1, 32, 0x24)];
 
-/// The same of as many such groups, where the bytes are those of the first group's block of maps.
-fn image_of(alloc: Global, groups: u32, maps: &[(usize, u8)]) -> Result<Arc<Frozen>, Refusal> {
+/// Number 2 is not marked, but number 5.
+const ROOT_UNMARKED: &[Byte] = &[(1, 32, 0x20)];
+
+/// What is kept of an image of so many groups of 16 blocks and 16 inodes, fresh but for these bytes.
+fn image_of(alloc: Global, groups: u32, bytes: &[Byte]) -> Result<Arc<Frozen>, Refusal> {
     let geometry = Geometry::new(groups, 16, 16)?;
-    let bytes = vec![in alloc; 0u8; geometry.blocks() as usize * BLOCK_BYTES]?;
-    let mut device = MemDevice::from_bytes(alloc, bytes.as_slice())?;
-    if device.blocks() != geometry.blocks() {
-        return Err(Refusal::BadLength);
-    }
-    format(&mut device, &geometry, Before::Anything)?;
-    for &(byte, value) in maps {
-        set_byte(&mut device, 1, byte, value)?;
-    }
-    Ok(Arc::new(alloc, load(alloc, &mut device)?)?)
-}
-
-/// Changes one byte of a block.
-fn set_byte(device: &mut MemDevice, address: u32, byte: usize, value: u8) -> Result<(), Refusal> {
-    if address >= device.blocks() || byte >= BLOCK_BYTES {
-        return Err(Refusal::BadIndex);
-    }
-    let mut block = [0; BLOCK_BYTES];
-    device.read(address, &mut block)?;
-    block[byte] = value;
-    device.write(address, &block)?;
-    Ok(())
+    Ok(Arc::new(alloc, frozen_with(alloc, &geometry, bytes)?)?)
 }
 
 /// The report of a fresh image.
@@ -55,66 +38,109 @@ const SOFT: &str =
 const DAMAGED: &str =
     "phase 1 blocks and sizes\nphase 2 names\nphase 3 connectivity\nphase 4 reference counts\nphase 5 maps\n  lost number 5\n  unmarked inode 2\nfindings 2\nrepairs 0\nverdict damaged\n";
 
-#[test]
-fn a_fresh_image_is_clean(rt: HostRuntime) -> Result<(), Refusal> {
-    let frozen = image_with(rt.alloc(), &[])?;
-    let checked = check_one(&rt, rt.alloc(), &frozen)?;
-    assert!(rt; checked.frozen().geometry().blocks() == 17);
-    assert!(rt; checked.findings().is_empty());
-    assert_eq!(rt; checked.report(), CLEAN.as_bytes());
-    assert_eq!(rt; checked.verdict(), Verdict::Clean);
-    assert!(rt; checked.repairs().is_empty());
+/// What a check has to say.
+struct Wanted {
+    findings: &'static [Finding],
+    report: &'static str,
+    verdict: Verdict,
+    repairs: &'static [Repair],
+}
+
+/// Expects this of the check of an image of one group that is fresh but for these bytes.
+fn expect_check<R: Threads + AllocGlobal + Abort + Sync>(
+    rt: &R,
+    bytes: &[Byte],
+    wanted: &Wanted,
+) -> Result<(), Refusal> {
+    let frozen = image_of(rt.alloc(), 1, bytes)?;
+    let checked = check_one(rt, rt.alloc(), &frozen)?;
+    same(rt, "blocks", checked.frozen().geometry().blocks(), 17);
+    same(rt, "findings", checked.findings(), wanted.findings);
+    same(rt, "report", checked.report(), wanted.report.as_bytes());
+    same(rt, "verdict", checked.verdict(), wanted.verdict);
+    same(rt, "repairs", checked.repairs(), wanted.repairs);
     Ok(())
 }
 
 #[test]
-fn marked_blocks_and_numbers_have_repairs(rt: HostRuntime) -> Result<(), Refusal> {
-    let frozen = image_with(rt.alloc(), &[(160, 0x61), (32, 0x24)])?;
-    let checked = check_one(&rt, rt.alloc(), &frozen)?;
-    let found = [
-        Finding::LostBlock(9),
-        Finding::LostBlock(10),
-        Finding::LostNumber(5),
-    ];
-    let repairs = [
-        Repair::FreeBlock(9),
-        Repair::FreeBlock(10),
-        Repair::FreeNumber(5),
-    ];
-    assert_eq!(rt; checked.findings(), &found[..]);
-    assert_eq!(rt; checked.report(), SOFT.as_bytes());
-    assert_eq!(rt; checked.verdict(), Verdict::Soft);
-    assert_eq!(rt; checked.repairs(), &repairs[..]);
+fn a_fresh_image_is_clean(rt: HostRuntime) -> Result<(), Fail> {
+    let wanted = Wanted {
+        findings: &[],
+        report: CLEAN,
+        verdict: Verdict::Clean,
+        repairs: &[],
+    };
+    expect_check(&rt, &[], &wanted)?;
     Ok(())
 }
 
 #[test]
-fn a_damaged_image_has_no_repairs(rt: HostRuntime) -> Result<(), Refusal> {
-    let frozen = image_with(rt.alloc(), &[(32, 0x20)])?;
-    let checked = check_one(&rt, rt.alloc(), &frozen)?;
-    assert_eq!(rt; checked.report(), DAMAGED.as_bytes());
-    assert_eq!(rt; checked.verdict(), Verdict::Damaged);
-    assert!(rt; checked.repairs().is_empty());
+fn marked_blocks_and_numbers_have_repairs(rt: HostRuntime) -> Result<(), Fail> {
+    let wanted = Wanted {
+        findings: &[
+            Finding::LostBlock(9),
+            Finding::LostBlock(10),
+            Finding::LostNumber(5),
+        ],
+        report: SOFT,
+        verdict: Verdict::Soft,
+        repairs: &[
+            Repair::FreeBlock(9),
+            Repair::FreeBlock(10),
+            Repair::FreeNumber(5),
+        ],
+    };
+    expect_check(&rt, MARKED, &wanted)?;
     Ok(())
 }
 
 #[test]
-fn one_to_64_workers_check(rt: HostRuntime) -> Result<(), Refusal> {
-    let frozen = image_of(rt.alloc(), 5, &[(160, 0x61), (32, 0x24)])?;
+fn a_damaged_image_has_no_repairs(rt: HostRuntime) -> Result<(), Fail> {
+    let wanted = Wanted {
+        findings: &[Finding::LostNumber(5), Finding::UnmarkedInode(2)],
+        report: DAMAGED,
+        verdict: Verdict::Damaged,
+        repairs: &[],
+    };
+    expect_check(&rt, ROOT_UNMARKED, &wanted)?;
+    Ok(())
+}
+
+/// Expects so many workers to be refused.
+fn expect_no_check<R: Threads + AllocGlobal + Abort + Sync>(
+    rt: &R,
+    frozen: &Arc<Frozen>,
+    workers: u32,
+) {
+    let refused = check(rt, rt.alloc(), frozen, workers, &OpenGate).err();
+    same(rt, workers, refused, Some(Refusal::BadWorkers));
+}
+
+/// Expects so many workers to find what one finds.
+fn expect_same<R: Threads + AllocGlobal + Abort + Sync>(
+    rt: &R,
+    frozen: &Arc<Frozen>,
+    workers: u32,
+    wanted: &Checked,
+) -> Result<(), Refusal> {
+    let checked = check(rt, rt.alloc(), frozen, workers, &OpenGate)?;
+    same(rt, workers, checked.findings(), wanted.findings());
+    same(rt, workers, checked.report(), wanted.report());
+    same(rt, workers, checked.verdict(), wanted.verdict());
+    same(rt, workers, checked.repairs(), wanted.repairs());
+    Ok(())
+}
+
+#[test]
+fn one_to_64_workers_check(rt: HostRuntime) -> Result<(), Fail> {
+    let frozen = image_of(rt.alloc(), 5, MARKED)?;
     for workers in [0, 65, u32::MAX] {
-        match check(&rt, rt.alloc(), &frozen, workers, &OpenGate) {
-            Ok(_) => panic!(&rt; "{workers} workers"),
-            Err(refusal) => assert_eq!(rt; refusal, Refusal::BadWorkers),
-        }
+        expect_no_check(&rt, &frozen, workers);
     }
     let wanted = check_one(&rt, rt.alloc(), &frozen)?;
-    assert_eq!(rt; wanted.verdict(), Verdict::Soft);
+    same(&rt, 1, wanted.verdict(), Verdict::Soft);
     for workers in [1, 2, 3, 4, 5, 6, 64] {
-        let checked = check(&rt, rt.alloc(), &frozen, workers, &OpenGate)?;
-        assert_eq!(rt; checked.findings(), wanted.findings());
-        assert_eq!(rt; checked.report(), wanted.report());
-        assert_eq!(rt; checked.verdict(), wanted.verdict());
-        assert_eq!(rt; checked.repairs(), wanted.repairs());
+        expect_same(&rt, &frozen, workers, &wanted)?;
     }
     Ok(())
 }
@@ -174,20 +200,30 @@ impl<R: Clock + Sync> Gate for Meeting<'_, R> {
     }
 }
 
-#[test]
-fn two_workers_are_at_work_at_once_in_each_phase(rt: HostRuntime) -> Result<(), Refusal> {
-    let frozen = image_of(rt.alloc(), 2, &[])?;
-    let places = five_places(rt.alloc())?;
-    let gate = Meeting {
-        clock: &rt,
-        places: places.as_slice(),
-    };
-    let checked = check(&rt, rt.alloc(), &frozen, 2, &gate)?;
+/// Expects both workers to have met in each phase.
+fn expect_met(rt: &impl Abort, places: &[Place]) {
     for (place, passes) in places.iter().zip(PASSES) {
-        assert_eq!(rt; place.first.load(Ordering::SeqCst), passes);
-        assert_eq!(rt; place.second.load(Ordering::SeqCst), passes);
-        assert_eq!(rt; place.met.load(Ordering::SeqCst), 2);
+        same(rt, "first", place.first.load(Ordering::SeqCst), passes);
+        same(rt, "second", place.second.load(Ordering::SeqCst), passes);
+        same(rt, "met", place.met.load(Ordering::SeqCst), 2);
     }
-    assert_eq!(rt; checked.report(), CLEAN.as_bytes());
+}
+
+/// The check of a fresh image of two groups by two workers, who meet at these places.
+fn checked_by_two<R: Threads + AllocGlobal + Clock + Sync>(
+    rt: &R,
+    places: &[Place],
+) -> Result<Checked, Refusal> {
+    let frozen = image_of(rt.alloc(), 2, &[])?;
+    let gate = Meeting { clock: rt, places };
+    check(rt, rt.alloc(), &frozen, 2, &gate)
+}
+
+#[test]
+fn two_workers_are_at_work_at_once_in_each_phase(rt: HostRuntime) -> Result<(), Fail> {
+    let places = five_places(rt.alloc())?;
+    let checked = checked_by_two(&rt, places.as_slice())?;
+    expect_met(&rt, places.as_slice());
+    same(&rt, "report", checked.report(), CLEAN.as_bytes());
     Ok(())
 }

@@ -4,4 +4,6 @@
 #[cfg(test)]
 mod checked;
 #[cfg(test)]
+mod expect;
+#[cfg(test)]
 mod obeyed;

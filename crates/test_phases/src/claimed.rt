@@ -1,29 +1,23 @@
+use crate::expect::same;
 use by_group::OfGroup;
-use device::{Before, Device, MemDevice, format};
+use device::{Device, MemDevice};
 use findings::{Finding, in_order};
 use frozen::{Frozen, load};
 use inode::{DIRECT_POINTERS, FILE, RECORD_BYTES, Record};
 use layout::{BLOCK_BYTES, Geometry, INODES_PER_BLOCK, Refusal};
-use phase_blocks::{Claim, owners, part};
+use phase_blocks::{BlockOwners, Claim, Part, owners, part};
 use std::alloc::Global;
+use std::process::Abort;
 use std::test::Fail;
+use test_images::device_with;
 
-/// A fresh image of two groups, each of 16 blocks and 16 inodes: its data blocks are 4 to 16 and 20 to 32, and the
-/// root claims block 4.
-fn fresh(alloc: Global) -> Result<MemDevice, Refusal> {
-    let geometry = Geometry::new(2, 16, 16)?;
-    let bytes = vec![in alloc; 0; geometry.blocks() as usize * BLOCK_BYTES]?;
-    let mut device = MemDevice::from_bytes(alloc, bytes.as_slice())?;
-    if device.blocks() != geometry.blocks() {
-        return Err(Refusal::BadLength);
-    }
-    format(&mut device, &geometry, Before::Anything)?;
-    Ok(device)
-}
-
-/// Writes the record of an inode of such an image.
-fn write_record(device: &mut MemDevice, number: u32, record: &Record) -> Result<(), Refusal> {
-    let geometry = Geometry::new(2, 16, 16)?;
+/// Writes the record of an inode.
+fn write_record(
+    device: &mut MemDevice,
+    geometry: &Geometry,
+    number: u32,
+    record: &Record,
+) -> Result<(), Refusal> {
     if number >= geometry.inodes() || device.blocks() != geometry.blocks() {
         return Err(Refusal::BadIndex);
     }
@@ -60,76 +54,139 @@ fn claim(block: u32, inode: u32, position: u32) -> Claim {
     }
 }
 
-/// What is found of both groups, and who owns the first six data blocks of the second one.
-fn look(alloc: Global, frozen: &Frozen) -> Result<(Vec<Finding>, Vec<Option<Claim>>), Refusal> {
+/// An inode's number and its record.
+type Numbered = (u32, Record);
+
+/// Writes these records.
+fn write_records(
+    device: &mut MemDevice,
+    geometry: &Geometry,
+    records: &[Numbered],
+) -> Result<(), Refusal> {
+    for (number, record) in records {
+        write_record(device, geometry, *number, record)?;
+    }
+    Ok(())
+}
+
+/// What is kept of an image of two groups, each of 16 blocks and 16 inodes, fresh but for these records: its data blocks
+/// are 4 to 16 and 20 to 32, and the root claims block 4.
+fn image_with(alloc: Global, records: &[Numbered]) -> Result<Frozen, Refusal> {
+    let geometry = Geometry::new(2, 16, 16)?;
+    let mut device = device_with(alloc, &geometry, &[])?;
+    match write_records(&mut device, &geometry, records) {
+        Ok(()) => load(alloc, &mut device),
+        Err(refusal) => Err(refusal),
+    }
+}
+
+/// What both groups claim.
+fn parts(alloc: Global, frozen: &Frozen) -> Result<Vec<Part>, Refusal> {
     let mut parts = Vec::new(alloc);
     for unit in 0..2 {
         parts.push(part(alloc, frozen, unit)?)?;
     }
-    let OfGroup { found, .. } = owners(alloc, frozen, parts.as_slice(), 0)?;
-    let mut found = found;
-    let OfGroup { kept, found: more } = owners(alloc, frozen, parts.as_slice(), 1)?;
-    let mut more = more;
+    Ok(parts)
+}
+
+/// The owners of the first six data blocks of a group.
+fn first_six(owners: &BlockOwners) -> [Option<Claim>; 6] {
+    [
+        owners.of(0),
+        owners.of(1),
+        owners.of(2),
+        owners.of(3),
+        owners.of(4),
+        owners.of(5),
+    ]
+}
+
+/// What is found of claims, and who owns the first six data blocks of a group.
+type Looked = (Vec<Finding>, [Option<Claim>; 6]);
+
+/// What is found of one group.
+fn look_at(alloc: Global, frozen: &Frozen, parts: &[Part], unit: u32) -> Result<Looked, Refusal> {
+    let OfGroup { kept, found } = owners(alloc, frozen, parts, unit)?;
+    Ok((found, first_six(&kept)))
+}
+
+/// What is found of both groups, with the owners of the second one.
+fn look(alloc: Global, frozen: &Frozen) -> Result<Looked, Refusal> {
+    let parts = parts(alloc, frozen)?;
+    let (mut found, _) = look_at(alloc, frozen, parts.as_slice(), 0)?;
+    let (mut more, owned) = look_at(alloc, frozen, parts.as_slice(), 1)?;
     found.append(&mut more)?;
-    let mut owned = Vec::new(alloc);
-    for bit in 0..6 {
-        owned.push(kept.of(bit))?;
-    }
     Ok((in_order(found)?, owned))
 }
 
-#[test]
-fn nothing_is_found_on_a_fresh_image(rt: HostRuntime) -> Result<(), Fail> {
-    let alloc = rt.alloc();
-    let mut device = fresh(alloc)?;
-    let frozen = load(alloc, &mut device)?;
-    let (found, owned) = look(alloc, &frozen)?;
-    assert_eq!(rt; found.as_slice(), [].as_slice());
-    assert!(rt; owned.iter().all(|owner| owner.is_none()));
+/// Expects these findings on the image with these records, and these owners of the first six data blocks of the second
+/// group, where they are asked for.
+fn expect_found<R: AllocGlobal + Abort>(
+    rt: &R,
+    records: &[Numbered],
+    wanted: &[Finding],
+    owners: Option<[Option<Claim>; 6]>,
+) -> Result<(), Refusal> {
+    let frozen = image_with(rt.alloc(), records)?;
+    let (found, owned) = look(rt.alloc(), &frozen)?;
+    same(rt, "found", found.as_slice(), wanted);
+    if let Some(owners) = owners {
+        same(rt, "owners", owned, owners);
+    }
     Ok(())
 }
 
 #[test]
+fn nothing_is_found_on_a_fresh_image(rt: HostRuntime) -> Result<(), Fail> {
+    expect_found(&rt, &[], &[], Some([None; 6]))?;
+    Ok(())
+}
+
+/// What is found where inode 5 is of no kind, inode 3 has pointers to no data blocks, and inode 16 claims blocks that are
+/// claimed already.
+const BAD: &[Finding] = &[
+    Finding::BadInode(5),
+    Finding::BadPointer(3, 1, 0),
+    Finding::BadPointer(3, 2, 17),
+    Finding::BadPointer(16, 3, 0),
+    Finding::BadPointer(16, 4, 0),
+    Finding::BadPointer(16, 5, 0),
+    Finding::BadPointer(16, 6, 0),
+    Finding::BadPointer(16, 7, 0),
+    Finding::BadPointer(16, 8, 0),
+    Finding::BadPointer(16, 9, 0),
+    Finding::BadPointer(16, 10, 0),
+    Finding::BadPointer(16, 11, 0),
+    Finding::BadPointer(16, 268, 33),
+    Finding::Duplicate(16, 0, 20),
+    Finding::Duplicate(16, 1, 4),
+    Finding::Duplicate(16, 2, 20),
+];
+
+#[test]
 fn bad_records_pointers_and_duplicates_are_found(rt: HostRuntime) -> Result<(), Fail> {
-    let alloc = rt.alloc();
-    let mut device = fresh(alloc)?;
     let mut bad_mode = file(0, [0; 3], 0);
     bad_mode.mode = 3;
-    write_record(&mut device, 5, &bad_mode)?;
-    // Its last two blocks are no data blocks.
-    write_record(&mut device, 3, &file(3 * 1024, [20, 0, 17], 9))?;
-    // It claims the blocks of the root and of inode 3, and one of them twice. Its indirect pointer is looked at.
-    write_record(&mut device, 16, &file(13 * 1024, [20, 4, 20], 33))?;
-    let frozen = load(alloc, &mut device)?;
-    let mut want = vec![in alloc;
-        Finding::BadInode(5),
-        Finding::BadPointer(3, 1, 0),
-        Finding::BadPointer(3, 2, 17),
-    ]?;
-    for position in 3..12 {
-        want.push(Finding::BadPointer(16, position, 0))?;
-    }
-    want.push(Finding::BadPointer(16, 268, 33))?;
-    want.push(Finding::Duplicate(16, 0, 20))?;
-    want.push(Finding::Duplicate(16, 1, 4))?;
-    want.push(Finding::Duplicate(16, 2, 20))?;
-    let (found, _owned) = look(alloc, &frozen)?;
-    assert_eq!(rt; found.as_slice(), want.as_slice());
+    let records = [
+        (5, bad_mode),
+        // Its last two blocks are no data blocks.
+        (3, file(3 * 1024, [20, 0, 17], 9)),
+        // It claims the blocks of the root and of inode 3, and one of them twice. Its indirect pointer is looked at.
+        (16, file(13 * 1024, [20, 4, 20], 33)),
+    ];
+    expect_found(&rt, &records, BAD, None)?;
     Ok(())
 }
 
 #[test]
 fn all_but_the_first_of_three_claims_are_duplicates(rt: HostRuntime) -> Result<(), Fail> {
-    let alloc = rt.alloc();
-    let mut device = fresh(alloc)?;
-    write_record(&mut device, 17, &file(1024, [21, 0, 0], 0))?;
-    write_record(&mut device, 6, &file(2 * 1024, [22, 21, 0], 0))?;
-    write_record(&mut device, 3, &file(3 * 1024, [23, 24, 21], 0))?;
-    let frozen = load(alloc, &mut device)?;
-    let want = [Finding::Duplicate(6, 1, 21), Finding::Duplicate(17, 0, 21)];
-    let (found, owned) = look(alloc, &frozen)?;
-    assert_eq!(rt; found.as_slice(), want.as_slice());
-    let claims = [
+    let records = [
+        (17, file(1024, [21, 0, 0], 0)),
+        (6, file(2 * 1024, [22, 21, 0], 0)),
+        (3, file(3 * 1024, [23, 24, 21], 0)),
+    ];
+    let wanted = [Finding::Duplicate(6, 1, 21), Finding::Duplicate(17, 0, 21)];
+    let owners = [
         None,
         Some(claim(21, 3, 2)),
         Some(claim(22, 6, 0)),
@@ -137,6 +194,6 @@ fn all_but_the_first_of_three_claims_are_duplicates(rt: HostRuntime) -> Result<(
         Some(claim(24, 3, 1)),
         None,
     ];
-    assert_eq!(rt; owned.as_slice(), &claims[..]);
+    expect_found(&rt, &records, &wanted, Some(owners))?;
     Ok(())
 }

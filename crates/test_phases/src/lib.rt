@@ -4,6 +4,10 @@
 #[cfg(test)]
 mod claimed;
 #[cfg(test)]
+mod expect;
+#[cfg(test)]
+mod images;
+#[cfg(test)]
 mod links;
 #[cfg(test)]
 mod marked;

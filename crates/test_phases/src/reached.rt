@@ -1,121 +1,59 @@
+use crate::expect::same;
+use crate::images::{TREE, image_with};
 use connectivity::{findings, merge, part, rounds, walk};
-use device::{Before, Device, MemDevice, format};
 use findings::Finding;
-use frozen::{Frozen, load};
-use layout::{BLOCK_BYTES, Geometry, Refusal};
+use frozen::Frozen;
+use layout::Refusal;
 use std::alloc::Global;
+use std::collections::BTreeSet;
+use std::process::Abort;
+use std::test::Fail;
 use workers::OpenGate;
 
-/// The bytes that differ from a fresh image of two groups of 16 blocks and 16 inodes: the block, the byte, the value.
-/// The root names 3, 18 and 6, and has a bad slot. Directory 3, in block 5, names the root in slot 2 and 17 in its last
-/// slot. Directories 19 and 20, in blocks 20 and 21, name each other, and 20 names 18. Inodes 17 and 18 are files; 6 is
-/// not sound.
-const CHANGES: [(u32, usize, u8); 46] = [
-    (2, 384, 2),
-    (2, 389, 4),
-    (2, 392, 5),
-    (2, 768, 3),
-    (18, 128, 1),
-    (18, 256, 1),
-    (18, 384, 2),
-    (18, 389, 4),
-    (18, 392, 20),
-    (18, 512, 2),
-    (18, 517, 4),
-    (18, 520, 21),
-    (4, 128, 3),
-    (4, 132, 1),
-    (4, 136, 97),
-    (4, 192, 18),
-    (4, 196, 1),
-    (4, 200, 98),
-    (4, 256, 6),
-    (4, 260, 1),
-    (4, 264, 99),
-    (4, 320, 40),
-    (4, 324, 1),
-    (4, 328, 100),
-    (5, 0, 3),
-    (5, 4, 1),
-    (5, 8, 46),
-    (5, 64, 2),
-    (5, 68, 2),
-    (5, 72, 46),
-    (5, 73, 46),
-    (5, 128, 2),
-    (5, 132, 1),
-    (5, 136, 97),
-    (5, 960, 17),
-    (5, 964, 1),
-    (5, 968, 98),
-    (20, 128, 20),
-    (20, 132, 1),
-    (20, 136, 97),
-    (21, 128, 19),
-    (21, 132, 1),
-    (21, 136, 97),
-    (21, 192, 18),
-    (21, 196, 1),
-    (21, 200, 98),
-];
-
-/// The metadata of this image.
-fn image(alloc: Global) -> Result<Frozen, Refusal> {
-    let geometry = Geometry::new(2, 16, 16)?;
-    let bytes = vec![in alloc; 0u8; geometry.blocks() as usize * BLOCK_BYTES]?;
-    let mut device = MemDevice::from_bytes(alloc, bytes.as_slice())?;
-    if device.blocks() != geometry.blocks() {
-        return Err(Refusal::BadLength);
-    }
-    format(&mut device, &geometry, Before::Anything)?;
-    for (address, byte, value) in &CHANGES {
-        set_byte(&mut device, *address, *byte, *value)?;
-    }
-    load(alloc, &mut device)
+/// Expects these inodes to be reached.
+fn expect_reached<R: AllocGlobal + Abort>(
+    rt: &R,
+    workers: u32,
+    reached: &BTreeSet<u32>,
+) -> Result<(), Refusal> {
+    let numbers: Vec<u32> = reached.iter().copied().collect(rt.alloc())?;
+    same(rt, workers, numbers.as_slice(), &[2, 3, 17, 18][..]);
+    Ok(())
 }
 
-/// Changes one byte of a block.
-fn set_byte(device: &mut MemDevice, address: u32, byte: usize, value: u8) -> Result<(), Refusal> {
-    if address >= device.blocks() || byte >= BLOCK_BYTES {
-        return Err(Refusal::BadIndex);
-    }
-    let mut block = [0; BLOCK_BYTES];
-    device.read(address, &mut block)?;
-    block[byte] = value;
-    device.write(address, &block)?;
+/// What is reached by one walk.
+fn walked(alloc: Global, frozen: &Frozen) -> Result<BTreeSet<u32>, Refusal> {
+    let whole = merge(part(alloc, frozen, 1)?, part(alloc, frozen, 0)?)?;
+    walk(alloc, frozen, &whole)
+}
+
+#[test]
+fn a_cycle_that_is_not_reachable_is_lost(rt: HostRuntime) -> Result<(), Fail> {
+    let frozen = image_with(rt.alloc(), TREE)?;
+    let reached = walked(rt.alloc(), &frozen)?;
+    expect_reached(&rt, 0, &reached)?;
+    let found = findings(rt.alloc(), &frozen, &reached)?;
+    let wanted = [Finding::LostInode(19), Finding::LostInode(20)];
+    same(&rt, "lost", found.as_slice(), &wanted[..]);
     Ok(())
 }
 
 #[test]
-fn a_cycle_that_is_not_reachable_is_lost(rt: HostRuntime) -> Result<(), Refusal> {
-    let alloc = rt.alloc();
-    let frozen = image(alloc)?;
-    let whole = merge(part(alloc, &frozen, 1)?, part(alloc, &frozen, 0)?)?;
-    let reached = walk(alloc, &frozen, &whole)?;
-    let numbers: Vec<u32> = reached.iter().copied().collect(alloc)?;
-    assert_eq!(rt; numbers.as_slice(), &[2, 3, 17, 18][..]);
-    let found = findings(alloc, &frozen, &reached)?;
-    assert_eq!(rt;
-        found.as_slice(),
-        &[Finding::LostInode(19), Finding::LostInode(20)][..]
-    );
-    Ok(())
-}
-
-#[test]
-fn many_workers_reach_what_one_reaches(rt: HostRuntime) -> Result<(), Refusal> {
-    let alloc = rt.alloc();
-    let frozen = image(alloc)?;
+fn one_to_64_workers_may_be_at_it(rt: HostRuntime) -> Result<(), Fail> {
+    let frozen = image_with(rt.alloc(), TREE)?;
     for workers in [0, 65] {
-        match rounds(&rt, alloc, &frozen, workers, &OpenGate) {
-            Ok(_) => panic!(&rt; "{workers} workers"),
-            Err(refusal) => assert_eq!(rt; refusal, Refusal::BadWorkers),
-        }
+        let refused = rounds(&rt, rt.alloc(), &frozen, workers, &OpenGate).err();
+        same(&rt, workers, refused, Some(Refusal::BadWorkers));
     }
+    Ok(())
+}
+
+#[test]
+fn many_workers_reach_what_one_reaches(rt: HostRuntime) -> Result<(), Fail> {
+    let frozen = image_with(rt.alloc(), TREE)?;
     for workers in [1, 2, 3, 64] {
-        let reached = rounds(&rt, alloc, &frozen, workers, &OpenGate)?;
-        let numbers: Vec<u32> = reached.iter().copied().collect(alloc)?;
-        assert_eq!(rt; numbers.as_slice(), &[2, 3, 17, 18][..]);
+        let reached = rounds(&rt, rt.alloc(), &frozen, workers, &OpenGate)?;
+        expect_reached(&rt, workers, &reached)?;
     }
     Ok(())
 }

@@ -1,17 +1,18 @@
-use device::{Before, Device, MemDevice, format};
+use crate::expect::same;
+use device::MemDevice;
 use findings::Finding;
 use frozen::{Frozen, load};
-use layout::{BLOCK_BYTES, Geometry, Refusal};
+use layout::{Geometry, Refusal};
 use phase_names::{Part, finish, merge, part};
 use std::alloc::Global;
 use std::collections::BTreeSet;
-
-/// A change of one byte of an image: the block, the byte, the value.
-type Change = (u32, usize, u8);
+use std::process::Abort;
+use std::test::Fail;
+use test_images::{Byte, device_with, set_bytes};
 
 /// The records of directories that differ from a fresh image of two groups of 16 blocks and 16 inodes. Directory 3 has
 /// block 5, 4 has block 6 and 5 has block 7. Directory 18 has 13 blocks: it claims 20, and 22 at position 12.
-const RECORDS: [Change; 15] = [
+const RECORDS: &[Byte] = &[
     (2, 384, 2),
     (2, 389, 4),
     (2, 392, 5),
@@ -31,7 +32,7 @@ const RECORDS: [Change; 15] = [
 
 /// The entries of the root from slot 2 on: `a` names 3, `b` names 4, `a` names 3 again, slot 5 is bad, `x` names 9,
 /// which is free, `r` names the root, `c` names 18, and slot 15 names the root too.
-const ROOT_ENTRIES: [Change; 22] = [
+const ROOT_ENTRIES: &[Byte] = &[
     (4, 128, 3),
     (4, 132, 1),
     (4, 136, b'a'),
@@ -58,7 +59,7 @@ const ROOT_ENTRIES: [Change; 22] = [
 
 /// The entries of the others. The dots of 3 and 18 are right, 4 has no slot 0 and its slot 1 names 3, which is
 /// reachable and does not name it. 5, which nothing reaches, has a bad slot. The last slot of 18 names 3.
-const OTHER_ENTRIES: [Change; 22] = [
+const OTHER_ENTRIES: &[Byte] = &[
     (5, 0, 3),
     (5, 4, 1),
     (5, 8, b'.'),
@@ -83,39 +84,39 @@ const OTHER_ENTRIES: [Change; 22] = [
     (22, 896, 1),
 ];
 
-/// The metadata of an image of two groups, fresh but for these changes.
-fn image_with(alloc: Global, tables: &[&[Change]]) -> Result<Frozen, Refusal> {
-    let geometry = Geometry::new(2, 16, 16)?;
-    let bytes = vec![in alloc; 0u8; geometry.blocks() as usize * BLOCK_BYTES]?;
-    let mut device = MemDevice::from_bytes(alloc, bytes.as_slice())?;
-    if device.blocks() != geometry.blocks() {
-        return Err(Refusal::BadLength);
-    }
-    format(&mut device, &geometry, Before::Anything)?;
-    for changes in tables {
-        change(&mut device, changes)?;
-    }
-    load(alloc, &mut device)
-}
-
-/// Changes bytes of a device.
-fn change(device: &mut MemDevice, changes: &[Change]) -> Result<(), Refusal> {
-    for (address, byte, value) in changes {
-        set_byte(device, *address, *byte, *value)?;
+/// Changes the bytes of each of these tables.
+fn change(device: &mut MemDevice, tables: &[&[Byte]]) -> Result<(), Refusal> {
+    for bytes in tables {
+        set_bytes(device, bytes)?;
     }
     Ok(())
 }
 
-/// Changes one byte of a block.
-fn set_byte(device: &mut MemDevice, address: u32, byte: usize, value: u8) -> Result<(), Refusal> {
-    if address >= device.blocks() || byte >= BLOCK_BYTES {
-        return Err(Refusal::BadIndex);
+/// What is kept of an image of two groups, fresh but for the bytes of these tables.
+fn image_with(alloc: Global, tables: &[&[Byte]]) -> Result<Frozen, Refusal> {
+    let mut device = device_with(alloc, &Geometry::new(2, 16, 16)?, &[])?;
+    match change(&mut device, tables) {
+        Ok(()) => load(alloc, &mut device),
+        Err(refusal) => Err(refusal),
     }
-    let mut block = [0; BLOCK_BYTES];
-    device.read(address, &mut block)?;
-    block[byte] = value;
-    device.write(address, &block)?;
-    Ok(())
+}
+
+/// A set of these numbers.
+fn set_of(alloc: Global, numbers: &[u32]) -> Result<BTreeSet<u32>, Refusal> {
+    let mut set = BTreeSet::new(alloc);
+    for number in numbers {
+        set.insert(*number)?;
+    }
+    Ok(set)
+}
+
+/// The parts of these units, merged in this order.
+fn merged(alloc: Global, frozen: &Frozen, units: &[u32]) -> Result<Part, Refusal> {
+    let mut whole = Part::new(alloc);
+    for unit in units {
+        whole = merge(whole, part(alloc, frozen, *unit)?)?;
+    }
+    Ok(whole)
 }
 
 /// The findings where these inodes are reached, of parts that are merged in this order.
@@ -125,62 +126,60 @@ fn found(
     reached: &[u32],
     units: &[u32],
 ) -> Result<Vec<Finding>, Refusal> {
-    let mut inodes = BTreeSet::new(alloc);
-    for inode in reached {
-        inodes.insert(*inode)?;
-    }
-    let mut whole = Part::new(alloc);
-    for unit in units {
-        whole = merge(whole, part(alloc, frozen, *unit)?)?;
-    }
-    finish(alloc, frozen, &whole, &inodes)
+    let reached = set_of(alloc, reached)?;
+    let whole = merged(alloc, frozen, units)?;
+    finish(alloc, frozen, &whole, &reached)
 }
 
-#[test]
-fn nothing_is_found_on_a_fresh_image(rt: HostRuntime) -> Result<(), Refusal> {
-    let alloc = rt.alloc();
-    let frozen = image_with(alloc, &[])?;
-    assert_eq!(rt; found(alloc, &frozen, &[2], &[0, 1])?.len(), 0);
+/// Expects these findings where these inodes are reached, of parts that are merged in this order.
+fn expect_found<R: AllocGlobal + Abort>(
+    rt: &R,
+    frozen: &Frozen,
+    reached: &[u32],
+    units: &[u32],
+    wanted: &[Finding],
+) -> Result<(), Refusal> {
+    let found = found(rt.alloc(), frozen, reached, units)?;
+    same(rt, units, found.as_slice(), wanted);
     Ok(())
 }
 
 #[test]
-fn a_bad_root_is_found_alone(rt: HostRuntime) -> Result<(), Refusal> {
-    let alloc = rt.alloc();
-    let no_root: [Change; 1] = [(2, 256, 0)];
-    let frozen = image_with(alloc, &[&ROOT_ENTRIES[..], &no_root[..]])?;
-    let wanted = [Finding::RootBad];
-    assert_eq!(rt;
-        found(alloc, &frozen, &[], &[0, 1])?.as_slice(),
-        &wanted[..]
-    );
+fn nothing_is_found_on_a_fresh_image(rt: HostRuntime) -> Result<(), Fail> {
+    let frozen = image_with(rt.alloc(), &[])?;
+    expect_found(&rt, &frozen, &[2], &[0, 1], &[])?;
     Ok(())
 }
 
+/// The root's record is free.
+const NO_ROOT: &[Byte] = &[(2, 256, 0)];
+
 #[test]
-fn each_kind_is_found_in_the_reachable_directories(rt: HostRuntime) -> Result<(), Refusal> {
-    let alloc = rt.alloc();
-    let frozen = image_with(
-        alloc,
-        &[&RECORDS[..], &ROOT_ENTRIES[..], &OTHER_ENTRIES[..]],
-    )?;
-    let wanted = [
-        Finding::BadSlot(2, 5),
-        Finding::BadSlot(18, 206),
-        Finding::DupName(2, 4),
-        Finding::BadDot(4),
-        Finding::BadDotDot(4),
-        Finding::ToUnsound(2, 6),
-        Finding::ExtraName(2, 4),
-        Finding::ExtraName(2, 7),
-        Finding::ExtraName(2, 15),
-        Finding::ExtraName(18, 207),
-    ];
+fn a_bad_root_is_found_alone(rt: HostRuntime) -> Result<(), Fail> {
+    let frozen = image_with(rt.alloc(), &[ROOT_ENTRIES, NO_ROOT])?;
+    expect_found(&rt, &frozen, &[], &[0, 1], &[Finding::RootBad])?;
+    Ok(())
+}
+
+/// What is found of the whole image.
+const FOUND: &[Finding] = &[
+    Finding::BadSlot(2, 5),
+    Finding::BadSlot(18, 206),
+    Finding::DupName(2, 4),
+    Finding::BadDot(4),
+    Finding::BadDotDot(4),
+    Finding::ToUnsound(2, 6),
+    Finding::ExtraName(2, 4),
+    Finding::ExtraName(2, 7),
+    Finding::ExtraName(2, 15),
+    Finding::ExtraName(18, 207),
+];
+
+#[test]
+fn each_kind_is_found_in_the_reachable_directories(rt: HostRuntime) -> Result<(), Fail> {
+    let frozen = image_with(rt.alloc(), &[RECORDS, ROOT_ENTRIES, OTHER_ENTRIES])?;
     for units in [[0, 1, 2], [2, 1, 0], [1, 0, 63]] {
-        assert_eq!(rt;
-            found(alloc, &frozen, &[2, 3, 4, 18], &units[..])?.as_slice(),
-            &wanted[..]
-        );
+        expect_found(&rt, &frozen, &[2, 3, 4, 18], &units, FOUND)?;
     }
     Ok(())
 }

@@ -3,3 +3,5 @@
 
 #[cfg(test)]
 mod drawn;
+#[cfg(test)]
+mod expect;

@@ -98,15 +98,18 @@ fn record_of(links: u16) -> Record {
     }
 }
 
+/// A block of which each byte is this one.
+fn block_of(byte: u8) -> Block {
+    [byte; BLOCK_BYTES]
+}
+
 /// The change that puts a value.
 fn change_of(alloc: Global, put: Put) -> Result<Change, Refusal> {
     Ok(match put {
         Put::Record(number, links) => Change::SetInode(number, record_of(links)),
         Put::Number(number, marked) => Change::SetNumber(number, marked),
         Put::Bit(address, marked) => Change::SetBlock(address, marked),
-        Put::Bytes(address, byte) => {
-            Change::SetBytes(address, Arc::new(alloc, [byte; BLOCK_BYTES])?)
-        }
+        Put::Bytes(address, byte) => { Change::SetBytes(address, Arc::new(alloc, block_of(byte))?) }
     })
 }
 
@@ -196,7 +199,7 @@ struct Seen {
 fn addresses(alloc: Global) -> Result<Vec<Block>, Refusal> {
     let mut blocks = Vec::new(alloc);
     for address in 0..BLOCKS {
-        blocks.push([address; BLOCK_BYTES])?;
+        blocks.push(block_of(address))?;
     }
     Ok(blocks)
 }
@@ -599,14 +602,18 @@ const FLUSHES: &[(u32, usize, Option<u8>)] = &[
     (6, 1, None),
 ];
 
+/// Whether these bytes are pending, each of them the same one.
+fn is_pending(queue: &Queue, address: u32, byte: Option<u8>) -> bool {
+    match (contents(queue, address), byte) {
+        (Some(block), Some(byte)) => block == block_of(byte),
+        (None, None) => true,
+        _ => false,
+    }
+}
+
 /// Expects these bytes of a block to be pending, each of them the same one.
 fn expect_contents(rt: &impl Abort, place: u32, bed: &Bed, address: u32, byte: Option<u8>) {
-    let wanted = byte.map(|byte| [byte; BLOCK_BYTES]);
-    holds(
-        rt,
-        (place, address),
-        contents(&bed.queue, address) == wanted,
-    );
+    holds(rt, (place, address), is_pending(&bed.queue, address, byte));
 }
 
 /// Expects the contents of blocks 6 and 7 after each flush.
@@ -662,12 +669,23 @@ fn many_updates_of_one_cell_go_at_once(rt: HostRuntime) -> Result<(), Fail> {
     Ok(())
 }
 
+/// Adds an update of each of two records, each after the other record.
+fn push_both(list: &mut Vec<Told>, links: u16) -> Result<(), Refusal> {
+    list.push(Told(Put::Record(5, links), AFTER_8))?;
+    list.push(Told(Put::Record(8, links), AFTER_5))?;
+    Ok(())
+}
+
+/// What comes after record 5, and what after record 8.
+const AFTER_5: &[Cell] = &[Cell::Record(5)];
+
+const AFTER_8: &[Cell] = &[Cell::Record(8)];
+
 /// Updates of two records in turn, each after the other record.
 fn to_and_fro(alloc: Global) -> Result<Vec<Told>, Refusal> {
     let mut list = Vec::new(alloc);
     for links in 1..=MANY {
-        list.push(Told(Put::Record(5, links), &[Cell::Record(8)]))?;
-        list.push(Told(Put::Record(8, links), &[Cell::Record(5)]))?;
+        push_both(&mut list, links)?;
     }
     Ok(list)
 }

@@ -1,22 +1,23 @@
 ghost use Rattle.std.specs.Prelude.{◌≡◌, true};
 ghost use Rattle.live_states.specs.Snapshots.{IsRepairOf};
 
-use device::{Before, Device, MemDevice, format};
+use crate::expect::same;
 use findings::Repair;
-use frozen::load;
 use inode::{FILE, FREE};
-use layout::{BLOCK_BYTES, Geometry, ROOT, Refusal};
+use layout::{Geometry, ROOT, Refusal};
 use live_holdings::Holdings;
 use live_plans::Planned;
 use live_repairs::repaired;
 use metadata::Metadata;
 use std::alloc::Global;
+use std::process::Abort;
 use std::test::Fail;
+use test_images::{Byte, frozen_with};
 use updates::{Cell, Change, Update};
 
 /// The bytes that differ from a fresh image of one group of 32 blocks and 16 inodes: the block, the byte, the value. File
 /// 4 has no name, 3 links, and 1,025 bytes in blocks 6 and 7.
-const CHANGES: [(u32, usize, u8); 6] = [
+const CHANGES: &[Byte] = &[
     (2, 512, 1),
     (2, 514, 3),
     (2, 516, 1),
@@ -40,29 +41,8 @@ enum Step {
 
 /// The metadata of this image.
 fn image(alloc: Global) -> Result<Metadata, Refusal> {
-    let geometry = Geometry::new(1, 32, 16)?;
-    let bytes = vec![in alloc; 0u8; geometry.blocks() as usize * BLOCK_BYTES]?;
-    let mut device = MemDevice::from_bytes(alloc, bytes.as_slice())?;
-    if device.blocks() != geometry.blocks() {
-        return Err(Refusal::BadLength);
-    }
-    format(&mut device, &geometry, Before::Anything)?;
-    for (address, byte, value) in &CHANGES {
-        set_byte(&mut device, *address, *byte, *value)?;
-    }
-    Ok(Metadata::new(alloc, load(alloc, &mut device)?)?)
-}
-
-/// Changes one byte of a block.
-fn set_byte(device: &mut MemDevice, address: u32, byte: usize, value: u8) -> Result<(), Refusal> {
-    if address >= device.blocks() || byte >= BLOCK_BYTES {
-        return Err(Refusal::BadIndex);
-    }
-    let mut block = [0; BLOCK_BYTES];
-    device.read(address, &mut block)?;
-    block[byte] = value;
-    device.write(address, &block)?;
-    Ok(())
+    let frozen = frozen_with(alloc, &Geometry::new(1, 32, 16)?, CHANGES)?;
+    Ok(Metadata::new(alloc, frozen)?)
 }
 
 /// Nothing is open, and a check of these repairs is installed.
@@ -92,15 +72,20 @@ fn mending(
     place: u32,
 ) -> Result<Vec<Update>, Refusal> {
     let repair = holdings.to_do(place)?;
-    let geometry = metadata.frozen().geometry();
-    if !is_of(&geometry, repair) {
+    if !is_of(&metadata.frozen().geometry(), repair) {
         return Err(Refusal::Damaged);
     }
-    let Planned { plan, holds } = repaired(alloc, metadata, holdings, repair)?;
-    if !holds.is_empty() {
-        return Err(Refusal::Damaged);
+    updates_of(repaired(alloc, metadata, holdings, repair)?)
+}
+
+/// The updates of what was planned, which holds no block.
+fn updates_of(planned: Planned) -> Result<Vec<Update>, Refusal> {
+    let Planned { plan, holds } = planned;
+    if holds.is_empty() {
+        Ok(plan.into_updates())
+    } else {
+        Err(Refusal::Damaged)
     }
-    Ok(plan.into_updates())
 }
 
 /// What a change does.
@@ -132,104 +117,122 @@ fn steps(
     Ok(steps)
 }
 
+/// A step, and the cell that it comes after.
+type After = (Step, Option<Cell>);
+
+/// Expects the repair of a place to make these steps in the name of a file.
+fn expect_steps<R: AllocGlobal + Abort>(
+    rt: &R,
+    metadata: &Metadata,
+    holdings: &Holdings,
+    place: u32,
+    file: u32,
+    wanted: &[After],
+) -> Result<(), Refusal> {
+    let updates = mending(rt.alloc(), metadata, holdings, place)?;
+    let done = steps(rt.alloc(), updates.as_slice(), file)?;
+    same(rt, place, done.as_slice(), wanted);
+    Ok(())
+}
+
+/// Expects the repair of a place, where these are installed, to make these steps in the name of a file.
+fn expect_repair<R: AllocGlobal + Abort>(
+    rt: &R,
+    repairs: &[Repair],
+    place: u32,
+    file: u32,
+    wanted: &[After],
+) -> Result<(), Refusal> {
+    let metadata = image(rt.alloc())?;
+    let holdings = to_mend(rt.alloc(), &metadata, repairs)?;
+    expect_steps(rt, &metadata, &holdings, place, file, wanted)
+}
+
 #[test]
 fn an_inode_is_dropped_with_its_blocks(rt: HostRuntime) -> Result<(), Fail> {
-    let alloc = rt.alloc();
-    let metadata = image(alloc)?;
-    let holdings = to_mend(
-        alloc,
-        &metadata,
-        &[Repair::DropInode(4), Repair::LowerCount(4, 3)],
-    )?;
+    let repairs = [Repair::DropInode(4), Repair::LowerCount(4, 3)];
     let record = Some(Cell::Record(4));
+    let wanted = [
+        (Step::Record(4, FREE, 0, 0), None),
+        (Step::Number(4), record),
+        (Step::Bit(6), record),
+        (Step::Bit(7), record),
+    ];
     for place in 0..2 {
-        let updates = mending(alloc, &metadata, &holdings, place)?;
-        let done = steps(alloc, updates.as_slice(), 4)?;
-        assert_eq!(rt;
-            done.as_slice(),
-            &[
-                (Step::Record(4, FREE, 0, 0), None),
-                (Step::Number(4), record),
-                (Step::Bit(6), record),
-                (Step::Bit(7), record)
-            ][..]
-        );
+        expect_repair(&rt, &repairs, place, 4, &wanted)?;
     }
     Ok(())
 }
 
+/// Opens a file.
+fn open(holdings: &mut Holdings, number: u32) -> Result<(), Refusal> {
+    match holdings.free_handle() {
+        Some(handle) => holdings.open(handle, number),
+        None => Err(Refusal::TooManyOpen),
+    }
+}
+
+/// Expects these steps of the first of these repairs, where the file is open.
+fn expect_repair_of_open<R: AllocGlobal + Abort>(
+    rt: &R,
+    repairs: &[Repair],
+    file: u32,
+    wanted: &[After],
+) -> Result<(), Refusal> {
+    let metadata = image(rt.alloc())?;
+    let mut holdings = to_mend(rt.alloc(), &metadata, repairs)?;
+    open(&mut holdings, file)?;
+    expect_steps(rt, &metadata, &holdings, 0, file, wanted)
+}
+
 #[test]
 fn an_open_inode_loses_its_links_alone(rt: HostRuntime) -> Result<(), Fail> {
-    let alloc = rt.alloc();
-    let metadata = image(alloc)?;
-    let mut holdings = to_mend(alloc, &metadata, &[Repair::DropInode(4)])?;
-    match holdings.free_handle() {
-        Some(handle) => holdings.open(handle, 4)?,
-        None => return Err(Refusal::TooManyOpen)?,
-    }
-    let updates = mending(alloc, &metadata, &holdings, 0)?;
-    let done = steps(alloc, updates.as_slice(), 4)?;
-    assert_eq!(rt;
-        done.as_slice(),
-        &[(Step::Record(4, FILE, 0, 1025), None)][..]
-    );
+    let wanted = [(Step::Record(4, FILE, 0, 1025), None)];
+    expect_repair_of_open(&rt, &[Repair::DropInode(4)], 4, &wanted)?;
     Ok(())
 }
 
 #[test]
 fn a_count_is_lowered_by_what_is_too_much(rt: HostRuntime) -> Result<(), Fail> {
-    let alloc = rt.alloc();
-    let metadata = image(alloc)?;
-    let holdings = to_mend(alloc, &metadata, &[Repair::LowerCount(4, 1)])?;
-    let updates = mending(alloc, &metadata, &holdings, 0)?;
-    let done = steps(alloc, updates.as_slice(), 4)?;
-    assert_eq!(rt;
-        done.as_slice(),
-        &[(Step::Record(4, FILE, 2, 1025), None)][..]
-    );
+    let wanted = [(Step::Record(4, FILE, 2, 1025), None)];
+    expect_repair(&rt, &[Repair::LowerCount(4, 1)], 0, 4, &wanted)?;
     Ok(())
 }
 
 #[test]
 fn blocks_and_numbers_are_unmarked(rt: HostRuntime) -> Result<(), Fail> {
-    let alloc = rt.alloc();
-    let metadata = image(alloc)?;
-    let holdings = to_mend(
-        alloc,
-        &metadata,
-        &[Repair::FreeBlock(9), Repair::FreeNumber(7)],
-    )?;
-    let of_block = mending(alloc, &metadata, &holdings, 0)?;
-    let of_number = mending(alloc, &metadata, &holdings, 1)?;
-    assert_eq!(rt;
-        steps(alloc, of_block.as_slice(), 9)?.as_slice(),
-        &[(Step::Bit(9), None)][..]
-    );
-    assert_eq!(rt;
-        steps(alloc, of_number.as_slice(), 7)?.as_slice(),
-        &[(Step::Number(7), None)][..]
-    );
+    let repairs = [Repair::FreeBlock(9), Repair::FreeNumber(7)];
+    expect_repair(&rt, &repairs, 0, 9, &[(Step::Bit(9), None)])?;
+    expect_repair(&rt, &repairs, 1, 7, &[(Step::Number(7), None)])?;
+    Ok(())
+}
+
+/// Expects the repair of a place to be refused.
+fn expect_refused<R: AllocGlobal + Abort>(
+    rt: &R,
+    metadata: &Metadata,
+    holdings: &Holdings,
+    place: u32,
+    wanted: Refusal,
+) {
+    let refused = mending(rt.alloc(), metadata, holdings, place).err();
+    same(rt, place, refused, Some(wanted));
+}
+
+/// Expects a volume with no check to refuse a repair.
+fn expect_no_plan<R: AllocGlobal + Abort>(rt: &R, metadata: &Metadata) -> Result<(), Refusal> {
+    let idle = Holdings::new(rt.alloc(), &metadata.frozen().geometry())?;
+    expect_refused(rt, metadata, &idle, 0, Refusal::NoPlan);
     Ok(())
 }
 
 #[test]
 fn each_cause_refuses(rt: HostRuntime) -> Result<(), Fail> {
-    let alloc = rt.alloc();
-    let metadata = image(alloc)?;
-    let idle = Holdings::new(alloc, &metadata.frozen().geometry())?;
-    assert_eq!(rt;
-        mending(alloc, &metadata, &idle, 0).err(),
-        Some(Refusal::NoPlan)
-    );
-    let mut holdings = to_mend(alloc, &metadata, &[Repair::FreeBlock(9)])?;
-    assert_eq!(rt;
-        mending(alloc, &metadata, &holdings, 1).err(),
-        Some(Refusal::BadIndex)
-    );
+    let metadata = image(rt.alloc())?;
+    expect_no_plan(&rt, &metadata)?;
+    let mut holdings = to_mend(rt.alloc(), &metadata, &[Repair::FreeBlock(9)])?;
+    expect_refused(&rt, &metadata, &holdings, 1, Refusal::BadIndex);
     holdings.finish(0);
-    assert_eq!(rt;
-        mending(alloc, &metadata, &holdings, 0).err(),
-        Some(Refusal::AlreadyDone)
-    );
+    expect_refused(&rt, &metadata, &holdings, 0, Refusal::AlreadyDone);
     Ok(())
 }

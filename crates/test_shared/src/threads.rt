@@ -1,21 +1,23 @@
 ghost use Rattle.std.specs.Prelude.{◌≡◌};
 
+mod asked;
 mod images;
 mod meeting;
 mod stage;
 
+use crate::expect::{holds, same};
+use asked::{Asked, Wanted, is_as};
 use device::MemDevice;
 use findings::Finding;
-use images::{
-    FILE_WITH_TWO_LINKS, FRESH, LOST_BLOCK, LOST_DIRECTORY, found_on, mounted, mounted_of,
-};
+use images::{FILE_WITH_TWO_LINKS, FRESH, LOST_BLOCK, LOST_DIRECTORY, found_on, mounted};
 use layout::Refusal;
-use meeting::check_beside_a_user;
+use meeting::{Met, check_beside_a_user};
 use shared::{Counts, Entry, MOST_CALLS, MOST_SEATS, Shared};
 use snapshot::{Answer, Command, Reply};
 use stage::{Outcome, Step, carry_out};
-use std::alloc::{AllocError, Global};
+use std::alloc::Global;
 use std::marker::Brand;
+use std::process::Abort;
 use std::sync::Wait;
 use std::sync::ledger::{Blank, Ledger};
 use std::test::Fail;
@@ -25,41 +27,21 @@ use std::thread::Threads;
 const TIMES: u32 = 20;
 
 /// Two threads: one makes a file, and writes and reads it; the other makes another one, and takes it away.
-fn two_users(alloc: Global) -> Result<Step, AllocError> {
-    Ok(Step::AtOnce(
-        vec![in alloc;
-            Command::Create(b"/x".to_vec(alloc)?),
-            Command::Open(b"/x".to_vec(alloc)?),
-            Command::Write {
-                handle: 0,
-                index: 0,
-                piece: b"abc".to_vec(alloc)?
-            },
-            Command::Read {
-                handle: 0,
-                index: 0
-            },
-        ]?,
-        vec![in alloc;
-            Command::Create(b"/y".to_vec(alloc)?),
-            Command::Unlink(b"/y".to_vec(alloc)?),
-        ]?,
-    ))
-}
+const TWO_USERS: Step = Step::AtOnce(
+    &[
+        Asked::Create(b"/x"),
+        Asked::Open(b"/x"),
+        Asked::Write(0, 0, b"abc"),
+        Asked::Read(0, 0),
+    ],
+    &[Asked::Create(b"/y"), Asked::Unlink(b"/y")],
+);
 
-/// Whether a reply is these bytes.
-fn is_bytes(reply: Option<&Reply>, wanted: &[u8]) -> bool {
-    matches!(reply, Some(Ok(Answer::Bytes(bytes))) if bytes.as_slice() == wanted)
-}
-
-/// Whether a reply is this refusal.
-fn is_refused(reply: Option<&Reply>, wanted: Refusal) -> bool {
-    matches!(reply, Some(Err(refusal)) if *refusal == wanted)
-}
-
-/// Whether a reply is that there is nothing to tell.
-fn is_done(reply: Option<&Reply>) -> bool {
-    matches!(reply, Some(Ok(Answer::Done)))
+/// Expects these replies at these places.
+fn expect_replies(rt: &impl Abort, replies: &[Reply], wanted: &[(usize, Wanted)]) {
+    for (place, wanted) in wanted {
+        holds(rt, (*place, *wanted), is_as(replies.get(*place), *wanted));
+    }
 }
 
 /// Whether the same is noted of two replies, which are no images.
@@ -95,264 +77,262 @@ fn are_noted(trace: &[Entry], second: bool, replies: &[Reply]) -> bool {
     left.next().is_none()
 }
 
+/// Whether the replies to four calls of one thread, and then to the calls of the other one, are noted.
+fn are_all_noted(trace: &[Entry], replies: &[Reply]) -> bool {
+    match (replies.get(..4), replies.get(4..)) {
+        (Some(first), Some(second)) => {
+            are_noted(trace, false, first) && are_noted(trace, true, second)
+        }
+        _ => false,
+    }
+}
+
+/// Expects both threads to have got the replies that are noted.
+fn expect_noted(rt: &impl Abort, outcome: &Outcome) {
+    let (trace, replies) = (
+        outcome.closed.trace.as_slice(),
+        outcome.told.replies.as_slice(),
+    );
+    same(rt, "replies", replies.len(), 6);
+    expect_replies(rt, replies, &[(3, Wanted::Bytes(b"abc"))]);
+    same(rt, "before", outcome.closed.before, Counts::NONE);
+    same(rt, "trace", trace.len(), 6);
+    holds(rt, "noted", are_all_noted(trace, replies));
+}
+
 #[test]
 fn two_threads_get_the_replies_that_are_noted(rt: HostRuntime) -> Result<(), Fail> {
-    let alloc = rt.alloc();
     for _time in 0..TIMES {
-        let steps = vec![in alloc; two_users(alloc)?]?;
-        let Ok(Outcome { told, closed }) = carry_out(&rt, alloc, mounted(alloc, FRESH)?, 100, steps)
-        else {
-            assert!(rt; false, "it is refused");
-            return Ok(());
-        };
-        assert_eq!(rt; told.replies.len(), 6);
-        let (first, second) = told.replies.as_slice().split_at(4);
-        assert!(rt; is_bytes(first.get(3), b"abc"));
-        assert_eq!(rt; closed.before, Counts::NONE);
-        assert_eq!(rt; closed.trace.len(), 6);
-        assert!(rt; are_noted(closed.trace.as_slice(), false, first));
-        assert!(rt; are_noted(closed.trace.as_slice(), true, second));
+        let outcome = carry_out(&rt, rt.alloc(), FRESH, 100, &[TWO_USERS])?;
+        expect_noted(&rt, &outcome);
     }
     Ok(())
+}
+
+/// How many of these replies are that the trace is full.
+fn full(replies: &[Reply]) -> usize {
+    let wanted = Wanted::Refused(Refusal::TraceFull);
+    replies
+        .iter()
+        .filter(|reply| is_as(Some(*reply), wanted))
+        .count()
+}
+
+/// Expects one call to have found the trace full, and one to have gone after that.
+fn expect_emptied(rt: &impl Abort, outcome: &Outcome) {
+    let replies = outcome.told.replies.as_slice();
+    let before = Counts {
+        repairs: 0,
+        others: 5,
+    };
+    same(rt, "full", full(replies), 1);
+    expect_replies(rt, replies, &[(6, Wanted::Bytes(b"abc"))]);
+    same(rt, "before", outcome.closed.before, before);
+    same(rt, "trace", outcome.closed.trace.len(), 1);
 }
 
 #[test]
 fn a_full_trace_takes_a_call_once_it_is_emptied(rt: HostRuntime) -> Result<(), Fail> {
-    let alloc = rt.alloc();
+    let steps = [TWO_USERS, Step::Rotate, Step::Call(Asked::Read(0, 0))];
     for _time in 0..TIMES {
-        let steps = vec![in alloc;
-            two_users(alloc)?,
-            Step::Rotate,
-            Step::Call(Command::Read {
-                handle: 0,
-                index: 0
-            }),
-        ]?;
-        let Ok(Outcome { told, closed }) = carry_out(&rt, alloc, mounted(alloc, FRESH)?, 5, steps)
-        else {
-            assert!(rt; false, "it is refused");
-            return Ok(());
-        };
-        let full = told
-            .replies
-            .iter()
-            .filter(|reply| is_refused(Some(*reply), Refusal::TraceFull))
-            .count();
-        assert_eq!(rt; full, 1);
-        assert!(rt; is_bytes(told.replies.get(6), b"abc"));
-        assert_eq!(rt;
-            closed.before,
-            Counts {
-                repairs: 0,
-                others: 5
-            }
-        );
-        assert_eq!(rt; closed.trace.len(), 1);
+        let outcome = carry_out(&rt, rt.alloc(), FRESH, 5, &steps)?;
+        expect_emptied(&rt, &outcome);
     }
     Ok(())
+}
+
+/// Expects three repairs of a directory that was lost.
+fn expect_three_repairs(rt: &impl Abort, outcome: &Outcome) {
+    let found = [
+        Finding::LostInode(6),
+        Finding::LostInode(7),
+        Finding::CountHigh(2, 3, 2),
+    ];
+    let unmarked = outcome.closed.volume.live().unmarked_blocks();
+    same(rt, "found", outcome.told.findings.as_slice(), &found[..]);
+    same(rt, "done", outcome.told.done, 3);
+    same(rt, "trace", outcome.closed.trace.len(), 11);
+    same(rt, "unmarked", unmarked, 12);
 }
 
 #[test]
 fn two_threads_share_the_repairs(rt: HostRuntime) -> Result<(), Fail> {
-    let alloc = rt.alloc();
+    let steps = [Step::Check, Step::RepairAll, Step::Call(Asked::Release)];
     for _time in 0..TIMES {
-        let steps = vec![in alloc; Step::Check, Step::RepairAll, Step::Call(Command::Release)]?;
-        let Ok(Outcome { told, closed }) = carry_out(
-            &rt,
-            alloc,
-            mounted(alloc, LOST_DIRECTORY)?,
-            100,
-            steps,
-        ) else {
-            assert!(rt; false, "it is refused");
-            return Ok(());
-        };
-        let found = [
-            Finding::LostInode(6),
-            Finding::LostInode(7),
-            Finding::CountHigh(2, 3, 2),
-        ];
-        assert_eq!(rt; told.findings.as_slice(), &found[..]);
-        assert_eq!(rt; told.done, 3);
-        assert_eq!(rt; closed.trace.len(), 11);
-        assert_eq!(rt; closed.volume.live().unmarked_blocks(), 12);
+        let outcome = carry_out(&rt, rt.alloc(), LOST_DIRECTORY, 100, &steps)?;
+        expect_three_repairs(&rt, &outcome);
     }
     Ok(())
 }
 
-/// Whether a reply tells that a file has so many links.
-fn has_links(reply: Option<&Reply>, links: u16) -> bool {
-    matches!(reply, Some(Ok(Answer::Status(status))) if status.links == links)
-}
-
-/// The file of a link too many is checked, and then moved into a new directory.
-fn moved(alloc: Global) -> Result<Vec<Step>, AllocError> {
-    Ok(vec![in alloc;
-        Step::Check,
-        Step::Call(Command::Mkdir(b"/d".to_vec(alloc)?)),
-        Step::Call(Command::Rename(b"/a".to_vec(alloc)?, b"/d/c".to_vec(alloc)?)),
-    ]?)
-}
+/// The file of a link too many is checked, and then moved into a new directory, repaired and looked at.
+const MOVED_AND_REPAIRED: &[Step] = &[
+    Step::Check,
+    Step::Call(Asked::Mkdir(b"/d")),
+    Step::Call(Asked::Rename(b"/a", b"/d/c")),
+    Step::Call(Asked::Repair(0)),
+    Step::Call(Asked::Stat(b"/d/c")),
+];
 
 #[test]
 fn a_file_that_was_moved_is_repaired(rt: HostRuntime) -> Result<(), Fail> {
-    let alloc = rt.alloc();
-    let mut steps = moved(alloc)?;
-    steps.push(Step::Call(Command::Repair(0)))?;
-    steps.push(Step::Call(Command::Stat(b"/d/c".to_vec(alloc)?)))?;
-    let Ok(Outcome { told, closed }) = carry_out(
+    let outcome = carry_out(
         &rt,
-        alloc,
-        mounted(alloc, FILE_WITH_TWO_LINKS)?,
+        rt.alloc(),
+        FILE_WITH_TWO_LINKS,
         100,
-        steps,
-    ) else {
-        assert!(rt; false, "it is refused");
-        return Ok(());
-    };
-    assert!(rt; is_done(told.replies.get(3)));
-    assert!(rt; has_links(told.replies.get(4), 1));
-    assert_eq!(rt; closed.trace.len(), 6);
+        MOVED_AND_REPAIRED,
+    )?;
+    let wanted = [(3, Wanted::Done), (4, Wanted::Links(1))];
+    expect_replies(&rt, outcome.told.replies.as_slice(), &wanted);
+    same(&rt, "trace", outcome.closed.trace.len(), 6);
     Ok(())
 }
+
+/// The same file is checked and moved, and the volume is frozen anew before the repair.
+const MOVED_AND_FROZEN: &[Step] = &[
+    Step::Check,
+    Step::Call(Asked::Mkdir(b"/d")),
+    Step::Call(Asked::Rename(b"/a", b"/d/c")),
+    Step::Call(Asked::Release),
+    Step::Call(Asked::Freeze),
+    Step::Call(Asked::Repair(0)),
+];
 
 #[test]
 fn a_plan_ends_with_the_next_freeze(rt: HostRuntime) -> Result<(), Fail> {
-    let alloc = rt.alloc();
-    let mut steps = moved(alloc)?;
-    for command in [Command::Release, Command::Freeze, Command::Repair(0)] {
-        steps.push(Step::Call(command))?;
-    }
-    let Ok(Outcome { told, closed: _ }) = carry_out(
-        &rt,
-        alloc,
-        mounted(alloc, FILE_WITH_TWO_LINKS)?,
-        100,
-        steps,
-    ) else {
-        assert!(rt; false, "it is refused");
-        return Ok(());
-    };
-    assert!(rt; is_refused(told.replies.get(5), Refusal::NoPlan));
+    let outcome = carry_out(&rt, rt.alloc(), FILE_WITH_TWO_LINKS, 100, MOVED_AND_FROZEN)?;
+    let wanted = [(5, Wanted::Refused(Refusal::NoPlan))];
+    expect_replies(&rt, outcome.told.replies.as_slice(), &wanted);
     Ok(())
-}
-
-/// A file is opened and loses its last name between two checks, and the repair of the second one drops it.
-fn dropped_while_open(alloc: Global) -> Result<Vec<Step>, AllocError> {
-    Ok(vec![in alloc;
-        Step::Check,
-        Step::Call(Command::Open(b"/a".to_vec(alloc)?)),
-        Step::Call(Command::Unlink(b"/a".to_vec(alloc)?)),
-        Step::Call(Command::Release),
-        Step::Check,
-        Step::Call(Command::Repair(0)),
-    ]?)
-}
-
-#[test]
-fn a_file_that_is_dropped_while_it_is_open_goes_when_it_is_closed(
-    rt: HostRuntime,
-) -> Result<(), Fail> {
-    let alloc = rt.alloc();
-    let found = found_after(&rt, alloc, dropped_while_open(alloc)?)?;
-    assert_eq!(rt; found.as_slice(), &[Finding::LostInode(5)][..]);
-    let mut steps = dropped_while_open(alloc)?;
-    steps.push(Step::Call(Command::Close(0)))?;
-    assert!(rt; found_after(&rt, alloc, steps)?.is_empty());
-    Ok(())
-}
-
-/// A file is open before the check, loses its last name, and has its links lowered.
-fn lowered_while_open(alloc: Global) -> Result<Vec<Step>, AllocError> {
-    Ok(vec![in alloc;
-        Step::Call(Command::Open(b"/a".to_vec(alloc)?)),
-        Step::Check,
-        Step::Call(Command::Unlink(b"/a".to_vec(alloc)?)),
-        Step::Call(Command::Repair(0)),
-    ]?)
 }
 
 /// What a check finds on the device after these steps, which end with a sync.
 fn found_after<R: Threads + Wait + Sync>(
     rt: &R,
     alloc: Global,
-    mut steps: Vec<Step>,
+    steps: &[Step],
 ) -> Result<Vec<Finding>, Refusal> {
-    steps.push(Step::Call(Command::Sync))?;
-    let volume = mounted(alloc, FILE_WITH_TWO_LINKS)?;
-    let outcome = carry_out(rt, alloc, volume, 100, steps)?;
+    let outcome = carry_out(rt, alloc, FILE_WITH_TWO_LINKS, 100, steps)?;
     found_on(rt, alloc, &outcome.closed.volume)
 }
 
+/// Expects a check to find this on the device after these steps, which end with a sync.
+fn expect_found<R: Threads + Wait + Sync + AllocGlobal + Abort>(
+    rt: &R,
+    steps: &[Step],
+    wanted: &[Finding],
+) -> Result<(), Refusal> {
+    let found = found_after(rt, rt.alloc(), steps)?;
+    same(rt, "found", found.as_slice(), wanted);
+    Ok(())
+}
+
+/// A file is opened and loses its last name between two checks, and the repair of the second one drops it.
+const DROPPED_WHILE_OPEN: &[Step] = &[
+    Step::Check,
+    Step::Call(Asked::Open(b"/a")),
+    Step::Call(Asked::Unlink(b"/a")),
+    Step::Call(Asked::Release),
+    Step::Check,
+    Step::Call(Asked::Repair(0)),
+    Step::Call(Asked::Sync),
+];
+
+/// The same, and the file is closed.
+const DROPPED_AND_CLOSED: &[Step] = &[
+    Step::Check,
+    Step::Call(Asked::Open(b"/a")),
+    Step::Call(Asked::Unlink(b"/a")),
+    Step::Call(Asked::Release),
+    Step::Check,
+    Step::Call(Asked::Repair(0)),
+    Step::Call(Asked::Close(0)),
+    Step::Call(Asked::Sync),
+];
+
+#[test]
+fn a_file_that_is_dropped_while_it_is_open_goes_when_it_is_closed(
+    rt: HostRuntime,
+) -> Result<(), Fail> {
+    expect_found(&rt, DROPPED_WHILE_OPEN, &[Finding::LostInode(5)])?;
+    expect_found(&rt, DROPPED_AND_CLOSED, &[])?;
+    Ok(())
+}
+
+/// A file is open before the check, loses its last name, and has its links lowered.
+const LOWERED_WHILE_OPEN: &[Step] = &[
+    Step::Call(Asked::Open(b"/a")),
+    Step::Check,
+    Step::Call(Asked::Unlink(b"/a")),
+    Step::Call(Asked::Repair(0)),
+    Step::Call(Asked::Sync),
+];
+
+/// The same, and the file is closed.
+const LOWERED_AND_CLOSED: &[Step] = &[
+    Step::Call(Asked::Open(b"/a")),
+    Step::Check,
+    Step::Call(Asked::Unlink(b"/a")),
+    Step::Call(Asked::Repair(0)),
+    Step::Call(Asked::Close(0)),
+    Step::Call(Asked::Sync),
+];
+
 #[test]
 fn a_file_that_was_open_before_the_freeze_is_repaired(rt: HostRuntime) -> Result<(), Fail> {
-    let alloc = rt.alloc();
     for _time in 0..TIMES {
-        let found = found_after(&rt, alloc, lowered_while_open(alloc)?)?;
-        assert_eq!(rt; found.as_slice(), &[Finding::LostInode(5)][..]);
-        let mut steps = lowered_while_open(alloc)?;
-        steps.push(Step::Call(Command::Close(0)))?;
-        assert!(rt; found_after(&rt, alloc, steps)?.is_empty());
+        expect_found(&rt, LOWERED_WHILE_OPEN, &[Finding::LostInode(5)])?;
+        expect_found(&rt, LOWERED_AND_CLOSED, &[])?;
     }
     Ok(())
 }
 
-/// The block of a file's index is written.
-fn written(alloc: Global, index: u32) -> Result<Command, AllocError> {
-    Ok(Command::Write {
-        handle: 0,
-        index,
-        piece: vec![in alloc; b'0'; 1024]?,
-    })
-}
+/// A block of the character 0.
+const ZEROS: &[u8] = &[b'0'; 1024];
+
+/// A lost block is given back, a file takes it, and the repair is asked for once more.
+const REPAIRED_TWICE: &[Step] = &[
+    Step::Check,
+    Step::Call(Asked::Repair(0)),
+    Step::Call(Asked::Create(b"/f")),
+    Step::Call(Asked::Open(b"/f")),
+    Step::Call(Asked::Write(0, 0, ZEROS)),
+    Step::Call(Asked::Write(0, 1, ZEROS)),
+    Step::Call(Asked::Write(0, 2, ZEROS)),
+    Step::Call(Asked::Write(0, 3, ZEROS)),
+    Step::Call(Asked::Write(0, 4, ZEROS)),
+    Step::Call(Asked::Repair(0)),
+    Step::Call(Asked::Read(0, 4)),
+];
 
 #[test]
 fn a_repair_is_carried_out_once(rt: HostRuntime) -> Result<(), Fail> {
-    let alloc = rt.alloc();
+    let wanted = [
+        (1, Wanted::Done),
+        (9, Wanted::Refused(Refusal::AlreadyDone)),
+        (10, Wanted::Bytes(ZEROS)),
+    ];
     for _time in 0..TIMES {
-        let mut steps = vec![in alloc;
-            Step::Check,
-            Step::Call(Command::Repair(0)),
-            Step::Call(Command::Create(b"/f".to_vec(alloc)?)),
-            Step::Call(Command::Open(b"/f".to_vec(alloc)?)),
-        ]?;
-        for index in 0..5 {
-            steps.push(Step::Call(written(alloc, index)?))?;
-        }
-        steps.push(Step::Call(Command::Repair(0)))?;
-        steps.push(Step::Call(Command::Read {
-            handle: 0,
-            index: 4,
-        }))?;
-        let Ok(Outcome { told, closed: _ }) = carry_out(
-            &rt,
-            alloc,
-            mounted(alloc, LOST_BLOCK)?,
-            100,
-            steps,
-        ) else {
-            assert!(rt; false, "it is refused");
-            return Ok(());
-        };
-        assert!(rt; is_done(told.replies.get(1)));
-        assert!(rt; is_refused(told.replies.get(9), Refusal::AlreadyDone));
-        assert!(rt; is_bytes(told.replies.get(10), &[b'0'; 1024]));
+        let outcome = carry_out(&rt, rt.alloc(), LOST_BLOCK, 100, REPAIRED_TWICE)?;
+        expect_replies(&rt, outcome.told.replies.as_slice(), &wanted);
     }
     Ok(())
+}
+
+/// Expects two workers to have met in each phase, and a user to have gone on.
+fn expect_met(rt: &impl Abort, met: &Met) {
+    holds(rt, "clean", met.checked.findings().is_empty());
+    same(rt, "met", met.met.as_slice(), &[2, 2, 2, 2, 2][..]);
+    let wanted = [(0, Wanted::Number(3)), (1, Wanted::Done)];
+    expect_replies(rt, met.replies.as_slice(), &wanted);
 }
 
 #[test]
 fn users_go_on_while_two_workers_check(rt: HostRuntime) -> Result<(), Fail> {
-    let alloc = rt.alloc();
     for _time in 0..TIMES {
-        let Ok(met) = check_beside_a_user(&rt, alloc, mounted_of(alloc, 2, FRESH)?) else {
-            assert!(rt; false, "it is refused");
-            return Ok(());
-        };
-        assert!(rt; met.checked.findings().is_empty());
-        assert_eq!(rt; met.met.as_slice(), &[2, 2, 2, 2, 2][..]);
-        assert!(rt; matches!(met.replies.first(), Some(Ok(Answer::Number(3)))));
-        assert!(rt; is_done(met.replies.get(1)));
+        let met = check_beside_a_user(&rt, rt.alloc())?;
+        expect_met(&rt, &met);
     }
     Ok(())
 }
@@ -380,7 +360,7 @@ fn may_share_on<L: Ledger, M: Ledger>(
     requires parts { (repairs.parts ≡ L.parts) × (others.parts ≡ M.parts) }
     requires seats { (repairs.parts ≡ seats) × (others.parts ≡ seats) }
 {
-    let volume = mounted(alloc, FRESH)?;
+    let volume = mounted(alloc, 1, FRESH)?;
     match Shared::<MemDevice, L, M>::new(alloc, volume, limit, seats, repairs, others) {
         Ok((_shared, made)) => Ok(made.len() == seats as usize),
         Err(Refusal::BadIndex) => Ok(false),
@@ -390,13 +370,17 @@ fn may_share_on<L: Ledger, M: Ledger>(
 
 #[test]
 fn one_to_64_may_share_a_trace_of_up_to_a_million_calls(rt: HostRuntime) -> Result<(), Fail> {
-    let alloc = rt.alloc();
-    assert_eq!(rt; (MOST_CALLS, MOST_SEATS), (1_000_000, 64));
-    for (limit, seats) in [(1, 1), (1_000_000, 64)] {
-        assert!(rt; may_share(alloc, limit, seats)?);
-    }
-    for (limit, seats) in [(0, 1), (1_000_001, 1), (1, 0), (1, 65)] {
-        assert!(rt; !may_share(alloc, limit, seats)?);
+    same(&rt, "most", (MOST_CALLS, MOST_SEATS), (1_000_000, 64));
+    for (limit, seats, wanted) in [
+        (1, 1, true),
+        (1_000_000, 64, true),
+        (0, 1, false),
+        (1_000_001, 1, false),
+        (1, 0, false),
+        (1, 65, false),
+    ] {
+        let shared = may_share(rt.alloc(), limit, seats)?;
+        same(&rt, (limit, seats), shared, wanted);
     }
     Ok(())
 }

@@ -4,4 +4,6 @@
 #[cfg(test)]
 mod answered;
 #[cfg(test)]
+mod expect;
+#[cfg(test)]
 mod parsed;

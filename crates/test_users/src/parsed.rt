@@ -1,3 +1,4 @@
+use crate::expect::{holds, same};
 use layout::Refusal;
 use snapshot::{Answer, Command, Reply};
 use std::alloc::{AllocError, Global};
@@ -12,13 +13,6 @@ const EACH_COMMAND: &[u8] =
 /// The command in text, with its numbers as they are read.
 fn shown(alloc: Global, command: &Command) -> Result<String, AllocError> {
     match command {
-        Command::Create(_) => String::from_str(alloc, "create"),
-        Command::Mkdir(_) => String::from_str(alloc, "mkdir"),
-        Command::Link(_, _) => String::from_str(alloc, "link"),
-        Command::Unlink(_) => String::from_str(alloc, "unlink"),
-        Command::Rmdir(_) => String::from_str(alloc, "rmdir"),
-        Command::Rename(_, _) => String::from_str(alloc, "rename"),
-        Command::Open(_) => String::from_str(alloc, "open"),
         Command::Close(handle) => format!(in alloc; "close {handle}"),
         Command::Read { handle, index } => format!(in alloc; "read {handle} {index}"),
         Command::Write {
@@ -30,85 +24,119 @@ fn shown(alloc: Global, command: &Command) -> Result<String, AllocError> {
             format!(in alloc; "write {handle} {index} of {bytes}")
         }
         Command::Truncate { handle, size } => format!(in alloc; "truncate {handle} {size}"),
-        Command::List(_) => String::from_str(alloc, "list"),
-        Command::Stat(_) => String::from_str(alloc, "stat"),
         Command::Flush(address) => format!(in alloc; "flush {address}"),
-        Command::Sync => String::from_str(alloc, "sync"),
-        _ => String::from_str(alloc, "another"),
+        _ => String::from_str(alloc, word_of(command)),
     }
 }
 
-/// The lines of a script that is to be read, with the user and the command of each.
-fn read(alloc: Global, script: &[u8], which: Commands) -> Result<Vec<String>, Fail> {
-    let mut all = Vec::new(alloc);
-    for line in parse(alloc, script, which)? {
-        let user = line.user;
-        let command = shown(alloc, &line.command)?;
-        all.push(format!(in alloc; "{user} {command}")?)?;
+/// The word of a command without numbers.
+fn word_of(command: &Command) -> &'static str {
+    match command {
+        Command::Create(_) => "create",
+        Command::Mkdir(_) => "mkdir",
+        Command::Link(_, _) => "link",
+        Command::Unlink(_) => "unlink",
+        Command::Rmdir(_) => "rmdir",
+        Command::Rename(_, _) => "rename",
+        Command::Open(_) => "open",
+        Command::List(_) => "list",
+        Command::Stat(_) => "stat",
+        Command::Sync => "sync",
+        _ => "another",
     }
-    Ok(all)
 }
+
+/// A line with its user and its command.
+fn shown_line(alloc: Global, line: &UserLine) -> Result<String, AllocError> {
+    let user = line.user;
+    let command = shown(alloc, &line.command)?;
+    format!(in alloc; "{user} {command}")
+}
+
+/// Expects a line to be shown so.
+fn expect_line<R: AllocGlobal + Abort>(
+    rt: &R,
+    line: &UserLine,
+    wanted: &str,
+) -> Result<(), AllocError> {
+    let shown = shown_line(rt.alloc(), line)?;
+    same(rt, wanted, shown.as_str(), wanted);
+    Ok(())
+}
+
+/// Expects these lines of a script that is to be read, with the user and the command of each.
+fn expect_lines<R: AllocGlobal + Abort>(
+    rt: &R,
+    script: &[u8],
+    which: Commands,
+    wanted: &[&str],
+) -> Result<(), Fail> {
+    let lines = parse(rt.alloc(), script, which)?;
+    same(rt, "lines", lines.len(), wanted.len());
+    for (line, wanted) in lines.iter().zip(wanted) {
+        expect_line(rt, line, wanted)?;
+    }
+    Ok(())
+}
+
+/// The lines of that script.
+const EACH_LINE: &[&str] = &[
+    "1 create",
+    "2 mkdir",
+    "3 link",
+    "4 unlink",
+    "5 rmdir",
+    "6 rename",
+    "7 open",
+    "8 close 0",
+    "1 read 1 2",
+    "2 write 3 4 of 2",
+    "3 truncate 5 4294967295",
+    "4 list",
+    "5 stat",
+];
 
 #[test]
 fn each_command_is_read(rt: HostRuntime) -> Result<(), Fail> {
-    let lines = read(rt.alloc(), EACH_COMMAND, Commands::OfUsers)?;
-    let wanted = [
-        "1 create",
-        "2 mkdir",
-        "3 link",
-        "4 unlink",
-        "5 rmdir",
-        "6 rename",
-        "7 open",
-        "8 close 0",
-        "1 read 1 2",
-        "2 write 3 4 of 2",
-        "3 truncate 5 4294967295",
-        "4 list",
-        "5 stat",
-    ];
-    assert_eq!(rt; lines.len(), wanted.len());
-    for (line, wanted) in lines.iter().zip(wanted) {
-        assert_eq!(rt; line.as_str(), wanted);
-    }
-    Ok(())
+    expect_lines(&rt, EACH_COMMAND, Commands::OfUsers, EACH_LINE)
+}
+
+/// Expects a script to be refused by the number of a line.
+fn expect_bad<R: AllocGlobal + Abort>(rt: &R, script: &[u8], which: Commands, line: usize) {
+    let refused = parse(rt.alloc(), script, which).err();
+    same(rt, script, refused, Some(BadScript::Line(line)));
 }
 
 #[test]
 fn flushes_stand_in_some_scripts(rt: HostRuntime) -> Result<(), Fail> {
     let script = b"1 flush 007\n2 sync\n".as_slice();
-    let lines = read(rt.alloc(), script, Commands::OfUsersAndFlushes)?;
-    assert_eq!(rt; lines.len(), 2);
-    assert_eq!(rt; lines[0].as_str(), "1 flush 7");
-    assert_eq!(rt; lines[1].as_str(), "2 sync");
-    assert!(rt;
-        matches!(
-            parse(rt.alloc(), script, Commands::OfUsers),
-            Err(BadScript::Line(1))
-        )
-    );
-    Ok(())
+    let wanted = ["1 flush 7", "2 sync"];
+    expect_bad(&rt, script, Commands::OfUsers, 1);
+    expect_lines(&rt, script, Commands::OfUsersAndFlushes, &wanted)
 }
 
 #[test]
 fn an_empty_script_has_no_lines(rt: HostRuntime) -> Result<(), Fail> {
-    assert!(rt; parse(rt.alloc(), b"".as_slice(), Commands::OfUsers)?.is_empty());
-    Ok(())
+    expect_lines(&rt, b"", Commands::OfUsers, &[])
+}
+
+/// Expects this text of a line, its user 8, and this path of the file that it makes.
+fn expect_text(rt: &impl Abort, line: Option<&UserLine>, text: &[u8], path: &[u8]) {
+    same(rt, "user", line.map(|line| line.user), Some(8));
+    let found = line.map(|line| line.text.as_slice());
+    same(rt, "text", found, Some(text));
+    let is_so = match line.map(|line| &line.command) {
+        Some(Command::Create(found)) => found.as_slice() == path,
+        _ => false,
+    };
+    holds(rt, "path", is_so);
 }
 
 #[test]
 fn the_text_of_a_line_is_kept(rt: HostRuntime) -> Result<(), Fail> {
-    let lines = parse(
-        rt.alloc(),
-        b"08 create a=\xff\r\n".as_slice(),
-        Commands::OfUsers,
-    )?;
-    assert_eq!(rt; lines.len(), 1);
-    assert_eq!(rt; lines[0].user, 8);
-    assert_eq!(rt; lines[0].text.as_slice(), b"08 create a=\xff\r".as_slice());
-    assert!(rt;
-        matches!(&lines[0].command, Command::Create(path) if path.as_slice() == b"a=\xff\r".as_slice())
-    );
+    let lines = parse(rt.alloc(), b"08 create a=\xff\r\n", Commands::OfUsers)?;
+    same(&rt, "lines", lines.len(), 1);
+    expect_text(&rt, lines.first(), b"08 create a=\xff\r", b"a=\xff\r");
     Ok(())
 }
 
@@ -167,115 +195,152 @@ const BAD_LINES: &[&[u8]] = &[
     b"1\tcreate\t/x\n",
 ];
 
-/// Whether a script of good lines, this one and another bad one is refused with the number of this one.
-fn is_told(
+/// The last lines of scripts that end with them, and that no script has there.
+const BAD_ENDS: &[&[u8]] = &[b"1 create /x", b"1 sync", b"1", b" "];
+
+/// A script of good lines, this one, and what stands behind it.
+fn script_of(
     alloc: Global,
     line: &[u8],
     good_lines: usize,
     behind: &[u8],
-) -> Result<bool, AllocError> {
+) -> Result<Vec<u8>, AllocError> {
     let mut script = Vec::new(alloc);
     for _ in 0..good_lines {
         script.extend_from_slice(b"1 create /x\n")?;
     }
     script.extend_from_slice(line)?;
     script.extend_from_slice(behind)?;
-    let refused = parse(alloc, script.as_slice(), Commands::OfUsersAndFlushes).err();
-    Ok(refused == Some(BadScript::Line(good_lines.saturating_add(1))))
+    Ok(script)
 }
 
-#[test]
-fn the_first_line_of_another_form_is_told(rt: HostRuntime) -> Result<(), Fail> {
-    for line in BAD_LINES {
-        for good_lines in 0..3 {
-            assert!(rt; is_told(rt.alloc(), line, good_lines, b"9\n")?, "{line:?}");
-        }
-    }
-    for line in [b"1 create /x".as_slice(), b"1 sync", b"1", b" "] {
-        for good_lines in 0..3 {
-            assert!(rt; is_told(rt.alloc(), line, good_lines, b"")?, "{line:?}");
-        }
+/// Expects each of these lines to be told, behind so many good ones and before another bad one.
+fn expect_told<R: AllocGlobal + Abort>(
+    rt: &R,
+    lines: &[&[u8]],
+    good_lines: usize,
+    behind: &[u8],
+) -> Result<(), AllocError> {
+    for line in lines {
+        let script = script_of(rt.alloc(), line, good_lines, behind)?;
+        let number = good_lines.saturating_add(1);
+        expect_bad(rt, script.as_slice(), Commands::OfUsersAndFlushes, number);
     }
     Ok(())
 }
 
+#[test]
+fn the_first_line_of_another_form_is_told(rt: HostRuntime) -> Result<(), Fail> {
+    for good_lines in 0..3 {
+        expect_told(&rt, BAD_LINES, good_lines, b"9\n")?;
+        expect_told(&rt, BAD_ENDS, good_lines, b"")?;
+    }
+    Ok(())
+}
+
+/// What a volume answers.
+#[derive(Clone, Copy)]
+enum Told {
+    Done,
+    Number(u64),
+    Refused(Refusal),
+}
+
+/// The reply.
+fn reply_of(told: Told) -> Reply {
+    match told {
+        Told::Done => Ok(Answer::Done),
+        Told::Number(number) => Ok(Answer::Number(number)),
+        Told::Refused(refusal) => Err(refusal),
+    }
+}
+
+/// The command of the last line of a script.
+fn last_command(alloc: Global, script: &[u8]) -> Result<Command, Fail> {
+    let mut lines = parse(alloc, script, Commands::OfUsers)?;
+    match lines.pop() {
+        Some(line) => Ok(line.command),
+        None => Err(Fail::from("a line")),
+    }
+}
+
 /// Asks for a line's command on a volume that gives this reply, and tells what the volume is asked for.
-fn asked(
-    rt: &(impl Abort + AllocGlobal),
+fn asked(alloc: Global, handles: &mut Handles, line: &[u8], told: Told) -> Result<String, Fail> {
+    match handles.command_for(last_command(alloc, line)?) {
+        Some(command) => {
+            handles.note(&command, &reply_of(told))?;
+            Ok(shown(alloc, &command)?)
+        }
+        None => Ok(String::from_str(alloc, "nothing")?),
+    }
+}
+
+/// Expects the volume to be asked for this.
+fn expect_asked<R: AllocGlobal + Abort>(
+    rt: &R,
     handles: &mut Handles,
     line: &[u8],
-    reply: Reply,
-) -> Result<String, Fail> {
-    let alloc = rt.alloc();
-    let mut lines = parse(alloc, line, Commands::OfUsers)?;
-    let UserLine {
-        user: _,
-        text: _,
-        command,
-    } = lines.pop().ok_or("a line")?;
-    let Some(command) = handles.command_for(command) else {
-        return Ok(String::from_str(alloc, "nothing")?);
-    };
-    handles.note(&command, &reply)?;
-    Ok(shown(alloc, &command)?)
+    told: Told,
+    wanted: &str,
+) -> Result<(), Fail> {
+    let asked = asked(rt.alloc(), handles, line, told)?;
+    same(rt, line, asked.as_str(), wanted);
+    Ok(())
+}
+
+/// Lines, and what the volumes of two users are asked for, whose handles 0 and 1 are those of 7 and 8.
+const OF_TWO: &[(&[u8], &str, &str)] = &[
+    (b"1 read 0 5\n", "read 7 5", "nothing"),
+    (b"1 write 1 6 ab\n", "nothing", "write 8 6 of 2"),
+    (b"1 truncate 2 0\n", "nothing", "nothing"),
+    (b"1 truncate 1 9\n", "nothing", "truncate 8 9"),
+    (b"1 close 4294967295\n", "nothing", "nothing"),
+    (b"1 list /\n", "list", "list"),
+];
+
+/// Expects the volumes of two users to be asked so.
+fn expect_own<R: AllocGlobal + Abort>(
+    rt: &R,
+    first: &mut Handles,
+    second: &mut Handles,
+) -> Result<(), Fail> {
+    let open = b"1 open /a\n";
+    let refused = Told::Refused(Refusal::NotFound);
+    expect_asked(rt, first, open, Told::Number(7), "open")?;
+    expect_asked(rt, second, open, refused, "open")?;
+    expect_asked(rt, second, open, Told::Number(8), "open")?;
+    for (line, of_first, of_second) in OF_TWO {
+        expect_asked(rt, first, line, Told::Done, of_first)?;
+        expect_asked(rt, second, line, Told::Done, of_second)?;
+    }
+    Ok(())
 }
 
 #[test]
 fn handles_are_a_users_own(rt: HostRuntime) -> Result<(), Fail> {
     let mut first = Handles::new(rt.alloc());
     let mut second = Handles::new(rt.alloc());
-    let open = b"1 open /a\n".as_slice();
-    assert_eq!(rt;
-        asked(&rt, &mut first, open, Ok(Answer::Number(7)))?.as_str(),
-        "open"
-    );
-    assert_eq!(rt;
-        asked(&rt, &mut second, open, Err(Refusal::NotFound))?.as_str(),
-        "open"
-    );
-    assert_eq!(rt;
-        asked(&rt, &mut second, open, Ok(Answer::Number(8)))?.as_str(),
-        "open"
-    );
-    for (line, of_first, of_second) in [
-        (b"1 read 0 5\n".as_slice(), "read 7 5", "nothing"),
-        (b"1 write 1 6 ab\n", "nothing", "write 8 6 of 2"),
-        (b"1 truncate 2 0\n", "nothing", "nothing"),
-        (b"1 truncate 1 9\n", "nothing", "truncate 8 9"),
-        (b"1 close 4294967295\n", "nothing", "nothing"),
-        (b"1 list /\n", "list", "list"),
-    ] {
-        assert_eq!(rt;
-            asked(&rt, &mut first, line, Ok(Answer::Done))?.as_str(),
-            of_first
-        );
-        assert_eq!(rt;
-            asked(&rt, &mut second, line, Ok(Answer::Done))?.as_str(),
-            of_second
-        );
-    }
-    Ok(())
+    expect_own(&rt, &mut first, &mut second)
 }
+
+/// What a user asks for who closes handles.
+const CLOSED: &[(&[u8], Told, &str)] = &[
+    (b"1 open /a\n", Told::Number(0), "open"),
+    (b"1 open /a\n", Told::Number(1), "open"),
+    (b"1 close 0\n", Told::Refused(Refusal::Device), "close 0"),
+    (b"1 close 0\n", Told::Done, "close 0"),
+    (b"1 close 0\n", Told::Done, "nothing"),
+    (b"1 open /a\n", Told::Number(0), "open"),
+    (b"1 read 0 0\n", Told::Done, "nothing"),
+    (b"1 read 1 0\n", Told::Done, "read 1 0"),
+    (b"1 read 2 0\n", Told::Done, "read 0 0"),
+];
 
 #[test]
 fn a_closed_handle_leads_nowhere(rt: HostRuntime) -> Result<(), Fail> {
     let mut handles = Handles::new(rt.alloc());
-    for (line, reply, wanted) in [
-        (b"1 open /a\n".as_slice(), Ok(Answer::Number(0)), "open"),
-        (b"1 open /a\n", Ok(Answer::Number(1)), "open"),
-        (b"1 close 0\n", Err(Refusal::Device), "close 0"),
-        (b"1 close 0\n", Ok(Answer::Done), "close 0"),
-        (b"1 close 0\n", Ok(Answer::Done), "nothing"),
-        (b"1 open /a\n", Ok(Answer::Number(0)), "open"),
-        (b"1 read 0 0\n", Ok(Answer::Done), "nothing"),
-        (b"1 read 1 0\n", Ok(Answer::Done), "read 1 0"),
-        (b"1 read 2 0\n", Ok(Answer::Done), "read 0 0"),
-    ] {
-        assert_eq!(rt;
-            asked(&rt, &mut handles, line, reply)?.as_str(),
-            wanted,
-            "{line:?}"
-        );
+    for (line, told, wanted) in CLOSED {
+        expect_asked(&rt, &mut handles, line, *told, wanted)?;
     }
     Ok(())
 }

@@ -1,23 +1,20 @@
+use crate::expect::same;
+use crate::volumes::mounted;
 use changing::{Outcome, change, outcome_of};
-use device::{Before, Device, MemDevice, format};
-use layout::{BLOCK_BYTES, Geometry, Refusal};
-use snapshot::{Command, Live, NotMounted, Volume};
-use std::alloc::Global;
+use device::MemDevice;
+use layout::{Geometry, Refusal};
+use snapshot::{Command, Volume};
+use std::alloc::{AllocError, Global};
+use std::process::Abort;
 use std::test::Fail;
 
-/// The volume of a fresh image of one group of 16 blocks and 8 inodes: 6 numbers are free.
-fn volume(alloc: Global) -> Result<Volume<MemDevice>, Refusal> {
-    let geometry = Geometry::new(1, 16, 8)?;
-    let bytes = vec![in alloc; 0; geometry.blocks() as usize * BLOCK_BYTES]?;
-    let mut device = MemDevice::from_bytes(alloc, bytes.as_slice())?;
-    if device.blocks() != geometry.blocks() {
-        return Err(Refusal::BadLength);
+/// Commands that make these directories.
+fn commands_of(alloc: Global, paths: &[&[u8]]) -> Result<Vec<Command>, AllocError> {
+    let mut commands = Vec::new(alloc);
+    for path in paths {
+        commands.push(Command::Mkdir(path.to_vec(alloc)?))?;
     }
-    format(&mut device, &geometry, Before::Anything)?;
-    match Live::mount(alloc, device) {
-        Ok(live) => Ok(Volume::new(live)),
-        Err(NotMounted { device: _, cause }) => Err(cause),
-    }
+    Ok(commands)
 }
 
 /// What came of commands that make these directories.
@@ -26,51 +23,41 @@ fn made(
     volume: &mut Volume<MemDevice>,
     paths: &[&[u8]],
 ) -> Result<Outcome, Refusal> {
-    let mut commands = Vec::new(alloc);
-    for path in paths {
-        commands.push(Command::Mkdir(path.to_vec(alloc)?))?;
-    }
+    let commands = commands_of(alloc, paths)?;
     let replies = change(alloc, volume, commands.as_slice())?;
     Ok(outcome_of(replies.as_slice()))
 }
 
+/// Directories that are made, how many of them are there then, and why the next one is not.
+const ROWS: &[(&[&[u8]], usize, Option<Refusal>)] = &[
+    (&[b"/a", b"/a/b"], 2, None),
+    (&[b"/c", b"/a", b"/d"], 1, Some(Refusal::Exists)),
+    (&[], 0, None),
+    (&[b"/d", b"/e", b"/f"], 2, Some(Refusal::NoInode)),
+];
+
+/// Expects the outcome of each row on a volume.
+fn expect_rows<R: AllocGlobal + Abort>(
+    rt: &R,
+    volume: &mut Volume<MemDevice>,
+) -> Result<(), Refusal> {
+    for (paths, done, refused) in ROWS {
+        let found = made(rt.alloc(), volume, paths)?;
+        let wanted = Outcome {
+            done: *done,
+            refused: *refused,
+        };
+        same(rt, *done, found, wanted);
+    }
+    let names = volume.live().list(rt.alloc(), b"/")?;
+    same(rt, "names", names.len(), 4);
+    Ok(())
+}
+
+/// The volume has 6 free numbers.
 #[test]
 fn commands_stop_at_the_first_refusal(rt: HostRuntime) -> Result<(), Fail> {
-    let alloc = rt.alloc();
-    let mut volume = volume(alloc)?;
-    let rows: &[(&[&[u8]], Outcome)] = &[
-        (
-            &[b"/a", b"/a/b"],
-            Outcome {
-                done: 2,
-                refused: None,
-            },
-        ),
-        (
-            &[b"/c", b"/a", b"/d"],
-            Outcome {
-                done: 1,
-                refused: Some(Refusal::Exists),
-            },
-        ),
-        (
-            &[],
-            Outcome {
-                done: 0,
-                refused: None,
-            },
-        ),
-        (
-            &[b"/d", b"/e", b"/f"],
-            Outcome {
-                done: 2,
-                refused: Some(Refusal::NoInode),
-            },
-        ),
-    ];
-    for &(paths, wanted) in rows {
-        assert_eq!(rt; made(alloc, &mut volume, paths)?, wanted);
-    }
-    assert_eq!(rt; volume.live().list(alloc, b"/")?.len(), 4);
+    let mut volume = mounted(rt.alloc(), &Geometry::new(1, 16, 8)?, &[])?;
+    expect_rows(&rt, &mut volume)?;
     Ok(())
 }

@@ -1,143 +1,205 @@
-use device::{Before, Device, MemDevice, format};
-use frozen::load;
-use fsck::check_one;
-use layout::{BLOCK_BYTES, Geometry, Refusal};
-use snapshot::{Answer, Command, Live, Volume};
+use crate::expect::{holds, same};
+use crate::volumes::mounted;
+use device::MemDevice;
+use frozen::Frozen;
+use fsck::{Checked, check_one};
+use layout::{Geometry, Refusal};
+use snapshot::{Answer, Command, Volume};
 use std::alloc::{AllocError, Global};
+use std::process::Abort;
 use std::sync::Arc;
 use std::test::Fail;
-
-/// A byte that differs from a fresh image of one group of 16 blocks and 16 inodes: the block, the byte, the value.
-type Changed = (u32, usize, u8);
+use std::thread::Threads;
+use test_images::{Byte, frozen_with};
 
 /// Block 9 is marked, and in no use.
-const LOST_BLOCK: Changed = (1, 160, 0b10_0001);
+const LOST_BLOCK: &[Byte] = &[(1, 160, 0b10_0001)];
 
 /// The root has a link fewer than entries name it.
-const LOW_COUNT: Changed = (2, 258, 1);
+const LOW_COUNT: &[Byte] = &[(2, 258, 1)];
 
-/// A device with the image that differs in these bytes.
-fn device_with(alloc: Global, changes: &[Changed]) -> Result<MemDevice, Refusal> {
-    let geometry = Geometry::new(1, 16, 16)?;
-    let bytes = vec![in alloc; 0u8; geometry.blocks() as usize * BLOCK_BYTES]?;
-    let mut device = MemDevice::from_bytes(alloc, bytes.as_slice())?;
-    if device.blocks() != geometry.blocks() {
-        return Err(Refusal::BadLength);
-    }
-    format(&mut device, &geometry, Before::Anything)?;
-    for (address, byte, value) in changes {
-        set_byte(&mut device, *address, *byte, *value)?;
-    }
-    Ok(device)
+/// The mounted volume of the image of one group of 16 blocks and 16 inodes that is fresh but for these bytes.
+fn volume_with(alloc: Global, bytes: &[Byte]) -> Result<Volume<MemDevice>, Refusal> {
+    mounted(alloc, &Geometry::new(1, 16, 16)?, bytes)
 }
 
-/// Changes one byte of a block.
-fn set_byte(device: &mut MemDevice, address: u32, byte: usize, value: u8) -> Result<(), Refusal> {
-    if address >= device.blocks() || byte >= BLOCK_BYTES {
-        return Err(Refusal::BadIndex);
-    }
-    let mut block = [0; BLOCK_BYTES];
-    device.read(address, &mut block)?;
-    block[byte] = value;
-    device.write(address, &block)?;
-    Ok(())
+/// The command that makes this file.
+fn create(alloc: Global, path: &[u8]) -> Result<Command, AllocError> {
+    Ok(Command::Create(path.to_vec(alloc)?))
 }
 
-/// The mounted volume of the image that differs in these bytes.
-fn mounted(alloc: Global, changes: &[Changed]) -> Result<Volume<MemDevice>, Refusal> {
-    match Live::mount(alloc, device_with(alloc, changes)?) {
-        Ok(live) => Ok(Volume::new(live)),
-        Err(refused) => Err(refused.cause),
-    }
+/// The command that opens this file.
+fn open(alloc: Global, path: &[u8]) -> Result<Command, AllocError> {
+    Ok(Command::Open(path.to_vec(alloc)?))
+}
+
+/// The command that writes this into the first file that is open.
+fn write(alloc: Global, bytes: &[u8]) -> Result<Command, AllocError> {
+    Ok(Command::Write {
+        handle: 0,
+        index: 0,
+        piece: bytes.to_vec(alloc)?,
+    })
 }
 
 /// The file `/f`, which is made, opened, and written to.
 fn file_commands(alloc: Global) -> Result<Vec<Command>, AllocError> {
-    Ok(vec![in alloc;
-        Command::Create(b"/f".to_vec(alloc)?),
-        Command::Open(b"/f".to_vec(alloc)?),
-        Command::Write {
-            handle: 0,
-            index: 0,
-            piece: b"abc".to_vec(alloc)?
-        },
-    ]?)
+    let mut commands = Vec::new(alloc);
+    commands.push(create(alloc, b"/f")?)?;
+    commands.push(open(alloc, b"/f")?)?;
+    commands.push(write(alloc, b"abc")?)?;
+    Ok(commands)
+}
+
+/// Makes the file on a volume, which answers each command.
+fn make_file<R: AllocGlobal + Abort>(
+    rt: &R,
+    volume: &mut Volume<MemDevice>,
+) -> Result<(), Refusal> {
+    let commands = file_commands(rt.alloc())?;
+    let replies = volume.run(rt.alloc(), commands)?;
+    holds(rt, "made", replies.iter().all(|reply| reply.is_ok()));
+    Ok(())
+}
+
+/// The check of the snapshot that begins.
+fn freeze_and_check<R: Threads + AllocGlobal + Sync>(
+    rt: &R,
+    volume: &mut Volume<MemDevice>,
+) -> Result<Checked, Refusal> {
+    let frozen = volume.freeze(rt.alloc())?;
+    check_one(rt, rt.alloc(), &frozen)
+}
+
+/// Expects the one repair of a check of a volume to give a block back.
+fn expect_repair<R: AllocGlobal + Abort>(
+    rt: &R,
+    volume: &mut Volume<MemDevice>,
+    checked: &Checked,
+) -> Result<(), Refusal> {
+    same(rt, "before", volume.plan_len(), 0);
+    volume.install(rt.alloc(), checked)?;
+    same(rt, "plan", volume.plan_len(), 1);
+    same(rt, "marked", volume.live().unmarked_blocks(), 10);
+    volume.repair(rt.alloc(), 0)
+}
+
+/// Expects the snapshot of a volume to have the file's bytes, and its end to give a block back.
+fn expect_release<R: AllocGlobal + Abort>(
+    rt: &R,
+    volume: &mut Volume<MemDevice>,
+) -> Result<(), Refusal> {
+    let bytes = volume.snap_read(rt.alloc(), 3, 0)?;
+    same(rt, "bytes", bytes.as_slice(), b"abc".as_slice());
+    volume.release(rt.alloc())?;
+    same(rt, "unmarked", volume.live().unmarked_blocks(), 11);
+    let reply = volume.apply(rt.alloc(), &Command::Sync);
+    holds(rt, "sync", matches!(reply, Ok(Answer::Done)));
+    Ok(())
+}
+
+/// Expects a lost block of a volume to be found and given back.
+fn expect_mended<R: Threads + AllocGlobal + Abort + Sync>(
+    rt: &R,
+    volume: &mut Volume<MemDevice>,
+) -> Result<(), Refusal> {
+    make_file(rt, volume)?;
+    let checked = freeze_and_check(rt, volume)?;
+    expect_repair(rt, volume, &checked)?;
+    expect_release(rt, volume)
 }
 
 #[test]
 fn a_lost_block_is_found_and_given_back(rt: HostRuntime) -> Result<(), Fail> {
-    let mut volume = mounted(rt.alloc(), &[LOST_BLOCK])?;
-    let commands = file_commands(rt.alloc())?;
-    let replies = volume.run(rt.alloc(), commands)?;
-    assert!(rt; replies.iter().all(|reply| reply.is_ok()));
-    let frozen = volume.freeze(rt.alloc())?;
-    let checked = check_one(&rt, rt.alloc(), &frozen)?;
-    assert_eq!(rt; volume.plan_len(), 0);
-    volume.install(rt.alloc(), &checked)?;
-    assert_eq!(rt; volume.plan_len(), 1);
-    assert_eq!(rt; volume.live().unmarked_blocks(), 10);
-    volume.repair(rt.alloc(), 0)?;
-    let bytes = volume.snap_read(rt.alloc(), 3, 0)?;
-    assert_eq!(rt; bytes.as_slice(), b"abc".as_slice());
-    volume.release(rt.alloc())?;
-    assert_eq!(rt; volume.live().unmarked_blocks(), 11);
-    let reply = volume.apply(rt.alloc(), &Command::Sync);
-    assert!(rt; matches!(reply, Ok(Answer::Done)));
+    let mut volume = volume_with(rt.alloc(), LOST_BLOCK)?;
+    expect_mended(&rt, &mut volume)?;
     Ok(())
+}
+
+/// Paths of files that are not made.
+const REFUSED: &[&[u8]] = &[b"/", b"a", b"/a/b"];
+
+/// The path of a name that is too long.
+fn long_path(alloc: Global) -> Result<Vec<u8>, AllocError> {
+    let mut path = vec![in alloc; b'x'; 58]?;
+    if let Some(first) = path.first_mut() {
+        *first = b'/';
+    }
+    Ok(path)
 }
 
 /// Commands that are refused, and a freeze between the last two.
 fn refused_commands(alloc: Global) -> Result<Vec<Command>, AllocError> {
-    let mut long = vec![in alloc; b'x'; 58]?;
-    if let Some(first) = long.first_mut() {
-        *first = b'/';
+    let mut commands = Vec::new(alloc);
+    for path in REFUSED {
+        commands.push(create(alloc, path)?)?;
     }
-    Ok(vec![in alloc;
-        Command::Create(b"/".to_vec(alloc)?),
-        Command::Create(b"a".to_vec(alloc)?),
-        Command::Create(b"/a/b".to_vec(alloc)?),
-        Command::Rmdir(b"/".to_vec(alloc)?),
-        Command::Close(0),
-        Command::Repair(0),
-        Command::Release,
-        Command::Create(long),
-        Command::Freeze,
-        Command::Freeze,
-    ]?)
+    commands.push(Command::Rmdir(b"/".to_vec(alloc)?))?;
+    commands.push(Command::Close(0))?;
+    commands.push(Command::Repair(0))?;
+    commands.push(Command::Release)?;
+    commands.push(Command::Create(long_path(alloc)?))?;
+    commands.push(Command::Freeze)?;
+    commands.push(Command::Freeze)?;
+    Ok(commands)
+}
+
+/// Why each of them is refused.
+const REFUSALS: &[Option<Refusal>] = &[
+    Some(Refusal::IsRoot),
+    Some(Refusal::BadName),
+    Some(Refusal::NotFound),
+    Some(Refusal::IsRoot),
+    Some(Refusal::BadHandle),
+    Some(Refusal::NoPlan),
+    Some(Refusal::NoSnapshot),
+    Some(Refusal::BadName),
+    None,
+    Some(Refusal::SnapshotStands),
+];
+
+/// Expects each command of a volume to be refused for its reason.
+fn expect_refusals<R: AllocGlobal + Abort>(
+    rt: &R,
+    volume: &mut Volume<MemDevice>,
+) -> Result<(), Refusal> {
+    let commands = refused_commands(rt.alloc())?;
+    let replies = volume.run(rt.alloc(), commands)?;
+    same(rt, "replies", replies.len(), REFUSALS.len());
+    for (reply, wanted) in replies.iter().zip(REFUSALS) {
+        same(rt, *wanted, reply.as_ref().err().copied(), *wanted);
+    }
+    Ok(())
 }
 
 #[test]
 fn commands_are_answered_in_their_order(rt: HostRuntime) -> Result<(), Fail> {
-    let mut volume = mounted(rt.alloc(), &[])?;
-    let commands = refused_commands(rt.alloc())?;
-    let replies = volume.run(rt.alloc(), commands)?;
-    let wanted = [
-        Some(Refusal::IsRoot),
-        Some(Refusal::BadName),
-        Some(Refusal::NotFound),
-        Some(Refusal::IsRoot),
-        Some(Refusal::BadHandle),
-        Some(Refusal::NoPlan),
-        Some(Refusal::NoSnapshot),
-        Some(Refusal::BadName),
-        None,
-        Some(Refusal::SnapshotStands),
-    ];
-    assert_eq!(rt; replies.len(), wanted.len());
-    for (reply, refusal) in replies.iter().zip(wanted) {
-        assert_eq!(rt; reply.as_ref().err().copied(), refusal);
-    }
+    let mut volume = volume_with(rt.alloc(), &[])?;
+    expect_refusals(&rt, &mut volume)?;
+    Ok(())
+}
+
+/// What is kept of a damaged image.
+fn damaged(alloc: Global) -> Result<Arc<Frozen>, Refusal> {
+    let frozen = frozen_with(alloc, &Geometry::new(1, 16, 16)?, LOW_COUNT)?;
+    Ok(Arc::new(alloc, frozen)?)
+}
+
+/// Expects a volume of which there is a snapshot to refuse the check of a damaged image.
+fn expect_not_soft<R: Threads + AllocGlobal + Abort + Sync>(
+    rt: &R,
+    volume: &mut Volume<MemDevice>,
+) -> Result<(), Refusal> {
+    volume.freeze(rt.alloc())?;
+    let checked = check_one(rt, rt.alloc(), &damaged(rt.alloc())?)?;
+    let outcome = volume.install(rt.alloc(), &checked);
+    same(rt, "install", outcome, Err(Refusal::PlanNotSoft));
     Ok(())
 }
 
 #[test]
 fn a_check_of_a_damaged_image_is_not_installed(rt: HostRuntime) -> Result<(), Fail> {
-    let mut volume = mounted(rt.alloc(), &[])?;
-    volume.freeze(rt.alloc())?;
-    let mut damaged = device_with(rt.alloc(), &[LOW_COUNT])?;
-    let frozen = Arc::new(rt.alloc(), load(rt.alloc(), &mut damaged)?)?;
-    let checked = check_one(&rt, rt.alloc(), &frozen)?;
-    let outcome = volume.install(rt.alloc(), &checked);
-    assert_eq!(rt; outcome, Err(Refusal::PlanNotSoft));
+    let mut volume = volume_with(rt.alloc(), &[])?;
+    expect_not_soft(&rt, &mut volume)?;
     Ok(())
 }

@@ -4,4 +4,8 @@
 #[cfg(test)]
 mod changed;
 #[cfg(test)]
+mod expect;
+#[cfg(test)]
 mod frozen_volume;
+#[cfg(test)]
+mod volumes;

@@ -2,10 +2,10 @@ ghost use Rattle.std.specs.Prelude.{◌≡◌};
 
 use crate::{Cell, Change, Update, places};
 use inode::{DIRECT_POINTERS, FILE, RECORD_BYTES, Record};
-use layout::{BLOCK_BYTES, Geometry};
+use layout::{BLOCK_BYTES, Block, Geometry};
+use std::alloc::{AllocError, Global};
 use std::process::Abort;
 use std::sync::Arc;
-use std::test::Fail;
 
 /// Two groups of 16 blocks and 16 inodes: maps at 1 and 17, data from 4 to 16 and from 20 to 32.
 fn small<A: Abort>(rt: &A) -> Geometry
@@ -14,57 +14,73 @@ fn small<A: Abort>(rt: &A) -> Geometry
     Geometry::new(2, 16, 16).expect(rt, "a geometry")
 }
 
+/// Aborts unless the numbers are the same.
+fn same(rt: &impl Abort, one: usize, other: usize) {
+    assert_eq!(rt; one, other);
+}
+
 #[test]
 fn cells_stand_in_their_blocks(rt: HostRuntime) {
     let geometry = small(&rt);
-    assert_eq!(rt; Cell::Record(2).home(&geometry), 2);
-    assert_eq!(rt; Cell::Record(8).home(&geometry), 3);
-    assert_eq!(rt; Cell::Record(31).home(&geometry), 19);
-    assert_eq!(rt; Cell::NumberBit(15).home(&geometry), 1);
-    assert_eq!(rt; Cell::NumberBit(16).home(&geometry), 17);
-    assert_eq!(rt; Cell::BlockBit(16).home(&geometry), 1);
-    assert_eq!(rt; Cell::BlockBit(20).home(&geometry), 17);
-    assert_eq!(rt; Cell::Block(20).home(&geometry), 20);
+    same(&rt, Cell::Record(2).home(&geometry) as usize, 2);
+    same(&rt, Cell::Record(8).home(&geometry) as usize, 3);
+    same(&rt, Cell::Record(31).home(&geometry) as usize, 19);
+    same(&rt, Cell::NumberBit(15).home(&geometry) as usize, 1);
+    same(&rt, Cell::NumberBit(16).home(&geometry) as usize, 17);
+    same(&rt, Cell::BlockBit(16).home(&geometry) as usize, 1);
+    same(&rt, Cell::BlockBit(20).home(&geometry) as usize, 17);
+    same(&rt, Cell::Block(20).home(&geometry) as usize, 20);
 }
 
 #[test]
 fn cells_have_places_in_one_table(rt: HostRuntime) {
     let geometry = small(&rt);
-    assert_eq!(rt; places(&geometry), 130);
-    assert_eq!(rt; Cell::Record(31).place(&geometry), 31);
-    assert_eq!(rt; Cell::NumberBit(2).place(&geometry), 34);
-    assert_eq!(rt; Cell::BlockBit(4).place(&geometry), 68);
-    assert_eq!(rt; Cell::Block(32).place(&geometry), 129);
+    same(&rt, places(&geometry), 130);
+    same(&rt, Cell::Record(31).place(&geometry), 31);
+    same(&rt, Cell::NumberBit(2).place(&geometry), 34);
+    same(&rt, Cell::BlockBit(4).place(&geometry), 68);
+    same(&rt, Cell::Block(32).place(&geometry), 129);
 }
 
-#[test]
-fn a_record_is_put_among_its_neighbours(rt: HostRuntime) {
-    let inode = Record {
+/// A record of a file.
+fn record() -> Record {
+    Record {
         mode: FILE,
         links: 1,
         size: 0x0304,
         direct: [5; DIRECT_POINTERS],
         indirect: 6,
-    };
-    let change = Change::SetInode(9, inode);
-    assert_eq!(rt; change.cell(), Cell::Record(9));
-
-    let mut block = [0xaa; BLOCK_BYTES];
-    change.put(&small(&rt), &mut block);
-
-    let mut wanted = [0xaa; BLOCK_BYTES];
-    wanted[128..188].copy_from_slice(&[0; 60]);
-    wanted[128] = 1;
-    wanted[130] = 1;
-    wanted[132] = 4;
-    wanted[133] = 3;
-    for place in 0..DIRECT_POINTERS {
-        wanted[136 + 4 * place] = 5;
     }
-    wanted[128 + 56] = 6;
-    assert!(rt; block == wanted, "the block of inodes 8 to 15");
+}
+
+/// A block of the byte 0xAA with that record in its second place.
+fn block_with_record() -> Block {
+    let mut block = [0xaa; BLOCK_BYTES];
+    block[128..188].copy_from_slice(&[0; 60]);
+    block[128] = 1;
+    block[130] = 1;
+    block[132] = 4;
+    block[133] = 3;
+    for place in 0..DIRECT_POINTERS {
+        block[136 + 4 * place] = 5;
+    }
+    block[128 + 56] = 6;
+    block
+}
+
+#[test]
+fn a_record_is_put_among_its_neighbours(rt: HostRuntime) {
+    let mut block = [0xaa; BLOCK_BYTES];
+    Change::SetInode(9, record()).put(&small(&rt), &mut block);
+    assert!(rt; block == block_with_record(), "the block of inodes 8 to 15");
+}
+
+#[test]
+fn a_record_is_read_where_it_was_put(rt: HostRuntime) {
+    let block = block_with_record();
     let (records, _) = block.as_chunks::<RECORD_BYTES>();
-    assert_eq!(rt; Record::read(&records[1]), inode);
+    assert_eq!(rt; Record::read(&records[1]), record());
+    assert_eq!(rt; Change::SetInode(9, record()).cell(), Cell::Record(9));
 }
 
 #[test]
@@ -95,23 +111,34 @@ fn bits_are_cleared_among_their_neighbours(rt: HostRuntime) {
     assert!(rt; block == wanted, "block 4 is not marked");
 }
 
+/// A change that gives block 32 these bytes.
+fn whole_block(alloc: Global, bytes: Block) -> Result<Change, AllocError> {
+    Ok(Change::SetBytes(32, Arc::new(alloc, bytes)?))
+}
+
 #[test]
-fn a_block_is_put_whole(rt: HostRuntime) -> Result<(), Fail> {
+fn a_block_is_put_whole(rt: HostRuntime) -> Result<(), AllocError> {
     let bytes = [7; BLOCK_BYTES];
-    let change = Change::SetBytes(32, Arc::new(rt.alloc(), bytes)?);
     let mut block = [0xaa; BLOCK_BYTES];
+    let change = Change::SetBytes(32, Arc::new(rt.alloc(), bytes)?);
     change.put(&small(&rt), &mut block);
     assert!(rt; block == bytes, "the block's new bytes");
-    let cell = change.cell();
-    assert_eq!(rt; cell, Cell::Block(32));
+    Ok(())
+}
 
-    let mut after = Vec::new(rt.alloc());
-    after.push(Cell::BlockBit(32))?;
-    let update = Update {
-        change,
+/// An update by which block 32 gets other bytes, once it is marked.
+fn update_of_a_block(alloc: Global) -> Result<Update, AllocError> {
+    let after = vec![in alloc; Cell::BlockBit(32)]?;
+    Ok(Update {
+        change: whole_block(alloc, [7; BLOCK_BYTES])?,
         file: Some(9),
         after,
-    };
-    assert_eq!(rt; update.change.cell(), cell);
+    })
+}
+
+#[test]
+fn an_update_has_the_cell_of_its_change(rt: HostRuntime) -> Result<(), AllocError> {
+    let update = update_of_a_block(rt.alloc())?;
+    assert_eq!(rt; update.change.cell(), Cell::Block(32));
     Ok(())
 }

@@ -2,12 +2,13 @@ use super::FileDevice;
 use crate::tests::{format_groups, read_block, set_byte};
 use device::{Before, Device, DeviceFault, format};
 use layout::{BLOCK_BYTES, Geometry, Refusal};
+use std::alloc::{AllocError, Global};
 use std::cell::{Cell, RefCell};
 use std::fs::{Metadata, OpenFile};
 use std::io;
 use std::marker::Brand;
 use std::os::unix::fs::FileExt;
-use std::test::Fail;
+use std::process::Abort;
 
 /// A file in memory, whose calls fail from one on and up to another.
 #[derive(Drop)]
@@ -104,58 +105,35 @@ impl OpenFile for FakeFile {
 
 type FakeDevice = FileDevice<FakeFile, Brand>;
 
-#[test]
-fn a_block_stands_at_its_byte(rt: HostRuntime) -> Result<(), Fail> {
-    let bytes = vec![in rt.alloc(); 0xAA; 17 * BLOCK_BYTES]?;
-    let mut device: FakeDevice = FileDevice::over(FakeFile::new(bytes), 17);
-    set_byte(&mut device, 3, 0, 7)?;
-    set_byte(&mut device, 3, 1023, 8)?;
-    for (at, want) in [
-        (3071, 0xAA),
-        (3072, 7),
-        (3073, 0xAA),
-        (4094, 0xAA),
-        (4095, 8),
-        (4096, 0xAA),
-    ] {
-        assert_eq!(rt; device.file.byte(at), Some(want), "byte {at}");
-    }
-    let block = read_block(&mut device, 3).ok_or("no block")?;
-    assert_eq!(rt; (block[0], block[1], block[1023]), (7, 0xAA, 8));
-    assert_eq!(rt; device.failures, 0);
-    Ok(())
-}
-
-#[test]
-fn a_call_that_fails_changes_nothing(rt: HostRuntime) -> Result<(), Fail> {
-    let bytes = vec![in rt.alloc(); 0xAA; 3 * BLOCK_BYTES]?;
-    let mut device: FakeDevice = FileDevice::over(FakeFile::new(bytes), 3);
-    let mut block = [1; BLOCK_BYTES];
-    assert_eq!(rt; device.blocks(), 3);
-    device.file.fail(0, 2);
-    assert_eq!(rt; device.write(2, &block), Err(DeviceFault));
-    assert_eq!(rt; device.blocks(), 3);
-    assert_eq!(rt; device.read(2, &mut block), Err(DeviceFault));
-    assert_eq!(rt; device.sync(), Err(DeviceFault));
-    assert_eq!(rt; device.failures, 3);
-    assert_eq!(rt; device.sync(), Ok(()));
-    assert_eq!(rt; read_block(&mut device, 2), Some([0xAA; BLOCK_BYTES]));
-    Ok(())
-}
-
-#[test]
-fn a_short_file_is_a_fault(rt: HostRuntime) -> Result<(), Fail> {
-    let bytes = vec![in rt.alloc(); 0xAA; 3583]?;
-    let mut device: FakeDevice = FileDevice::over(FakeFile::new(bytes), 5);
-    for (address, is_there) in [(2, true), (3, false), (4, false)] {
-        assert_eq!(rt;
-            read_block(&mut device, address).is_some(),
-            is_there,
-            "block {address}"
-        );
-    }
-    assert_eq!(rt; device.failures, 2);
-    Ok(())
+/// What is asked of a device, or looked at, and what has to be seen.
+#[derive(Clone, Copy)]
+enum Step {
+    /// The file's calls of these numbers fail, the next being number 0.
+    Fail(u64, u64),
+    /// A block is read: it has this byte alone, or the read fails.
+    Read(u32, Option<u8>),
+    /// The blocks from one on up to another are read, each of this byte alone.
+    ReadRun(u32, u32, u8),
+    /// A block of this byte alone is written, and that goes well or not.
+    Write(u32, u8, bool),
+    /// The blocks from one on up to another are, and all goes well.
+    WriteRun(u32, u32, u8),
+    /// A byte of a block is changed.
+    Change(u32, usize, u8),
+    /// A byte of a block is read.
+    ByteOf(u32, usize, u8),
+    /// What waits is given to the file and synced, and that goes well or not.
+    Sync(bool),
+    /// What waits is given to the file, and that goes well.
+    Give,
+    /// The device has so many blocks.
+    Blocks(u32),
+    /// So many faults were counted.
+    Failures(u64),
+    /// So many calls were made of the file, since those that fail were named.
+    Calls(u64),
+    /// The file has this byte here.
+    Byte(usize, u8),
 }
 
 /// Writes a block of this byte.
@@ -166,166 +144,309 @@ fn write_byte(device: &mut FakeDevice, address: u32, byte: u8) -> Result<(), Dev
     device.write(address, &[byte; BLOCK_BYTES])
 }
 
-/// A device over blocks of the byte 0xAA, which gathers what is written.
-fn gathering(rt: HostRuntime, blocks: u32) -> Result<FakeDevice, Fail> {
-    let bytes = vec![in rt.alloc(); 0xAA; blocks as usize * BLOCK_BYTES]?;
-    Ok(FileDevice::over(FakeFile::new(bytes), blocks).gathering())
+/// Whether a block has this byte alone, or its read fails where none is named.
+fn reads(device: &mut FakeDevice, address: u32, wanted: Option<u8>) -> bool {
+    match (read_block(device, address), wanted) {
+        (Some(block), Some(byte)) => block == [byte; BLOCK_BYTES],
+        (None, None) => true,
+        _ => false,
+    }
 }
 
-#[test]
-fn blocks_that_follow_are_written_together(rt: HostRuntime) -> Result<(), Fail> {
-    let mut device = gathering(rt, 50)?;
-    for address in 3..40 {
-        write_byte(&mut device, address, 7)?;
-    }
-    // A run has 32 blocks.
-    assert_eq!(rt; device.file.calls.get(), 1);
-    assert_eq!(rt; read_block(&mut device, 39), Some([7; BLOCK_BYTES]));
-    assert_eq!(rt; read_block(&mut device, 40), Some([0xAA; BLOCK_BYTES]));
-    assert_eq!(rt; device.file.calls.get(), 2);
-    assert_eq!(rt; device.file.byte(39 * BLOCK_BYTES), Some(0xAA));
-    write_byte(&mut device, 2, 8)?;
-    assert_eq!(rt; device.file.calls.get(), 3);
-    assert_eq!(rt; device.file.byte(40 * BLOCK_BYTES - 1), Some(7));
-    assert_eq!(rt; device.file.byte(2 * BLOCK_BYTES), Some(0xAA));
-    assert_eq!(rt; device.sync(), Ok(()));
-    assert_eq!(rt; device.file.byte(2 * BLOCK_BYTES), Some(8));
-    assert_eq!(rt; device.give(), Ok(()));
-    assert_eq!(rt; device.file.calls.get(), 5);
-    Ok(())
-}
-
-#[test]
-fn what_waits_outlives_a_fault(rt: HostRuntime) -> Result<(), Fail> {
-    let mut device = gathering(rt, 9)?;
-    write_byte(&mut device, 4, 7)?;
-    device.file.fail(0, 1);
-    assert_eq!(rt; write_byte(&mut device, 6, 8), Err(DeviceFault));
-    assert_eq!(rt; device.sync(), Err(DeviceFault));
-    assert_eq!(rt; device.failures, 2);
-    assert_eq!(rt; read_block(&mut device, 4), Some([7; BLOCK_BYTES]));
-    assert_eq!(rt; device.file.byte(4 * BLOCK_BYTES), Some(0xAA));
-    assert_eq!(rt; write_byte(&mut device, 6, 8), Ok(()));
-    assert_eq!(rt; device.give(), Ok(()));
-    for (address, byte) in [(4, 7), (5, 0xAA), (6, 8)] {
-        assert_eq!(rt; device.file.byte(address * BLOCK_BYTES), Some(byte));
-    }
-    Ok(())
-}
-
-#[test]
-fn blocks_written_in_turn_are_read_out_of_memory(rt: HostRuntime) -> Result<(), Fail> {
-    let mut device = gathering(rt, 9)?;
-    for address in [2, 5] {
-        assert_eq!(rt; read_block(&mut device, address), Some([0xAA; BLOCK_BYTES]));
-    }
-    for (address, byte) in [(2, 1), (5, 2), (2, 3), (5, 4)] {
-        write_byte(&mut device, address, byte)?;
-    }
-    // All but the last were given.
-    assert_eq!(rt; device.file.byte(2 * BLOCK_BYTES), Some(3));
-    assert_eq!(rt; device.file.byte(5 * BLOCK_BYTES), Some(2));
-    assert_eq!(rt; read_block(&mut device, 2), Some([3; BLOCK_BYTES]));
-    assert_eq!(rt; read_block(&mut device, 5), Some([4; BLOCK_BYTES]));
-    assert_eq!(rt; device.file.calls.get(), 5);
-    assert_eq!(rt; device.give(), Ok(()));
-    assert_eq!(rt; read_block(&mut device, 2), Some([3; BLOCK_BYTES]));
-    assert_eq!(rt; read_block(&mut device, 5), Some([4; BLOCK_BYTES]));
-    write_byte(&mut device, 2, 5)?;
-    assert_eq!(rt; read_block(&mut device, 2), Some([5; BLOCK_BYTES]));
-    assert_eq!(rt; read_block(&mut device, 5), Some([4; BLOCK_BYTES]));
-    // The sixth is what `give` gave.
-    assert_eq!(rt; device.file.calls.get(), 6);
-    assert_eq!(rt; device.file.byte(5 * BLOCK_BYTES), Some(4));
-    Ok(())
-}
-
-#[test]
-fn two_blocks_share_a_slot(rt: HostRuntime) -> Result<(), Fail> {
-    let mut device = gathering(rt, 40)?;
-    for address in [2, 34] {
-        assert_eq!(rt; read_block(&mut device, address), Some([0xAA; BLOCK_BYTES]));
-    }
-    for (address, byte) in [(34, 7), (2, 8), (20, 9)] {
-        write_byte(&mut device, address, byte)?;
-    }
-    // Two reads, and two writes that were given.
-    assert_eq!(rt; read_block(&mut device, 34), Some([7; BLOCK_BYTES]));
-    assert_eq!(rt; device.file.calls.get(), 4);
-    // The slot is the other's.
-    assert_eq!(rt; read_block(&mut device, 2), Some([8; BLOCK_BYTES]));
-    assert_eq!(rt; device.file.calls.get(), 5);
-    write_byte(&mut device, 34, 6)?;
-    assert_eq!(rt; read_block(&mut device, 2), Some([8; BLOCK_BYTES]));
-    assert_eq!(rt; read_block(&mut device, 34), Some([6; BLOCK_BYTES]));
-    assert_eq!(rt; device.file.calls.get(), 6);
-    Ok(())
-}
-
-#[test]
-fn blocks_that_follow_are_read_together(rt: HostRuntime) -> Result<(), Fail> {
-    let bytes = vec![in rt.alloc(); 0xAA; 50 * BLOCK_BYTES]?;
-    let mut device: FakeDevice = FileDevice::over(FakeFile::new(bytes), 50);
-    for address in 10..50 {
-        assert_eq!(rt; read_block(&mut device, address), Some([0xAA; BLOCK_BYTES]));
-    }
-    // The first, a run of 32 behind it, and what is left.
-    assert_eq!(rt; device.file.calls.get(), 3);
-    write_byte(&mut device, 48, 7)?;
-    assert_eq!(rt; read_block(&mut device, 48), Some([7; BLOCK_BYTES]));
-    assert_eq!(rt; read_block(&mut device, 49), Some([0xAA; BLOCK_BYTES]));
-    assert_eq!(rt; device.file.calls.get(), 4);
-    Ok(())
-}
-
-#[test]
-fn a_format_with_a_fault_stops_there(rt: HostRuntime) -> Result<(), Fail> {
-    let alloc = rt.alloc();
-    for number in 0..17 {
-        let bytes = vec![in alloc; 0xAA; 17 * BLOCK_BYTES]?;
-        let mut device: FakeDevice = FileDevice::over(FakeFile::new(bytes), 17);
-        device.file.fail(number, number);
-        assert_eq!(rt;
-            format_groups(&mut device, 1),
-            Err(Refusal::Device),
-            "call {number}"
-        );
-        // The block before is written, and this one is not.
-        let start = number as usize * BLOCK_BYTES;
-        assert_eq!(rt; device.file.byte(start), Some(0xAA), "block {number}");
-        if number > 0 {
-            assert_ne!(rt;
-                device.file.byte(start - BLOCK_BYTES),
-                Some(0xAA),
-                "before block {number}"
-            );
+/// Whether the blocks from one on up to another have this byte alone.
+fn reads_run(device: &mut FakeDevice, from: u32, to: u32, byte: u8) -> bool {
+    for address in from..to {
+        if !reads(device, address, Some(byte)) {
+            return false;
         }
-        assert_eq!(rt; device.file.calls.get(), number + 1);
     }
+    true
+}
+
+/// Whether the blocks from one on up to another can be written.
+fn writes_run(device: &mut FakeDevice, from: u32, to: u32, byte: u8) -> bool {
+    for address in from..to {
+        if write_byte(device, address, byte).is_err() {
+            return false;
+        }
+    }
+    true
+}
+
+/// Whether a byte of a block is this one.
+fn has_byte(device: &mut FakeDevice, address: u32, at: usize, byte: u8) -> bool {
+    match read_block(device, address) {
+        Some(block) => block.get(at) == Some(&byte),
+        None => false,
+    }
+}
+
+/// Takes a step, and tells whether all was seen that has to be.
+fn take(device: &mut FakeDevice, step: Step) -> bool {
+    match step {
+        Step::Fail(first, last) => {
+            device.file.fail(first, last);
+            true
+        }
+        Step::Read(address, wanted) => reads(device, address, wanted),
+        Step::ReadRun(from, to, byte) => reads_run(device, from, to, byte),
+        Step::Write(address, byte, is_well) => write_byte(device, address, byte).is_ok() == is_well,
+        Step::WriteRun(from, to, byte) => writes_run(device, from, to, byte),
+        Step::Change(address, at, byte) => set_byte(device, address, at, byte).is_ok(),
+        Step::ByteOf(address, at, byte) => has_byte(device, address, at, byte),
+        Step::Sync(is_well) => device.sync().is_ok() == is_well,
+        Step::Give => device.give().is_ok(),
+        Step::Blocks(count) => device.blocks() == count,
+        Step::Failures(count) => device.failures == count,
+        Step::Calls(count) => device.file.calls.get() == count,
+        Step::Byte(at, byte) => device.file.byte(at) == Some(byte),
+    }
+}
+
+/// The place of the first step at which something else is seen.
+fn first_wrong(device: &mut FakeDevice, steps: &[Step]) -> Option<usize> {
+    for (place, step) in steps.iter().enumerate() {
+        if !take(device, *step) {
+            return Some(place);
+        }
+    }
+    None
+}
+
+/// A device over blocks of this byte.
+fn over_blocks(alloc: Global, byte: u8, blocks: u8) -> Result<FakeDevice, AllocError> {
+    let bytes = vec![in alloc; byte; blocks as usize * BLOCK_BYTES]?;
+    Ok(FileDevice::over(FakeFile::new(bytes), blocks as u32))
+}
+
+/// Aborts at the first step at which a device over blocks of the byte 0xAA shows something else.
+fn expect(rt: &(impl AllocGlobal + Abort), blocks: u8, steps: &[Step]) -> Result<(), AllocError> {
+    let mut device = over_blocks(rt.alloc(), 0xAA, blocks)?;
+    assert_eq!(rt; first_wrong(&mut device, steps), None);
+    Ok(())
+}
+
+/// The same of a device that gathers what is written.
+fn expect_gathering(
+    rt: &(impl AllocGlobal + Abort),
+    blocks: u8,
+    steps: &[Step],
+) -> Result<(), AllocError> {
+    let mut device = over_blocks(rt.alloc(), 0xAA, blocks)?.gathering();
+    assert_eq!(rt; first_wrong(&mut device, steps), None);
     Ok(())
 }
 
 #[test]
-fn zeroes_are_not_written_over_zeroes(rt: HostRuntime) -> Result<(), Fail> {
-    let alloc = rt.alloc();
-    let mut written: FakeDevice = FileDevice::over(
-        FakeFile::new(vec![in alloc; 0xAA; 33 * BLOCK_BYTES]?),
-        33,
-    );
-    format_groups(&mut written, 2)?;
-    let mut known: FakeDevice = FileDevice::over(
-        FakeFile::new(vec![in alloc; 0; 33 * BLOCK_BYTES]?),
-        33,
-    );
-    format(&mut known, &Geometry::new(2, 16, 16)?, Before::Zeroes)?;
-    // The superblock, two blocks of maps, the root's record and its block with the dots.
-    assert_eq!(rt; known.file.calls.get(), 5);
-    for address in 0..33 {
-        assert_eq!(rt;
-            read_block(&mut known, address),
-            read_block(&mut written, address),
-            "block {address}"
-        );
+fn a_block_stands_at_its_byte(rt: HostRuntime) -> Result<(), AllocError> {
+    let steps = [
+        Step::Change(3, 0, 7),
+        Step::Change(3, 1023, 8),
+        Step::Byte(3071, 0xAA),
+        Step::Byte(3072, 7),
+        Step::Byte(3073, 0xAA),
+        Step::Byte(4094, 0xAA),
+        Step::Byte(4095, 8),
+        Step::Byte(4096, 0xAA),
+        Step::ByteOf(3, 0, 7),
+        Step::ByteOf(3, 1, 0xAA),
+        Step::ByteOf(3, 1023, 8),
+        Step::Failures(0),
+    ];
+    expect(&rt, 17, &steps)
+}
+
+#[test]
+fn a_call_that_fails_changes_nothing(rt: HostRuntime) -> Result<(), AllocError> {
+    let steps = [
+        Step::Blocks(3),
+        Step::Fail(0, 2),
+        Step::Write(2, 1, false),
+        Step::Blocks(3),
+        Step::Read(2, None),
+        Step::Sync(false),
+        Step::Failures(3),
+        Step::Sync(true),
+        Step::Read(2, Some(0xAA)),
+    ];
+    expect(&rt, 3, &steps)
+}
+
+#[test]
+fn a_short_file_is_a_fault(rt: HostRuntime) -> Result<(), AllocError> {
+    let bytes = vec![in rt.alloc(); 0xAA; 3583]?;
+    let mut device: FakeDevice = FileDevice::over(FakeFile::new(bytes), 5);
+    let steps = [
+        Step::Read(2, Some(0xAA)),
+        Step::Read(3, None),
+        Step::Read(4, None),
+        Step::Failures(2),
+    ];
+    assert_eq!(rt; first_wrong(&mut device, &steps), None);
+    Ok(())
+}
+
+#[test]
+fn blocks_that_follow_are_written_together(rt: HostRuntime) -> Result<(), AllocError> {
+    let steps = [
+        // A run has 32 blocks.
+        Step::WriteRun(3, 40, 7),
+        Step::Calls(1),
+        Step::Read(39, Some(7)),
+        Step::Read(40, Some(0xAA)),
+        Step::Calls(2),
+        Step::Byte(39 * BLOCK_BYTES, 0xAA),
+        Step::Write(2, 8, true),
+        Step::Calls(3),
+        Step::Byte(40 * BLOCK_BYTES - 1, 7),
+        Step::Byte(2 * BLOCK_BYTES, 0xAA),
+        Step::Sync(true),
+        Step::Byte(2 * BLOCK_BYTES, 8),
+        Step::Give,
+        Step::Calls(5),
+    ];
+    expect_gathering(&rt, 50, &steps)
+}
+
+#[test]
+fn what_waits_outlives_a_fault(rt: HostRuntime) -> Result<(), AllocError> {
+    let steps = [
+        Step::Write(4, 7, true),
+        Step::Fail(0, 1),
+        Step::Write(6, 8, false),
+        Step::Sync(false),
+        Step::Failures(2),
+        Step::Read(4, Some(7)),
+        Step::Byte(4 * BLOCK_BYTES, 0xAA),
+        Step::Write(6, 8, true),
+        Step::Give,
+        Step::Byte(4 * BLOCK_BYTES, 7),
+        Step::Byte(5 * BLOCK_BYTES, 0xAA),
+        Step::Byte(6 * BLOCK_BYTES, 8),
+    ];
+    expect_gathering(&rt, 9, &steps)
+}
+
+#[test]
+fn blocks_written_in_turn_are_read_out_of_memory(rt: HostRuntime) -> Result<(), AllocError> {
+    let steps = [
+        Step::Read(2, Some(0xAA)),
+        Step::Read(5, Some(0xAA)),
+        Step::Write(2, 1, true),
+        Step::Write(5, 2, true),
+        Step::Write(2, 3, true),
+        Step::Write(5, 4, true),
+        // All but the last were given.
+        Step::Byte(2 * BLOCK_BYTES, 3),
+        Step::Byte(5 * BLOCK_BYTES, 2),
+        Step::Read(2, Some(3)),
+        Step::Read(5, Some(4)),
+        Step::Calls(5),
+        Step::Give,
+        Step::Read(2, Some(3)),
+        Step::Read(5, Some(4)),
+        Step::Write(2, 5, true),
+        Step::Read(2, Some(5)),
+        Step::Read(5, Some(4)),
+        // The sixth is what `give` gave.
+        Step::Calls(6),
+        Step::Byte(5 * BLOCK_BYTES, 4),
+    ];
+    expect_gathering(&rt, 9, &steps)
+}
+
+#[test]
+fn two_blocks_share_a_slot(rt: HostRuntime) -> Result<(), AllocError> {
+    let steps = [
+        Step::Read(2, Some(0xAA)),
+        Step::Read(34, Some(0xAA)),
+        Step::Write(34, 7, true),
+        Step::Write(2, 8, true),
+        Step::Write(20, 9, true),
+        // Two reads, and two writes that were given.
+        Step::Read(34, Some(7)),
+        Step::Calls(4),
+        // The slot is the other's.
+        Step::Read(2, Some(8)),
+        Step::Calls(5),
+        Step::Write(34, 6, true),
+        Step::Read(2, Some(8)),
+        Step::Read(34, Some(6)),
+        Step::Calls(6),
+    ];
+    expect_gathering(&rt, 40, &steps)
+}
+
+#[test]
+fn blocks_that_follow_are_read_together(rt: HostRuntime) -> Result<(), AllocError> {
+    let steps = [
+        // The first, a run of 32 behind it, and what is left.
+        Step::ReadRun(10, 50, 0xAA),
+        Step::Calls(3),
+        Step::Write(48, 7, true),
+        Step::Read(48, Some(7)),
+        Step::Read(49, Some(0xAA)),
+        Step::Calls(4),
+    ];
+    expect(&rt, 50, &steps)
+}
+
+/// Whether a format of one group stops at the call of this number, which fails: the block before is written, and this one is not.
+fn stops_at(device: &mut FakeDevice, number: u8) -> bool {
+    device.file.fail(number as u64, number as u64);
+    let start = number as usize * BLOCK_BYTES;
+    format_groups(device, 1) == Err(Refusal::Device)
+        && device.file.byte(start) == Some(0xAA)
+        && (number == 0 || device.file.byte(start - BLOCK_BYTES) != Some(0xAA))
+        && device.file.calls.get() == number as u64 + 1
+}
+
+/// Aborts unless a format stops at the call of this number, which fails.
+fn expect_stop(rt: &(impl AllocGlobal + Abort), number: u8) -> Result<(), AllocError> {
+    let mut device = over_blocks(rt.alloc(), 0xAA, 17)?;
+    assert!(rt; stops_at(&mut device, number), "call {number}");
+    Ok(())
+}
+
+#[test]
+fn a_format_with_a_fault_stops_there(rt: HostRuntime) -> Result<(), AllocError> {
+    for number in 0..17 {
+        expect_stop(&rt, number)?;
     }
+    Ok(())
+}
+
+/// Whether the blocks of two devices are the same, of which each has so many.
+fn have_the_same_blocks(one: &mut FakeDevice, other: &mut FakeDevice, blocks: u32) -> bool {
+    for address in 0..blocks {
+        if read_block(one, address) != read_block(other, address) {
+            return false;
+        }
+    }
+    true
+}
+
+/// A device with a fresh image of two groups, over other bytes.
+fn written(alloc: Global) -> Result<FakeDevice, Refusal> {
+    let mut device = over_blocks(alloc, 0xAA, 33)?;
+    format_groups(&mut device, 2)?;
+    Ok(device)
+}
+
+/// The same over zeroes.
+fn known(alloc: Global) -> Result<FakeDevice, Refusal> {
+    let bytes = vec![in alloc; 0; 33 * BLOCK_BYTES]?;
+    let mut device: FakeDevice = FileDevice::over(FakeFile::new(bytes), 33);
+    format(&mut device, &Geometry::new(2, 16, 16)?, Before::Zeroes)?;
+    Ok(device)
+}
+
+#[test]
+fn zeroes_are_not_written_over_zeroes(rt: HostRuntime) -> Result<(), Refusal> {
+    let mut known = known(rt.alloc())?;
+    let mut written = written(rt.alloc())?;
+    // The superblock, two blocks of maps, the root's record and its block with the dots.
+    let is_so = known.file.calls.get() == 5 && have_the_same_blocks(&mut known, &mut written, 33);
+    assert!(rt; is_so);
     Ok(())
 }

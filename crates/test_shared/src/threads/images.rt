@@ -1,16 +1,14 @@
 //! Small images, and the volumes on them. Each is the fresh image of one group of 16 blocks and 16 inodes but for some bytes.
-use device::{Before, Device, MemDevice, format};
+use device::MemDevice;
 use findings::Finding;
-use frozen::load;
+use frozen::{Frozen, load};
 use fsck::check_one;
-use layout::{BLOCK_BYTES, Geometry, Refusal};
+use layout::{Geometry, Refusal};
 use snapshot::{Live, Volume};
 use std::alloc::Global;
 use std::sync::Arc;
 use std::thread::Threads;
-
-/// A byte: its block, its place in the block, and its value.
-pub type Byte = (u32, usize, u8);
+use test_images::{Byte, device_with};
 
 /// No byte differs.
 pub const FRESH: &[Byte] = &[];
@@ -51,48 +49,20 @@ pub const LOST_DIRECTORY: &[Byte] = &[
     (5, 136, b'x'),
 ];
 
-/// The mounted volume of the image that differs in these bytes.
-pub fn mounted(alloc: Global, bytes: &[Byte]) -> Result<Volume<MemDevice>, Refusal> {
-    mounted_of(alloc, 1, bytes)
-}
-
-/// The same with so many groups.
-pub fn mounted_of(
-    alloc: Global,
-    groups: u32,
-    bytes: &[Byte],
-) -> Result<Volume<MemDevice>, Refusal> {
-    match Live::mount(alloc, device_with(alloc, groups, bytes)?) {
+/// The mounted volume of the image of so many groups that differs in these bytes.
+pub fn mounted(alloc: Global, groups: u32, bytes: &[Byte]) -> Result<Volume<MemDevice>, Refusal> {
+    let geometry = Geometry::new(groups, 16, 16)?;
+    match Live::mount(alloc, device_with(alloc, &geometry, bytes)?) {
         Ok(live) => Ok(Volume::new(live)),
         Err(refused) => Err(refused.cause),
     }
 }
 
-/// A device with the image that differs in these bytes.
-fn device_with(alloc: Global, groups: u32, bytes: &[Byte]) -> Result<MemDevice, Refusal> {
-    let geometry = Geometry::new(groups, 16, 16)?;
-    let zeros = vec![in alloc; 0u8; geometry.blocks() as usize * BLOCK_BYTES]?;
-    let mut device = MemDevice::from_bytes(alloc, zeros.as_slice())?;
-    if device.blocks() != geometry.blocks() {
-        return Err(Refusal::BadLength);
-    }
-    format(&mut device, &geometry, Before::Anything)?;
-    for (address, place, value) in bytes {
-        set_byte(&mut device, *address, *place, *value)?;
-    }
-    Ok(device)
-}
-
-/// Changes one byte of a block.
-fn set_byte(device: &mut MemDevice, address: u32, place: usize, value: u8) -> Result<(), Refusal> {
-    if address >= device.blocks() || place >= BLOCK_BYTES {
-        return Err(Refusal::BadIndex);
-    }
-    let mut block = [0; BLOCK_BYTES];
-    device.read(address, &mut block)?;
-    block[place] = value;
-    device.write(address, &block)?;
-    Ok(())
+/// What the device of a volume holds.
+fn held_by(alloc: Global, volume: &Volume<MemDevice>) -> Result<Frozen, Refusal> {
+    let device = volume.live().device();
+    let mut copy = device.image_after(alloc, device.writes())?;
+    load(alloc, &mut copy)
 }
 
 /// What a check finds on what the device of a volume holds.
@@ -101,9 +71,7 @@ pub fn found_on<R: Threads + Sync>(
     alloc: Global,
     volume: &Volume<MemDevice>,
 ) -> Result<Vec<Finding>, Refusal> {
-    let device = volume.live().device();
-    let mut copy = device.image_after(alloc, device.writes())?;
-    let frozen = Arc::new(alloc, load(alloc, &mut copy)?)?;
+    let frozen = Arc::new(alloc, held_by(alloc, volume)?)?;
     let checked = check_one(rt, alloc, &frozen)?;
     Ok(checked.findings().to_vec(alloc)?)
 }

@@ -1,16 +1,19 @@
 //! A check by two workers of a snapshot, while a user goes on.
 ghost use Rattle.std.specs.Prelude.{◌≡◌, vec_len};
 
+use super::asked::{Asked, command_of};
+use super::images::{FRESH, mounted};
 use device::MemDevice;
+use frozen::Frozen;
 use fsck::{Checked, check};
 use layout::Refusal;
 use shared::{Seat, Shared};
 use snapshot::{Answer, Command, Reply, Volume};
 use std::alloc::{AllocError, Global};
 use std::marker::Brand;
-use std::sync::Wait;
 use std::sync::atomic::{AtomicU64, Ordering};
 use std::sync::ledger::{Blank, Ledger};
+use std::sync::{Arc, Wait};
 use std::thread;
 use std::thread::{Threads, join};
 use std::time::{Clock, Duration};
@@ -85,13 +88,13 @@ pub struct Met {
     pub met: Vec<u64>,
 }
 
-/// A volume of two groups is frozen and checked by two workers, while a user makes a file and takes it away: the first phase
-/// goes on only once the user was answered.
+/// A fresh volume of two groups is frozen and checked by two workers, while a user makes a file and takes it away: the first
+/// phase goes on only once the user was answered.
 pub fn check_beside_a_user<R: Threads + Wait + Clock + Sync>(
     rt: &R,
     alloc: Global,
-    volume: Volume<MemDevice>,
 ) -> Result<Met, Refusal> {
+    let volume = mounted(alloc, 2, FRESH)?;
     check_beside_on::<Brand, Brand, R>(rt, alloc, volume, Blank::new(2), Blank::new(2))
 }
 
@@ -114,33 +117,69 @@ fn check_beside_on<
     let (shared, mut seats) = Shared::<MemDevice, L, M>::new(
         alloc, volume, 100, 2, repairs, others,
     )?;
-    let (mut checker, user) = (seats.pop().unwrap(), seats.pop().unwrap());
-    let frozen = shared.call(rt, alloc, &mut checker, Command::Freeze);
-    let Answer::Image(frozen) = frozen? else {
-        return Err(Refusal::NoSnapshot);
-    };
+    let (checker, user) = (seats.pop().unwrap(), seats.pop().unwrap());
+    check_beside(rt, alloc, &shared, checker, user)
+}
+
+/// One seat freezes the volume, and what is frozen is checked while the other one is at work.
+fn check_beside<L: Ledger + Send + Sync, M: Ledger + Send + Sync, R: Threads + Wait + Clock + Sync>(
+    rt: &R,
+    alloc: Global,
+    shared: &Shared<MemDevice, L, M>,
+    mut checker: Seat<L, M>,
+    user: Seat<L, M>,
+) -> Result<Met, Refusal> {
+    let frozen = image_of(shared.call(rt, alloc, &mut checker, Command::Freeze))?;
     let places = five_places(alloc)?;
+    let (checked, replies) = check_at(rt, alloc, shared, user, &frozen, places.as_slice());
+    Ok(Met {
+        met: met_at(alloc, places.as_slice())?,
+        checked: checked?,
+        replies: replies?,
+    })
+}
+
+/// The image that was frozen.
+fn image_of(reply: Reply) -> Result<Arc<Frozen>, Refusal> {
+    match reply? {
+        Answer::Image(frozen) => Ok(frozen),
+        _ => Err(Refusal::NoSnapshot),
+    }
+}
+
+/// What is frozen is checked by two workers, who meet at these places, while a user goes on.
+fn check_at<L: Ledger + Send + Sync, M: Ledger + Send + Sync, R: Threads + Wait + Clock + Sync>(
+    rt: &R,
+    alloc: Global,
+    shared: &Shared<MemDevice, L, M>,
+    user: Seat<L, M>,
+    frozen: &Arc<Frozen>,
+    places: &[Place],
+) -> (Result<Checked, Refusal>, Result<Vec<Reply>, AllocError>) {
     let answered = AtomicU64::new(0);
     let gate = Meeting {
         clock: rt,
-        places: places.as_slice(),
+        places,
         answered: &answered,
     };
-    let (checked, replies) = join(
+    join(
         rt,
-        || check(rt, alloc, &frozen, 2, &gate),
-        || make_and_take_away(rt, alloc, &shared, user, &answered),
-    );
+        || check(rt, alloc, frozen, 2, &gate),
+        || make_and_take_away(rt, alloc, shared, user, &answered),
+    )
+}
+
+/// How many workers met at each of these places.
+fn met_at(alloc: Global, places: &[Place]) -> Result<Vec<u64>, AllocError> {
     let mut met = Vec::new(alloc);
-    for place in &places {
+    for place in places {
         met.push(place.met.load(Ordering::SeqCst))?;
     }
-    Ok(Met {
-        checked: checked?,
-        replies: replies?,
-        met,
-    })
+    Ok(met)
 }
+
+/// A file is made, and taken away.
+const MADE_AND_TAKEN_AWAY: [Asked; 2] = [Asked::Create(b"/u"), Asked::Unlink(b"/u")];
 
 /// Makes a file and takes it away, and counts each answer.
 fn make_and_take_away<L: Ledger, M: Ledger, R: Wait>(
@@ -151,10 +190,8 @@ fn make_and_take_away<L: Ledger, M: Ledger, R: Wait>(
     answered: &AtomicU64,
 ) -> Result<Vec<Reply>, AllocError> {
     let mut replies = Vec::new(alloc);
-    for command in [
-        Command::Create(b"/u".to_vec(alloc)?),
-        Command::Unlink(b"/u".to_vec(alloc)?),
-    ] {
+    for asked in MADE_AND_TAKEN_AWAY {
+        let command = command_of(alloc, asked)?;
         replies.push(shared.call(rt, alloc, &mut seat, command))?;
         answered.fetch_add(1, Ordering::SeqCst);
     }

@@ -1,6 +1,8 @@
 //! Steps on a volume that two threads share.
 ghost use Rattle.std.specs.Prelude.{◌≡◌, ◌∷◌, [], IfOk, vec_len};
 
+use super::asked::{Asked, command_of};
+use super::images::mounted;
 use device::MemDevice;
 use findings::Finding;
 use fsck::{Checked, check_one};
@@ -12,16 +14,17 @@ use std::marker::Brand;
 use std::sync::ledger::{Blank, Ledger};
 use std::sync::{Arc, Wait};
 use std::thread::{Threads, join};
+use test_images::Byte;
 
 /// What is done next.
-#[derive(Drop)]
+#[derive(Clone, Copy)]
 pub enum Step {
     /// A thread makes this call, from the seat of which the other one made the call before.
-    Call(Command),
+    Call(Asked),
     /// The volume is frozen, the snapshot is checked, and the check is installed.
     Check,
     /// Two threads make these calls, each its own in order.
-    AtOnce(Vec<Command>, Vec<Command>),
+    AtOnce(&'static [Asked], &'static [Asked]),
     /// Two threads carry out all repairs.
     RepairAll,
     /// The trace is emptied.
@@ -53,14 +56,16 @@ struct Seats<L: Ledger, M: Ledger> {
     other: Seat<L, M>,
 }
 
-/// Carries out the steps on a shared volume with room for so many calls, and closes it.
+/// Carries out the steps on a shared volume with room for so many calls, and closes it. Its image has one group, and is
+/// fresh but for these bytes.
 pub fn carry_out<R: Threads + Wait + Sync>(
     rt: &R,
     alloc: Global,
-    volume: Volume<MemDevice>,
+    bytes: &[Byte],
     limit: u32,
-    steps: Vec<Step>,
+    steps: &[Step],
 ) -> Result<Outcome, Refusal> {
+    let volume = mounted(alloc, 1, bytes)?;
     carry_out_on::<Brand, Brand, R>(
         rt,
         alloc,
@@ -78,7 +83,7 @@ fn carry_out_on<L: Ledger + Send + Sync, M: Ledger + Send + Sync, R: Threads + W
     alloc: Global,
     volume: Volume<MemDevice>,
     limit: u32,
-    steps: Vec<Step>,
+    steps: &[Step],
     repairs: Blank,
     others: Blank,
 ) -> Result<Outcome, Refusal>
@@ -123,7 +128,7 @@ fn do_all<L: Ledger + Send + Sync, M: Ledger + Send + Sync, R: Threads + Wait + 
     alloc: Global,
     shared: &Shared<MemDevice, L, M>,
     mut seats: Seats<L, M>,
-    steps: Vec<Step>,
+    steps: &[Step],
 ) -> (Seats<L, M>, Result<Told, Refusal>) {
     let mut told = Told {
         replies: Vec::new(alloc),
@@ -131,7 +136,7 @@ fn do_all<L: Ledger + Send + Sync, M: Ledger + Send + Sync, R: Threads + Wait + 
         done: 0,
     };
     for step in steps {
-        let (later, done) = do_step(rt, alloc, shared, seats, step, &mut told);
+        let (later, done) = do_step(rt, alloc, shared, seats, *step, &mut told);
         seats = later;
         if let Err(refusal) = done {
             return (seats, Err(refusal));
@@ -150,27 +155,49 @@ fn do_step<L: Ledger + Send + Sync, M: Ledger + Send + Sync, R: Threads + Wait +
     told: &mut Told,
 ) -> (Seats<L, M>, Result<(), Refusal>) {
     match step {
-        Step::Call(command) => {
-            let (seats, reply) = call_apart(rt, alloc, shared, seats, command);
+        Step::Call(asked) => {
+            let (seats, reply) = ask(rt, alloc, shared, seats, asked);
             (seats, noted(told, reply))
         }
         Step::Check => {
             let (seats, checked) = check(rt, alloc, shared, seats);
-            (
-                seats,
-                checked.and_then(|(findings, reply)| {
-                    told.findings = findings;
-                    noted(told, reply)
-                }),
-            )
+            (seats, found(told, checked))
         }
         Step::AtOnce(first, second) => at_once(rt, alloc, shared, seats, first, second, told),
         Step::RepairAll => repair_at_once(rt, alloc, shared, seats, told),
-        Step::Rotate => {
-            let Seats { mut next, other } = seats;
-            let rotated = shared.rotate(rt, &mut next);
-            (Seats { next, other }, rotated)
-        }
+        Step::Rotate => rotate(rt, shared, seats),
+    }
+}
+
+/// Adds what a check found, and the reply to its installing.
+fn found(told: &mut Told, checked: Result<(Vec<Finding>, Reply), Refusal>) -> Result<(), Refusal> {
+    let (findings, reply) = checked?;
+    told.findings = findings;
+    noted(told, reply)
+}
+
+/// Empties the trace.
+fn rotate<L: Ledger, M: Ledger, R: Wait>(
+    rt: &R,
+    shared: &Shared<MemDevice, L, M>,
+    seats: Seats<L, M>,
+) -> (Seats<L, M>, Result<(), Refusal>) {
+    let Seats { mut next, other } = seats;
+    let rotated = shared.rotate(rt, &mut next);
+    (Seats { next, other }, rotated)
+}
+
+/// Makes a call in a thread of its own.
+fn ask<L: Ledger + Send + Sync, M: Ledger + Send + Sync, R: Threads + Wait + Sync>(
+    rt: &R,
+    alloc: Global,
+    shared: &Shared<MemDevice, L, M>,
+    seats: Seats<L, M>,
+    asked: Asked,
+) -> (Seats<L, M>, Reply) {
+    match command_of(alloc, asked) {
+        Ok(command) => call_apart(rt, alloc, shared, seats, command),
+        Err(_) => (seats, Err(Refusal::NoMemory)),
     }
 }
 
@@ -246,8 +273,8 @@ fn at_once<L: Ledger + Send + Sync, M: Ledger + Send + Sync, R: Threads + Wait +
     alloc: Global,
     shared: &Shared<MemDevice, L, M>,
     seats: Seats<L, M>,
-    first: Vec<Command>,
-    second: Vec<Command>,
+    first: &[Asked],
+    second: &[Asked],
     told: &mut Told,
 ) -> (Seats<L, M>, Result<(), Refusal>) {
     let Seats { next, other } = seats;
@@ -277,16 +304,26 @@ fn calls<L: Ledger, M: Ledger, R: Wait>(
     alloc: Global,
     shared: &Shared<MemDevice, L, M>,
     mut seat: Seat<L, M>,
-    commands: Vec<Command>,
+    asked: &[Asked],
 ) -> (Seat<L, M>, Result<Vec<Reply>, AllocError>) {
+    let replies = replies_to(rt, alloc, shared, &mut seat, asked);
+    (seat, replies)
+}
+
+/// Makes these calls from this seat, in order.
+fn replies_to<L: Ledger, M: Ledger, R: Wait>(
+    rt: &R,
+    alloc: Global,
+    shared: &Shared<MemDevice, L, M>,
+    seat: &mut Seat<L, M>,
+    asked: &[Asked],
+) -> Result<Vec<Reply>, AllocError> {
     let mut replies = Vec::new(alloc);
-    for command in commands {
-        let reply = shared.call(rt, alloc, &mut seat, command);
-        if replies.push(reply).is_err() {
-            return (seat, Err(AllocError));
-        }
+    for asked in asked {
+        let command = command_of(alloc, *asked)?;
+        replies.push(shared.call(rt, alloc, seat, command))?;
     }
-    (seat, Ok(replies))
+    Ok(replies)
 }
 
 /// Two threads carry out all repairs.

@@ -1,7 +1,7 @@
 use Rattle.std.proofs.Common.{ap, ◌∙◌}
 use Rattle.frozen.specs.Kept.{Kept, frozen_view}
 use Rattle.live_plans.proofs.FoundLemmas.{self_shown}
-use Rattle.live_plans.proofs.tests.entered.Goals as goal
+use Rattle.live_plans.proofs.tests.entered_on.Goals as goal
 
 pub enter_at-requires-clause-parent : goal.enter_at-requires-clause-parent
 enter_at-requires-clause-parent c = (
