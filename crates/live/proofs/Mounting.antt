@@ -46,7 +46,7 @@ module _ (honest : Type 0) (image : List (List ℕ)) (kept : Kept) (of : honest 
   module _ (obeys : ObeysRules kept.geometry (frozen_view kept)) where
     pub mountable : (metadata : Kept) → metadata ≡ kept → honest → IsMountable metadata.geometry image
     mountable metadata is h = subst (λ (k : Kept). IsMountable k.geometry image) (sym is)
-    (record { is_image = (of h).is_image; obeys = (same_rules kept.geometry (frozen_view kept) (image_view kept.geometry image) (of h).metadata).0 obeys })
+        (record { is_image = (of h).is_image; obeys = (same_rules kept.geometry (frozen_view kept) (image_view kept.geometry image) (of h).metadata).0 obeys })
 
     pub live_fresh : (metadata : Kept) (queue : Queued) (holdings : Holdings) → IsFresh kept metadata queue holdings → length image ≡ block_count kept.geometry → IsLive honest image queue metadata holdings
     live_fresh metadata queue holdings fresh count =
