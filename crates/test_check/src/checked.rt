@@ -39,6 +39,7 @@ const DAMAGED: &str =
     "phase 1 blocks and sizes\nphase 2 names\nphase 3 connectivity\nphase 4 reference counts\nphase 5 maps\n  lost number 5\n  unmarked inode 2\nfindings 2\nrepairs 0\nverdict damaged\n";
 
 /// What a check has to say.
+#[derive(Clone, Copy)]
 struct Wanted {
     findings: &'static [Finding],
     report: &'static str,

@@ -72,7 +72,8 @@ fn mending(
     place: u32,
 ) -> Result<Vec<Update>, Refusal> {
     let repair = holdings.to_do(place)?;
-    if !is_of(&metadata.frozen().geometry(), repair) {
+    let geometry = metadata.frozen().geometry();
+    if !is_of(&geometry, repair) {
         return Err(Refusal::Damaged);
     }
     updates_of(repaired(alloc, metadata, holdings, repair)?)
@@ -167,7 +168,7 @@ fn an_inode_is_dropped_with_its_blocks(rt: HostRuntime) -> Result<(), Fail> {
 /// Opens a file.
 fn open(holdings: &mut Holdings, number: u32) -> Result<(), Refusal> {
     match holdings.free_handle() {
-        Some(handle) => holdings.open(handle, number),
+        Some(handle) => Ok(holdings.open(handle, number)?),
         None => Err(Refusal::TooManyOpen),
     }
 }
