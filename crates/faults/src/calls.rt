@@ -75,14 +75,23 @@ fn wrong_of(
 ) -> Result<Option<Wrong>, Refusal> {
     let device = fused(alloc, trial, failing.after, failing.once)?;
     match mount(alloc, device) {
-        Ok(volume) => {
-            if volume.live().device().faults() > 0 {
-                return Ok(Some(Wrong::Mount));
-            }
-            wrong_in_steps(rt, alloc, volume, plain, failing)
-        }
+        Ok(mut volume) => wrong_in_volume(rt, alloc, &mut volume, plain, failing),
         Err(refused) => wrong_after_mount(rt, alloc, refused, plain, failing),
     }
+}
+
+/// The same of a volume that was mounted, with no failure.
+fn wrong_in_volume(
+    rt: &(impl Threads + Sync),
+    alloc: Global,
+    volume: &mut Volume<Fused>,
+    plain: &Plain,
+    failing: Failing,
+) -> Result<Option<Wrong>, Refusal> {
+    if volume.live().device().faults() > 0 {
+        return Ok(Some(Wrong::Mount));
+    }
+    wrong_in_steps(rt, alloc, volume, plain, failing)
 }
 
 /// The same where the mount was refused. If the device failed once it is mounted again.
@@ -101,7 +110,7 @@ fn wrong_after_mount(
         return Ok(None);
     }
     match mount(alloc, device) {
-        Ok(volume) => wrong_in_steps(rt, alloc, volume, plain, failing),
+        Ok(mut volume) => wrong_in_steps(rt, alloc, &mut volume, plain, failing),
         Err(_) => Ok(Some(Wrong::Mount)),
     }
 }
@@ -110,21 +119,21 @@ fn wrong_after_mount(
 fn wrong_in_steps(
     rt: &(impl Threads + Sync),
     alloc: Global,
-    mut volume: Volume<Fused>,
+    volume: &mut Volume<Fused>,
     plain: &Plain,
     failing: Failing,
 ) -> Result<Option<Wrong>, Refusal> {
     for (place, step) in plain.steps.iter().enumerate() {
         let wrong = if plain.has_made(place, failing.after) {
-            wrong_in_step(rt, alloc, &mut volume, step, failing.once)?
+            wrong_in_step(rt, alloc, volume, step, failing.once)?
         } else {
-            wrong_answer(rt, alloc, &mut volume, step)?
+            wrong_answer(rt, alloc, volume, step)?
         };
         if wrong.is_some() {
             return Ok(wrong);
         }
     }
-    Ok(wrong_at_end(&volume, plain, failing.once))
+    Ok(wrong_at_end(volume, plain, failing.once))
 }
 
 /// Carries a step out in which the device may fail, once more where it does so once. What comes behind a step that was refused
@@ -144,16 +153,27 @@ fn wrong_in_step(
     let told = carry_out(rt, alloc, volume, &step.action);
     let has_failed = volume.live().device().faults() > faults;
     let wrong = if has_failed {
-        wrong_refusal(alloc, volume, &before, &told)?
-    } else if faults > 0 {
-        is_refused_so(&told).then_some(Wrong::Cause)
+        wrong_refusal(alloc, volume, &before, &told)
     } else {
-        wrong_told(alloc, &told, step)?
-    };
+        wrong_otherwise(alloc, &told, step, faults)
+    }?;
     if once && has_failed && wrong.is_none() {
         return wrong_answer(rt, alloc, volume, step);
     }
     Ok(wrong)
+}
+
+/// What is wrong with how a step came out in which the device did not fail, and before which it had failed so often.
+fn wrong_otherwise(
+    alloc: Global,
+    told: &Result<Told, Refusal>,
+    step: &Step,
+    faults: u64,
+) -> Result<Option<Wrong>, Refusal> {
+    if faults > 0 {
+        return Ok(is_refused_so(told).then_some(Wrong::Cause));
+    }
+    wrong_told(alloc, told, step)
 }
 
 /// Whether a step was refused for a device that failed.

@@ -42,17 +42,28 @@ pub fn plain_of(
     alloc: Global,
     trial: &Trial,
 ) -> Result<Plain, Refusal> {
+    let steps = steps_of(alloc, trial)?;
     let mut volume = mounted(alloc, trial)?;
+    plain_of_volume(rt, alloc, &mut volume, steps)
+}
+
+/// Carries steps out on a volume.
+fn plain_of_volume(
+    rt: &(impl Threads + Sync),
+    alloc: Global,
+    volume: &mut Volume<Fused>,
+    steps: Vec<Step>,
+) -> Result<Plain, Refusal> {
     let mut plain = Plain {
         steps: Vec::new(alloc),
         calls: Vec::new(alloc),
         writes: Vec::new(alloc),
         wrong: 0,
     };
-    for step in steps_of(alloc, trial)? {
-        add_step(rt, alloc, &mut volume, step, &mut plain)?;
+    for step in steps {
+        add_step(rt, alloc, volume, step, &mut plain)?;
     }
-    plain.writes = writes_of(&volume).to_vec(alloc)?;
+    plain.writes = writes_of(volume).to_vec(alloc)?;
     Ok(plain)
 }
 
@@ -64,7 +75,18 @@ fn mounted(alloc: Global, trial: &Trial) -> Result<Volume<Fused>, Refusal> {
     }
 }
 
-/// Carries a step out.
+/// Carries a step out, and tells whether it came out as it has to.
+fn goes_well(
+    rt: &(impl Threads + Sync),
+    alloc: Global,
+    volume: &mut Volume<Fused>,
+    step: &Step,
+) -> Result<bool, Refusal> {
+    let told = carry_out(rt, alloc, volume, &step.action);
+    Ok(is_wanted(alloc, &told, step)?)
+}
+
+/// Carries a step out, and adds how it came out.
 fn add_step(
     rt: &(impl Threads + Sync),
     alloc: Global,
@@ -72,8 +94,7 @@ fn add_step(
     step: Step,
     plain: &mut Plain,
 ) -> Result<(), Refusal> {
-    let told = carry_out(rt, alloc, volume, &step.action);
-    if !is_wanted(alloc, &told, &step)? {
+    if !goes_well(rt, alloc, volume, &step)? {
         plain.wrong = plain.wrong.saturating_add(1);
     }
     plain.calls.push(volume.live().device().calls())?;

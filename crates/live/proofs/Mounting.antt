@@ -1,18 +1,18 @@
 -- What was loaded becomes a mounted volume, or its image breaks a rule.
-use Rattle.std.proofs.Common.{◌≡◌, ◌≤◌, ℕ, zero, suc, true, false, List, length, Option, Some, None, is_some, MatchOption, refl, sym, subst}
+use Rattle.std.proofs.Common.{◌≡◌, ◌≤◌, ℕ, zero, suc, true, false, List, length, Option, Some, None, is_some, MatchOption, refl, sym, subst, arith}
 use Rattle.model.specs.Image.{image_view}
 use Rattle.model.specs.Layout.{Geometry, block_count}
 use Rattle.model.specs.Rules.{IsLeastBroken, ObeysRules, Rule}
 use Rattle.model.specs.View.{View}
 use Rattle.model.proofs.Same.{same_rules}
 use Rattle.frozen.specs.Kept.{IsKeptOf, Kept, KeepsMetadata, frozen_view}
-use Rattle.softdep.specs.Queued.{Queued, fresh_queue}
-use Rattle.live_states.specs.Holdings.{Holdings, IsIdle}
+use Rattle.softdep.specs.Queued.{Queued}
+use Rattle.live_states.specs.Holdings.{Holdings}
 use Rattle.live_states.proofs.Loading.{of_an_image}
 use Rattle.live_states.proofs.Standing.{loaded}
 use Rattle.live_states.specs.Snapshots.{AreRepairsOf}
 use Rattle.live.specs.Alive.{IsLive, IsSnapshotOf}
-use Rattle.live.specs.Mounting.{BreaksRule, IsMountable}
+use Rattle.live.specs.Mounting.{BreaksRule, IsFresh, IsMountable}
 
 -- what is told by the least rule that is broken
 pub obeyed : (geo : Geometry) (view : View) (least : Option ℕ) → MatchOption least (ObeysRules geo view) (IsLeastBroken geo view) → is_some least ≡ false → ObeysRules geo view
@@ -43,14 +43,17 @@ module _ (honest : Type 0) (image : List (List ℕ)) (kept : Kept) (of : honest 
     breaks = λ obeys. broken ((same_rules kept.geometry (frozen_view kept) (image_view kept.geometry image) (of h).metadata).1 obeys);
   }
 
-  module _ (keeps : KeepsMetadata kept) (obeys : ObeysRules kept.geometry (frozen_view kept)) where
-    pub mountable : honest → IsMountable kept.geometry image
-    mountable h = record { is_image = (of h).is_image; obeys = (same_rules kept.geometry (frozen_view kept) (image_view kept.geometry image) (of h).metadata).0 obeys }
+  module _ (obeys : ObeysRules kept.geometry (frozen_view kept)) where
+    pub mountable : (metadata : Kept) → metadata ≡ kept → honest → IsMountable metadata.geometry image
+    mountable metadata is h = subst (λ (k : Kept). IsMountable k.geometry image) (sym is)
+        (record { is_image = (of h).is_image; obeys = (same_rules kept.geometry (frozen_view kept) (image_view kept.geometry image) (of h).metadata).0 obeys })
 
-    pub live_fresh : (queue : Queued) (holdings : Holdings) → queue ≡ fresh_queue kept.geometry → IsIdle holdings → block_count kept.geometry ≤ length holdings.held → length image ≡ block_count kept.geometry → IsLive honest image queue kept holdings
-    live_fresh queue holdings fresh idle marks count =
+    pub live_fresh : (metadata : Kept) (queue : Queued) (holdings : Holdings) → IsFresh kept metadata queue holdings → length image ≡ block_count kept.geometry → IsLive honest image queue metadata holdings
+    live_fresh metadata queue holdings fresh count =
+        let idle = fresh.idle in
+        let keeps = subst KeepsMetadata fresh.metadata_is fresh.keeps in
         let is = of_an_image kept keeps in
-        subst (λ q. IsLive honest image q kept holdings) (sym fresh) (record {
+        subst (λ k. IsLive honest image queue k holdings) (sym fresh.metadata_is) (subst (λ q. IsLive honest image q kept holdings) (sym fresh.queue_is) (record {
           geometry = refl;
           alive = record {
             count = count;
@@ -59,7 +62,7 @@ module _ (honest : Type 0) (image : List (List ℕ)) (kept : Kept) (of : honest 
             some = (loaded kept is.0 holdings keeps is.1 obeys idle).1;
             true = λ h. (loaded kept image holdings keeps (of h) obeys idle).1;
           };
-          marks = marks;
+          marks = subst (λ n. block_count kept.geometry ≤ n) (sym fresh.marks) (omega arith);
           repairs = subst (AreRepairsOf kept.geometry) (sym idle.repairs) tt;
           snapshot = subst (IsSnapshotOf kept.geometry) (sym idle.snapshot) tt;
-        })
+        }))

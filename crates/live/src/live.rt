@@ -1,26 +1,26 @@
-ghost use Rattle.std.specs.Prelude.{◌≡◌, ◌<◌, ℕ, Bool, [], IfErr, IfOk, IsErrOf, IsOkUnless, List, OnErr, OnOk};
+ghost use Rattle.std.specs.Prelude.{◌≡◌, ◌<◌, ℕ, Bool, [], IfErr, IfOk, IsErrOf, IsOkUnless, List, OnErr, OnOk, length};
 ghost use Rattle.std.specs.List.{All};
 ghost use Rattle.device.specs.Writes.{HasFailed};
 ghost use Rattle.layout.specs.declared.refusal.Refusal.TheVariants.{NoMemory};
 ghost use Rattle.ordering.specs.Cuts.{IsClosed, seen, users_view};
-ghost use Rattle.frozen.specs.Kept.{KeepsMetadata};
+ghost use Rattle.frozen.specs.Kept.{IsKeptOf, KeepsMetadata, frozen_view};
 ghost use Rattle.metadata.specs.declared.staged.Staged.{Staged};
 ghost use Rattle.metadata.specs.Staged.{IsStaged, after, changes};
 ghost use Rattle.model.specs.Layout.{block_count};
 ghost use Rattle.model.specs.Rules.{ObeysRules};
 ghost use Rattle.machine.specs.Command.{Answer, Command};
-ghost use Rattle.softdep.specs.Queued.{pending_of};
+ghost use Rattle.softdep.specs.Queued.{fresh_queue, pending_of};
 ghost use Rattle.live_states.specs.Holdings.{IsIdle, with_held};
 ghost use Rattle.live_states.specs.Planned.{AreSeen, IsPlannedWith, Seen};
 ghost use Rattle.live.specs.Alive.{Answers, IsLive, StandsSo, disk_of};
 ghost use Rattle.live.specs.Ended.{ended};
 ghost use Rattle.live.specs.Issued.{IsIssued};
-ghost use Rattle.live.specs.Mounting.{IsMountable, MountRefuses};
+ghost use Rattle.live.specs.Mounting.{IsFresh, IsMountable, MountRefuses};
 
 use crate::ending::{Ending, end};
 use device::Device;
-use frozen::load;
-use layout::Refusal;
+use frozen::{Frozen, load};
+use layout::{Geometry, Refusal};
 use live_holdings::Holdings;
 use live_plans::{Plan, Planned};
 use metadata::Metadata;
@@ -111,21 +111,53 @@ fn read_volume<D: Device>(alloc: Global, device: &mut D) -> Result<Volume, Refus
     ensures refused { IfErr result (MountRefuses (D.honest device.new) (D.image device.old)) }
     ensures cause { IsErrOf result Refusal.Device → HasFailed (D.failures device.old) (D.failures device.new) }
 {
+    let frozen = load_sound(alloc, device)?;
+    volume_of(alloc, frozen)
+}
+
+/// Loads a device's metadata, and refuses those that break a rule.
+fn load_sound<D: Device>(alloc: Global, device: &mut D) -> Result<Frozen, Refusal>
+    ensures image { D.image device.new ≡ D.image device.old }
+    ensures held { D.held device.new ≡ D.held device.old }
+    ensures ok { IfOk result (λ frozen. D.honest device.new → IsKeptOf frozen (D.image device.old)) }
+    ensures count { IfOk result (λ frozen. length (D.image device.old) ≡ block_count frozen.geometry) }
+    ensures obeys { IfOk result (λ frozen. ObeysRules frozen.geometry (frozen_view frozen)) }
+    ensures refused { IfErr result (MountRefuses (D.honest device.new) (D.image device.old)) }
+    ensures cause { IsErrOf result Refusal.Device → HasFailed (D.failures device.old) (D.failures device.new) }
+{
     let frozen = load(alloc, device)?;
     if obeys(alloc, &frozen)?.is_some() {
         return Err(Refusal::Damaged);
     }
+    Ok(frozen)
+}
+
+/// What a volume with this metadata has in memory: nothing is pending, open or held.
+fn volume_of(alloc: Global, frozen: Frozen) -> Result<Volume, Refusal>
+    ensures fresh { IfOk result (λ volume. IsFresh frozen volume.metadata volume.queue volume.holdings) }
+    ensures error { IsOkUnless result Refusal.NoMemory }
+{
     let metadata = Metadata::new(alloc, frozen)?;
-    let geometry = metadata.frozen().geometry();
-    let queue = Queue::new(alloc, geometry)?;
-    let holdings = Holdings::new(alloc, &geometry)?;
-    let spares = Spares::new(alloc)?;
+    let (queue, holdings, spares) = beside(alloc, metadata.frozen().geometry())?;
     Ok(Volume {
         queue,
         metadata,
         holdings,
         spares,
     })
+}
+
+/// What a volume has in memory beside its metadata: nothing is pending, open or held.
+fn beside(alloc: Global, geometry: Geometry) -> Result<(Queue, Holdings, Spares), Refusal>
+    ensures queue { IfOk result (λ beside. beside.0 ≡ fresh_queue geometry) }
+    ensures idle { IfOk result (λ beside. IsIdle beside.1) }
+    ensures marks { IfOk result (λ beside. length beside.1.held ≡ block_count geometry) }
+    ensures error { IsOkUnless result Refusal.NoMemory }
+{
+    let spares = Spares::new(alloc)?;
+    let holdings = Holdings::new(alloc, &geometry)?;
+    let queue = Queue::new(alloc, geometry)?;
+    Ok((queue, holdings, spares))
 }
 
 impl<D: Device> Live<D> {

@@ -29,19 +29,38 @@ pub fn try_trial<R: Threads + Sync>(
     outcome: &mut Outcome,
 ) -> Result<(), Refusal> {
     let image = twice!(image_of(alloc, trial))?;
-    let report = twice!(report_of(rt, alloc, &image, 1))?;
+    report_image(rt, alloc, &image, outcome)?;
+    match mounted(alloc, image, outcome) {
+        Ok(mut volume) => try_steps(rt, alloc, &mut volume, trial, outcome),
+        Err(cause) => report_refused(alloc, trial, cause, outcome),
+    }
+}
+
+/// Adds the report of an image, which has to be the same by 1 and by 3 workers.
+fn report_image<R: Threads + Sync>(
+    rt: &R,
+    alloc: Global,
+    image: &MemDevice,
+    outcome: &mut Outcome,
+) -> Result<(), Refusal> {
+    let report = twice!(report_of(rt, alloc, image, 1))?;
     outcome.add(report.as_str())?;
-    let by_three = twice!(report_of(rt, alloc, &image, 3))?;
+    let by_three = twice!(report_of(rt, alloc, image, 3))?;
     if report != by_three {
         outcome.add_wrong("another report by 3 workers\n")?;
     }
-    match mounted(alloc, image, outcome) {
-        Ok(mut volume) => try_steps(rt, alloc, &mut volume, trial, outcome),
-        Err(cause) => {
-            let line = twice!(refused_line(alloc, trial, cause))?;
-            Ok(outcome.add(line.as_str())?)
-        }
-    }
+    Ok(())
+}
+
+/// Adds the line of a trial whose volume was not mounted.
+fn report_refused(
+    alloc: Global,
+    trial: &Trial,
+    cause: Refusal,
+    outcome: &mut Outcome,
+) -> Result<(), Refusal> {
+    let line = twice!(refused_line(alloc, trial, cause))?;
+    Ok(outcome.add(line.as_str())?)
 }
 
 /// The device of a trial.
@@ -114,8 +133,26 @@ fn try_steps<R: Threads + Sync>(
     for (place, step) in steps.iter().enumerate() {
         try_step(rt, alloc, volume, place, step, outcome)?;
     }
-    let device = volume.live().device();
-    let line = twice!(end_line(alloc, trial, steps.len(), device))?;
+    report_end(
+        rt,
+        alloc,
+        volume.live().device(),
+        trial,
+        steps.len(),
+        outcome,
+    )
+}
+
+/// Adds what a device holds once so many commands of a trial were carried out.
+fn report_end<R: Threads + Sync>(
+    rt: &R,
+    alloc: Global,
+    device: &MemDevice,
+    trial: &Trial,
+    steps: usize,
+    outcome: &mut Outcome,
+) -> Result<(), Refusal> {
+    let line = twice!(end_line(alloc, trial, steps, device))?;
     outcome.add(line.as_str())?;
     let report = twice!(report_of(rt, alloc, device, 1))?;
     Ok(outcome.add(report.as_str())?)

@@ -92,6 +92,17 @@ fn round<R: Threads + Wait + Eprint + Sync>(
     counts: &mut Counts,
 ) -> Result<MemDevice> {
     let ran = ran(rt, alloc, image, noise)?;
+    look_at_round(rt, alloc, &ran, noise, counts)
+}
+
+/// Counts what was answered and mended in a round, looks at stops, and gives what the last one of them left.
+fn look_at_round<R: Threads + Eprint + Sync>(
+    rt: &R,
+    alloc: Global,
+    ran: &Ran<MemDevice>,
+    noise: &mut Noise,
+    counts: &mut Counts,
+) -> Result<MemDevice> {
     counts.rounds = counts.rounds.saturating_add(1);
     count_answers(rt, ran.answered.as_slice(), counts)?;
     count_repairs(rt, &ran.mended, counts)?;
@@ -122,8 +133,19 @@ fn look_at_stops<R: Threads + Eprint + Sync>(
         look_at(rt, alloc, stopped(alloc, device, noise)?, counts)?;
     }
     let left = stopped(alloc, device, noise)?;
-    look_at(rt, alloc, left.image_after(alloc, 0)?, counts)?;
+    look_at_copy(rt, alloc, &left, counts)?;
     Ok(left)
+}
+
+/// Looks at a copy of what a stop left.
+fn look_at_copy<R: Threads + Eprint + Sync>(
+    rt: &R,
+    alloc: Global,
+    left: &MemDevice,
+    counts: &mut Counts,
+) -> Result<()> {
+    let copy = left.image_after(alloc, 0)?;
+    look_at(rt, alloc, copy, counts)
 }
 
 /// A random script.
