@@ -6,6 +6,7 @@ use crate::flushing::flush_until;
 use crate::lines::{Answered, carry_out};
 use device::Device;
 use layout::Refusal;
+use outcomes::with;
 use shared::{Seat, Shared};
 use snapshot::{Command, Volume};
 use std::alloc::{AllocError, Global};
@@ -55,7 +56,8 @@ pub fn run<D: Device + Drop + Send, R: Threads + Wait + Sync>(
     script: Vec<UserLine>,
     workers: u32,
 ) -> Result<Ran<D>, Refusal> {
-    let (users, seats) = users_of(alloc, script)?;
+    let (users, volume) = with(users_of(alloc, script), volume)?;
+    let (users, seats) = users;
     let Outcome { told, mut volume } = run_on::<D, Brand, Brand, R>(
         rt,
         alloc,
@@ -66,7 +68,9 @@ pub fn run<D: Device + Drop + Send, R: Threads + Wait + Sync>(
         Blank::new(u64::from(seats)),
         Blank::new(u64::from(seats)),
     )?;
-    let Told { answered, mended } = written(alloc, &mut volume, told)?;
+    let told = written(alloc, &mut volume, told);
+    let (told, volume) = with(told, volume)?;
+    let Told { answered, mended } = told;
     Ok(Ran {
         answered,
         mended,
