@@ -7,9 +7,9 @@ use inode::{FILE, FREE};
 use layout::{Geometry, ROOT, Refusal};
 use live_holdings::Holdings;
 use live_plans::Planned;
-use live_repairs::repaired;
+use live_repairs::{drop_inode, free_block, free_number, lower_count};
 use metadata::Metadata;
-use std::alloc::Global;
+use std::alloc::{AllocError, Global};
 use std::process::Abort;
 use std::test::Fail;
 use test_images::{Byte, frozen_with};
@@ -61,6 +61,25 @@ fn is_of(geometry: &Geometry, repair: Repair) -> bool
         Repair::LowerCount(number, _) => ROOT <= number && number < geometry.inodes(),
         Repair::FreeBlock(address) => geometry.place_of(address).is_some(),
         Repair::FreeNumber(number) => ROOT <= number && number < geometry.inodes(),
+    }
+}
+
+/// The plan of a repair.
+fn repaired(
+    alloc: Global,
+    metadata: &Metadata,
+    holdings: &Holdings,
+    repair: Repair,
+) -> Result<Planned, AllocError>
+    requires { IsRepairOf metadata.now.geometry repair }
+{
+    match repair {
+        Repair::DropInode(number) => drop_inode(alloc, metadata, holdings, number),
+        Repair::LowerCount(number, fewer) => {
+            lower_count(alloc, metadata, holdings, number, fewer)
+        }
+        Repair::FreeBlock(address) => free_block(alloc, metadata, address),
+        Repair::FreeNumber(number) => free_number(alloc, metadata, number),
     }
 }
 
