@@ -1,4 +1,4 @@
-use Rattle.std.proofs.Common.{◌≡◌, ◌∙◌, sym, ap, subst}
+use Rattle.std.proofs.Common.{◌∙◌, sym, ap, subst}
 use Rattle.snapshot.specs.Alive.{Alive}
 use Rattle.snapshot.specs.Mounting.{IsMountable}
 use Rattle.image_lines.specs.Repaired.{IsRepaired}
