@@ -1,24 +1,10 @@
 //! `fsvol` makes and checks the images of volumes.
 #![tactic(auto)]
 
-mod entry;
-mod failure;
-mod jobs;
-mod line;
-mod repairs;
-#[cfg(test)]
-mod rows;
-mod runs;
-mod stops;
-mod tool_line;
-mod tooling;
-mod watching;
-
-use entry::perform;
-use line::words_given;
+use command_line::Screen;
+use commands::{perform, words_given};
 use std::io::IsTerminal;
 use std::process::ExitCode;
-use watching::Screen;
 
 fn main(rt: HostRuntime) -> ExitCode {
     let mut out = rt.stdout();

@@ -1,4 +1,4 @@
-ghost use Rattle.std.specs.Prelude.{IsTrue};
+ghost use Rattle.std.specs.Prelude.{◌<◌, IsTrue};
 ghost use Rattle.frozen.specs.Kept.{frozen_view};
 ghost use Rattle.model.specs.Uses.{is_directory_at};
 ghost use Rattle.live_plans.specs.Grown.{HasPointers};
@@ -313,7 +313,9 @@ fn expect_after(
     rt: &(impl AllocGlobal + Abort),
     place: usize,
     wanted: &[Cell],
-) -> Result<(), AllocError> {
+) -> Result<(), AllocError>
+    requires { place < 256 }
+{
     let mut pointers = [0; BLOCK_BYTES];
     pointers[4] = 9;
     let after = pointer_after(rt.alloc(), 5, place, 7, &pointers)?;

@@ -265,13 +265,18 @@ fn closing_of_one(alloc: Global, metadata: &Metadata, number: u32) -> Result<Vec
     closing(alloc, metadata, &holdings, handle)
 }
 
-/// The updates by which file 5, which is sound, gets a size.
-fn shortening(alloc: Global, metadata: &Metadata, size: u32) -> Result<Vec<Update>, Refusal> {
-    if !metadata.frozen().is_sound_at(5) {
+/// The updates by which a sound file gets a size.
+fn shortening(
+    alloc: Global,
+    metadata: &Metadata,
+    number: u32,
+    size: u32,
+) -> Result<Vec<Update>, Refusal> {
+    if !metadata.frozen().is_sound_at(number) {
         return Err(Refusal::Damaged);
     }
     let holdings = nothing_open(alloc, metadata)?;
-    updates_of(shortened(alloc, metadata, &holdings, 5, size)?)
+    updates_of(shortened(alloc, metadata, &holdings, number, size)?)
 }
 
 /// The updates of what is done.
@@ -280,7 +285,7 @@ fn updates_by(alloc: Global, metadata: &Metadata, act: Act<'_>) -> Result<Vec<Up
         Act::Unlink(path) => unlinking(alloc, metadata, path),
         Act::UnlinkOpen(path) => unnaming(alloc, metadata, path),
         Act::RemoveDirectory(path) => removing(alloc, metadata, path),
-        Act::Shorten(size) => shortening(alloc, metadata, size),
+        Act::Shorten(size) => shortening(alloc, metadata, 5, size),
         Act::CloseFirst(number) => closing_of_two(alloc, metadata, number, false),
         Act::CloseSecond(number) => closing_of_two(alloc, metadata, number, true),
         Act::CloseOnly(number) => closing_of_one(alloc, metadata, number),

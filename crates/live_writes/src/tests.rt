@@ -1,3 +1,5 @@
+ghost use Rattle.std.specs.Prelude.{◌≤◌, length};
+
 use crate::aiming::place_behind;
 use crate::writing::{held_blocks, overwritten};
 use crate::{Place, Target};
@@ -78,7 +80,9 @@ fn expect_bytes(
     place: &Place,
     piece: &[u8],
     wanted: &Block,
-) -> Result<(), Refusal> {
+) -> Result<(), Refusal>
+    requires { length piece.now ≤ 1024 }
+{
     let mut spares = Spares::none(rt.alloc());
     let bytes = overwritten(rt.alloc(), place, &[9; BLOCK_BYTES], piece, &mut spares)?;
     assert!(rt; *bytes == *wanted);

@@ -17,6 +17,7 @@ use device::Device;
 use hosts::HostError;
 use http_server::Log;
 use layout::{BLOCK_BYTES, Refusal};
+use outcomes::with;
 use progress::{Tally, Watcher};
 use snapshot::{Answer, Command, Volume};
 use std::alloc::Global;
@@ -64,7 +65,8 @@ pub fn put_on_device<R: Files + AllocGlobal, D: Device + Drop>(
         → PutMounted (D.image device) holding.filled.readings.items.items (D.held holding.volume.device) (D.image holding.volume.device) holding.volume) }
 {
     let mut volume = mount(rt.alloc(), device)?;
-    let filled = put(rt, &mut volume, items, watcher)?;
+    let filled = put(rt, &mut volume, items, watcher);
+    let (filled, volume) = with(filled, volume)?;
     Ok(Holding { filled, volume })
 }
 

@@ -145,16 +145,24 @@ where
     R::File: FileExt,
 {
     match mount_file(rt, image) {
-        Ok(mut volume) => {
-            allow_in_volume(rt.alloc(), &volume, items)?;
-            Ok(put(rt, &mut volume, items, watcher)?)
-        }
+        Ok(mut volume) => put_new_in_volume(rt, &mut volume, items, watcher),
         Err(cause) => {
             // An item that the image cannot have is told of first.
             allow_in_file(rt, image, items)?;
             Err(HostError::from(cause))
         }
     }
+}
+
+/// Puts items into a mounted volume, where none of them may stand yet, and tells how many went into it.
+fn put_new_in_volume<R: Files + AllocGlobal, D: Device>(
+    rt: &R,
+    volume: &mut Volume<D>,
+    items: &[Item],
+    watcher: &impl Watcher,
+) -> Result<Filled, HostError> {
+    allow_items(rt.alloc(), volume.live().metadata(), items)?;
+    Ok(put(rt, volume, items, watcher)?)
 }
 
 /// Mounts the volume of a file's image.
@@ -167,15 +175,6 @@ where
 {
     let device = FileDevice::open_to_write(rt, image)?.gathering();
     mount(rt.alloc(), device)
-}
-
-/// Refuses the first item of which the path leads somewhere in a mounted volume already, or can lead nowhere.
-fn allow_in_volume<D: Device>(
-    alloc: Global,
-    volume: &Volume<D>,
-    items: &[Item],
-) -> Result<(), HostError> {
-    allow_items(alloc, volume.live().metadata(), items)
 }
 
 /// Refuses the first item of which the path leads somewhere in a file's image already, or can lead nowhere.

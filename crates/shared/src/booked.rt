@@ -18,6 +18,7 @@ use crate::entry::{Entry, note};
 use crate::seat::Seat;
 use device::Device;
 use layout::Refusal;
+use outcomes::with;
 use snapshot::{Answer, Command, Reply, Volume};
 use std::alloc::Global;
 use std::marker::Model;
@@ -81,12 +82,13 @@ impl<D: Device + Drop, L: Ledger, M: Ledger> Booked<D, L, M> {
         ensures volume { IfOk result (λ booked. booked.volume ≡ volume) }
         ensures error { IsOkUnless result Refusal.NoMemory }
     {
+        let (trace, volume) = with(Vec::with_capacity(alloc, limit), volume)?;
         volume.live();
         Ok(Booked {
             volume,
             limit,
             before: Counts::NONE,
-            trace: Vec::with_capacity(alloc, limit)?,
+            trace,
             inside: Counts::NONE,
             repairs,
             others,

@@ -13,15 +13,55 @@ use crate::limits::are_within;
 use crate::seat::{Seat, seated, whole};
 use device::Device;
 use layout::Refusal;
+use outcomes::with;
 use snapshot::{Command, Reply, Volume};
 use std::alloc::Global;
-use std::sync::ledger::{Blank, Ledger};
+use std::sync::ledger::{Blank, Book, Ledger};
 use std::sync::{Mutex, Wait};
 
 /// One volume for many threads, each with a seat.
 #[derive(Drop)]
 pub struct Shared<D: Device, L: Ledger, M: Ledger> {
     booked: Mutex<Booked<D, L, M>>,
+}
+
+/// The books in which calls are counted, and the seats whose calls they are.
+#[derive(Drop)]
+struct Opened<L: Ledger, M: Ledger> {
+    repairs: Book<L>,
+    others: Book<M>,
+    seats: Vec<Seat<L, M>>,
+}
+
+/// The books of two blanks, in which nothing was counted, and as many seats.
+fn open_books<L: Ledger, M: Ledger>(
+    alloc: Global,
+    limit: u32,
+    seats: u32,
+    repairs: Blank,
+    others: Blank,
+) -> Result<Opened<L, M>, Refusal>
+    requires name { (repairs.name ≡ L.name) × (others.name ≡ M.name) }
+    requires parts { (repairs.parts ≡ L.parts) × (others.parts ≡ M.parts) }
+    requires seats { (repairs.parts ≡ seats) × (others.parts ≡ seats) }
+    ensures books { IfOk result (λ opened. (opened.repairs.total ≡ 0) × (opened.others.total ≡ 0)) }
+    ensures seats { IfOk result (λ opened. (vec_len opened.seats ≡ L.parts) × (vec_len opened.seats ≡ M.parts)) }
+    ensures unused { IfOk result (λ opened. All (λ seat. (seat.repairs.amount ≡ 0) × (seat.others.amount ≡ 0)) opened.seats.items) }
+    ensures within { IfOk result (λ opened. Within limit seats) }
+    ensures bad_index { IsErrOf result Refusal.BadIndex ↔ (Within limit seats → ⊥) }
+    ensures error { Within limit seats → IsOkUnless result Refusal.NoMemory }
+{
+    if !are_within(limit, seats) {
+        return Err(Refusal::BadIndex);
+    }
+    let (repairs, repairs_share) = repairs.open::<L>();
+    let (others, others_share) = others.open::<M>();
+    let seats = seated(alloc, repairs_share, others_share, seats)?;
+    Ok(Opened {
+        repairs,
+        others,
+        seats,
+    })
 }
 
 impl<D: Device + Drop, L: Ledger, M: Ledger> Shared<D, L, M> {
@@ -44,12 +84,13 @@ impl<D: Device + Drop, L: Ledger, M: Ledger> Shared<D, L, M> {
         ensures bad_index { IsErrOf result Refusal.BadIndex ↔ (Within limit seats → ⊥) }
         ensures error { Within limit seats → IsOkUnless result Refusal.NoMemory }
     {
-        if !are_within(limit, seats) {
-            return Err(Refusal::BadIndex);
-        }
-        let (repairs, repairs_share) = repairs.open::<L>();
-        let (others, others_share) = others.open::<M>();
-        let seats = seated(alloc, repairs_share, others_share, seats)?;
+        let opened = open_books(alloc, limit, seats, repairs, others);
+        let (opened, volume) = with(opened, volume)?;
+        let Opened {
+            repairs,
+            others,
+            seats,
+        } = opened;
         let booked = Booked::new(alloc, volume, limit as usize, repairs, others)?;
         let shared = Shared {
             booked: Mutex::new(booked),

@@ -30,10 +30,9 @@ pub fn mend<D: Device + Drop, L: Ledger, M: Ledger, R: Threads + Wait + Sync>(
 ) -> Result<Mended, Refusal> {
     let frozen = freeze(rt, alloc, shared, seat)?;
     let checked = Arc::new(alloc, check(rt, alloc, &frozen, workers, &OpenGate)?)?;
-    let install = Command::Install(Arc::try_clone(&checked)?);
-    call(rt, alloc, shared, seat, &install)?;
+    install(rt, alloc, shared, seat, &checked)?;
     let repaired = repair_all(rt, alloc, shared, seat)?;
-    call(rt, alloc, shared, seat, &Command::Release)?;
+    release(rt, alloc, shared, seat)?;
     Ok(Mended { checked, repaired })
 }
 
@@ -49,6 +48,30 @@ fn freeze<D: Device + Drop, L: Ledger, M: Ledger, R: Wait>(
         // No volume answers a freeze otherwise.
         _ => Err(Refusal::NoSnapshot),
     }
+}
+
+/// Installs a check.
+fn install<D: Device + Drop, L: Ledger, M: Ledger, R: Wait>(
+    rt: &R,
+    alloc: Global,
+    shared: &Shared<D, L, M>,
+    seat: &mut Seat<L, M>,
+    checked: &Arc<Checked>,
+) -> Result<(), Refusal> {
+    let install = Command::Install(Arc::try_clone(checked)?);
+    call(rt, alloc, shared, seat, &install)?;
+    Ok(())
+}
+
+/// Ends the snapshot.
+fn release<D: Device + Drop, L: Ledger, M: Ledger, R: Wait>(
+    rt: &R,
+    alloc: Global,
+    shared: &Shared<D, L, M>,
+    seat: &mut Seat<L, M>,
+) -> Result<(), Refusal> {
+    call(rt, alloc, shared, seat, &Command::Release)?;
+    Ok(())
 }
 
 /// Carries out all repairs, and counts them. Where the trace is full it is emptied, and the repairs go on.

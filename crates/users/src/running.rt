@@ -1,12 +1,13 @@
 //! All threads of a script.
-ghost use Rattle.std.specs.Prelude.{◌≡◌, ◌+◌, ◌<◌, ◌^◌, [], IfOk, vec_len};
+ghost use Rattle.std.specs.Prelude.{◌≡◌, ◌+◌, IfOk, IfSome, vec_len};
 
 use crate::checking::{Mended, mend};
 use crate::flushing::flush_until;
 use crate::lines::{Answered, carry_out};
 use device::Device;
 use layout::Refusal;
-use shared::{Closed, Seat, Shared};
+use outcomes::with;
+use shared::{Seat, Shared};
 use snapshot::{Command, Volume};
 use std::alloc::{AllocError, Global};
 use std::collections::BTreeMap;
@@ -55,20 +56,9 @@ pub fn run<D: Device + Drop + Send, R: Threads + Wait + Sync>(
     script: Vec<UserLine>,
     workers: u32,
 ) -> Result<Ran<D>, Refusal> {
-    let users = by_user(alloc, script)?;
-    let Some(seats) = u32::try_from(users.len())
-        .ok()
-        .and_then(|users| users.checked_add(2))
-    else {
-        // No script has so many users.
-        return Err(Refusal::BadIndex);
-    };
-    let Outcome {
-        answered,
-        mended,
-        flushed,
-        closed,
-    } = run_on::<D, Brand, Brand, R>(
+    let (users, volume) = with(users_of(alloc, script), volume)?;
+    let (users, seats) = users;
+    let Outcome { told, mut volume } = run_on::<D, Brand, Brand, R>(
         rt,
         alloc,
         volume,
@@ -78,11 +68,9 @@ pub fn run<D: Device + Drop + Send, R: Threads + Wait + Sync>(
         Blank::new(u64::from(seats)),
         Blank::new(u64::from(seats)),
     )?;
-    let mended = mended?;
-    flushed?;
-    let answered = answered?;
-    let mut volume = closed.volume;
-    volume.apply(alloc, &Command::Sync)?;
+    let told = written(alloc, &mut volume, told);
+    let (told, volume) = with(told, volume)?;
+    let Told { answered, mended } = told;
     Ok(Ran {
         answered,
         mended,
@@ -93,10 +81,43 @@ pub fn run<D: Device + Drop + Send, R: Threads + Wait + Sync>(
 /// What came of all threads, and what was left.
 #[derive(Drop)]
 struct Outcome<D: Device> {
-    answered: Result<Vec<Answered>, AllocError>,
-    mended: Result<Mended, Refusal>,
-    flushed: Result<(), Refusal>,
-    closed: Closed<D>,
+    told: Result<Told, Refusal>,
+    volume: Volume<D>,
+}
+
+/// What all threads tell.
+#[derive(Drop)]
+struct Told {
+    answered: Vec<Answered>,
+    mended: Mended,
+}
+
+/// The lines of each user that has some, and how many seats their threads and two more need.
+fn users_of(alloc: Global, script: Vec<UserLine>) -> Result<(Vec<Vec<UserLine>>, u32), Refusal>
+    ensures { IfOk result (λ users. vec_len users.0 + 2 ≡ users.1) }
+{
+    let users = by_user(alloc, script)?;
+    // No script has so many users.
+    let seats = seats_for(users.len()).ok_or(Refusal::BadIndex)?;
+    Ok((users, seats))
+}
+
+/// The seats of so many users' threads and two more.
+fn seats_for(users: usize) -> Option<u32>
+    ensures { IfSome result (λ seats. users + 2 ≡ seats) }
+{
+    u32::try_from(users).ok()?.checked_add(2)
+}
+
+/// What all threads tell, once all is written.
+fn written<D: Device>(
+    alloc: Global,
+    volume: &mut Volume<D>,
+    told: Result<Told, Refusal>,
+) -> Result<Told, Refusal> {
+    let told = told?;
+    volume.apply(alloc, &Command::Sync)?;
+    Ok(told)
 }
 
 /// The lines of each user that has some, in the order of the users.
@@ -139,7 +160,7 @@ fn run_on<
     requires seats { (repairs.parts ≡ seats) × (others.parts ≡ seats) }
     requires users { vec_len users + 2 ≡ seats }
 {
-    let (shared, mut seats) = Shared::<D, L, M>::new(
+    let (shared, seats) = Shared::<D, L, M>::new(
         alloc,
         volume,
         TRACE_LIMIT,
@@ -147,19 +168,51 @@ fn run_on<
         repairs,
         others,
     )?;
+    let (seats, told) = work_on(rt, alloc, &shared, seats, users, workers)?;
+    let volume = shared.close(seats).volume;
+    Ok(Outcome { told, volume })
+}
+
+/// Runs all threads on a shared volume, and gives the seats back with what they tell.
+fn work_on<
+    D: Device + Drop + Send,
+    L: Ledger + Send + Sync,
+    M: Ledger + Send + Sync,
+    R: Threads + Wait + Sync,
+>(
+    rt: &R,
+    alloc: Global,
+    shared: &Shared<D, L, M>,
+    mut seats: Vec<Seat<L, M>>,
+    users: Vec<Vec<UserLine>>,
+    workers: u32,
+) -> Result<(Vec<Seat<L, M>>, Result<Told, Refusal>), Refusal>
+    requires { vec_len users + 2 ≡ vec_len seats }
+    ensures { IfOk result (λ ended. vec_len ended.0 ≡ vec_len seats) }
+{
     let (checker, flusher) = (seats.pop().unwrap(), seats.pop().unwrap());
     let posts = posted(alloc, seats, users)?;
     let (left, (checker, mended), (flusher, flushed)) = work_all(
-        rt, alloc, &shared, posts, checker, flusher, workers,
+        rt, alloc, shared, posts, checker, flusher, workers,
     );
     let (mut seats, answered) = gathered(alloc, left?)?;
     seats.push(checker)?;
     seats.push(flusher)?;
-    Ok(Outcome {
-        answered,
+    Ok((seats, told_by_all(answered, mended, flushed)))
+}
+
+/// What all threads tell. Where the one that checks was refused, or else the one that flushes, that is the refusal; further
+/// refused with `NoMemory`.
+fn told_by_all(
+    answered: Result<Vec<Answered>, AllocError>,
+    mended: Result<Mended, Refusal>,
+    flushed: Result<(), Refusal>,
+) -> Result<Told, Refusal> {
+    let mended = mended?;
+    flushed?;
+    Ok(Told {
+        answered: answered?,
         mended,
-        flushed,
-        closed: shared.close(seats),
     })
 }
 

@@ -1,18 +1,29 @@
-use Rattle.std.proofs.Common.{subst}
-use Rattle.putting.specs.Putting.{TookIn}
+use Rattle.std.proofs.Common.{◌≡◌, All, None, map, subst, sym}
+use Rattle.std.proofs.lemmas.Result.{IfOk-at_ok}
+use Rattle.putting.specs.Putting.{IsTrueReading, PutMounted, TookIn, item_of}
 use Rattle.putting.proofs.filling.put_on_device.Goals as goal
 
+pub returns-clause-read : goal.returns-clause-read
+returns-clause-read g c = IfOk-at_ok (λ filled. filled.stopped ≡ None → map item_of filled.readings.items.items ≡ c.args.items.now) c.in_ok-filled.ensures.ok.0 c.put.ensures.read
+
+pub returns-clause-held : goal.returns-clause-held
+returns-clause-held g c = IfOk-at_ok (λ filled. filled.stopped ≡ None → All IsTrueReading filled.readings.items.items) c.in_ok-filled.ensures.ok.0 c.put.ensures.held
+
 pub returns-clause-took_in : goal.returns-clause-took_in
-returns-clause-took_in g c = λ none honest.
+returns-clause-took_in g c = λ none.
     let held = g.D.Device.held in
     let image = g.D.Device.image in
+    let honest = g.D.Device.honest in
     let old = c.in_ok-volume.volume in
-    let new = c.put.new.volume in
-    record {
+    let put = c.put.new.volume in
+    let readings = c.in_ok-filled.filled.readings.items.items in
+    let took = IfOk-at_ok (λ filled. filled.stopped ≡ None → honest put.device → TookIn filled.readings.items.items (held old.device) (image old.device) old (held put.device) (image put.device) put)
+    c.in_ok-filled.ensures.ok.0 c.put.ensures.took_in none in
+    subst (λ v. honest v.device → PutMounted (image c.args.device) readings (held v.device) (image v.device) v) (sym c.in_ok-filled.ensures.ok.1) (λ h. record {
       mounted = old;
-      mountable = c.in_ok-volume.ensures.mounted (c.put.ensures.honest honest);
+      mountable = c.in_ok-volume.ensures.mounted (c.put.ensures.honest h);
       pending = c.in_ok-volume.ensures.pending;
       idle = c.in_ok-volume.ensures.idle;
       held = held old.device;
-      took = subst (λ i. TookIn c.in_ok-filled.filled.readings.items.items (held old.device) i old (held new.device) (image new.device) new) c.in_ok-volume.ensures.image (c.in_ok-filled.ensures.took_in none honest);
-    }
+      took = subst (λ i. TookIn readings (held old.device) i old (held put.device) (image put.device) put) c.in_ok-volume.ensures.image (took h);
+    })

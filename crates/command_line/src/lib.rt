@@ -1,0 +1,15 @@
+//! What the lines of `fsvol` have in common: the words that several of them take, the files that they read whole, who watches them,
+//! what they print, why they are refused, and the statuses that the program then ends with.
+#![tactic(auto)]
+
+mod answer;
+pub mod arguments;
+mod failure;
+mod files;
+mod watching;
+pub mod words;
+
+pub use answer::Answer;
+pub use failure::{DAMAGED, Failure, GAVE_OUT, REFUSED, SOFT};
+pub use files::bytes_of_file;
+pub use watching::{Screen, Watched};

@@ -1,0 +1,97 @@
+//! A line carried out, from its words to its output.
+ghost use Rattle.std.specs.Prelude.{◌≡◌, ◌<◌, ◌≤◌, IfOk};
+
+use crate::line::Line;
+use crate::words::parse;
+use command_line::{Answer, Failure, GAVE_OUT, Screen};
+use host_lines::{get, mkfs, put};
+use image_lines::{bits, check, repair, sample};
+use progress::Watcher;
+use script_lines::{run, stops};
+use std::convert::AsStr;
+use std::io::Write;
+use std::os::unix::fs::FileExt;
+use std::rt::Files;
+use std::sync::Wait;
+use std::thread::Threads;
+use std::time::Clock;
+use tool_lines::{cat, change, info, ls, map, stat};
+
+/// Carries out the line of these words, which are those after the program's name. Its output is written to `out` once
+/// all else is done; a refusal is written to `err`, and then nothing to `out`. Gives the status that the program ends
+/// with.
+///
+/// How far the line has come is shown on the screen while it is carried out. That is no part of what is written to `err`, and no
+/// clause speaks of it.
+pub fn perform<
+    R: Files + AllocGlobal + Clock + Threads + Wait + Sync + Clone + Drop,
+    S: AsStr,
+    W: Write,
+    E: Write,
+    P: Write + Send + Drop,
+>(rt: &R, words: &[S], out: &mut W, err: &mut E, screen: Screen<P>) -> u8
+where
+    R::File: FileExt + Send,
+    ensures few { result ≤ 4 }
+    ensures refused { result ≡ 3 → out.new ≡ out.old }
+    ensures done { result < 2 → err.new ≡ err.old }
+{
+    match answer(rt, words, screen) {
+        Ok(answer) => match answer.print(out) {
+            Ok(()) => answer.status,
+            Err(_) => GAVE_OUT,
+        },
+        Err(failure) => failure.report(err),
+    }
+}
+
+/// Does what the words ask for, and shows how far that has come.
+fn answer<
+    R: Files + AllocGlobal + Clock + Threads + Wait + Sync + Clone + Drop,
+    S: AsStr,
+    P: Write + Send + Drop,
+>(rt: &R, words: &[S], screen: Screen<P>) -> Result<Answer, Failure>
+where
+    R::File: FileExt + Send,
+    ensures { IfOk result (λ answer. answer.status < 3) }
+{
+    let line = match parse(rt.alloc(), words) {
+        Ok(line) => line,
+        Err(failure) => return Err(failure),
+    };
+    let shown = screen.line(rt, rt.alloc(), line.asks_progress());
+    let answer = carry_out(rt, &line, &shown);
+    if let Some(shown) = shown {
+        shown.end();
+    }
+    answer
+}
+
+/// Does what a line asks for, and tells the watcher how far that has come.
+pub fn carry_out<R: Files + AllocGlobal + Threads + Wait + Sync + Clone + Drop, T: Watcher + Sync>(
+    rt: &R,
+    line: &Line<'_>,
+    watcher: &T,
+) -> Result<Answer, Failure>
+where
+    R::File: FileExt + Send,
+    ensures { IfOk result (λ answer. answer.status < 3) }
+{
+    match line {
+        Line::Mkfs(line) => mkfs::answer(rt, line, watcher),
+        Line::Check(line) => check::answer(rt, line, watcher),
+        Line::Repair(line) => repair::answer(rt, line, watcher),
+        Line::Run(line) => run::answer(rt, line),
+        Line::Stops(line) => stops::answer(rt, line),
+        Line::Bits(line) => bits::answer(rt, line),
+        Line::Info(line) => info::answer(rt, line),
+        Line::Map(line) => map::answer(rt, line),
+        Line::Ls(line) => ls::answer(rt, line),
+        Line::Stat(line) => stat::answer(rt, line),
+        Line::Cat(line) => cat::answer(rt, line),
+        Line::Get(line) => get::answer(rt, line, watcher),
+        Line::Put(line) => put::answer(rt, line, watcher),
+        Line::Change(line) => change::answer(rt, line),
+        Line::Sample => sample::answer(rt.alloc()),
+    }
+}

@@ -1,7 +1,0 @@
-use Rattle.std.proofs.Common.{◌≡◌, ◌++◌, take}
-use Rattle.std.specs.String.{string_bytes}
-use Rattle.fsvol.specs.Bits.{finding_lines}
-use Rattle.fsvol.proofs.jobs.write_lines.Given as goal
-
-abbrev pub invariant-loop-finding : goal.invariant-loop-finding
-invariant-loop-finding l = string_bytes l.text ≡ string_bytes l.fn.text ++ finding_lines (take l.finding-index l.findings)

@@ -1,7 +1,0 @@
-use Rattle.std.proofs.Common.{◌≡◌, ◌++◌, take}
-use Rattle.std.specs.String.{string_bytes}
-use Rattle.fsvol.specs.Repaired.{repair_lines}
-use Rattle.fsvol.proofs.repairs.write_repairs.Given as goal
-
-abbrev pub invariant-loop-repair : goal.invariant-loop-repair
-invariant-loop-repair l = string_bytes l.text ≡ string_bytes l.fn.text ++ repair_lines (take l.repair-index l.repairs)

@@ -1,0 +1,163 @@
+//! The line `mkfs`: a fresh image, and what a folder of the host holds in it.
+ghost use Rattle.std.specs.Prelude.{◌≡◌, [], IfOk};
+
+use crate::ends::{failure_of, silent};
+use crate::input::{ARCHIVE, archive_given};
+use clap::{Arg, ArgMatches, Command};
+use command_line::{Answer, Failure, arguments, words};
+use device::Before;
+use file_device::FileDevice;
+use image_lines::make::make;
+use layout::{Geometry, Refusal};
+use progress::Watcher;
+use putting::{Item, items_of_archive, items_of_folder, put_items};
+use std::alloc::{AllocError, Global};
+use std::marker::Brand;
+use std::os::unix::fs::FileExt;
+use std::rt::Files;
+
+/// What the line asks for: a fresh image of this geometry, with what a folder of the host holds, if one is named.
+#[derive(Clone, Copy)]
+pub struct MkfsLine<'a> {
+    pub image: &'a str,
+    pub groups: u32,
+    pub blocks: u32,
+    pub inodes: u32,
+    pub from: Option<&'a str>,
+    pub progress: bool,
+}
+
+/// The words of the line.
+pub fn command<'a>(alloc: Global) -> Result<Command<'a>, AllocError> {
+    with_geometry(alloc)?
+        .arg(from(alloc))?
+        .arg(arguments::progress(alloc))
+}
+
+/// The line, its image and its geometry.
+fn with_geometry<'a>(alloc: Global) -> Result<Command<'a>, AllocError> {
+    words::of_image(alloc, "mkfs", "Writes a fresh image")?
+        .arg(arguments::number(alloc, "groups").help("How many cylinder groups"))?
+        .arg(arguments::number(alloc, "blocks").help("How many blocks a group"))?
+        .arg(arguments::number(alloc, "inodes").help("How many inodes a group"))
+}
+
+/// The folder of which an image is made.
+fn from<'a>(alloc: Global) -> Arg<'a> {
+    Arg::new(alloc, "from")
+        .long("from")
+        .value_name("FOLDER")
+        .help(
+            "A folder of the host, of which all goes into the image; - stands for a tar archive on standard input",
+        )
+}
+
+/// What these words ask for.
+pub fn line_of<'a>(options: &ArgMatches<'a>) -> Option<MkfsLine<'a>> {
+    Some(MkfsLine {
+        image: options.get_str("image")?,
+        groups: options.get_one("groups")?,
+        blocks: options.get_one("blocks")?,
+        inodes: options.get_one("inodes")?,
+        from: options.get_str("from"),
+        progress: options.get_flag("progress"),
+    })
+}
+
+/// Makes a file with a fresh image, in place of what was there, and of what a folder of the host holds, if one is named. The watcher
+/// is told what goes into it.
+pub fn answer<R: Files + AllocGlobal + Clone + Drop>(
+    rt: &R,
+    line: &MkfsLine<'_>,
+    watcher: &impl Watcher,
+) -> Result<Answer, Failure>
+where
+    R::File: FileExt,
+    ensures status { IfOk result (λ answer. answer.status ≡ 0) }
+    ensures silent { IfOk result (λ answer. answer.text.items ≡ []) }
+{
+    let geometry = Geometry::new(line.groups, line.blocks, line.inodes)?;
+    match line.from {
+        Some(folder) => make_from_folder(rt, line.image, &geometry, folder, watcher),
+        None => make_empty(rt, line.image, &geometry),
+    }
+}
+
+/// Makes a file with a fresh image, in place of what was there.
+fn make_empty<R: Files + AllocGlobal>(
+    rt: &R,
+    image: &str,
+    geometry: &Geometry,
+) -> Result<Answer, Failure>
+where
+    R::File: FileExt,
+    ensures status { IfOk result (λ answer. answer.status ≡ 0) }
+    ensures silent { IfOk result (λ answer. answer.text.items ≡ []) }
+{
+    make_file(rt, image, geometry)?;
+    Ok(Answer::nothing(rt.alloc()))
+}
+
+/// Makes a file with a fresh image, in place of what was there.
+fn make_file<R: Files + AllocGlobal>(
+    rt: &R,
+    image: &str,
+    geometry: &Geometry,
+) -> Result<(), Refusal>
+where
+    R::File: FileExt,
+{
+    let mut device: FileDevice<R::File, Brand> = FileDevice::create(rt, image, geometry.blocks())?;
+    make(&mut device, geometry, Before::Zeroes)
+}
+
+/// Makes a file with an image of what a folder of the host holds. All names in the folder are looked at before the file is made.
+fn make_from_folder<R: Files + AllocGlobal + Clone + Drop>(
+    rt: &R,
+    image: &str,
+    geometry: &Geometry,
+    folder: &str,
+    watcher: &impl Watcher,
+) -> Result<Answer, Failure>
+where
+    R::File: FileExt,
+    ensures status { IfOk result (λ answer. answer.status ≡ 0) }
+    ensures silent { IfOk result (λ answer. answer.text.items ≡ []) }
+{
+    let items = items_of(rt, folder)?;
+    make_of_items(rt, image, geometry, items.as_slice(), watcher)
+}
+
+/// Makes a file with an image that has these items.
+fn make_of_items<R: Files + AllocGlobal>(
+    rt: &R,
+    image: &str,
+    geometry: &Geometry,
+    items: &[Item],
+    watcher: &impl Watcher,
+) -> Result<Answer, Failure>
+where
+    R::File: FileExt,
+    ensures status { IfOk result (λ answer. answer.status ≡ 0) }
+    ensures silent { IfOk result (λ answer. answer.text.items ≡ []) }
+{
+    make_file(rt, image, geometry)?;
+    silent(rt.alloc(), put_items(rt, image, items, watcher))
+}
+
+/// The items of a folder of the host, or of an archive on standard input.
+fn items_of<R: Files + AllocGlobal + Clone + Drop>(
+    rt: &R,
+    folder: &str,
+) -> Result<Vec<Item>, Failure> {
+    if folder == ARCHIVE {
+        return items_given(rt);
+    }
+    items_of_folder(rt, folder).map_err(failure_of)
+}
+
+/// The items of the archive on standard input.
+fn items_given<R: Files + AllocGlobal>(rt: &R) -> Result<Vec<Item>, Failure> {
+    let archive = archive_given(rt)?;
+    items_of_archive(rt.alloc(), archive.as_slice()).map_err(failure_of)
+}

@@ -1,0 +1,14 @@
+use Rattle.std.proofs.Common.{subst, sym}
+use Rattle.std.specs.Arc.{arc_value}
+use Rattle.std.proofs.lemmas.Result.{IfOk-weaker}
+use Rattle.frozen.specs.Kept.{Kept, IsKeptOf}
+use Rattle.image_lines.proofs.CheckLemmas.{image_checked}
+use Rattle.image_lines.proofs.check.check.Goals as goal
+
+pub returns-clause-checked : goal.returns-clause-checked
+returns-clause-checked g c =
+    IfOk-weaker c.check.result _ _ (λ checked is honest.
+    let image = g.D.Device.image c.args.device.now in
+    let kept : Kept = arc_value c.in_ok-frozen.frozen in
+    image_checked kept image checked (subst (λ (k : Kept). IsKeptOf k image) (sym c.in_ok-frozen.ensures.ok) (c.in_ok-load.ensures.ok honest)) is)
+    c.check.ensures.checked

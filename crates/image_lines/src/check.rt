@@ -1,0 +1,163 @@
+//! The line `check`: the report of an image.
+ghost use Rattle.std.specs.Prelude.{◌≡◌, ◌<◌, ◌↔◌, Err, IfOk, IfErr, IsFalse, IsTrue, OkIff, IsErrOf, IsOkUnless};
+ghost use Rattle.layout.specs.declared.refusal.Refusal.TheVariants.{BadWorkers};
+ghost use Rattle.model.specs.Layout.{Geometry as Numbers};
+ghost use Rattle.model.specs.Image.{IsImage, image_view};
+ghost use Rattle.device.specs.Writes.{HasFailed};
+ghost use Rattle.frozen.specs.Loading.{LoadRefuses};
+ghost use Rattle.fsck.specs.Checked.{IsChecked};
+ghost use Rattle.workers.specs.Workers.{may_work};
+ghost use Rattle.image_lines.specs.Status.{status_of_verdict};
+
+use clap::{ArgMatches, Command};
+use command_line::{Answer, DAMAGED, Failure, SOFT, Watched, arguments, words};
+use device::Device;
+use file_device::FileDevice;
+use findings::Verdict;
+use frozen::load;
+use fsck::Checked;
+use layout::Refusal;
+use progress::Watcher;
+use std::alloc::{AllocError, Global};
+use std::marker::Brand;
+use std::os::unix::fs::FileExt;
+use std::rt::Files;
+use std::sync::Arc;
+use std::thread::Threads;
+use workers::{Gate, MOST_WORKERS};
+
+/// What the line asks for: the findings of an image, by this many workers.
+#[derive(Clone, Copy)]
+pub struct CheckLine<'a> {
+    pub image: &'a str,
+    pub workers: u32,
+    pub progress: bool,
+}
+
+/// The words of the line.
+pub fn command<'a>(alloc: Global) -> Result<Command<'a>, AllocError> {
+    by_workers(alloc, "check", "Prints the report of an image")
+}
+
+/// A line that takes an image and a number of workers, and may show how far it has come.
+pub(crate) fn by_workers<'a>(
+    alloc: Global,
+    name: &'a str,
+    about: &'a str,
+) -> Result<Command<'a>, AllocError> {
+    words::of_image(alloc, name, about)?
+        .arg(arguments::workers(alloc))?
+        .arg(arguments::progress(alloc))
+}
+
+/// What these words ask for.
+pub fn line_of<'a>(options: &ArgMatches<'a>) -> Option<CheckLine<'a>> {
+    Some(CheckLine {
+        image: options.get_str("image")?,
+        workers: options.get_one("workers")?,
+        progress: options.get_flag("progress"),
+    })
+}
+
+/// Checks a file's image, and tells the watcher how far that has come. The number of workers is looked at before the file.
+pub fn answer<R: Files + AllocGlobal + Threads + Sync, T: Watcher + Sync>(
+    rt: &R,
+    line: &CheckLine<'_>,
+    watcher: &T,
+) -> Result<Answer, Failure>
+where
+    R::File: FileExt,
+    ensures status { IfOk result (λ answer. answer.status < 3) }
+    ensures workers { IsFalse (may_work line.now.workers) → result ≡ Err (Failure.Refused BadWorkers) }
+{
+    check_file(rt, line.image, line.workers, &Watched { watcher })
+}
+
+/// Checks a file's image. The number of workers is looked at before the file.
+pub(crate) fn check_file<R: Files + AllocGlobal + Threads + Sync, G: Gate>(
+    rt: &R,
+    image: &str,
+    workers: u32,
+    gate: &G,
+) -> Result<Answer, Failure>
+where
+    R::File: FileExt,
+    ensures status { IfOk result (λ answer. answer.status < 3) }
+    ensures workers { IsFalse (may_work workers) → result ≡ Err (Failure.Refused BadWorkers) }
+{
+    allow_workers(workers)?;
+    let mut device: FileDevice<R::File, Brand> = FileDevice::open(rt, image)?;
+    check_device(rt, rt.alloc(), &mut device, workers, gate)
+}
+
+/// Checks a device's image, and tells what is found.
+fn check_device<D: Device, G: Gate>(
+    rt: &(impl Threads + Sync),
+    alloc: Global,
+    device: &mut D,
+    workers: u32,
+    gate: &G,
+) -> Result<Answer, Failure>
+    ensures { IfOk result (λ answer. answer.status < 3) }
+{
+    let checked = check(rt, alloc, device, workers, gate)?;
+    Ok(told(alloc, &checked)?)
+}
+
+/// Refuses, with `BadWorkers`, other than 1 to 64 workers.
+pub fn allow_workers(workers: u32) -> Result<(), Refusal>
+    ensures allowed { OkIff result (IsTrue (may_work workers)) tt }
+    ensures error { IsOkUnless result Refusal.BadWorkers }
+{
+    if workers == 0 || workers as usize > MOST_WORKERS {
+        return Err(Refusal::BadWorkers);
+    }
+    Ok(())
+}
+
+/// Checks a device's image with this many workers, which pass the gate as in `fsck::check`. It writes nothing.
+pub fn check<D: Device, G: Gate>(
+    rt: &(impl Threads + Sync),
+    alloc: Global,
+    device: &mut D,
+    workers: u32,
+    gate: &G,
+) -> Result<Checked, Refusal>
+    // Where each read gave what stood there, the blocks are an image, and the findings, the report, the verdict and the
+    // repairs are those of this image.
+    ensures checked { IfOk result (λ checked. D.honest device.new → (geo : Numbers) × IsImage geo (D.image device.old)
+        × IsChecked geo (image_view geo (D.image device.old)) checked) }
+    ensures workers { IsErrOf result Refusal.BadWorkers ↔ IsFalse (may_work workers) }
+    ensures refused { IsTrue (may_work workers) → IfErr result (λ refusal. LoadRefuses (D.honest device.new) (D.image device.old) refusal) }
+    ensures cause { IsErrOf result Refusal.Device → HasFailed (D.failures device.old) (D.failures device.new) }
+
+    ensures same { D.image device.new ≡ D.image device.old }
+    ensures held { D.held device.new ≡ D.held device.old }
+{
+    allow_workers(workers)?;
+    let frozen = Arc::new(alloc, load(alloc, device)?)?;
+    fsck::check(rt, alloc, &frozen, workers, gate)
+}
+
+/// What is printed of a checked image: its report.
+pub fn told(alloc: Global, checked: &Checked) -> Result<Answer, Refusal>
+    ensures text { IfOk result (λ answer. answer.text.items ≡ checked.now.report) }
+    ensures status { IfOk result (λ answer. answer.status ≡ status_of_verdict checked.now.verdict) }
+    ensures error { IsOkUnless result Refusal.NoMemory }
+{
+    Ok(Answer {
+        text: checked.report().to_vec(alloc)?,
+        status: status_of_verdict(checked.verdict()),
+    })
+}
+
+/// The status that the program ends with where an image was checked.
+pub(crate) fn status_of_verdict(verdict: Verdict) -> u8
+    ensures { result ≡ status_of_verdict verdict }
+{
+    match verdict {
+        Verdict::Clean => 0,
+        Verdict::Soft => SOFT,
+        Verdict::Damaged => DAMAGED,
+    }
+}

@@ -1,0 +1,9 @@
+//! The lines of `fsvol` that check an image or mend it, and what they do on any device.
+#![tactic(auto)]
+
+pub mod bits;
+pub mod check;
+pub mod make;
+pub mod mounting;
+pub mod repair;
+pub mod sample;

@@ -1,0 +1,237 @@
+//! The line `repair`: the report of an image, and what is mended of it.
+ghost use Rattle.std.specs.Prelude.{◌≡◌, ◌++◌, ◌<◌, [], Err, IfOk, IsFalse, IsOkUnless, IsTrue, OnOk};
+ghost use Rattle.std.specs.String.{string_bytes};
+ghost use Rattle.layout.specs.declared.refusal.Refusal.TheVariants.{BadWorkers};
+ghost use Rattle.live_states.specs.Holdings.{IsIdle};
+ghost use Rattle.snapshot.specs.Mounting.{IsMountable};
+ghost use Rattle.softdep.specs.Queued.{pending_of};
+ghost use Rattle.workers.specs.Workers.{may_work};
+ghost use Rattle.image_lines.specs.Status.{status_of_verdict};
+ghost use Rattle.image_lines.specs.declared.repair.Outcome.TheVariants.{Mended};
+ghost use Rattle.image_lines.specs.Repaired.{IsRepaired, device_of, done_text, repair_lines, repair_text_of};
+
+use crate::check::{allow_workers, by_workers, check, check_file, told};
+use crate::mounting::mount;
+use clap::{ArgMatches, Command};
+use command_line::{Answer, Failure, SOFT, Watched};
+use device::Device;
+use file_device::FileDevice;
+use findings::{Repair, Verdict};
+use fsck::Checked;
+use layout::Refusal;
+use mending::mend;
+use progress::Watcher;
+use snapshot::Volume;
+use std::alloc::{AllocError, Global};
+use std::marker::Brand;
+use std::os::unix::fs::FileExt;
+use std::rt::Files;
+use std::thread::Threads;
+use workers::Gate;
+
+/// What the line asks for: an image without what soft updates may leave, by this many workers.
+#[derive(Clone, Copy)]
+pub struct RepairLine<'a> {
+    pub image: &'a str,
+    pub workers: u32,
+    pub progress: bool,
+}
+
+/// The words of the line.
+pub fn command<'a>(alloc: Global) -> Result<Command<'a>, AllocError> {
+    by_workers(
+        alloc,
+        "repair",
+        "Prints the report of an image, and mends what soft updates may leave",
+    )
+}
+
+/// What these words ask for.
+pub fn line_of<'a>(options: &ArgMatches<'a>) -> Option<RepairLine<'a>> {
+    Some(RepairLine {
+        image: options.get_str("image")?,
+        workers: options.get_one("workers")?,
+        progress: options.get_flag("progress"),
+    })
+}
+
+/// Checks a file's image, mends it where it is soft, and tells the watcher how far that has come. The number of workers is
+/// looked at before the file.
+pub fn answer<R: Files + AllocGlobal + Threads + Sync, T: Watcher + Sync>(
+    rt: &R,
+    line: &RepairLine<'_>,
+    watcher: &T,
+) -> Result<Answer, Failure>
+where
+    R::File: FileExt,
+    ensures status { IfOk result (λ answer. answer.status < 3) }
+    ensures workers { IsFalse (may_work line.now.workers) → result ≡ Err (Failure.Refused BadWorkers) }
+{
+    repair_file(rt, line.image, line.workers, &Watched { watcher })
+}
+
+/// Checks a file's image, and mends it where it is soft: only then is the file opened to be written. The number of workers
+/// is looked at before the file.
+fn repair_file<R: Files + AllocGlobal + Threads + Sync, G: Gate>(
+    rt: &R,
+    image: &str,
+    workers: u32,
+    gate: &G,
+) -> Result<Answer, Failure>
+where
+    R::File: FileExt,
+    ensures status { IfOk result (λ answer. answer.status < 3) }
+    ensures workers { IsFalse (may_work workers) → result ≡ Err (Failure.Refused BadWorkers) }
+{
+    let answer = check_file(rt, image, workers, gate)?;
+    if answer.status != SOFT {
+        return Ok(answer);
+    }
+    mend_file(rt, image, workers, gate)
+}
+
+/// Opens a file to be written, and mends its image.
+fn mend_file<R: Files + AllocGlobal + Threads + Sync, G: Gate>(
+    rt: &R,
+    image: &str,
+    workers: u32,
+    gate: &G,
+) -> Result<Answer, Failure>
+where
+    R::File: FileExt,
+    ensures { IfOk result (λ answer. answer.status < 3) }
+{
+    let device: FileDevice<R::File, Brand> = FileDevice::open_to_write(rt, image)?;
+    let repaired = repair(rt, rt.alloc(), device, workers, gate)?;
+    Ok(repaired.answer)
+}
+
+/// What came of a device whose image was to be mended.
+#[derive(Drop)]
+pub enum Outcome<D: Device> {
+    /// The image is clean or damaged, and was not written.
+    Left(D),
+    /// The image was soft, and was mended.
+    Mended(Volume<D>),
+}
+
+/// What the line prints, and what came of the device.
+#[derive(Drop)]
+pub struct Repaired<D: Device> {
+    pub answer: Answer,
+    pub outcome: Outcome<D>,
+}
+
+/// Checks a device's image with this many workers, which pass the gate as in `fsck::check`. Where it is soft, the volume is
+/// mounted and mended.
+pub fn repair<D: Device + Drop, G: Gate>(
+    rt: &(impl Threads + Sync),
+    alloc: Global,
+    mut device: D,
+    workers: u32,
+    gate: &G,
+) -> Result<Repaired<D>, Refusal>
+    // Where the device was honest, it held an image, and what is printed is this image's. Where it is soft, a check finds
+    // nothing on what the device holds now; else it was not written.
+    ensures repaired { IfOk result (λ repaired. D.honest (device_of repaired.outcome)
+        → IsRepaired (D.image device) repaired.answer.text.items repaired.answer.status repaired.outcome (D.image (device_of repaired.outcome))) }
+    ensures status { IfOk result (λ repaired. repaired.answer.status < 3) }
+    ensures workers { IsFalse (may_work workers) → result ≡ Err BadWorkers }
+{
+    allow_workers(workers)?;
+    let checked = check(rt, alloc, &mut device, workers, gate)?;
+    match checked.verdict() {
+        Verdict::Soft => mend_device(rt, alloc, device, workers, gate),
+        Verdict::Clean | Verdict::Damaged => Ok(Repaired {
+            answer: told(alloc, &checked)?,
+            outcome: Outcome::Left(device),
+        }),
+    }
+}
+
+/// Mounts the volume of a device, and mends it.
+fn mend_device<D: Device + Drop, G: Gate>(
+    rt: &(impl Threads + Sync),
+    alloc: Global,
+    device: D,
+    workers: u32,
+    gate: &G,
+) -> Result<Repaired<D>, Refusal>
+    requires { IsTrue (may_work workers) }
+    ensures repaired { IfOk result (λ repaired. D.honest (device_of repaired.outcome)
+        → IsRepaired (D.image device) repaired.answer.text.items repaired.answer.status repaired.outcome (D.image (device_of repaired.outcome))) }
+    ensures status { IfOk result (λ repaired. repaired.answer.status < 3) }
+{
+    let mut volume = Volume::new(mount(alloc, device)?);
+    let answer = mend_volume(rt, alloc, &mut volume, workers, gate)?;
+    Ok(Repaired {
+        answer,
+        outcome: Outcome::Mended(volume),
+    })
+}
+
+/// Mends a volume that was just mounted, and tells what was mended.
+fn mend_volume<D: Device, G: Gate>(
+    rt: &(impl Threads + Sync),
+    alloc: Global,
+    volume: &mut Volume<D>,
+    workers: u32,
+    gate: &G,
+) -> Result<Answer, Refusal>
+    requires pending { pending_of volume.old.queue ≡ [] }
+    requires idle { IsIdle volume.old.holdings }
+    requires mounted { D.honest volume.old.device → IsMountable volume.old.kept.geometry (D.image volume.old.device) }
+    requires workers { IsTrue (may_work workers) }
+    ensures repaired { IfOk result (λ answer. D.honest volume.new.device
+        → IsRepaired (D.image volume.old.device) answer.text.items answer.status (Mended volume.new) (D.image volume.new.device)) }
+    ensures status { IfOk result (λ answer. answer.status < 3) }
+{
+    fsck::damaged_where_a_rule_is_broken();
+    let checked = mend(rt, alloc, volume, workers, gate)?;
+    told_of_repairs(alloc, &checked)
+}
+
+/// What is printed of an image that was mended by this check, where it was soft.
+fn told_of_repairs(alloc: Global, checked: &Checked) -> Result<Answer, Refusal>
+    ensures text { IfOk result (λ answer. answer.text.items ≡ repair_text_of checked.now.verdict checked.now) }
+    ensures status { IfOk result (λ answer. answer.status ≡ status_of_verdict checked.now.verdict) }
+    ensures error { IsOkUnless result Refusal.NoMemory }
+{
+    match checked.verdict() {
+        Verdict::Soft => told_with_repairs(alloc, checked),
+        Verdict::Clean | Verdict::Damaged => told(alloc, checked),
+    }
+}
+
+/// The report of a checked image, and behind it its repairs.
+fn told_with_repairs(alloc: Global, checked: &Checked) -> Result<Answer, Refusal>
+    ensures text { IfOk result (λ answer. answer.text.items ≡ checked.now.report ++ done_text checked.now.repairs) }
+    ensures status { IfOk result (λ answer. answer.status ≡ status_of_verdict checked.now.verdict) }
+    ensures error { IsOkUnless result Refusal.NoMemory }
+{
+    let Answer { mut text, status } = told(alloc, checked)?;
+    let done = done_lines(alloc, checked.repairs())?;
+    text.extend_from_slice(done.as_bytes())?;
+    Ok(Answer { text, status })
+}
+
+/// A line for each repair, and one that counts them.
+fn done_lines(alloc: Global, repairs: &[Repair]) -> Result<String, AllocError>
+    ensures { IfOk result (λ text. string_bytes text ≡ done_text repairs.now) }
+{
+    let mut text = String::new(alloc);
+    write_repairs(&mut text, repairs)?;
+    let count = repairs.len();
+    writeln!(text, "repaired {count}")?;
+    Ok(text)
+}
+
+/// Writes a line for each repair.
+pub fn write_repairs(text: &mut String, repairs: &[Repair]) -> Result<(), AllocError>
+    ensures { OnOk result (string_bytes text.new ≡ string_bytes text.old ++ repair_lines repairs.now) }
+{
+    for repair in repairs {
+        writeln!(text, "{repair}")?;
+    }
+    Ok(())
+}

@@ -1,0 +1,108 @@
+//! The lines that move files and folders between the host and an image.
+use crate::reports::CLEAN_REPORT;
+use crate::trying::Wanted::{Printed, Refused};
+use crate::trying::{Row, give, gives, holds, made_small};
+use std::fs;
+use std::rt::Files;
+use std::test::Fail;
+
+/// Makes a folder of the host with a file of three bytes in it.
+pub(crate) fn made_folder<R: Files + AllocGlobal>(
+    rt: &R,
+    folder: &str,
+    file: &str,
+) -> Result<(), Fail> {
+    let _ = fs::remove_dir_all(rt, folder);
+    fs::create_dir(rt, folder)?;
+    fs::write(rt, file, "abc")?;
+    Ok(())
+}
+
+/// Lines on a fresh image, one after another.
+const PUT: &[Row<'static>] = &[
+    ("put --progress", " /d", "rows_hosts_put", Printed("", 0)),
+    ("cat", "", "/d/a", Printed("abc", 0)),
+    (
+        "put",
+        " /d",
+        "rows_hosts_put",
+        Refused("refused 8 Exists\nat /d\n", 3),
+    ),
+];
+
+#[test]
+fn a_folder_goes_in_and_is_not_put_over_another(rt: HostRuntime) -> Result<(), Fail> {
+    let image = "rows_hosts_put.img";
+    made_small(&rt, image)?;
+    made_folder(&rt, "rows_hosts_put", "rows_hosts_put/a")?;
+    give(&rt, image, PUT)
+}
+
+/// Lines on a fresh image, one after another.
+const GOT: &[Row<'static>] = &[
+    ("put", " /d", "rows_hosts_get", Printed("", 0)),
+    ("get --progress", " /", "rows_hosts_got", Printed("", 0)),
+    (
+        "get",
+        " /",
+        "rows_hosts_got",
+        Refused("refused 8 Exists\nat rows_hosts_got\n", 3),
+    ),
+    (
+        "get",
+        " /x",
+        "rows_hosts_none",
+        Refused("refused 7 NotFound\nat /x\n", 3),
+    ),
+    // As an archive on standard output.
+    ("get", " /x", "-", Refused("refused 7 NotFound\nat /x\n", 3)),
+];
+
+#[test]
+fn a_tree_comes_out_and_is_not_got_over_another(rt: HostRuntime) -> Result<(), Fail> {
+    let image = "rows_hosts_get.img";
+    made_small(&rt, image)?;
+    made_folder(&rt, "rows_hosts_get", "rows_hosts_get/a")?;
+    let _ = fs::remove_dir_all(&rt, "rows_hosts_got");
+    give(&rt, image, GOT)?;
+    holds(&rt, "get", "rows_hosts_got/d/a", b"abc")
+}
+
+/// Lines, one after another, the first of which makes the image.
+const FROM: &[Row<'static>] = &[
+    (
+        "mkfs",
+        " --groups 1 --blocks 16 --inodes 16 --progress --from",
+        "rows_hosts_from",
+        Printed("", 0),
+    ),
+    ("cat", "", "/a", Printed("abc", 0)),
+];
+
+#[test]
+fn an_image_is_made_of_a_folder(rt: HostRuntime) -> Result<(), Fail> {
+    made_folder(&rt, "rows_hosts_from", "rows_hosts_from/a")?;
+    give(&rt, "rows_hosts_from.img", FROM)
+}
+
+/// Lines on a fresh image, and a folder that is too large for it.
+const FULL: &[Row<'static>] = &[
+    (
+        "put",
+        " /e",
+        "rows_hosts_full",
+        Refused("refused 14 NoBlock\nat /e/b\ndone 2 of 3\n", 3),
+    ),
+    ("ls", "", "/e", Printed("a\n", 0)),
+];
+
+#[test]
+fn what_is_too_large_is_not_left_in_part(rt: HostRuntime) -> Result<(), Fail> {
+    let image = "rows_hosts_full.img";
+    let bytes = vec![in rt.alloc(); b'b'; 12_000]?;
+    made_small(&rt, image)?;
+    made_folder(&rt, "rows_hosts_full", "rows_hosts_full/a")?;
+    fs::write(&rt, "rows_hosts_full/b", bytes.as_slice())?;
+    give(&rt, image, FULL)?;
+    gives(&rt, "check --workers 1", image, Printed(CLEAN_REPORT, 0))
+}

@@ -1,0 +1,9 @@
+//! Tests alone: which lines are read, as what, and with which texts the others are refused.
+#![tactic(auto)]
+
+#[cfg(test)]
+mod reading;
+#[cfg(test)]
+mod refusing;
+#[cfg(test)]
+mod telling;

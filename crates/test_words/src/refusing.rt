@@ -1,0 +1,217 @@
+//! The texts by which lines are refused.
+use crate::telling::words_of;
+use command_line::Failure;
+use commands::parse;
+use std::alloc::Global;
+use std::process::Abort;
+use std::test::Fail;
+
+/// Lines of no form, and what the text that refuses each has.
+const WRONG: &[(&str, &str)] = &[
+    ("frob", "unrecognized subcommand 'frob'"),
+    ("", "unrecognized subcommand ''"),
+    ("--", "requires a subcommand but one was not provided"),
+    ("--version", "unexpected argument '--version' found"),
+    (
+        "--groups 1 bits a.img",
+        "unexpected argument '--groups' found",
+    ),
+    ("bits", "required arguments were not provided:\n  <IMAGE>"),
+    (
+        "check a.img",
+        "required arguments were not provided:\n  --workers <NUMBER>",
+    ),
+    (
+        "check --workers 4",
+        "required arguments were not provided:\n  <IMAGE>",
+    ),
+    ("bits a.img b.img", "unexpected argument 'b.img' found"),
+    (
+        "ls a.img",
+        "required arguments were not provided:\n  <PATH>",
+    ),
+    (
+        "mkdir a.img",
+        "required arguments were not provided:\n  <PATH>...",
+    ),
+    ("mv a.img /b", "values required by"),
+    (
+        "run --workers 1 a.img",
+        "required arguments were not provided:\n  <SCRIPT>",
+    ),
+    (
+        "run a.img b.txt",
+        "required arguments were not provided:\n  --workers <NUMBER>",
+    ),
+    (
+        "stops",
+        "required arguments were not provided:\n  <IMAGE>\n  <SCRIPT>",
+    ),
+    (
+        "stops --workers 1 a.img b.txt",
+        "unexpected argument '--workers' found",
+    ),
+    (
+        "bits --groups 1 a.img",
+        "unexpected argument '--groups' found",
+    ),
+];
+
+/// Lines with `mkfs` of no form, and what the text that refuses each has.
+const WRONG_MKFS: &[(&str, &str)] = &[
+    (
+        "mkfs --groups 1 --blocks 16 --inodes 16",
+        "required arguments were not provided:\n  <IMAGE>",
+    ),
+    (
+        "mkfs --blocks 16 --inodes 16 a.img",
+        "required arguments were not provided:\n  --groups <NUMBER>",
+    ),
+    (
+        "mkfs --groups 1 --inodes 16 a.img",
+        "required arguments were not provided:\n  --blocks <NUMBER>",
+    ),
+    (
+        "mkfs --groups 1 --blocks 16 a.img",
+        "required arguments were not provided:\n  --inodes <NUMBER>",
+    ),
+    (
+        "mkfs --groups 1 --groups 1 --blocks 16 --inodes 16 a.img",
+        "the argument '--groups <NUMBER>' cannot be used multiple times",
+    ),
+    (
+        "mkfs --groups 1 --blocks 16 --inodes 16 a.img b.img",
+        "unexpected argument 'b.img' found",
+    ),
+    (
+        "mkfs --groups 1 --blocks 16 --inodes 16 a.img --force",
+        "unexpected argument '--force' found",
+    ),
+    (
+        "mkfs --blocks 16 --inodes 16 a.img --groups",
+        "a value is required for '--groups <NUMBER>' but none was supplied",
+    ),
+];
+
+/// What stands in place of the groups' number, and what the text that refuses it has.
+const NO_NUMBERS: &[(&str, &str)] = &[
+    (" x", "invalid value 'x' for '--groups <NUMBER>'"),
+    ("=x", "invalid value 'x' for '--groups <NUMBER>'"),
+    ("=1x", "invalid value '1x' for '--groups <NUMBER>'"),
+    ("=0x1", "invalid value '0x1' for '--groups <NUMBER>'"),
+    ("=1.0", "invalid value '1.0' for '--groups <NUMBER>'"),
+    ("=", "invalid value '' for '--groups <NUMBER>'"),
+    (" ", "invalid value '' for '--groups <NUMBER>'"),
+    (" -1", "unexpected argument '-1' found"),
+    ("=-1", "-1 is not in 0..=4294967295"),
+    (" 4294967296", "4294967296 is not in 0..=4294967295"),
+    (
+        " 18446744073709551616",
+        "number too large to fit in target type",
+    ),
+];
+
+/// Lines that ask for help, and what the text has.
+const HELPS: &[(&str, &str)] = &[
+    ("--help", "Usage: fsvol <COMMAND>\n"),
+    ("-h", "Usage: fsvol <COMMAND>\n"),
+    ("help", "Usage: fsvol <COMMAND>\n"),
+    (
+        "mkfs --help",
+        "Usage: fsvol mkfs [OPTIONS] --groups <NUMBER> --blocks <NUMBER> --inodes <NUMBER> <IMAGE>\n",
+    ),
+    (
+        "help mkfs",
+        "Usage: fsvol mkfs [OPTIONS] --groups <NUMBER> --blocks <NUMBER> --inodes <NUMBER> <IMAGE>\n",
+    ),
+    (
+        "check --help",
+        "Usage: fsvol check [OPTIONS] --workers <NUMBER> <IMAGE>\n",
+    ),
+    (
+        "run --help",
+        "Usage: fsvol run --workers <NUMBER> <IMAGE> <SCRIPT>\n",
+    ),
+    ("stops --help", "Usage: fsvol stops <IMAGE> <SCRIPT>\n"),
+    ("bits --help", "Usage: fsvol bits <IMAGE>\n"),
+    ("bits a.img -h", "Usage: fsvol bits <IMAGE>\n"),
+];
+
+#[test]
+fn refuses_a_wrong_line(rt: HostRuntime) -> Result<(), Fail> {
+    for &(line, cause) in WRONG {
+        is_refused(&rt, line, cause)?;
+    }
+    Ok(())
+}
+
+#[test]
+fn refuses_a_wrong_mkfs(rt: HostRuntime) -> Result<(), Fail> {
+    for &(line, cause) in WRONG_MKFS {
+        is_refused(&rt, line, cause)?;
+    }
+    Ok(())
+}
+
+#[test]
+fn refuses_what_is_no_number(rt: HostRuntime) -> Result<(), Fail> {
+    for &(value, cause) in NO_NUMBERS {
+        is_no_number(&rt, value, cause)?;
+    }
+    Ok(())
+}
+
+#[test]
+fn refuses_a_line_that_asks_for_help(rt: HostRuntime) -> Result<(), Fail> {
+    for &(line, usage) in HELPS {
+        is_helped(&rt, line, usage)?;
+    }
+    Ok(())
+}
+
+/// The line is refused with a text that names this cause.
+fn is_refused(rt: &(impl AllocGlobal + Abort), line: &str, cause: &str) -> Result<(), Fail> {
+    let text = refusal_of(rt.alloc(), line)?;
+    starts_with(rt, text.as_str(), "error: ");
+    contains(rt, text.as_str(), cause);
+    ends_with(rt, text.as_str(), "For more information, try '--help'.\n");
+    Ok(())
+}
+
+/// A line with this number of groups is refused with a text that names this cause.
+fn is_no_number(rt: &(impl AllocGlobal + Abort), value: &str, cause: &str) -> Result<(), Fail> {
+    let line = format!(in rt.alloc(); "mkfs --groups{value} --blocks 16 --inodes 16 a.img")?;
+    let text = refusal_of(rt.alloc(), line.as_str())?;
+    contains(rt, text.as_str(), cause);
+    Ok(())
+}
+
+/// The line's help has this usage.
+fn is_helped(rt: &(impl AllocGlobal + Abort), line: &str, usage: &str) -> Result<(), Fail> {
+    let text = refusal_of(rt.alloc(), line)?;
+    contains(rt, text.as_str(), usage);
+    ends_with(rt, text.as_str(), "\n");
+    Ok(())
+}
+
+/// The text that refuses the line.
+fn refusal_of(alloc: Global, line: &str) -> Result<String, Fail> {
+    let words = words_of(alloc, line)?;
+    match parse(alloc, words.as_slice()) {
+        Ok(_) => Err(Fail::from("the line was read")),
+        Err(Failure::Line(text)) => Ok(text),
+        Err(_) => Err(Fail::from("no memory")),
+    }
+}
+
+fn starts_with(rt: &impl Abort, text: &str, start: &str) {
+    assert!(rt; text.starts_with(start), "{text}");
+}
+
+fn contains(rt: &impl Abort, text: &str, part: &str) {
+    assert!(rt; text.contains(part), "{part}: {text}");
+}
+
+fn ends_with(rt: &impl Abort, text: &str, end: &str) {
+    assert!(rt; text.ends_with(end), "{text}");
+}

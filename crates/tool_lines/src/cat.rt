@@ -1,0 +1,46 @@
+//! The line `cat`: the bytes of a file in an image.
+ghost use Rattle.std.specs.Prelude.{◌≡◌, IfOk};
+
+use clap::{ArgMatches, Command};
+use command_line::{Answer, Failure, words};
+use file_device::FileDevice;
+use std::alloc::{AllocError, Global};
+use std::marker::Brand;
+use std::os::unix::fs::FileExt;
+use std::rt::Files;
+use tools::{cat, path_of};
+
+/// What the line asks for: the bytes of a file in this image.
+#[derive(Clone, Copy)]
+pub struct CatLine<'a> {
+    pub image: &'a str,
+    pub path: &'a str,
+}
+
+/// The words of the line.
+pub fn command<'a>(alloc: Global) -> Result<Command<'a>, AllocError> {
+    words::of_path(
+        alloc,
+        "cat",
+        "Writes the bytes of a file in an image to standard output",
+    )
+}
+
+/// What these words ask for.
+pub fn line_of<'a>(options: &ArgMatches<'a>) -> Option<CatLine<'a>> {
+    Some(CatLine {
+        image: options.get_str("image")?,
+        path: options.get_str("path")?,
+    })
+}
+
+/// Gives the bytes of a file in a file's image, which is opened to be read alone.
+pub fn answer<R: Files + AllocGlobal>(rt: &R, line: &CatLine<'_>) -> Result<Answer, Failure>
+where
+    R::File: FileExt,
+    ensures { IfOk result (λ answer. answer.status ≡ 0) }
+{
+    let path = path_of(rt.alloc(), line.path)?;
+    let mut device: FileDevice<R::File, Brand> = FileDevice::open(rt, line.image)?;
+    Answer::of_text(cat(rt.alloc(), &mut device, &path))
+}

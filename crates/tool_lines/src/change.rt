@@ -1,0 +1,227 @@
+//! The lines `mkdir`, `rm`, `rmdir`, `mv` and `ln`: what is done with paths in an image.
+ghost use Rattle.std.specs.Prelude.{◌≡◌, IfOk};
+
+use changing::{Outcome, change_device, outcome_of};
+use clap::{Arg, ArgMatches, Command as Words};
+use command_line::{Answer, Failure, words};
+use device::Device;
+use file_device::FileDevice;
+use frozen::load;
+use layout::Refusal;
+use snapshot::{Command, Reply};
+use std::alloc::{AllocError, Global};
+use std::marker::Brand;
+use std::os::unix::fs::FileExt;
+use std::rt::Files;
+use tools::{Aim, Deed, Naming, aim_at, deeds, namings, path_of};
+
+/// What becomes of the paths of a line.
+#[derive(Clone, Copy)]
+pub enum Change {
+    /// This is done with each of them.
+    Do(Deed),
+    /// They are given names in this way; the last one is the target.
+    Name(Naming),
+}
+
+/// What a line asks for: what becomes of paths in this image.
+#[derive(Drop)]
+pub struct ChangeLine<'a> {
+    pub image: &'a str,
+    pub change: Change,
+    pub paths: Vec<&'a str>,
+}
+
+/// The words of the line `mkdir`.
+pub fn mkdir<'a>(alloc: Global) -> Result<Words<'a>, AllocError> {
+    of_paths(alloc, "mkdir", "Makes directories in an image", 1)
+}
+
+/// The words of the line `rm`.
+pub fn rm<'a>(alloc: Global) -> Result<Words<'a>, AllocError> {
+    of_paths(
+        alloc,
+        "rm",
+        "Takes names from files in an image; a file without a name goes",
+        1,
+    )
+}
+
+/// The words of the line `rmdir`.
+pub fn rmdir<'a>(alloc: Global) -> Result<Words<'a>, AllocError> {
+    of_paths(alloc, "rmdir", "Removes empty directories from an image", 1)
+}
+
+/// The words of the line `mv`.
+pub fn mv<'a>(alloc: Global) -> Result<Words<'a>, AllocError> {
+    of_paths(
+        alloc,
+        "mv",
+        "Gives what stands in an image another name; the last path is the name, or a directory for all",
+        2,
+    )
+}
+
+/// The words of the line `ln`.
+pub fn ln<'a>(alloc: Global) -> Result<Words<'a>, AllocError> {
+    of_paths(
+        alloc,
+        "ln",
+        "Gives files in an image one more name; the last path is the name, or a directory for all",
+        2,
+    )
+}
+
+/// A line that takes an image and so many paths in it, or more.
+fn of_paths<'a>(
+    alloc: Global,
+    name: &'a str,
+    about: &'a str,
+    least: usize,
+) -> Result<Words<'a>, AllocError> {
+    words::of_image(alloc, name, about)?.arg(paths(alloc).num_args(least..))
+}
+
+/// Paths in an image.
+fn paths<'a>(alloc: Global) -> Arg<'a> {
+    Arg::new(alloc, "paths")
+        .value_name("PATH")
+        .required(true)
+        .help("The paths in the image; % and two digits stand for a byte")
+}
+
+/// What the line of this name does with its paths, if it is one of these lines.
+pub fn change_of(name: &str) -> Option<Change> {
+    match name {
+        "mkdir" => Some(Change::Do(Deed::MakeDirectory)),
+        "rm" => Some(Change::Do(Deed::Remove)),
+        "rmdir" => Some(Change::Do(Deed::RemoveDirectory)),
+        "mv" => Some(Change::Name(Naming::Move)),
+        "ln" => Some(Change::Name(Naming::Link)),
+        _ => None,
+    }
+}
+
+/// What these words ask for.
+pub fn line_of<'a>(
+    alloc: Global,
+    change: Change,
+    options: &ArgMatches<'a>,
+) -> Result<Option<ChangeLine<'a>>, AllocError> {
+    let (Some(image), Some(paths)) = (options.get_str("image"), options.get_strs("paths")) else {
+        return Ok(None);
+    };
+    let paths = paths.to_vec(alloc)?;
+    Ok(Some(ChangeLine {
+        image,
+        change,
+        paths,
+    }))
+}
+
+/// Changes a file's image.
+pub fn answer<R: Files + AllocGlobal>(rt: &R, line: &ChangeLine<'_>) -> Result<Answer, Failure>
+where
+    R::File: FileExt,
+    ensures { IfOk result (λ answer. answer.status ≡ 0) }
+{
+    let paths = paths_of(rt.alloc(), line.paths.as_slice())?;
+    match line.change {
+        Change::Do(deed) => do_in_file(rt, line.image, deed, paths.as_slice()),
+        Change::Name(naming) => name_in_file(rt, line.image, naming, paths.as_slice()),
+    }
+}
+
+/// The paths that words stand for.
+fn paths_of(alloc: Global, words: &[&str]) -> Result<Vec<Vec<u8>>, Refusal> {
+    let mut paths = Vec::new(alloc);
+    for word in words {
+        paths.push(path_of(alloc, word)?)?;
+    }
+    Ok(paths)
+}
+
+/// Does this with each of these paths in a file's image.
+fn do_in_file<R: Files + AllocGlobal>(
+    rt: &R,
+    image: &str,
+    deed: Deed,
+    paths: &[Vec<u8>],
+) -> Result<Answer, Failure>
+where
+    R::File: FileExt,
+    ensures { IfOk result (λ answer. answer.status ≡ 0) }
+{
+    let commands = deeds(rt.alloc(), deed, paths)?;
+    change_file(rt, image, commands.as_slice())
+}
+
+/// Gives names in a file's image; the last path is the target.
+fn name_in_file<R: Files + AllocGlobal>(
+    rt: &R,
+    image: &str,
+    naming: Naming,
+    paths: &[Vec<u8>],
+) -> Result<Answer, Failure>
+where
+    R::File: FileExt,
+    ensures { IfOk result (λ answer. answer.status ≡ 0) }
+{
+    let Some((target, named)) = paths.split_last() else {
+        return Err(Failure::Refused(Refusal::BadName));
+    };
+    let aim = aim_in_file(rt, image, target, named.len())?;
+    let commands = namings(rt.alloc(), naming, aim, named, target)?;
+    change_file(rt, image, commands.as_slice())
+}
+
+/// Where so many names are given at a target in a file's image, which is read alone.
+fn aim_in_file<R: Files + AllocGlobal>(
+    rt: &R,
+    image: &str,
+    target: &[u8],
+    count: usize,
+) -> Result<Aim, Refusal>
+where
+    R::File: FileExt,
+{
+    let mut device: FileDevice<R::File, Brand> = FileDevice::open(rt, image)?;
+    aim_on_device(rt.alloc(), &mut device, target, count)
+}
+
+/// Where so many names are given at a target in a device's image.
+fn aim_on_device<D: Device>(
+    alloc: Global,
+    device: &mut D,
+    target: &[u8],
+    count: usize,
+) -> Result<Aim, Refusal> {
+    let frozen = load(alloc, device)?;
+    aim_at(&frozen, target, count)
+}
+
+/// Carries out commands on the volume of a file's image up to the first one that is refused, and writes all.
+fn change_file<R: Files + AllocGlobal>(
+    rt: &R,
+    image: &str,
+    commands: &[Command],
+) -> Result<Answer, Failure>
+where
+    R::File: FileExt,
+    ensures { IfOk result (λ answer. answer.status ≡ 0) }
+{
+    let device: FileDevice<R::File, Brand> = FileDevice::open_to_write(rt, image)?;
+    let changed = change_device(rt.alloc(), device, commands)?;
+    told_of(rt.alloc(), changed.replies.as_slice(), commands.len())
+}
+
+/// What so many commands come to that were answered so.
+fn told_of(alloc: Global, replies: &[Reply], count: usize) -> Result<Answer, Failure>
+    ensures { IfOk result (λ answer. answer.status ≡ 0) }
+{
+    let Outcome { done, refused } = outcome_of(replies);
+    match refused {
+        None => Ok(Answer::nothing(alloc)),
+        Some(cause) => Err(Failure::Stopped { cause, done, count }),
+    }
+}

@@ -1,0 +1,39 @@
+//! The line `info`: the numbers of an image.
+ghost use Rattle.std.specs.Prelude.{◌≡◌, IfOk};
+
+use clap::{ArgMatches, Command};
+use command_line::{Answer, Failure, words};
+use file_device::FileDevice;
+use std::alloc::{AllocError, Global};
+use std::marker::Brand;
+use std::os::unix::fs::FileExt;
+use std::rt::Files;
+use tools::info;
+
+/// What the line asks for: the numbers of this image.
+#[derive(Clone, Copy)]
+pub struct InfoLine<'a> {
+    pub image: &'a str,
+}
+
+/// The words of the line.
+pub fn command<'a>(alloc: Global) -> Result<Command<'a>, AllocError> {
+    words::of_image(alloc, "info", "Prints the numbers of an image")
+}
+
+/// What these words ask for.
+pub fn line_of<'a>(options: &ArgMatches<'a>) -> Option<InfoLine<'a>> {
+    Some(InfoLine {
+        image: options.get_str("image")?,
+    })
+}
+
+/// Tells the numbers of a file's image, which is opened to be read alone.
+pub fn answer<R: Files + AllocGlobal>(rt: &R, line: &InfoLine<'_>) -> Result<Answer, Failure>
+where
+    R::File: FileExt,
+    ensures { IfOk result (λ answer. answer.status ≡ 0) }
+{
+    let mut device: FileDevice<R::File, Brand> = FileDevice::open(rt, line.image)?;
+    Answer::of_text(info(rt.alloc(), &mut device))
+}

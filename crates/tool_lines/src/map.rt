@@ -1,0 +1,50 @@
+//! The line `map`: a picture of an image.
+ghost use Rattle.std.specs.Prelude.{◌≡◌, IfOk};
+
+use clap::{ArgMatches, Command};
+use command_line::{Answer, Failure, words};
+use device::Device;
+use file_device::FileDevice;
+use layout::Refusal;
+use pictures::{draw, look};
+use std::alloc::{AllocError, Global};
+use std::marker::Brand;
+use std::os::unix::fs::FileExt;
+use std::rt::Files;
+
+/// What the line asks for: a picture of what each block of this image is used for.
+#[derive(Clone, Copy)]
+pub struct MapLine<'a> {
+    pub image: &'a str,
+}
+
+/// The words of the line.
+pub fn command<'a>(alloc: Global) -> Result<Command<'a>, AllocError> {
+    words::of_image(
+        alloc,
+        "map",
+        "Writes a picture of an image to standard output, in SVG: what each block is used for",
+    )
+}
+
+/// What these words ask for.
+pub fn line_of<'a>(options: &ArgMatches<'a>) -> Option<MapLine<'a>> {
+    Some(MapLine {
+        image: options.get_str("image")?,
+    })
+}
+
+/// Draws a file's image, which is opened to be read alone.
+pub fn answer<R: Files + AllocGlobal>(rt: &R, line: &MapLine<'_>) -> Result<Answer, Failure>
+where
+    R::File: FileExt,
+    ensures { IfOk result (λ answer. answer.status ≡ 0) }
+{
+    let mut device: FileDevice<R::File, Brand> = FileDevice::open(rt, line.image)?;
+    Answer::of_text(picture_of(rt.alloc(), &mut device))
+}
+
+/// A picture of a device's image.
+fn picture_of<D: Device>(alloc: Global, device: &mut D) -> Result<Vec<u8>, Refusal> {
+    Ok(draw(alloc, &look(alloc, device)?)?.into_bytes())
+}
