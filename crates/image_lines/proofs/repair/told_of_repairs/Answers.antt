@@ -1,4 +1,4 @@
-use Rattle.std.proofs.Common.{rules, ◌≡◌, ◌∙◌, ◌⊎◌, sym, subst}
+use Rattle.std.proofs.Common.{◌≡◌, ◌∙◌, ◌⊎◌, sym, subst}
 use Rattle.findings.specs.declared.verdicts.Verdict.{Verdict}
 use Rattle.findings.specs.declared.verdicts.Verdict.TheVariants.{Clean, Damaged}
 use Rattle.std.proofs.lemmas.Result.{IfOk-weaker}
