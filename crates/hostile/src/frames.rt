@@ -1,9 +1,12 @@
 //! Images whose frame is broken, and what each is refused with. A small image has one group of 16 blocks and 16 inodes: 17
 //! blocks, the superblock is block 0, the group's maps are block 1, and blocks 4 to 16 are data blocks.
+use crate::expect::same;
 use crate::image::{Put, changed_bytes, checked_by, fresh_bytes, put};
 use layout::{BLOCK_BYTES, Geometry, Refusal};
 use std::alloc::{AllocError, Global};
+use std::process::Abort;
 use std::test::Fail;
+use std::thread::Threads;
 
 /// How many bytes a small image has.
 const SMALL: usize = 17_408;
@@ -29,21 +32,43 @@ fn all_marked_report(alloc: Global) -> Result<String, AllocError> {
     Ok(text)
 }
 
+/// Expects a check of these bytes to have this report, and 25 findings and repairs.
+fn expect_report<R: Threads + AllocGlobal + Abort + Sync>(
+    rt: &R,
+    bytes: &[u8],
+    workers: u32,
+    wanted: &str,
+) -> Result<(), Refusal> {
+    let checked = checked_by(rt, bytes, workers)?;
+    let report = checked.report();
+    same(rt, workers, report, wanted.as_bytes());
+    same(rt, workers, report.len(), 535);
+    same(rt, workers, checked.findings().len(), 25);
+    same(rt, workers, checked.repairs().len(), 25);
+    Ok(())
+}
+
 #[test]
 fn an_image_with_all_bits_set_has_25_findings(rt: HostRuntime) -> Result<(), Fail> {
     let marks: &[Put] = &[(1_056, b"\xff\xff"), (1_184, b"\xff\x1f")];
     let bytes = changed_bytes(rt.alloc(), &small()?, marks)?;
     let wanted = all_marked_report(rt.alloc())?;
     for workers in [1, 2, 3, 64] {
-        let checked = checked_by(&rt, bytes.as_slice(), workers)?;
-        assert_eq!(rt; checked.report(), wanted.as_bytes(), "by {workers}");
-        assert_eq!(rt;
-            (checked.report().len(), checked.findings().len()),
-            (535, 25)
-        );
-        assert_eq!(rt; checked.repairs().len(), 25, "by {workers}");
+        expect_report(&rt, bytes.as_slice(), workers, wanted.as_str())?;
     }
     Ok(())
+}
+
+/// Expects an image of these bytes to be refused.
+fn expect_refused<R: Threads + AllocGlobal + Abort + Sync>(
+    rt: &R,
+    name: &str,
+    bytes: &[u8],
+    workers: u32,
+    wanted: Refusal,
+) {
+    let refusal = checked_by(rt, bytes, workers).err();
+    same(rt, (name, workers), refusal, Some(wanted));
 }
 
 /// What a broken frame is refused with.
@@ -155,14 +180,19 @@ const BROKEN: &[Broken] = &[
     },
 ];
 
+/// The bytes of a small image that is broken so.
+fn bytes_of(alloc: Global, broken: &Broken) -> Result<Vec<u8>, Refusal> {
+    let mut bytes = changed_bytes(alloc, &small()?, broken.puts)?;
+    bytes.resize(broken.length, 0)?;
+    Ok(bytes)
+}
+
 #[test]
 fn a_broken_frame_is_refused(rt: HostRuntime) -> Result<(), Fail> {
     for broken in BROKEN {
-        let mut bytes = changed_bytes(rt.alloc(), &small()?, broken.puts)?;
-        bytes.resize(broken.length, 0)?;
+        let bytes = bytes_of(rt.alloc(), broken)?;
         for workers in [1, 3] {
-            let refusal = checked_by(&rt, bytes.as_slice(), workers).err();
-            assert_eq!(rt; refusal, Some(broken.refusal), "{}", broken.name);
+            expect_refused(&rt, broken.name, bytes.as_slice(), workers, broken.refusal);
         }
     }
     Ok(())
@@ -176,8 +206,8 @@ fn the_least_broken_group_is_named(rt: HostRuntime) -> Result<(), Fail> {
         for group in groups {
             put(bytes.as_mut_slice(), 1_024 + 16_384 * group, b"\0");
         }
-        let refusal = checked_by(&rt, bytes.as_slice(), 1).err();
-        assert_eq!(rt; refusal, Some(Refusal::BadGroup(least)));
+        let wanted = Refusal::BadGroup(least);
+        expect_refused(&rt, "a group", bytes.as_slice(), 1, wanted);
     }
     Ok(())
 }
@@ -215,50 +245,57 @@ fn numbers_of(geometry: &[u32; 3]) -> [u8; 12] {
     bytes
 }
 
+/// A small image with these numbers in its superblock.
+fn numbered(alloc: Global, numbers: &[u32; 3]) -> Result<Vec<u8>, Refusal> {
+    let mut bytes = fresh_bytes(alloc, &small()?)?;
+    put(bytes.as_mut_slice(), 8, &numbers_of(numbers));
+    Ok(bytes)
+}
+
 #[test]
 fn numbers_past_a_limit_are_no_geometry(rt: HostRuntime) -> Result<(), Fail> {
-    let fresh = fresh_bytes(rt.alloc(), &small()?)?;
     for numbers in NO_GEOMETRIES {
         let [groups, blocks, inodes] = *numbers;
-        let geometry = Geometry::new(groups, blocks, inodes);
-        assert_eq!(rt;
-            geometry.err(),
-            Some(Refusal::BadGeometry),
-            "{groups} {blocks} {inodes}"
-        );
-        let mut bytes = fresh.clone()?;
-        put(bytes.as_mut_slice(), 8, &numbers_of(numbers));
-        let refusal = checked_by(&rt, bytes.as_slice(), 1).err();
-        assert_eq!(rt;
-            refusal,
-            Some(Refusal::BadSuper),
-            "{groups} {blocks} {inodes}"
-        );
+        let refused = Geometry::new(groups, blocks, inodes).err();
+        same(&rt, *numbers, refused, Some(Refusal::BadGeometry));
+        let bytes = numbered(rt.alloc(), numbers)?;
+        expect_refused(&rt, "no geometry", bytes.as_slice(), 1, Refusal::BadSuper);
     }
+    Ok(())
+}
+
+/// Expects a check of these bytes to have a report of 133 bytes.
+fn expect_clean<R: Threads + AllocGlobal + Abort + Sync>(
+    rt: &R,
+    bytes: &[u8],
+    workers: u32,
+) -> Result<(), Refusal> {
+    let checked = checked_by(rt, bytes, workers)?;
+    same(rt, workers, checked.report().len(), 133);
+    Ok(())
+}
+
+/// Expects an image of these numbers to be clean, and refused without its last block.
+fn expect_whole<R: Threads + AllocGlobal + Abort + Sync>(
+    rt: &R,
+    numbers: &[u32; 3],
+) -> Result<(), Refusal> {
+    let [groups, blocks, inodes] = *numbers;
+    let mut bytes = fresh_bytes(rt.alloc(), &Geometry::new(groups, blocks, inodes)?)?;
+    let count = 1 + groups as usize * blocks as usize;
+    same(rt, *numbers, bytes.len(), count * BLOCK_BYTES);
+    for workers in [1, 64] {
+        expect_clean(rt, bytes.as_slice(), workers)?;
+    }
+    bytes.truncate(bytes.len().saturating_sub(BLOCK_BYTES));
+    expect_refused(rt, "a block fewer", bytes.as_slice(), 1, Refusal::BadLength);
     Ok(())
 }
 
 #[test]
 fn numbers_at_a_limit_are_a_geometry(rt: HostRuntime) -> Result<(), Fail> {
     for numbers in GEOMETRIES {
-        let [groups, blocks, inodes] = *numbers;
-        let geometry = Geometry::new(groups, blocks, inodes)?;
-        let mut bytes = fresh_bytes(rt.alloc(), &geometry)?;
-        assert_eq!(rt;
-            bytes.len(),
-            (1 + groups as usize * blocks as usize) * BLOCK_BYTES
-        );
-        for workers in [1, 64] {
-            let checked = checked_by(&rt, bytes.as_slice(), workers)?;
-            assert_eq!(rt; checked.report().len(), 133, "{groups} {blocks} {inodes}");
-        }
-        bytes.truncate(bytes.len() - BLOCK_BYTES);
-        let refusal = checked_by(&rt, bytes.as_slice(), 1).err();
-        assert_eq!(rt;
-            refusal,
-            Some(Refusal::BadLength),
-            "{groups} {blocks} {inodes}"
-        );
+        expect_whole(&rt, numbers)?;
     }
     Ok(())
 }
@@ -267,8 +304,13 @@ fn numbers_at_a_limit_are_a_geometry(rt: HostRuntime) -> Result<(), Fail> {
 fn other_than_1_to_64_workers_are_refused(rt: HostRuntime) -> Result<(), Fail> {
     let bytes = fresh_bytes(rt.alloc(), &small()?)?;
     for workers in [0, 65, 4_294_967_295] {
-        let refusal = checked_by(&rt, bytes.as_slice(), workers).err();
-        assert_eq!(rt; refusal, Some(Refusal::BadWorkers), "{workers}");
+        expect_refused(
+            &rt,
+            "workers",
+            bytes.as_slice(),
+            workers,
+            Refusal::BadWorkers,
+        );
     }
     Ok(())
 }

@@ -1,7 +1,8 @@
 //! Numbers at each limit and one past it. An image has one group of 32 blocks and 16 inodes, where nothing else is said: blocks
 //! 4 to 32 are data blocks, the root is inode 2 and has block 4 with its dots. File 5 is marked and has the name `a` in the root.
+use crate::expect::same;
 use crate::image::{Put, changed_bytes, found};
-use layout::Geometry;
+use layout::{Geometry, Refusal};
 use std::process::Abort;
 use std::test::Fail;
 use std::thread::Threads;
@@ -18,6 +19,19 @@ const NAMED: Put = (4_224, b"\x05\0\0\0\x01\0\0\0a");
 /// The file has no block.
 const EMPTY_FILE: Put = (2_688, b"\x01\0\x01\0");
 
+/// Expects an example's findings on an image of this geometry.
+fn expect_found<R: Threads + AllocGlobal + Abort + Sync>(
+    rt: &R,
+    geometry: &Geometry,
+    example: &Example,
+) -> Result<(), Refusal> {
+    let (name, puts, wanted) = *example;
+    let bytes = changed_bytes(rt.alloc(), geometry, puts)?;
+    let lines = found(rt, bytes.as_slice())?;
+    same(rt, name, lines.as_str(), wanted);
+    Ok(())
+}
+
 /// Checks each example on an image of so many groups.
 fn check_all<R: Threads + AllocGlobal + Abort + Sync>(
     rt: &R,
@@ -25,10 +39,8 @@ fn check_all<R: Threads + AllocGlobal + Abort + Sync>(
     examples: &[Example],
 ) -> Result<(), Fail> {
     let geometry = Geometry::new(groups, 32, 16)?;
-    for (name, puts, wanted) in examples {
-        let bytes = changed_bytes(rt.alloc(), &geometry, puts)?;
-        let lines = found(rt, bytes.as_slice())?;
-        assert_eq!(rt; lines.as_str(), *wanted, "{name}");
+    for example in examples {
+        expect_found(rt, &geometry, example)?;
     }
     Ok(())
 }

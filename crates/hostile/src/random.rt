@@ -1,4 +1,5 @@
 //! Images with random bytes behind a good frame: whatever they are, they are checked, and by every number of workers alike.
+use crate::expect::holds;
 use crate::image::{checked_by, fresh_bytes, put};
 use chance::Noise;
 use findings::Verdict;
@@ -172,19 +173,32 @@ enum Checks {
 fn check_by_all<R: Threads + AllocGlobal + Sync>(rt: &R, bytes: &[u8]) -> Result<Checks, Refusal> {
     let alone = checked_by(rt, bytes, 1)?;
     for workers in [2, 64] {
-        let checked = checked_by(rt, bytes, workers)?;
-        if checked.report() != alone.report() {
-            return Ok(Checks::Differ("the report"));
-        }
-        if checked.repairs() != alone.repairs() {
-            return Ok(Checks::Differ("the repairs"));
+        if let Some(what) = difference(rt, bytes, workers, &alone)? {
+            return Ok(Checks::Differ(what));
         }
     }
-    Ok(if agrees_with_rules(rt.alloc(), &alone)? {
-        Checks::Alike(alone.verdict())
+    if agrees_with_rules(rt.alloc(), &alone)? {
+        Ok(Checks::Alike(alone.verdict()))
     } else {
-        Checks::Differ("the verdict from the rules'")
-    })
+        Ok(Checks::Differ("the verdict from the rules'"))
+    }
+}
+
+/// What differs between a check by this many workers and that by one.
+fn difference<R: Threads + AllocGlobal + Sync>(
+    rt: &R,
+    bytes: &[u8],
+    workers: u32,
+    alone: &Checked,
+) -> Result<Option<&'static str>, Refusal> {
+    let checked = checked_by(rt, bytes, workers)?;
+    if checked.report() != alone.report() {
+        Ok(Some("the report"))
+    } else if checked.repairs() != alone.repairs() {
+        Ok(Some("the repairs"))
+    } else {
+        Ok(None)
+    }
 }
 
 /// Whether an image is damaged exactly where it breaks a rule, and has repairs only where it is soft.
@@ -215,23 +229,28 @@ fn bytes_of(alloc: Global, noise: &mut Noise, kind: Kind) -> Result<Vec<u8>, Ref
     }
 }
 
-/// Checks the images of this kind from one number to below another one, each of which is the seed of its image. Counts those
-/// that are damaged.
+/// How the checks of the image of this kind and number came out, which is the seed of its bytes.
+fn checks_of<R: Threads + AllocGlobal + Sync>(
+    rt: &R,
+    kind: Kind,
+    image: u32,
+) -> Result<Checks, Refusal> {
+    let mut noise = Noise::new(u64::from(image));
+    let bytes = bytes_of(rt.alloc(), &mut noise, kind)?;
+    check_by_all(rt, bytes.as_slice())
+}
+
+/// Checks the images of this kind from one number to below another one. Counts those that are damaged.
 fn damaged_of<R: Threads + AllocGlobal + Abort + Sync>(
     rt: &R,
     kind: Kind,
     first: u32,
     end: u32,
-) -> Result<u32, Fail> {
+) -> Result<u32, Refusal> {
     let mut damaged = 0u32;
     for image in first..end {
-        let mut noise = Noise::new(u64::from(image));
-        let bytes = bytes_of(rt.alloc(), &mut noise, kind)?;
-        let checks = check_by_all(rt, bytes.as_slice())?;
-        assert!(rt;
-            matches!(checks, Checks::Alike(_)),
-            "image {image}: {checks:?}"
-        );
+        let checks = checks_of(rt, kind, image)?;
+        holds(rt, (image, checks), matches!(checks, Checks::Alike(_)));
         if checks == Checks::Alike(Verdict::Damaged) {
             damaged = damaged.saturating_add(1);
         }
@@ -241,25 +260,28 @@ fn damaged_of<R: Threads + AllocGlobal + Abort + Sync>(
 
 #[test]
 fn the_first_70_random_images_are_checked_alike(rt: HostRuntime) -> Result<(), Fail> {
-    assert!(rt; damaged_of(&rt, Kind::Random, 0, 70)? > 0);
+    let damaged = damaged_of(&rt, Kind::Random, 0, 70)?;
+    holds(&rt, damaged, damaged > 0);
     Ok(())
 }
 
 #[test]
 fn the_next_70_random_images_are_checked_alike(rt: HostRuntime) -> Result<(), Fail> {
-    assert!(rt; damaged_of(&rt, Kind::Random, 70, 140)? > 0);
+    let damaged = damaged_of(&rt, Kind::Random, 70, 140)?;
+    holds(&rt, damaged, damaged > 0);
     Ok(())
 }
 
 #[test]
 fn the_last_60_random_images_are_checked_alike(rt: HostRuntime) -> Result<(), Fail> {
-    assert!(rt; damaged_of(&rt, Kind::Random, 140, 200)? > 0);
+    let damaged = damaged_of(&rt, Kind::Random, 140, 200)?;
+    holds(&rt, damaged, damaged > 0);
     Ok(())
 }
 
 #[test]
 fn images_near_to_good_ones_are_checked_alike(rt: HostRuntime) -> Result<(), Fail> {
     let damaged = damaged_of(&rt, Kind::Near, 200, 270)?;
-    assert!(rt; damaged > 0 && damaged < 70, "{damaged}");
+    holds(&rt, damaged, damaged > 0 && damaged < 70);
     Ok(())
 }

@@ -59,7 +59,7 @@ fn freeze(
 fn inspect(
     rt: &(impl AllocGlobal + Threads + Sync + Clock + Eprint),
     volume: &mut Volume<MemDevice>,
-    frozen: &Frozen,
+    frozen: &Arc<Frozen>,
     workers: u32,
 ) -> Result<()> {
     let start = Instant::now(rt)?;

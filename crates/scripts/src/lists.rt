@@ -70,14 +70,26 @@ pub fn carry_out_lists(
     bytes: &[u8],
     show: Show,
 ) -> Result<Outcome, AllocError> {
-    let mut session = Session::new();
     let mut outcome = Outcome::new(alloc, show);
+    let mut session = Session::new();
+    let done = carry_out_all(rt, alloc, &mut session, &mut outcome, bytes);
+    done.and(Ok(outcome))
+}
+
+/// Carries out the lines of a file with these bytes.
+fn carry_out_all(
+    rt: &(impl Threads + Sync),
+    alloc: Global,
+    session: &mut Session,
+    outcome: &mut Outcome,
+    bytes: &[u8],
+) -> Result<(), AllocError> {
     let mut number = 0usize;
     for line in bytes.split(|byte| *byte == b'\n') {
         number = number.saturating_add(1);
-        carry_out_line(rt, alloc, &mut session, &mut outcome, number, line)?;
+        carry_out_line(rt, alloc, session, outcome, number, line)?;
     }
-    Ok(outcome)
+    Ok(())
 }
 
 /// Carries out a line of a list.

@@ -31,10 +31,11 @@ enum Event {
 impl Recorded {
     /// What a device holds, mounted on a device of its own that was never written.
     pub fn mount(alloc: Global, device: &MemDevice) -> Result<Recorded, Refusal> {
-        let mut copy = copy_of(alloc, device)?;
         let mounted = mount(alloc, copy_of(alloc, device)?)?;
-        let history = History::at_mount(alloc, &mut copy)?;
-        Ok(Recorded { mounted, history })
+        match history_of(alloc, device) {
+            Ok(history) => Ok(Recorded { mounted, history }),
+            Err(refusal) => Err(refusal),
+        }
     }
 
     /// The device.
@@ -110,6 +111,12 @@ impl Recorded {
             Err(stop) => Answer::BadStop(stop),
         }
     }
+}
+
+/// What the files of a device have before it is written.
+fn history_of(alloc: Global, device: &MemDevice) -> Result<History, Refusal> {
+    let mut copy = copy_of(alloc, device)?;
+    History::at_mount(alloc, &mut copy)
 }
 
 /// A device that holds what this one holds, and was never written.

@@ -74,33 +74,29 @@ impl Session {
     /// Makes a fresh volume of these numbers, in place of the one that was there.
     fn make(&mut self, alloc: Global, groups: u32, blocks: u32, inodes: u32) {
         self.earlier_writes = 0;
-        self.volume = match Geometry::new(groups, blocks, inodes).and_then(|geometry| fresh_device(
-            alloc, &geometry,
-        )) {
-            Ok(device) => Stage::Made(device),
-            Err(refusal) => Stage::Refused(refusal),
-        };
+        self.volume = made(alloc, groups, blocks, inodes);
     }
 
     /// Sets a byte of a block before the volume is mounted; it cannot be mounted where it has no such byte.
     fn set_byte(&mut self, address: u32, place: u32, value: u8) -> Option<Answer> {
-        match &mut self.volume {
-            Stage::Made(device) => {
-                if let Err(refusal) = put_byte(device, address, place as usize, value) {
-                    self.volume = Stage::Refused(refusal);
-                }
-                None
-            }
-            Stage::Refused(_) => None,
-            Stage::Absent | Stage::Mounted(_) => Some(Answer::NoCommand),
+        let put = match &mut self.volume {
+            Stage::Made(device) => put_byte(device, address, place as usize, value),
+            Stage::Refused(_) => Ok(()),
+            Stage::Absent | Stage::Mounted(_) => return Some(Answer::NoCommand),
+        };
+        if let Err(refusal) = put {
+            self.volume = Stage::Refused(refusal);
         }
+        None
     }
 
     /// Mounts a volume that was made.
     fn mount(&mut self, alloc: Global) {
-        if let Stage::Made(device) = &self.volume {
-            self.volume = mounted_copy(alloc, device);
-        }
+        let mounted = match &self.volume {
+            Stage::Made(device) => mounted_copy(alloc, device),
+            Stage::Absent | Stage::Mounted(_) | Stage::Refused(_) => return,
+        };
+        self.volume = mounted;
     }
 
     /// The answer of a line that is a command.
@@ -140,6 +136,20 @@ impl Session {
             Stage::Absent | Stage::Made(_) | Stage::Mounted(_) => Answer::Given(VolumeAnswer::Done),
         }
     }
+}
+
+/// A fresh volume of these numbers, or why there is none.
+fn made(alloc: Global, groups: u32, blocks: u32, inodes: u32) -> Stage {
+    match fresh_of(alloc, groups, blocks, inodes) {
+        Ok(device) => Stage::Made(device),
+        Err(refusal) => Stage::Refused(refusal),
+    }
+}
+
+/// A device in memory with a fresh volume of these numbers.
+fn fresh_of(alloc: Global, groups: u32, blocks: u32, inodes: u32) -> Result<MemDevice, Refusal> {
+    let geometry = Geometry::new(groups, blocks, inodes)?;
+    fresh_device(alloc, &geometry)
 }
 
 /// A device in memory with a fresh volume.

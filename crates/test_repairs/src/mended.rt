@@ -3,6 +3,7 @@ ghost use Rattle.live_states.specs.Snapshots.{IsRepairOf};
 
 use crate::expect::same;
 use findings::Repair;
+use frozen::Frozen;
 use inode::{FILE, FREE};
 use layout::{Geometry, ROOT, Refusal};
 use live_holdings::Holdings;
@@ -39,10 +40,14 @@ enum Step {
     Other,
 }
 
+/// What is kept of this image.
+fn frozen(alloc: Global) -> Result<Frozen, Refusal> {
+    frozen_with(alloc, &Geometry::new(1, 32, 16)?, CHANGES)
+}
+
 /// The metadata of this image.
 fn image(alloc: Global) -> Result<Metadata, Refusal> {
-    let frozen = frozen_with(alloc, &Geometry::new(1, 32, 16)?, CHANGES)?;
-    Ok(Metadata::new(alloc, frozen)?)
+    Ok(Metadata::new(alloc, frozen(alloc)?)?)
 }
 
 /// Nothing is open, and a check of these repairs is installed.

@@ -2,7 +2,7 @@ use crate::expect::same;
 use crate::volumes::mounted;
 use changing::{Outcome, change, outcome_of};
 use device::MemDevice;
-use layout::{Geometry, Refusal};
+use layout::Refusal;
 use snapshot::{Command, Volume};
 use std::alloc::{AllocError, Global};
 use std::process::Abort;
@@ -57,7 +57,7 @@ fn expect_rows<R: AllocGlobal + Abort>(
 /// The volume has 6 free numbers.
 #[test]
 fn commands_stop_at_the_first_refusal(rt: HostRuntime) -> Result<(), Fail> {
-    let mut volume = mounted(rt.alloc(), &Geometry::new(1, 16, 8)?, &[])?;
+    let mut volume = mounted(rt.alloc(), 8, &[])?;
     expect_rows(&rt, &mut volume)?;
     Ok(())
 }

@@ -18,11 +18,6 @@ const LOST_BLOCK: &[Byte] = &[(1, 160, 0b10_0001)];
 /// The root has a link fewer than entries name it.
 const LOW_COUNT: &[Byte] = &[(2, 258, 1)];
 
-/// The mounted volume of the image of one group of 16 blocks and 16 inodes that is fresh but for these bytes.
-fn volume_with(alloc: Global, bytes: &[Byte]) -> Result<Volume<MemDevice>, Refusal> {
-    mounted(alloc, &Geometry::new(1, 16, 16)?, bytes)
-}
-
 /// The command that makes this file.
 fn create(alloc: Global, path: &[u8]) -> Result<Command, AllocError> {
     Ok(Command::Create(path.to_vec(alloc)?))
@@ -111,7 +106,7 @@ fn expect_mended<R: Threads + AllocGlobal + Abort + Sync>(
 
 #[test]
 fn a_lost_block_is_found_and_given_back(rt: HostRuntime) -> Result<(), Fail> {
-    let mut volume = volume_with(rt.alloc(), LOST_BLOCK)?;
+    let mut volume = mounted(rt.alloc(), 16, LOST_BLOCK)?;
     expect_mended(&rt, &mut volume)?;
     Ok(())
 }
@@ -174,7 +169,7 @@ fn expect_refusals<R: AllocGlobal + Abort>(
 
 #[test]
 fn commands_are_answered_in_their_order(rt: HostRuntime) -> Result<(), Fail> {
-    let mut volume = volume_with(rt.alloc(), &[])?;
+    let mut volume = mounted(rt.alloc(), 16, &[])?;
     expect_refusals(&rt, &mut volume)?;
     Ok(())
 }
@@ -199,7 +194,7 @@ fn expect_not_soft<R: Threads + AllocGlobal + Abort + Sync>(
 
 #[test]
 fn a_check_of_a_damaged_image_is_not_installed(rt: HostRuntime) -> Result<(), Fail> {
-    let mut volume = volume_with(rt.alloc(), &[])?;
+    let mut volume = mounted(rt.alloc(), 16, &[])?;
     expect_not_soft(&rt, &mut volume)?;
     Ok(())
 }

@@ -1,5 +1,6 @@
 //! Names, paths and links. Where nothing else is said an image has one group of 32 blocks and 16 inodes: blocks 4 to 32
 //! are data blocks, the root is inode 2 and has block 4 with its dots, and its other slots are empty.
+use crate::expect::same;
 use crate::image::{Change, Wanted, found};
 use layout::Geometry;
 use std::process::Abort;
@@ -23,7 +24,7 @@ fn check_all<R: Threads + AllocGlobal + Abort + Sync>(
     let geometry = Geometry::new(groups, 32, 16)?;
     for (name, changes, wanted) in examples {
         let lines = found(rt, &geometry, changes, Wanted::All)?;
-        assert_eq!(rt; lines.as_str(), *wanted, "{name}");
+        same(rt, *name, lines.as_str(), *wanted);
     }
     Ok(())
 }

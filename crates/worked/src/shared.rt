@@ -1,4 +1,5 @@
 //! An image that workers of any number check, and find the same.
+use crate::expect::same;
 use crate::image::{Change, changed};
 use fsck::check;
 use layout::Geometry;
@@ -27,8 +28,8 @@ fn a_claim_of_another_group_is_a_duplicate(rt: HostRuntime) -> Result<(), Fail> 
     let frozen = changed(alloc, &geometry, ONE_BLOCK_OF_TWO_FILES)?;
     for workers in [1, 2, 3, 64] {
         let checked = check(&rt, alloc, &frozen, workers, &OpenGate)?;
-        assert_eq!(rt; checked.report(), REPORT.as_bytes(), "{workers} workers");
-        assert_eq!(rt; checked.report().len(), 170);
+        same(&rt, workers, checked.report(), REPORT.as_bytes());
+        same(&rt, workers, checked.report().len(), 170);
     }
     Ok(())
 }

@@ -1,6 +1,7 @@
 //! Records, the blocks that they use, and the maps; no entry names the files. Where nothing else is said an image has one
 //! group of 32 blocks and 16 inodes: the maps stand in block 1, the records in blocks 2 and 3, and blocks 4 to 32 are data
 //! blocks. The root is inode 2 and has block 4.
+use crate::expect::same;
 use crate::image::{Change, Wanted, found};
 use layout::Geometry;
 use std::process::Abort;
@@ -22,7 +23,7 @@ fn check_all<R: Threads + AllocGlobal + Abort + Sync>(
 ) -> Result<(), Fail> {
     for (name, changes, wanted) in examples {
         let lines = found(rt, geometry, changes, Wanted::UsedBlocks)?;
-        assert_eq!(rt; lines.as_str(), *wanted, "{name}");
+        same(rt, *name, lines.as_str(), *wanted);
     }
     Ok(())
 }

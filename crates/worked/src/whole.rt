@@ -1,5 +1,6 @@
 //! Whole reports, repairs and rules. Where nothing else is said an image has one group of 16 blocks and 16 inodes: blocks
 //! 4 to 16 are data blocks, the root is inode 2 and has block 4 with its dots, and its other slots are empty.
+use crate::expect::same;
 use crate::image::{Change, checked};
 use fsck::Checked;
 use layout::Geometry;
@@ -34,22 +35,35 @@ fn repair_lines(alloc: Global, checked: &Checked) -> Result<String, Fail> {
     Ok(lines)
 }
 
+/// Expects what an example has.
+fn expect_example<R: Threads + AllocGlobal + Abort + Sync>(
+    rt: &R,
+    geometry: &Geometry,
+    example: &Example,
+) -> Result<(), Fail> {
+    let checked = checked(rt, geometry, example.changes)?;
+    same(
+        rt,
+        example.name,
+        checked.report(),
+        example.report.as_bytes(),
+    );
+    same(rt, example.name, checked.report().len(), example.length);
+    let repairs = repair_lines(rt.alloc(), &checked)?;
+    same(rt, example.name, repairs.as_str(), example.repairs);
+    let broken = obeys(rt.alloc(), checked.frozen())?;
+    same(rt, example.name, broken, example.broken);
+    Ok(())
+}
+
 /// Checks each example.
 fn check_all<R: Threads + AllocGlobal + Abort + Sync>(
     rt: &R,
     examples: &[Example],
 ) -> Result<(), Fail> {
-    let alloc = rt.alloc();
     let geometry = Geometry::new(1, 16, 16)?;
     for example in examples {
-        let checked = checked(rt, &geometry, example.changes)?;
-        let report = checked.report();
-        assert_eq!(rt; report, example.report.as_bytes(), "{}", example.name);
-        assert_eq!(rt; report.len(), example.length, "{}", example.name);
-        let repairs = repair_lines(alloc, &checked)?;
-        assert_eq!(rt; repairs.as_str(), example.repairs, "{}", example.name);
-        let broken = obeys(alloc, checked.frozen())?;
-        assert_eq!(rt; broken, example.broken, "{}", example.name);
+        expect_example(rt, &geometry, example)?;
     }
     Ok(())
 }
