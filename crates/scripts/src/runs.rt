@@ -33,8 +33,18 @@ where
 {
     let device: FileDevice<R::File, Brand> = FileDevice::open_to_write(rt, image)?;
     let mut mounted = mount(rt.alloc(), device)?;
-    let count = carry_out_all(rt, rt.alloc(), &mut mounted, bytes)?;
-    match mounted.carry_out(rt, rt.alloc(), Request::Command(Command::Sync)) {
+    carry_out_and_sync(rt, rt.alloc(), &mut mounted, bytes)
+}
+
+/// Carries out the commands on a mounted volume, and syncs it.
+fn carry_out_and_sync<D: Device>(
+    rt: &(impl Threads + Sync),
+    alloc: Global,
+    mounted: &mut Mounted<D>,
+    bytes: &[u8],
+) -> Result<Count, Refusal> {
+    let count = carry_out_all(rt, alloc, mounted, bytes)?;
+    match mounted.carry_out(rt, alloc, Request::Command(Command::Sync)) {
         Answer::Refused(refusal) => Err(refusal),
         _ => Ok(count),
     }

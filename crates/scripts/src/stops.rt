@@ -73,14 +73,23 @@ fn look_at(
     mut image: MemDevice,
     history: &History,
 ) -> Result<(), Fault> {
-    let fault = fault_of(rt, alloc, &mut image, history).map_err(|refusal| Fault::NotMounted(
-        refusal,
-    ))?;
-    if let Some(fault) = fault {
-        return Err(fault);
-    }
+    find_fault(rt, alloc, &mut image, history)?;
     match mount(alloc, image) {
         Ok(_) => Ok(()),
+        Err(refusal) => Err(Fault::NotMounted(refusal)),
+    }
+}
+
+/// Gives what is wrong with what a stop left as an error.
+fn find_fault(
+    rt: &(impl Threads + Sync),
+    alloc: Global,
+    image: &mut MemDevice,
+    history: &History,
+) -> Result<(), Fault> {
+    match fault_of(rt, alloc, image, history) {
+        Ok(None) => Ok(()),
+        Ok(Some(fault)) => Err(fault),
         Err(refusal) => Err(Fault::NotMounted(refusal)),
     }
 }
