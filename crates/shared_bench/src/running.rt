@@ -1,5 +1,5 @@
 //! All threads, timed.
-ghost use Rattle.std.specs.Prelude.{◌≡◌, ◌+◌};
+ghost use Rattle.std.specs.Prelude.{◌≡◌, ◌+◌, vec_len};
 
 use crate::job::Load;
 use crate::rounds::{Used, use_volume};
@@ -63,7 +63,7 @@ fn run_on<L: Ledger + Send + Sync, M: Ledger + Send + Sync, R: Threads + Wait + 
     requires seats { (repairs.parts ≡ seats) × (others.parts ≡ seats) }
     requires users { load.now.users + 2 ≡ seats }
 {
-    let (shared, mut seats) = Shared::<MemDevice, L, M>::new(
+    let (shared, seats) = Shared::<MemDevice, L, M>::new(
         alloc,
         volume,
         TRACE_LIMIT,
@@ -71,10 +71,22 @@ fn run_on<L: Ledger + Send + Sync, M: Ledger + Send + Sync, R: Threads + Wait + 
         repairs,
         others,
     )?;
+    measure(rt, alloc, &shared, seats, load)
+}
+
+/// Runs this load on a shared volume.
+fn measure<L: Ledger + Send + Sync, M: Ledger + Send + Sync, R: Threads + Wait + Clock + Sync>(
+    rt: &R,
+    alloc: Global,
+    shared: &Shared<MemDevice, L, M>,
+    mut seats: Vec<Seat<L, M>>,
+    load: &Load,
+) -> Result<Measured, Refusal>
+    requires { load.now.users + 2 ≡ vec_len seats }
+{
     let (mut checker, mut flusher) = (seats.pop().unwrap(), seats.pop().unwrap());
     let posts = posted(alloc, seats)?;
     let ended = &AtomicU64::new(0);
-    let shared = &shared;
     // Where no thread can be made the first of two comes last: so those that wait for the users do.
     let (flushed, (checks, used)) = join(
         rt,
@@ -89,6 +101,15 @@ fn run_on<L: Ledger + Send + Sync, M: Ledger + Send + Sync, R: Threads + Wait + 
             },
         ),
     );
+    measured(used, flushed, checks)
+}
+
+/// What was measured. Where a user was refused, or else who flushes, or else who checks, that is the refusal.
+fn measured(
+    used: Result<(Used, u128), Refusal>,
+    flushed: Result<(), Refusal>,
+    checks: Result<u32, Refusal>,
+) -> Result<Measured, Refusal> {
     let (used, all) = used?;
     flushed?;
     Ok(Measured {
