@@ -95,7 +95,7 @@ fn line_of<'a>(alloc: Global, matches: &ArgMatches<'a>) -> Result<Option<Line<'a
     }
 }
 
-/// What the matches of a line ask for that makes, checks or mends an image, or is one of the everyday lines that change no names.
+/// What the matches of a line ask for that makes, checks or mends an image, or of another one that changes no names.
 fn line_of_parts<'a>(name: &str, options: &ArgMatches<'a>) -> Option<Line<'a>>
     ensures { IfSome result (λ line. line ≢ Line.Sample) }
 {
@@ -103,15 +103,26 @@ fn line_of_parts<'a>(name: &str, options: &ArgMatches<'a>) -> Option<Line<'a>>
         "mkfs" => Some(Line::Mkfs(mkfs::line_of(options)?)),
         "check" => Some(Line::Check(check::line_of(options)?)),
         "repair" => Some(Line::Repair(repair::line_of(options)?)),
-        "run" => Some(Line::Run(run::line_of(options)?)),
-        "stops" => Some(Line::Stops(stops::line_of(options)?)),
         "bits" => Some(Line::Bits(bits::line_of(options)?)),
-        _ => line_of_path(name, options),
+        _ => line_of_two(name, options),
     }
 }
 
-/// What the matches of an everyday line ask for that changes no names.
-fn line_of_path<'a>(name: &str, options: &ArgMatches<'a>) -> Option<Line<'a>>
+/// What the matches of a line ask for that takes an image and a file, or of one that looks into an image.
+fn line_of_two<'a>(name: &str, options: &ArgMatches<'a>) -> Option<Line<'a>>
+    ensures { IfSome result (λ line. line ≢ Line.Sample) }
+{
+    match name {
+        "run" => Some(Line::Run(run::line_of(options)?)),
+        "stops" => Some(Line::Stops(stops::line_of(options)?)),
+        "get" => Some(Line::Get(get::line_of(options)?)),
+        "put" => Some(Line::Put(put::line_of(options)?)),
+        _ => line_that_looks(name, options),
+    }
+}
+
+/// What the matches of a line ask for that looks into an image.
+fn line_that_looks<'a>(name: &str, options: &ArgMatches<'a>) -> Option<Line<'a>>
     ensures { IfSome result (λ line. line ≢ Line.Sample) }
 {
     match name {
@@ -120,8 +131,6 @@ fn line_of_path<'a>(name: &str, options: &ArgMatches<'a>) -> Option<Line<'a>>
         "ls" => Some(Line::Ls(ls::line_of(options)?)),
         "stat" => Some(Line::Stat(stat::line_of(options)?)),
         "cat" => Some(Line::Cat(cat::line_of(options)?)),
-        "get" => Some(Line::Get(get::line_of(options)?)),
-        "put" => Some(Line::Put(put::line_of(options)?)),
         _ => None,
     }
 }
