@@ -2,7 +2,7 @@
 #![tactic(auto)]
 
 #[cfg(test)]
-mod reading;
+mod accepting;
 #[cfg(test)]
 mod refusing;
 #[cfg(test)]
