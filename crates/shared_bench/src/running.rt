@@ -101,11 +101,11 @@ fn measure<L: Ledger + Send + Sync, M: Ledger + Send + Sync, R: Threads + Wait +
             },
         ),
     );
-    measured(used, flushed, checks)
+    told_by_all(used, flushed, checks)
 }
 
 /// What was measured. Where a user was refused, or else who flushes, or else who checks, that is the refusal.
-fn measured(
+fn told_by_all(
     used: Result<(Used, u128), Refusal>,
     flushed: Result<(), Refusal>,
     checks: Result<u32, Refusal>,
