@@ -1,7 +1,0 @@
-use Rattle.shared_bench.proofs.running.run.Given as goal
-
-abbrev pub ghosts-run_on-L-Ledger : goal.ghosts-run_on-L-Ledger
-ghosts-run_on-L-Ledger g a = record { name = a.repairs.name; parts = a.repairs.parts }
-
-abbrev pub ghosts-run_on-M-Ledger : goal.ghosts-run_on-M-Ledger
-ghosts-run_on-M-Ledger g a = record { name = a.others.name; parts = a.others.parts }

@@ -1,0 +1,103 @@
+//! A trial whose device does not fail.
+use crate::running::{Fused, fused, is_wanted, mount, writes_of};
+use layout::Refusal;
+use recording::Written;
+use snapshot::Volume;
+use std::alloc::Global;
+use std::thread::Threads;
+use test_trials::{Step, Trial, carry_out, steps_of};
+
+/// How a trial goes whose device does not fail.
+#[derive(Drop)]
+pub struct Plain {
+    pub steps: Vec<Step>,
+    /// How many calls of the device were made once each step was carried out.
+    pub calls: Vec<u64>,
+    pub writes: Vec<Written>,
+    /// How many steps came out otherwise than they have to.
+    pub wrong: u64,
+}
+
+impl Plain {
+    /// How many calls of the device were made in all.
+    pub fn all_calls(&self) -> u64 {
+        match self.calls.last() {
+            Some(calls) => *calls,
+            None => 0,
+        }
+    }
+
+    /// Whether the call behind so many is made in a step, or before it.
+    pub fn has_made(&self, place: usize, after: u64) -> bool {
+        match self.calls.get(place) {
+            Some(calls) => *calls > after,
+            None => false,
+        }
+    }
+}
+
+/// Carries a trial out.
+pub fn plain_of(
+    rt: &(impl Threads + Sync),
+    alloc: Global,
+    trial: &Trial,
+) -> Result<Plain, Refusal> {
+    let steps = steps_of(alloc, trial)?;
+    let mut volume = mounted(alloc, trial)?;
+    plain_of_volume(rt, alloc, &mut volume, steps)
+}
+
+/// Carries steps out on a volume.
+fn plain_of_volume(
+    rt: &(impl Threads + Sync),
+    alloc: Global,
+    volume: &mut Volume<Fused>,
+    steps: Vec<Step>,
+) -> Result<Plain, Refusal> {
+    let mut plain = Plain {
+        steps: Vec::new(alloc),
+        calls: Vec::new(alloc),
+        writes: Vec::new(alloc),
+        wrong: 0,
+    };
+    for step in steps {
+        add_step(rt, alloc, volume, step, &mut plain)?;
+    }
+    plain.writes = writes_of(volume).to_vec(alloc)?;
+    Ok(plain)
+}
+
+/// The volume of a trial, on a device that does not fail.
+fn mounted(alloc: Global, trial: &Trial) -> Result<Volume<Fused>, Refusal> {
+    match mount(alloc, fused(alloc, trial, u64::MAX, true)?) {
+        Ok(volume) => Ok(volume),
+        Err(refused) => Err(refused.cause),
+    }
+}
+
+/// Carries a step out, and tells whether it came out as it has to.
+fn goes_well(
+    rt: &(impl Threads + Sync),
+    alloc: Global,
+    volume: &mut Volume<Fused>,
+    step: &Step,
+) -> Result<bool, Refusal> {
+    let told = carry_out(rt, alloc, volume, &step.action);
+    Ok(is_wanted(alloc, &told, step)?)
+}
+
+/// Carries a step out, and adds how it came out.
+fn add_step(
+    rt: &(impl Threads + Sync),
+    alloc: Global,
+    volume: &mut Volume<Fused>,
+    step: Step,
+    plain: &mut Plain,
+) -> Result<(), Refusal> {
+    if !goes_well(rt, alloc, volume, &step)? {
+        plain.wrong = plain.wrong.saturating_add(1);
+    }
+    plain.calls.push(volume.live().device().calls())?;
+    plain.steps.push(step)?;
+    Ok(())
+}

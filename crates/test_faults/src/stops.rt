@@ -1,0 +1,43 @@
+//! A stop after each number of the writes of a trial.
+use crate::plain::Plain;
+use crate::running::device_of;
+use crate::tally::Tally;
+use anyhow::Result;
+use device::MemDevice;
+use std::io::Eprint;
+use std::thread::Threads;
+use test_trials::{Trial, fault_of};
+
+/// Looks at what a stop leaves after each number of writes, from none on: it has to be mounted, to obey the rules, not to be
+/// damaged, and to be clean once it is mended.
+pub fn stop_each<R: Threads + Eprint + Sync + AllocGlobal>(
+    rt: &R,
+    trial: &Trial,
+    plain: &Plain,
+) -> Result<Tally> {
+    let mut tally = Tally::new();
+    let mut held = device_of(rt.alloc(), trial)?;
+    look_at(rt, trial, &held, &mut tally)?;
+    for written in &plain.writes {
+        written.repeat_on(&mut held)?;
+        look_at(rt, trial, &held, &mut tally)?;
+    }
+    Ok(tally)
+}
+
+/// Looks at what a device holds.
+fn look_at<R: Threads + Eprint + Sync + AllocGlobal>(
+    rt: &R,
+    trial: &Trial,
+    held: &MemDevice,
+    tally: &mut Tally,
+) -> Result<()> {
+    let writes = held.writes();
+    let fault = fault_of(rt, rt.alloc(), held.image_after(rt.alloc(), writes)?)?;
+    tally.count(fault.is_some());
+    if let Some(fault) = fault {
+        let name = trial.name;
+        eprintln!(rt; "{name}: a stop after {writes} writes leaves {fault:?}")?;
+    }
+    Ok(())
+}
