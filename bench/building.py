@@ -1,0 +1,40 @@
+"""Builds the programs that the benches run. Each bench builds its program each time, so none measures an old one; the toolchain does
+again only what changed."""
+import functools
+import os
+import subprocess
+import sys
+
+TOP = os.path.dirname(os.path.dirname(os.path.abspath(__file__)))
+
+
+def run(words, folder):
+    """Runs a command of the toolchain's; if it fails, prints what it printed, and ends."""
+    done = subprocess.run(words, cwd=folder, stdin=subprocess.DEVNULL, stdout=subprocess.PIPE, stderr=subprocess.STDOUT, text=True)
+    if done.returncode != 0:
+        sys.stderr.write(done.stdout)
+        raise SystemExit('%s ended with status %d' % (' '.join(words), done.returncode))
+
+
+@functools.cache
+def program(crate, *words):
+    """Proves a crate and those that it stands on, builds its program as `rt ci` does, by LLVM, and gives the program's path. The words
+    are those of a short run, with which `rt run` ends."""
+    folder = os.path.join(TOP, 'crates', crate)
+    run(['rt', 'all', 'check', '--jobs', '1'], folder)
+    run(['rt', 'run', '--backend', 'llvm', '--', *words], folder)
+    return os.path.join(folder, 'out', crate)
+
+
+@functools.cache
+def fsvol():
+    """The path of fsvol, which bin/fsvol builds; or what FSVOL names."""
+    if 'FSVOL' in os.environ:
+        return os.path.abspath(os.environ['FSVOL'])
+    run([os.path.join(TOP, 'bin', 'fsvol')], TOP)
+    return os.path.join(TOP, 'crates', 'fsvol', 'out', 'fsvol')
+
+
+def test_lists():
+    """The path of the program that carries out lists of commands."""
+    return program('test_lists', 'lists', 'lists.txt')
