@@ -1,7 +1,6 @@
 //! Images with random bytes behind a good frame: whatever they are, they are checked, and by every number of workers alike.
 use crate::expect::holds;
 use crate::image::{checked_by, fresh_bytes, put};
-use test_noise::Noise;
 use findings::Verdict;
 use fsck::Checked;
 use layout::{Geometry, Refusal};
@@ -10,6 +9,7 @@ use std::alloc::Global;
 use std::process::Abort;
 use std::test::Fail;
 use std::thread::Threads;
+use test_noise::Noise;
 
 /// The geometries that they have in turn.
 const GEOMETRIES: &[[u32; 3]] = &[

@@ -1,6 +1,6 @@
 //! Random scripts of users.
-use test_noise::Noise;
 use std::alloc::{AllocError, Global};
+use test_noise::Noise;
 
 /// How many users a script has.
 pub const USERS: u32 = 4;

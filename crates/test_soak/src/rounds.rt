@@ -2,7 +2,6 @@
 use crate::answers::{is_possible, opens_own, reads_back};
 use crate::commands::random_script;
 use anyhow::Result;
-use test_noise::Noise;
 use device::MemDevice;
 use findings::Verdict;
 use layout::Refusal;
@@ -12,6 +11,7 @@ use std::io::Eprint;
 use std::sync::Wait;
 use std::thread::Threads;
 use std::time::{Clock, Instant};
+use test_noise::Noise;
 use test_trials::{bytes_of, fault_of, mount};
 use user_scripts::{Commands, UserLine, parse};
 use users::{Answered, Mended, Ran, run};
