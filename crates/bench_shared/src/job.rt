@@ -2,9 +2,10 @@
 ghost use Rattle.std.specs.Prelude.{◌≤◌};
 
 use anyhow::{Result, bail};
+use changing::mount;
 use device::MemDevice;
 use layout::Refusal;
-use snapshot::{Live, NotMounted, Volume};
+use snapshot::Volume;
 use std::alloc::Global;
 use std::fs;
 use std::rt::Files;
@@ -66,8 +67,5 @@ pub fn mounted(rt: &(impl Files + AllocGlobal), image: &str) -> Result<Volume<Me
 
 /// Mounts the volume of an image's bytes.
 fn mounted_of(alloc: Global, bytes: &[u8]) -> Result<Volume<MemDevice>, Refusal> {
-    match Live::mount(alloc, MemDevice::from_bytes(alloc, bytes)?) {
-        Ok(live) => Ok(Volume::new(live)),
-        Err(NotMounted { device: _, cause }) => Err(cause),
-    }
+    mount(alloc, MemDevice::from_bytes(alloc, bytes)?)
 }

@@ -1,8 +1,6 @@
 //! What a line prints.
-ghost use Rattle.std.specs.Prelude.{◌≡◌, [], IfOk};
+ghost use Rattle.std.specs.Prelude.{◌≡◌, []};
 
-use crate::failure::Failure;
-use layout::Refusal;
 use std::alloc::Global;
 use std::io;
 use std::io::Write;
@@ -26,14 +24,11 @@ impl Answer {
         }
     }
 
-    /// That of a line which is done where it was not refused, and then prints this.
-    pub fn of_text(text: Result<Vec<u8>, Refusal>) -> Result<Answer, Failure>
-        ensures { IfOk result (λ answer. answer.status ≡ 0) }
+    /// That of a line which is done, and prints this.
+    pub fn of_text(text: Vec<u8>) -> Answer
+        ensures { result ≡ record { text = text; status = 0 } }
     {
-        Ok(Answer {
-            text: text?,
-            status: 0,
-        })
+        Answer { text, status: 0 }
     }
 
     /// Writes what the line prints.

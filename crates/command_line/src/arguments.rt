@@ -21,7 +21,7 @@ pub fn path<'a>(alloc: Global) -> Arg<'a> {
 /// A file or folder of the host.
 pub fn host<'a>(alloc: Global) -> Arg<'a> {
     Arg::new(alloc, "host")
-        .value_name("FOLDER")
+        .value_name("HOST")
         .required(true)
         .help(
             "The file or folder of the host; - stands for a tar archive, on standard input or output",

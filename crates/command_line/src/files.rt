@@ -1,12 +1,13 @@
 //! Files that a line reads whole.
-use layout::Refusal;
+use failures::Failure;
+use file_device::OpenError;
+use std::fs;
 use std::rt::Files;
-use std::{fs, io};
 
-/// The bytes of a file; refused with `NoMemory`, and with `Device` where it cannot be read.
-pub fn bytes_of_file<R: Files + AllocGlobal>(rt: &R, path: &str) -> Result<Vec<u8>, Refusal> {
-    fs::read(rt, path).map_err(|error| match error.kind() {
-        io::ErrorKind::OutOfMemory => Refusal::NoMemory,
-        _ => Refusal::Device,
-    })
+/// The bytes of a file. Refused with `NoMemory`, and with `Device` where it cannot be read, which tells the file.
+pub fn bytes_of_file<R: Files + AllocGlobal>(rt: &R, path: &str) -> Result<Vec<u8>, Failure> {
+    match fs::read(rt, path) {
+        Ok(bytes) => Ok(bytes),
+        Err(error) => Err(Failure::from(OpenError::of_call(error)).at(rt.alloc(), path)),
+    }
 }

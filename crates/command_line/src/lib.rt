@@ -4,12 +4,13 @@
 
 mod answer;
 pub mod arguments;
-mod failure;
 mod files;
+mod misreading;
 mod watching;
 pub mod words;
 
 pub use answer::Answer;
-pub use failure::{DAMAGED, Failure, GAVE_OUT, REFUSED, SOFT};
+pub use failures::{DAMAGED, Failure, GAVE_OUT, REFUSED, SOFT};
 pub use files::bytes_of_file;
+pub use misreading::misread;
 pub use watching::{Screen, Watched};

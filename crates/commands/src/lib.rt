@@ -3,6 +3,7 @@
 
 mod line;
 mod performing;
+mod program;
 mod words;
 
 pub use line::Line;

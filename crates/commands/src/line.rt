@@ -1,4 +1,5 @@
 //! What a line asks for.
+use demo_line::DemoLine;
 use host_lines::get::GetLine;
 use host_lines::mkfs::MkfsLine;
 use host_lines::put::PutLine;
@@ -23,6 +24,7 @@ pub enum Line<'a> {
     Run(RunLine<'a>),
     Stops(StopsLine<'a>),
     Bits(BitsLine<'a>),
+    Demo(DemoLine),
     Info(InfoLine<'a>),
     Map(MapLine<'a>),
     Ls(LsLine<'a>),

@@ -84,6 +84,7 @@ where
         Line::Run(line) => run::answer(rt, line),
         Line::Stops(line) => stops::answer(rt, line),
         Line::Bits(line) => bits::answer(rt, line),
+        Line::Demo(line) => demo_line::answer(rt, line),
         Line::Info(line) => info::answer(rt, line),
         Line::Map(line) => map::answer(rt, line),
         Line::Ls(line) => ls::answer(rt, line),

@@ -2,9 +2,10 @@
 ghost use Rattle.std.specs.Prelude.{◌≡◌, ◌≢◌, ◌↔◌, [], Ok, IfOk, IfSome};
 
 use crate::line::Line;
+use crate::program::program;
 use clap::error::ErrorKind;
 use clap::{ArgMatches, Command};
-use command_line::Failure;
+use command_line::{Failure, misread};
 use host_lines::{get, mkfs, put};
 use image_lines::{bits, check, repair};
 use layout::Refusal;
@@ -19,9 +20,9 @@ use tool_lines::{cat, change, info, ls, map, stat};
 pub fn words_given(rt: &(impl Env + AllocGlobal)) -> Result<Vec<String>, Failure> {
     match env::args(rt) {
         Ok(words) => Ok(words.skip(1).collect(rt.alloc())?),
-        Err(error) if error.kind() == io::ErrorKind::OutOfMemory => Err(Failure::Refused(
-            Refusal::NoMemory,
-        )),
+        Err(error) if error.kind() == io::ErrorKind::OutOfMemory => {
+            Err(Failure::from(Refusal::NoMemory))
+        }
         Err(_) => Err(Failure::Line(String::from_str(
             rt.alloc(),
             "error: a word is not written in UTF-8\n",
@@ -38,7 +39,7 @@ pub fn parse<'a, S: AsStr>(alloc: Global, words: &'a [S]) -> Result<Line<'a>, Fa
     }
     match parse_words(alloc, words) {
         Ok(line) => Ok(line),
-        Err(error) => Err(Failure::of_line(alloc, &error)),
+        Err(error) => Err(misread(alloc, &error)),
     }
 }
 
@@ -95,74 +96,53 @@ fn line_of<'a>(alloc: Global, matches: &ArgMatches<'a>) -> Result<Option<Line<'a
     }
 }
 
-/// What the matches of a line ask for that makes, checks or mends an image, or of another one that changes no names.
+/// What the matches of a line ask for that makes an image or moves files between it and the host, or of another one that changes
+/// no names.
 fn line_of_parts<'a>(name: &str, options: &ArgMatches<'a>) -> Option<Line<'a>>
     ensures { IfSome result (λ line. line ≢ Line.Sample) }
 {
     match name {
         "mkfs" => Some(Line::Mkfs(mkfs::line_of(options)?)),
-        "check" => Some(Line::Check(check::line_of(options)?)),
-        "repair" => Some(Line::Repair(repair::line_of(options)?)),
-        "bits" => Some(Line::Bits(bits::line_of(options)?)),
-        _ => line_of_two(name, options),
-    }
-}
-
-/// What the matches of a line ask for that takes an image and a file, or of one that looks into an image.
-fn line_of_two<'a>(name: &str, options: &ArgMatches<'a>) -> Option<Line<'a>>
-    ensures { IfSome result (λ line. line ≢ Line.Sample) }
-{
-    match name {
-        "run" => Some(Line::Run(run::line_of(options)?)),
-        "stops" => Some(Line::Stops(stops::line_of(options)?)),
-        "get" => Some(Line::Get(get::line_of(options)?)),
         "put" => Some(Line::Put(put::line_of(options)?)),
+        "get" => Some(Line::Get(get::line_of(options)?)),
         _ => line_that_looks(name, options),
     }
 }
 
-/// What the matches of a line ask for that looks into an image.
+/// What the matches of a line ask for that looks into an image, or of one that checks, mends or tries something.
 fn line_that_looks<'a>(name: &str, options: &ArgMatches<'a>) -> Option<Line<'a>>
     ensures { IfSome result (λ line. line ≢ Line.Sample) }
 {
     match name {
-        "info" => Some(Line::Info(info::line_of(options)?)),
-        "map" => Some(Line::Map(map::line_of(options)?)),
         "ls" => Some(Line::Ls(ls::line_of(options)?)),
         "stat" => Some(Line::Stat(stat::line_of(options)?)),
         "cat" => Some(Line::Cat(cat::line_of(options)?)),
-        _ => None,
+        "info" => Some(Line::Info(info::line_of(options)?)),
+        "map" => Some(Line::Map(map::line_of(options)?)),
+        _ => line_that_checks(name, options),
     }
 }
 
-/// The program's command with those of all lines, in the order in which its help tells of them.
-fn program<'a>(alloc: Global) -> Result<Command<'a>, AllocError> {
-    let mut program = Command::new(alloc, "fsvol")
-        .about("Makes and reads the images of volumes")
-        .bin_name("fsvol")?
-        .no_binary_name(true)
-        .subcommand_required(true);
-    for line in [
-        mkfs::command(alloc),
-        check::command(alloc),
-        repair::command(alloc),
-        run::command(alloc),
-        stops::command(alloc),
-        bits::command(alloc),
-        info::command(alloc),
-        map::command(alloc),
-        ls::command(alloc),
-        stat::command(alloc),
-        cat::command(alloc),
-        get::command(alloc),
-        put::command(alloc),
-        change::mkdir(alloc),
-        change::rm(alloc),
-        change::rmdir(alloc),
-        change::mv(alloc),
-        change::ln(alloc),
-    ] {
-        program = program.subcommand(line?)?;
+/// What the matches of a line ask for that checks an image or mends it, or of one that shows what the program does.
+fn line_that_checks<'a>(name: &str, options: &ArgMatches<'a>) -> Option<Line<'a>>
+    ensures { IfSome result (λ line. line ≢ Line.Sample) }
+{
+    match name {
+        "check" => Some(Line::Check(check::line_of(options)?)),
+        "repair" => Some(Line::Repair(repair::line_of(options)?)),
+        "bits" => Some(Line::Bits(bits::line_of(options)?)),
+        "run" => Some(Line::Run(run::line_of(options)?)),
+        _ => line_that_tries(name, options),
     }
-    Ok(program)
+}
+
+/// What the matches of a line ask for that shows what the program does.
+fn line_that_tries<'a>(name: &str, options: &ArgMatches<'a>) -> Option<Line<'a>>
+    ensures { IfSome result (λ line. line ≢ Line.Sample) }
+{
+    match name {
+        "stops" => Some(Line::Stops(stops::line_of(options)?)),
+        "demo" => Some(Line::Demo(demo_line::line_of(options)?)),
+        _ => None,
+    }
 }

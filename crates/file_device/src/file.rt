@@ -1,17 +1,19 @@
-ghost use Rattle.std.specs.Prelude.{◌≡◌, ◌⊎◌, ℕ, ◌<◌, ◌*◌, ◌+◌, ◌-◌, ◌^◌, min, true, false, None, List, [], ◌∷◌, ◌++◌, IfOk, IfErr, IfSome, IsOkUnless, OnErr, OnOk, replicate};
-ghost use Rattle.layout.specs.declared.refusal.Refusal.TheVariants.{BadLength, Device as DeviceRefusal};
+ghost use Rattle.std.specs.Prelude.{◌≡◌, ℕ, ◌<◌, ◌*◌, ◌+◌, ◌-◌, ◌^◌, min, true, false, None, List, [], ◌∷◌, ◌++◌, IfOk, IfErr, IfSome, OnErr, OnOk, replicate};
+ghost use Rattle.layout.specs.declared.refusal.Refusal.TheVariants.{BadLength};
 ghost use Rattle.model.specs.Image.{IsBlock, block_at};
 ghost use Rattle.device.specs.Writes.{CountsFaults};
 ghost use Rattle.device.specs.Memory.{IsWholeBlocks};
 ghost use Rattle.device.specs.Zeroes.{zeroes_are_whole};
 ghost use Rattle.file_device.specs.Calls.{GoesOn, IsHonestFile, call_at, calls_of, held_so_far, image_now};
+ghost use Rattle.file_device.specs.Opening.{IsOfCall, MayNotOpen};
 ghost use Rattle.file_device.specs.Runs.{IsUntouched, writes_of_run};
 ghost use Rattle.file_device.specs.declared.file.Call.TheVariants.{ReadBlock};
 
+use crate::opening::OpenError;
 use crate::run::{Earlier, RUN_BLOCKS, Run};
 use device::{Device, DeviceFault};
 use http_server::Log;
-use layout::{BLOCK_BYTES, Block, Refusal};
+use layout::{BLOCK_BYTES, Block};
 use std::fs::{OpenFile, OpenOptions};
 use std::marker::{Brand, Model, PhantomData};
 use std::os::unix::fs::FileExt;
@@ -285,32 +287,36 @@ fn call_at(is_write: bool, address: u32) -> Call
 }
 
 impl<F: OpenFile, S: Start> FileDevice<F, S> {
-    /// Opens a file for reading alone. It is refused where it cannot be opened or measured, and where its length is no
-    /// whole number of blocks, or none.
-    pub fn open<R: Files<File = F>>(rt: &R, path: &str) -> Result<FileDevice<F, S>, Refusal>
+    /// Opens a file for reading alone. It is refused where it cannot be opened or measured, where it is a directory, and where
+    /// its length is no whole number of blocks, or none.
+    pub fn open<R: Files<File = F>>(rt: &R, path: &str) -> Result<FileDevice<F, S>, OpenError>
         ensures new { IfOk result (λ device. (device.answered ≡ []) × (device.waiting ≡ []) × (device.failures ≡ 0) × (0 < device.count)) }
-        ensures error { IfErr result (λ refusal. (refusal ≡ DeviceRefusal) ⊎ (refusal ≡ BadLength)) }
+        ensures error { IfErr result MayNotOpen }
     {
-        let file = fs::open(rt, path).map_err(|_| Refusal::Device)?;
-        let count = blocks_in(&file)?;
-        Ok(FileDevice::over(file, count))
+        match fs::open(rt, path) {
+            Ok(file) => {
+                let count = blocks_in(&file)?;
+                Ok(FileDevice::over(file, count))
+            }
+            Err(error) => Err(OpenError::of_call(error)),
+        }
     }
 
     /// Opens a file for reading and writing. It is refused as by `open`.
     pub fn open_to_write<R: Files<File = F>>(
         rt: &R,
         path: &str,
-    ) -> Result<FileDevice<F, S>, Refusal>
+    ) -> Result<FileDevice<F, S>, OpenError>
         ensures new { IfOk result (λ device. (device.answered ≡ []) × (device.waiting ≡ []) × (device.failures ≡ 0) × (0 < device.count)) }
-        ensures error { IfErr result (λ refusal. (refusal ≡ DeviceRefusal) ⊎ (refusal ≡ BadLength)) }
+        ensures error { IfErr result MayNotOpen }
     {
-        let file = OpenOptions::new()
-            .read(true)
-            .write(true)
-            .open(rt, path)
-            .map_err(|_| Refusal::Device)?;
-        let count = blocks_in(&file)?;
-        Ok(FileDevice::over(file, count))
+        match OpenOptions::new().read(true).write(true).open(rt, path) {
+            Ok(file) => {
+                let count = blocks_in(&file)?;
+                Ok(FileDevice::over(file, count))
+            }
+            Err(error) => Err(OpenError::of_call(error)),
+        }
     }
 
     /// Makes a file of this many blocks, all zero, for writing alone: each read is a fault. A file that was there is
@@ -319,33 +325,52 @@ impl<F: OpenFile, S: Start> FileDevice<F, S> {
         rt: &R,
         path: &str,
         blocks: u32,
-    ) -> Result<FileDevice<F, S>, Refusal>
+    ) -> Result<FileDevice<F, S>, OpenError>
         ensures new { IfOk result (λ device. device ≡ record { count = blocks; answered = []; waiting = []; failures = 0 }) }
-        ensures error { IsOkUnless result Refusal.Device }
+        ensures error { IfErr result IsOfCall }
     {
-        let file = fs::create(rt, path).map_err(|_| Refusal::Device)?;
-        file.set_len(offset(blocks)).map_err(|_| Refusal::Device)?;
-        Ok(FileDevice::over(file, blocks))
+        match created(rt, path, blocks) {
+            Ok(file) => Ok(FileDevice::over(file, blocks)),
+            Err(error) => Err(OpenError::of_call(error)),
+        }
     }
 }
 
+/// A file of this many blocks, all zero.
+fn created<R: Files>(rt: &R, path: &str, blocks: u32) -> io::Result<R::File> {
+    let file = fs::create(rt, path)?;
+    file.set_len(offset(blocks))?;
+    Ok(file)
+}
+
 /// How many blocks an open file has.
-fn blocks_in<F: OpenFile>(file: &F) -> Result<u32, Refusal>
+fn blocks_in<F: OpenFile>(file: &F) -> Result<u32, OpenError>
     ensures some { IfOk result (λ count. 0 < count) }
-    ensures error { IfErr result (λ refusal. (refusal ≡ DeviceRefusal) ⊎ (refusal ≡ BadLength)) }
+    ensures error { IfErr result MayNotOpen }
 {
-    let metadata = file.metadata().map_err(|_| Refusal::Device)?;
-    count_of(metadata.len())
+    match length_of(file) {
+        Ok(length) => count_of(length),
+        Err(error) => Err(OpenError::of_call(error)),
+    }
+}
+
+/// How many bytes an open file has. A directory has none, though it may be opened to be read.
+fn length_of<F: OpenFile>(file: &F) -> io::Result<u64> {
+    let metadata = file.metadata()?;
+    if metadata.is_dir() {
+        return Err(io::Error::from(io::ErrorKind::IsADirectory));
+    }
+    Ok(metadata.len())
 }
 
 /// How many blocks a file of this many bytes has.
-fn count_of(bytes: u64) -> Result<u32, Refusal>
+fn count_of(bytes: u64) -> Result<u32, OpenError>
     ensures count { IfOk result (λ count. (1024 * count ≡ bytes) × (0 < count)) }
-    ensures refused { IfErr result (λ refusal. (refusal ≡ BadLength) × (IsWholeBlocks bytes → ⊥)) }
+    ensures refused { IfErr result (λ error. (error.cause ≡ BadLength) × (IsWholeBlocks bytes → ⊥)) }
 {
     let count = bytes / BLOCK_BYTES as u64;
     if count == 0 || bytes % BLOCK_BYTES as u64 != 0 || count > u64::from(u32::MAX) {
-        return Err(Refusal::BadLength);
+        return Err(OpenError::of_length());
     }
     Ok(count as u32)
 }

@@ -2,8 +2,10 @@
 #![tactic(auto)]
 
 mod file;
+mod opening;
 mod run;
 #[cfg(test)]
 mod tests;
 
 pub use file::{Call, FileDevice, Start};
+pub use opening::OpenError;

@@ -1,10 +1,10 @@
-use crate::FileDevice;
+use crate::{FileDevice, OpenError};
 use device::{Before, Device, format};
 use layout::{BLOCK_BYTES, Block, Geometry, Refusal};
-use std::fs;
 use std::fs::File;
 use std::marker::Brand;
 use std::test::Fail;
+use std::{fs, io};
 
 /// A file of the tests' own, in the folder where they run.
 const IMAGE_PATH: &str = "file_device_tests_one_group.image";
@@ -76,8 +76,14 @@ fn is_made_and_opened(rt: &HostRuntime) -> Result<bool, Refusal> {
 
 /// Why a file is not opened to be read.
 fn why_not_opened(rt: &HostRuntime, path: &str) -> Option<Refusal> {
-    let opened: Result<FileDevice<File, Brand>, Refusal> = FileDevice::open(rt, path);
-    opened.err()
+    let opened: Result<FileDevice<File, Brand>, OpenError> = FileDevice::open(rt, path);
+    Some(opened.err()?.cause)
+}
+
+/// What the host answers where a file is not opened to be read.
+fn answer_of_host(rt: &HostRuntime, path: &str) -> Option<io::ErrorKind> {
+    let opened: Result<FileDevice<File, Brand>, OpenError> = FileDevice::open(rt, path);
+    Some(opened.err()?.why?.kind())
 }
 
 #[test]
@@ -86,6 +92,23 @@ fn a_file_is_made_and_opened(rt: HostRuntime) -> Result<(), Fail> {
     fs::remove_file(&rt, IMAGE_PATH)?;
     assert!(rt; is_so);
     assert_eq!(rt; why_not_opened(&rt, IMAGE_PATH), Some(Refusal::Device));
+    assert_eq!(rt;
+        answer_of_host(&rt, IMAGE_PATH),
+        Some(io::ErrorKind::NotFound)
+    );
+    Ok(())
+}
+
+#[test]
+fn a_directory_is_refused(rt: HostRuntime) -> Result<(), Fail> {
+    const PATH: &str = "file_device_tests_directory";
+    let _ = fs::remove_dir(&rt, PATH);
+    fs::create_dir(&rt, PATH)?;
+    let refusal = why_not_opened(&rt, PATH);
+    let answer = answer_of_host(&rt, PATH);
+    fs::remove_dir(&rt, PATH)?;
+    assert_eq!(rt; refusal, Some(Refusal::Device));
+    assert_eq!(rt; answer, Some(io::ErrorKind::IsADirectory));
     Ok(())
 }
 
@@ -121,8 +144,8 @@ fn block_2(rt: &HostRuntime, path: &str) -> Result<Block, Refusal> {
 
 /// Why a file is not opened to be written.
 fn why_not_opened_to_write(rt: &HostRuntime, path: &str) -> Option<Refusal> {
-    let opened: Result<FileDevice<File, Brand>, Refusal> = FileDevice::open_to_write(rt, path);
-    opened.err()
+    let opened: Result<FileDevice<File, Brand>, OpenError> = FileDevice::open_to_write(rt, path);
+    Some(opened.err()?.cause)
 }
 
 #[test]

@@ -1,4 +1,4 @@
-//! `fsvol` makes and checks the images of volumes.
+//! `fsvol`: a file system in an image file. It makes, fills, checks and mends volumes.
 #![tactic(auto)]
 
 use command_line::Screen;

@@ -2,6 +2,7 @@
 #![tactic(auto)]
 
 mod ends;
+mod geometry;
 pub mod get;
 mod input;
 pub mod mkfs;

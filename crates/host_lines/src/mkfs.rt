@@ -1,14 +1,15 @@
 //! The line `mkfs`: a fresh image, and what a folder of the host holds in it.
 ghost use Rattle.std.specs.Prelude.{◌≡◌, [], IfOk};
 
-use crate::ends::{failure_of, silent};
+use crate::ends::silent;
+use crate::geometry::geometry_of;
 use crate::input::{ARCHIVE, archive_given};
 use clap::{Arg, ArgMatches, Command};
 use command_line::{Answer, Failure, arguments, words};
 use device::Before;
 use file_device::FileDevice;
 use image_lines::make::make;
-use layout::{Geometry, Refusal};
+use layout::Geometry;
 use progress::Watcher;
 use putting::{Item, items_of_archive, items_of_folder, put_items};
 use std::alloc::{AllocError, Global};
@@ -44,12 +45,9 @@ fn with_geometry<'a>(alloc: Global) -> Result<Command<'a>, AllocError> {
 
 /// The folder of which an image is made.
 fn from<'a>(alloc: Global) -> Arg<'a> {
-    Arg::new(alloc, "from")
-        .long("from")
-        .value_name("FOLDER")
-        .help(
-            "A folder of the host, of which all goes into the image; - stands for a tar archive on standard input",
-        )
+    Arg::new(alloc, "from").long("from").value_name("HOST").help(
+        "A folder of the host, of which all goes into the image; - stands for a tar archive on standard input",
+    )
 }
 
 /// What these words ask for.
@@ -76,7 +74,7 @@ where
     ensures status { IfOk result (λ answer. answer.status ≡ 0) }
     ensures silent { IfOk result (λ answer. answer.text.items ≡ []) }
 {
-    let geometry = Geometry::new(line.groups, line.blocks, line.inodes)?;
+    let geometry = geometry_of(line.groups, line.blocks, line.inodes)?;
     match line.from {
         Some(folder) => make_from_folder(rt, line.image, &geometry, folder, watcher),
         None => make_empty(rt, line.image, &geometry),
@@ -94,21 +92,33 @@ where
     ensures status { IfOk result (λ answer. answer.status ≡ 0) }
     ensures silent { IfOk result (λ answer. answer.text.items ≡ []) }
 {
-    make_file(rt, image, geometry)?;
+    make_image(rt, image, geometry)?;
     Ok(Answer::nothing(rt.alloc()))
 }
 
-/// Makes a file with a fresh image, in place of what was there.
+/// Makes a file with a fresh image, in place of what was there. A failure tells the file.
+fn make_image<R: Files + AllocGlobal>(
+    rt: &R,
+    image: &str,
+    geometry: &Geometry,
+) -> Result<(), Failure>
+where
+    R::File: FileExt,
+{
+    make_file(rt, image, geometry).map_err(|failure| failure.on_image(rt, image))
+}
+
+/// Makes a file with a fresh image.
 fn make_file<R: Files + AllocGlobal>(
     rt: &R,
     image: &str,
     geometry: &Geometry,
-) -> Result<(), Refusal>
+) -> Result<(), Failure>
 where
     R::File: FileExt,
 {
     let mut device: FileDevice<R::File, Brand> = FileDevice::create(rt, image, geometry.blocks())?;
-    make(&mut device, geometry, Before::Zeroes)
+    Ok(make(&mut device, geometry, Before::Zeroes)?)
 }
 
 /// Makes a file with an image of what a folder of the host holds. All names in the folder are looked at before the file is made.
@@ -141,7 +151,7 @@ where
     ensures status { IfOk result (λ answer. answer.status ≡ 0) }
     ensures silent { IfOk result (λ answer. answer.text.items ≡ []) }
 {
-    make_file(rt, image, geometry)?;
+    make_image(rt, image, geometry)?;
     silent(rt.alloc(), put_items(rt, image, items, watcher))
 }
 
@@ -153,11 +163,11 @@ fn items_of<R: Files + AllocGlobal + Clone + Drop>(
     if folder == ARCHIVE {
         return items_given(rt);
     }
-    items_of_folder(rt, folder).map_err(failure_of)
+    items_of_folder(rt, folder)
 }
 
 /// The items of the archive on standard input.
 fn items_given<R: Files + AllocGlobal>(rt: &R) -> Result<Vec<Item>, Failure> {
     let archive = archive_given(rt)?;
-    items_of_archive(rt.alloc(), archive.as_slice()).map_err(failure_of)
+    items_of_archive(rt.alloc(), archive.as_slice())
 }

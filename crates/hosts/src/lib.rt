@@ -2,10 +2,6 @@
 //! text, and a name in an image any bytes: what the host cannot have is refused by its path. What was there is not replaced.
 #![tactic(auto)]
 
-mod ended;
-mod errors;
 mod getting;
 
-pub use ended::Ended;
-pub use errors::HostError;
 pub use getting::{Copies, get, get_from_file};

@@ -52,7 +52,16 @@ where
     R::File: FileExt,
     ensures { IfOk result (λ answer. answer.status < 3) }
 {
-    let mut device: FileDevice<R::File, Brand> = FileDevice::open(rt, line.image)?;
+    bits_of_file(rt, line.image).map_err(|failure| failure.on_image(rt, line.image))
+}
+
+/// Opens a file, checks the number maps of its image, and tells what is found.
+fn bits_of_file<R: Files + AllocGlobal>(rt: &R, image: &str) -> Result<Answer, Failure>
+where
+    R::File: FileExt,
+    ensures { IfOk result (λ answer. answer.status < 3) }
+{
+    let mut device: FileDevice<R::File, Brand> = FileDevice::open(rt, image)?;
     bits_of(rt.alloc(), &mut device)
 }
 

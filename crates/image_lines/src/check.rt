@@ -4,6 +4,7 @@ ghost use Rattle.layout.specs.declared.refusal.Refusal.TheVariants.{BadWorkers};
 ghost use Rattle.model.specs.Layout.{Geometry as Numbers};
 ghost use Rattle.model.specs.Image.{IsImage, image_view};
 ghost use Rattle.device.specs.Writes.{HasFailed};
+ghost use Rattle.failures.specs.Status.{plain};
 ghost use Rattle.frozen.specs.Loading.{LoadRefuses};
 ghost use Rattle.fsck.specs.Checked.{IsChecked};
 ghost use Rattle.workers.specs.Workers.{may_work};
@@ -68,12 +69,15 @@ pub fn answer<R: Files + AllocGlobal + Threads + Sync, T: Watcher + Sync>(
 where
     R::File: FileExt,
     ensures status { IfOk result (λ answer. answer.status < 3) }
-    ensures workers { IsFalse (may_work line.now.workers) → result ≡ Err (Failure.Refused BadWorkers) }
+    ensures workers { IsFalse (may_work line.now.workers) → result ≡ Err (plain BadWorkers) }
 {
-    check_file(rt, line.image, line.workers, &Watched { watcher })
+    allow_workers(line.workers)?;
+    check_file(rt, line.image, line.workers, &Watched { watcher }).map_err(
+        |failure| failure.on_image(rt, line.image),
+    )
 }
 
-/// Checks a file's image. The number of workers is looked at before the file.
+/// Checks a file's image.
 pub(crate) fn check_file<R: Files + AllocGlobal + Threads + Sync, G: Gate>(
     rt: &R,
     image: &str,
@@ -82,10 +86,8 @@ pub(crate) fn check_file<R: Files + AllocGlobal + Threads + Sync, G: Gate>(
 ) -> Result<Answer, Failure>
 where
     R::File: FileExt,
-    ensures status { IfOk result (λ answer. answer.status < 3) }
-    ensures workers { IsFalse (may_work workers) → result ≡ Err (Failure.Refused BadWorkers) }
+    ensures { IfOk result (λ answer. answer.status < 3) }
 {
-    allow_workers(workers)?;
     let mut device: FileDevice<R::File, Brand> = FileDevice::open(rt, image)?;
     check_device(rt, rt.alloc(), &mut device, workers, gate)
 }

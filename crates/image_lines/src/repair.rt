@@ -1,6 +1,7 @@
 //! The line `repair`: the report of an image, and what is mended of it.
 ghost use Rattle.std.specs.Prelude.{◌≡◌, ◌++◌, ◌<◌, [], Err, IfOk, IsFalse, IsOkUnless, IsTrue, OnOk};
 ghost use Rattle.std.specs.String.{string_bytes};
+ghost use Rattle.failures.specs.Status.{plain};
 ghost use Rattle.layout.specs.declared.refusal.Refusal.TheVariants.{BadWorkers};
 ghost use Rattle.live_states.specs.Holdings.{IsIdle};
 ghost use Rattle.snapshot.specs.Mounting.{IsMountable};
@@ -65,13 +66,15 @@ pub fn answer<R: Files + AllocGlobal + Threads + Sync, T: Watcher + Sync>(
 where
     R::File: FileExt,
     ensures status { IfOk result (λ answer. answer.status < 3) }
-    ensures workers { IsFalse (may_work line.now.workers) → result ≡ Err (Failure.Refused BadWorkers) }
+    ensures workers { IsFalse (may_work line.now.workers) → result ≡ Err (plain BadWorkers) }
 {
-    repair_file(rt, line.image, line.workers, &Watched { watcher })
+    allow_workers(line.workers)?;
+    repair_file(rt, line.image, line.workers, &Watched { watcher }).map_err(
+        |failure| failure.on_image(rt, line.image),
+    )
 }
 
-/// Checks a file's image, and mends it where it is soft: only then is the file opened to be written. The number of workers
-/// is looked at before the file.
+/// Checks a file's image, and mends it where it is soft: only then is the file opened to be written.
 fn repair_file<R: Files + AllocGlobal + Threads + Sync, G: Gate>(
     rt: &R,
     image: &str,
@@ -80,8 +83,7 @@ fn repair_file<R: Files + AllocGlobal + Threads + Sync, G: Gate>(
 ) -> Result<Answer, Failure>
 where
     R::File: FileExt,
-    ensures status { IfOk result (λ answer. answer.status < 3) }
-    ensures workers { IsFalse (may_work workers) → result ≡ Err (Failure.Refused BadWorkers) }
+    ensures { IfOk result (λ answer. answer.status < 3) }
 {
     let answer = check_file(rt, image, workers, gate)?;
     if answer.status != SOFT {

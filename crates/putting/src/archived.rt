@@ -5,7 +5,7 @@ ghost use Rattle.putting.specs.Placing.{ArePlaced, first, placed, shown};
 
 use crate::items::{FILE_BYTES, Item, NAME_BYTES, PATH_BYTES, Source};
 use archives::{Broken, Entry, Fault, Kind, orphan, read};
-use hosts::HostError;
+use failures::Failure;
 use layout::Refusal;
 use reading::joined;
 use std::alloc::Global;
@@ -13,7 +13,7 @@ use std::alloc::Global;
 /// The items of an archive, in its order, below a directory of an image, and before them this directory, unless it is the root.
 /// Refused is an archive that cannot be read, by the byte where the header of the first such member begins, an entry of which
 /// the folder does not come before it, and a name, a path or a file that no image can have.
-pub fn items_in_archive(alloc: Global, archive: &[u8], path: &[u8]) -> Result<Vec<Item>, HostError>
+pub fn items_in_archive(alloc: Global, archive: &[u8], path: &[u8]) -> Result<Vec<Item>, Failure>
     ensures { IfOk result (λ items. ArePlaced archive.now path.now items.items) }
 {
     let entries = match read(alloc, archive) {
@@ -27,28 +27,29 @@ pub fn items_in_archive(alloc: Global, archive: &[u8], path: &[u8]) -> Result<Ve
 }
 
 /// That an archive is not read.
-fn refused(alloc: Global, broken: Broken) -> HostError {
+fn refused(alloc: Global, broken: Broken) -> Failure {
     let (cause, at, fault) = match broken {
-        Broken::NoMemory => return HostError::from(Refusal::NoMemory),
+        Broken::NoMemory => return Failure::from(Refusal::NoMemory),
         Broken::Refused(at, Fault::CutOff) => (Refusal::BadLength, at, Fault::CutOff),
         Broken::Refused(at, fault) => (Refusal::BadName, at, fault),
     };
     match format!(in alloc; "byte {at} of the archive: {fault}") {
-        Ok(place) => HostError {
+        Ok(place) => Failure::Refused {
             cause,
-            path: Some(place),
+            place: Some(place),
+            reason: None,
+            steps: None,
         },
-        Err(error) => HostError::from(error),
+        Err(error) => Failure::from(error),
     }
 }
 
 /// Refuses the first entry of which the folder does not come before it.
-fn allow_folders(alloc: Global, entries: &[Entry]) -> Result<(), HostError> {
+fn allow_folders(alloc: Global, entries: &[Entry]) -> Result<(), Failure> {
     match orphan(alloc, entries)? {
         Some(place) => match entries.get(place) {
-            Some(entry) => Err(HostError::in_image(
+            Some(entry) => Err(Failure::from(Refusal::NotFound).in_image(
                 alloc,
-                Refusal::NotFound,
                 entry.path.as_slice(),
             )),
             None => Ok(()),
@@ -58,7 +59,7 @@ fn allow_folders(alloc: Global, entries: &[Entry]) -> Result<(), HostError> {
 }
 
 /// The item of the directory below which an archive goes; none of the root.
-fn first_item(alloc: Global, path: &[u8]) -> Result<Vec<Item>, HostError>
+fn first_item(alloc: Global, path: &[u8]) -> Result<Vec<Item>, Failure>
     ensures { IfOk result (λ items. map shown items.items ≡ first path.now) }
 {
     let mut items = Vec::new(alloc);
@@ -79,7 +80,7 @@ fn add_entries(
     path: &[u8],
     entries: Vec<Entry>,
     items: &mut Vec<Item>,
-) -> Result<(), HostError>
+) -> Result<(), Failure>
     ensures { OnOk result (map shown items.new.items ≡ map shown items.old.items ++ map (placed path.now) (views entries.items)) }
 {
     for entry in entries {
@@ -89,7 +90,7 @@ fn add_entries(
 }
 
 /// The item of an entry.
-fn item_of_entry(alloc: Global, path: &[u8], entry: Entry) -> Result<Item, HostError>
+fn item_of_entry(alloc: Global, path: &[u8], entry: Entry) -> Result<Item, Failure>
     ensures { IfOk result (λ item. shown item ≡ placed path.now (view entry)) }
 {
     let Entry {
@@ -99,11 +100,11 @@ fn item_of_entry(alloc: Global, path: &[u8], entry: Entry) -> Result<Item, HostE
     } = entry;
     let path = joined(alloc, path, below.as_slice())?;
     if name_bytes(below.as_slice()) > NAME_BYTES || path.len() > PATH_BYTES {
-        return Err(HostError::in_image(alloc, Refusal::BadName, path.as_slice()));
+        return Err(Failure::from(Refusal::BadName).in_image(alloc, path.as_slice()));
     }
     let length = bytes.len() as u64;
     if length > FILE_BYTES {
-        return Err(HostError::in_image(alloc, Refusal::TooBig, path.as_slice()));
+        return Err(Failure::from(Refusal::TooBig).in_image(alloc, path.as_slice()));
     }
     Ok(Item {
         source: Source::Held(bytes),

@@ -14,7 +14,7 @@ use crate::writing::{flush_in_passes, write_rest, write_some};
 use archives::Kind;
 use changing::{mount, write_all};
 use device::Device;
-use hosts::HostError;
+use failures::Failure;
 use http_server::Log;
 use layout::{BLOCK_BYTES, Refusal};
 use outcomes::with;
@@ -32,7 +32,7 @@ const BYTES_OF_ITEM: usize = 1 << 12;
 #[derive(Drop)]
 pub struct Filled {
     pub done: usize,
-    pub stopped: Option<HostError>,
+    pub stopped: Option<Failure>,
     pub readings: Readings,
 }
 
@@ -126,7 +126,7 @@ fn put_item<R: Files + AllocGlobal, D: Device>(
     item: &Item,
     room: Vec<u8>,
     readings: &mut Readings,
-) -> Result<Vec<u8>, HostError>
+) -> Result<Vec<u8>, Failure>
     ensures item { IfOk result (λ _. (bytes : Read) × (readings.new.items.items ≡ readings.old.items.items ++ (item.now, bytes) ∷ []) × IsTrueTo item.now.source bytes.items
         × (D.honest volume.new.device → AddsItems ((item.now, bytes) ∷ []) (D.held volume.old.device) (D.image volume.old.device) volume.old (D.held volume.new.device) (D.image volume.new.device) volume.new)) }
     ensures honest { D.honest volume.new.device → D.honest volume.old.device }
@@ -134,7 +134,7 @@ fn put_item<R: Files + AllocGlobal, D: Device>(
     let bytes = bytes_of(rt, item, room, readings)?;
     match make_item(rt.alloc(), volume, item, bytes.as_slice()) {
         Ok(()) => Ok(bytes),
-        Err(cause) => Err(HostError::in_image(rt.alloc(), cause, item.path.as_slice())),
+        Err(cause) => Err(Failure::from(cause).in_image(rt.alloc(), item.path.as_slice())),
     }
 }
 
@@ -144,7 +144,7 @@ fn bytes_of<R: Files + AllocGlobal>(
     item: &Item,
     room: Vec<u8>,
     readings: &mut Readings,
-) -> Result<Vec<u8>, HostError>
+) -> Result<Vec<u8>, Failure>
     ensures noted { IfOk result (λ bytes. readings.new.items.items ≡ readings.old.items.items ++ (item.now, bytes) ∷ []) }
     ensures held { IfOk result (λ bytes. IsTrueTo item.now.source bytes.items) }
 {
@@ -158,7 +158,7 @@ pub(crate) fn read_item<R: Files + AllocGlobal>(
     rt: &R,
     item: &Item,
     mut room: Vec<u8>,
-) -> Result<Vec<u8>, HostError>
+) -> Result<Vec<u8>, Failure>
     ensures { IfOk result (λ bytes. IsTrueTo item.now.source bytes.items) }
 {
     match &item.source {
@@ -179,10 +179,10 @@ fn read_host<R: Files + AllocGlobal>(
     host: &str,
     expected: u64,
     room: Vec<u8>,
-) -> Result<Vec<u8>, HostError> {
+) -> Result<Vec<u8>, Failure> {
     match read_file(rt, host, expected, room) {
         Ok(bytes) => Ok(bytes),
-        Err(error) => Err(HostError::of_call(rt.alloc(), &error, host)),
+        Err(error) => Err(Failure::of_call(rt.alloc(), &error, host)),
     }
 }
 

@@ -4,8 +4,8 @@ ghost use Rattle.std.specs.List.{All};
 ghost use Rattle.putting.specs.Placing.{IsNew};
 
 use archives::Kind;
+use failures::Failure;
 use frozen::Frozen;
-use hosts::HostError;
 use inode::INDIRECT_POSITION;
 use layout::{BLOCK_BYTES, Refusal};
 use reading::{joined, stat};
@@ -50,11 +50,11 @@ pub fn items_of<R: Files + AllocGlobal + Clone + Drop>(
     rt: &R,
     host: &str,
     path: &[u8],
-) -> Result<Vec<Item>, HostError> {
+) -> Result<Vec<Item>, Failure> {
     let alloc = rt.alloc();
     let metadata = match fs::metadata(rt, host) {
         Ok(metadata) => metadata,
-        Err(error) => return Err(HostError::of_call(alloc, &error, host)),
+        Err(error) => return Err(Failure::of_call(alloc, &error, host)),
     };
     let kind = kind_of(alloc, &metadata, host)?;
     let first = Item {
@@ -67,7 +67,7 @@ pub fn items_of<R: Files + AllocGlobal + Clone + Drop>(
         return with_all_below(rt, first);
     }
     if kind == Kind::File {
-        return Err(HostError::in_image(alloc, Refusal::IsRoot, path));
+        return Err(Failure::from(Refusal::IsRoot).in_image(alloc, path));
     }
     let mut items = with_all_below(rt, first)?;
     if !items.is_empty() {
@@ -80,7 +80,7 @@ pub fn items_of<R: Files + AllocGlobal + Clone + Drop>(
 fn with_all_below<R: Files + AllocGlobal + Clone + Drop>(
     rt: &R,
     first: Item,
-) -> Result<Vec<Item>, HostError> {
+) -> Result<Vec<Item>, Failure> {
     let mut waiting = Vec::new(rt.alloc());
     waiting.push(first)?;
     let mut items = Vec::new(rt.alloc());
@@ -101,7 +101,7 @@ fn add_below<R: Files + AllocGlobal + Clone + Drop>(
     rt: &R,
     folder: &Item,
     waiting: &mut Vec<Item>,
-) -> Result<(), HostError> {
+) -> Result<(), Failure> {
     let Source::Host(host) = &folder.source else {
         return Ok(());
     };
@@ -119,16 +119,16 @@ fn item_in<R: Files + AllocGlobal + Clone + Drop>(
     folder: &str,
     path: &[u8],
     name: &str,
-) -> Result<Item, HostError> {
+) -> Result<Item, Failure> {
     let alloc = rt.alloc();
     let host = format!(in alloc; "{folder}/{name}")?;
     let path = joined(alloc, path, name.as_bytes())?;
     if name.len() > NAME_BYTES || path.len() > PATH_BYTES {
-        return Err(HostError::on_host(alloc, Refusal::BadName, host.as_str()));
+        return Err(Failure::from(Refusal::BadName).at(alloc, host.as_str()));
     }
     let metadata = match fs::symlink_metadata(rt, host.as_str()) {
         Ok(metadata) => metadata,
-        Err(error) => return Err(HostError::of_call(alloc, &error, host.as_str())),
+        Err(error) => return Err(Failure::of_call(alloc, &error, host.as_str())),
     };
     let kind = kind_of(alloc, &metadata, host.as_str())?;
     Ok(Item {
@@ -140,15 +140,15 @@ fn item_in<R: Files + AllocGlobal + Clone + Drop>(
 }
 
 /// The kind of what stands at a path of the host.
-fn kind_of(alloc: Global, metadata: &Metadata, host: &str) -> Result<Kind, HostError> {
+fn kind_of(alloc: Global, metadata: &Metadata, host: &str) -> Result<Kind, Failure> {
     if metadata.is_dir() {
         return Ok(Kind::Folder);
     }
     if !metadata.is_file() {
-        return Err(HostError::on_host(alloc, Refusal::BadName, host));
+        return Err(Failure::from(Refusal::BadName).at(alloc, host));
     }
     if metadata.len() > FILE_BYTES {
-        return Err(HostError::on_host(alloc, Refusal::TooBig, host));
+        return Err(Failure::from(Refusal::TooBig).at(alloc, host));
     }
     Ok(Kind::File)
 }
@@ -157,24 +157,24 @@ fn kind_of(alloc: Global, metadata: &Metadata, host: &str) -> Result<Kind, HostE
 fn names_in<R: Files + AllocGlobal + Clone + Drop>(
     rt: &R,
     folder: &str,
-) -> Result<Vec<String>, HostError> {
+) -> Result<Vec<String>, Failure> {
     let alloc = rt.alloc();
     let entries = match fs::read_dir(rt, folder) {
         Ok(entries) => entries,
-        Err(error) => return Err(HostError::of_call(alloc, &error, folder)),
+        Err(error) => return Err(Failure::of_call(alloc, &error, folder)),
     };
     let mut names = Vec::new(alloc);
     for entry in entries {
         match entry {
             Ok(entry) => names.push(String::from_str(alloc, entry.file_name())?)?,
-            Err(error) => return Err(HostError::of_call(alloc, &error, folder)),
+            Err(error) => return Err(Failure::of_call(alloc, &error, folder)),
         }
     }
     Ok(names)
 }
 
 /// Refuses the first item of which the path leads somewhere in an image already, or can lead nowhere.
-pub fn allow_items(alloc: Global, frozen: &Frozen, items: &[Item]) -> Result<(), HostError>
+pub fn allow_items(alloc: Global, frozen: &Frozen, items: &[Item]) -> Result<(), Failure>
     // Where none is refused, a user of the image is told of each that nothing stands there.
     ensures { OnOk result (All (IsNew frozen.now) items.now) }
 {
@@ -185,13 +185,13 @@ pub fn allow_items(alloc: Global, frozen: &Frozen, items: &[Item]) -> Result<(),
 }
 
 /// Refuses an item of which the path leads somewhere in an image already, or can lead nowhere.
-fn allow_item(alloc: Global, frozen: &Frozen, item: &Item) -> Result<(), HostError>
+fn allow_item(alloc: Global, frozen: &Frozen, item: &Item) -> Result<(), Failure>
     ensures { OnOk result (IsNew frozen.now item.now) }
 {
     let path = item.path.as_slice();
     match stat(frozen, path) {
         Err(Refusal::NotFound) => Ok(()),
-        Err(cause) => Err(HostError::in_image(alloc, cause, path)),
-        Ok(_) => Err(HostError::in_image(alloc, Refusal::Exists, path)),
+        Err(cause) => Err(Failure::from(cause).in_image(alloc, path)),
+        Ok(_) => Err(Failure::from(Refusal::Exists).in_image(alloc, path)),
     }
 }

@@ -4,17 +4,15 @@ use crate::filling::{Filled, put, put_on_device};
 use crate::items::{Item, allow_items, items_of};
 use changing::mount;
 use device::Device;
+use failures::{Failure, path_given};
 use file_device::FileDevice;
 use frozen::load;
-use hosts::{Ended, HostError};
-use layout::Refusal;
 use progress::Watcher;
 use snapshot::Volume;
 use std::alloc::Global;
 use std::marker::Brand;
 use std::os::unix::fs::FileExt;
 use std::rt::Files;
-use tools::path_of;
 
 /// Puts what stands at a path of the host, and all below it, at a path in a file's image. All names are looked at before anything
 /// is written.
@@ -24,14 +22,12 @@ pub fn put_into_file<R: Files + AllocGlobal + Clone + Drop>(
     path: &str,
     host: &str,
     watcher: &impl Watcher,
-) -> Result<(), Ended>
+) -> Result<(), Failure>
 where
     R::File: FileExt,
 {
-    match items_at(rt, path, host) {
-        Ok(items) => put_new_items(rt, image, items.as_slice(), watcher),
-        Err(error) => Err(Ended::before(rt.alloc(), &error)),
-    }
+    let items = items_at(rt, path, host)?;
+    put_new_items(rt, image, items.as_slice(), watcher)
 }
 
 /// Puts what stands in an archive at a path in a file's image. All names are looked at before anything is written.
@@ -41,14 +37,12 @@ pub fn put_archive_into_file<R: Files + AllocGlobal>(
     path: &str,
     archive: &[u8],
     watcher: &impl Watcher,
-) -> Result<(), Ended>
+) -> Result<(), Failure>
 where
     R::File: FileExt,
 {
-    match entries_at(rt.alloc(), path, archive) {
-        Ok(items) => put_new_items(rt, image, items.as_slice(), watcher),
-        Err(error) => Err(Ended::before(rt.alloc(), &error)),
-    }
+    let items = entries_at(rt.alloc(), path, archive)?;
+    put_new_items(rt, image, items.as_slice(), watcher)
 }
 
 /// The items of a line that puts something into an image.
@@ -56,34 +50,28 @@ fn items_at<R: Files + AllocGlobal + Clone + Drop>(
     rt: &R,
     path: &str,
     host: &str,
-) -> Result<Vec<Item>, HostError> {
-    let path = path_of(rt.alloc(), path)?;
+) -> Result<Vec<Item>, Failure> {
+    let path = path_given(rt.alloc(), path)?;
     items_of(rt, host, path.as_slice())
 }
 
 /// The items of a line that puts an archive into an image.
-fn entries_at(alloc: Global, path: &str, archive: &[u8]) -> Result<Vec<Item>, HostError> {
-    let path = path_of(alloc, path)?;
+fn entries_at(alloc: Global, path: &str, archive: &[u8]) -> Result<Vec<Item>, Failure> {
+    let path = path_given(alloc, path)?;
     items_in_archive(alloc, archive, path.as_slice())
 }
 
 /// The items of a line that puts an archive into the root of a fresh image.
-pub fn items_of_archive(alloc: Global, archive: &[u8]) -> Result<Vec<Item>, Ended> {
-    match items_in_archive(alloc, archive, b"/") {
-        Ok(items) => Ok(items),
-        Err(error) => Err(Ended::before(alloc, &error)),
-    }
+pub fn items_of_archive(alloc: Global, archive: &[u8]) -> Result<Vec<Item>, Failure> {
+    items_in_archive(alloc, archive, b"/")
 }
 
 /// The items of a line that puts what a folder of the host holds into the root of a fresh image.
 pub fn items_of_folder<R: Files + AllocGlobal + Clone + Drop>(
     rt: &R,
     host: &str,
-) -> Result<Vec<Item>, Ended> {
-    match items_of(rt, host, b"/") {
-        Ok(items) => Ok(items),
-        Err(error) => Err(Ended::before(rt.alloc(), &error)),
-    }
+) -> Result<Vec<Item>, Failure> {
+    items_of(rt, host, b"/")
 }
 
 /// Puts items into the volume of a file's image. Where one is refused, what went before it is written.
@@ -92,13 +80,13 @@ pub fn put_items<R: Files + AllocGlobal>(
     image: &str,
     items: &[Item],
     watcher: &impl Watcher,
-) -> Result<(), Ended>
+) -> Result<(), Failure>
 where
     R::File: FileExt,
 {
     match put_in_file(rt, image, items, watcher) {
-        Ok(filled) => end_of(rt.alloc(), filled, items.len()),
-        Err(cause) => Err(Ended::before(rt.alloc(), &HostError::from(cause))),
+        Ok(filled) => end_of(filled, items.len()),
+        Err(failure) => Err(failure.on_image(rt, image)),
     }
 }
 
@@ -108,7 +96,7 @@ fn put_in_file<R: Files + AllocGlobal>(
     image: &str,
     items: &[Item],
     watcher: &impl Watcher,
-) -> Result<Filled, Refusal>
+) -> Result<Filled, Failure>
 where
     R::File: FileExt,
 {
@@ -124,13 +112,13 @@ fn put_new_items<R: Files + AllocGlobal>(
     image: &str,
     items: &[Item],
     watcher: &impl Watcher,
-) -> Result<(), Ended>
+) -> Result<(), Failure>
 where
     R::File: FileExt,
 {
     match put_new_in_file(rt, image, items, watcher) {
-        Ok(filled) => end_of(rt.alloc(), filled, items.len()),
-        Err(error) => Err(Ended::before(rt.alloc(), &error)),
+        Ok(filled) => end_of(filled, items.len()),
+        Err(failure) => Err(failure.on_image(rt, image)),
     }
 }
 
@@ -140,16 +128,16 @@ fn put_new_in_file<R: Files + AllocGlobal>(
     image: &str,
     items: &[Item],
     watcher: &impl Watcher,
-) -> Result<Filled, HostError>
+) -> Result<Filled, Failure>
 where
     R::File: FileExt,
 {
     match mount_file(rt, image) {
         Ok(mut volume) => put_new_in_volume(rt, &mut volume, items, watcher),
-        Err(cause) => {
+        Err(failure) => {
             // An item that the image cannot have is told of first.
             allow_in_file(rt, image, items)?;
-            Err(HostError::from(cause))
+            Err(failure)
         }
     }
 }
@@ -160,7 +148,7 @@ fn put_new_in_volume<R: Files + AllocGlobal, D: Device>(
     volume: &mut Volume<D>,
     items: &[Item],
     watcher: &impl Watcher,
-) -> Result<Filled, HostError> {
+) -> Result<Filled, Failure> {
     allow_items(rt.alloc(), volume.live().metadata(), items)?;
     Ok(put(rt, volume, items, watcher)?)
 }
@@ -169,20 +157,16 @@ fn put_new_in_volume<R: Files + AllocGlobal, D: Device>(
 fn mount_file<R: Files + AllocGlobal>(
     rt: &R,
     image: &str,
-) -> Result<Volume<FileDevice<R::File, Brand>>, Refusal>
+) -> Result<Volume<FileDevice<R::File, Brand>>, Failure>
 where
     R::File: FileExt,
 {
     let device = FileDevice::open_to_write(rt, image)?.gathering();
-    mount(rt.alloc(), device)
+    Ok(mount(rt.alloc(), device)?)
 }
 
 /// Refuses the first item of which the path leads somewhere in a file's image already, or can lead nowhere.
-fn allow_in_file<R: Files + AllocGlobal>(
-    rt: &R,
-    image: &str,
-    items: &[Item],
-) -> Result<(), HostError>
+fn allow_in_file<R: Files + AllocGlobal>(rt: &R, image: &str, items: &[Item]) -> Result<(), Failure>
 where
     R::File: FileExt,
 {
@@ -192,10 +176,10 @@ where
 }
 
 /// How a line ends that put these of so many items into an image.
-fn end_of(alloc: Global, filled: Filled, count: usize) -> Result<(), Ended> {
+fn end_of(filled: Filled, count: usize) -> Result<(), Failure> {
     let Filled { done, stopped, .. } = filled;
     match stopped {
-        Some(error) => Err(Ended::after(alloc, &error, done, count)),
+        Some(failure) => Err(failure.after(done, count)),
         None => Ok(()),
     }
 }

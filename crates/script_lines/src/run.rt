@@ -1,5 +1,6 @@
 //! The line `run`: what the users of a script are answered, while an image is checked and mended.
 ghost use Rattle.std.specs.Prelude.{◌≡◌, Err, IfOk, IsFalse};
+ghost use Rattle.failures.specs.Status.{plain};
 ghost use Rattle.layout.specs.declared.refusal.Refusal.TheVariants.{BadWorkers};
 ghost use Rattle.workers.specs.Workers.{may_work};
 
@@ -59,11 +60,13 @@ pub fn answer<R: Files + AllocGlobal + Threads + Wait + Sync>(
 where
     R::File: FileExt + Send,
     ensures status { IfOk result (λ answer. answer.status ≡ 0) }
-    ensures workers { IsFalse (may_work line.now.workers) → result ≡ Err (Failure.Refused BadWorkers) }
+    ensures workers { IsFalse (may_work line.now.workers) → result ≡ Err (plain BadWorkers) }
 {
     allow_workers(line.workers)?;
     let lines = lines_of_file(rt, line.script, Commands::OfUsers)?;
-    run_on_file(rt, line.image, lines, line.workers)
+    run_on_file(rt, line.image, lines, line.workers).map_err(|failure| failure.on_image(
+        rt, line.image,
+    ))
 }
 
 /// Carries out the lines of a script on the volume of a file's image.
@@ -105,7 +108,7 @@ pub fn run<D: Device + Drop + Send>(
 }
 
 /// What is printed of what users are answered, and of what was mended.
-fn text_of(alloc: Global, answered: &[Answered], mended: &Mended) -> Result<Answer, Refusal>
+pub fn text_of(alloc: Global, answered: &[Answered], mended: &Mended) -> Result<Answer, Refusal>
     ensures { IfOk result (λ answer. answer.status ≡ 0) }
 {
     let mut text = lines_of(alloc, answered)?;

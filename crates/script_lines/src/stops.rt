@@ -52,7 +52,7 @@ pub fn answer<R: Files + AllocGlobal + Threads + Sync>(
     ensures { IfOk result (λ answer. answer.status < 3) }
 {
     let lines = lines_of_file(rt, line.script, Commands::OfUsersAndFlushes)?;
-    stops_of_file(rt, line.image, lines)
+    stops_of_file(rt, line.image, lines).map_err(|failure| failure.on_image(rt, line.image))
 }
 
 /// Tells the stops of a script on a file's image.
@@ -99,8 +99,8 @@ fn stops_of_script(
     stops_of(rt, alloc, &mut held, volume.live().device().writes())
 }
 
-/// Carries out the lines of a script.
-fn carry_out<D: Device>(
+/// Carries out the lines of a script one by one. What the volume refuses is passed over, but for `NoMemory` and `Device`.
+pub fn carry_out<D: Device>(
     alloc: Global,
     volume: &mut Volume<D>,
     script: Vec<UserLine>,

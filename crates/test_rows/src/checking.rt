@@ -58,14 +58,40 @@ fn has_length(rt: &impl Abort, bytes: &[u8], length: usize) {
 
 /// Changes of a small fresh image that make it none, and how each is refused.
 const NO_IMAGES: &[(Changes<'static>, Wanted<'static>)] = &[
-    (&[(0, 0)], Refused("refused 4 BadSuper\n", 3)),
-    (&[(4, 2)], Refused("refused 4 BadSuper\n", 3)),
-    (&[(1_024, 0)], Refused("refused 5 BadGroup 0\n", 3)),
-    (&[(1_028, 1)], Refused("refused 5 BadGroup 0\n", 3)),
+    (
+        &[(0, 0)],
+        Refused(
+            "refused 4 BadSuper\nat rows_no_image.img: not an image of fsvol\n",
+            3,
+        ),
+    ),
+    (
+        &[(4, 2)],
+        Refused(
+            "refused 4 BadSuper\nat rows_no_image.img: not an image of fsvol\n",
+            3,
+        ),
+    ),
+    (
+        &[(1_024, 0)],
+        Refused("refused 5 BadGroup 0\nat rows_no_image.img\n", 3),
+    ),
+    (
+        &[(1_028, 1)],
+        Refused("refused 5 BadGroup 0\nat rows_no_image.img\n", 3),
+    ),
 ];
 
-/// No blocks, a byte too few, a block too few and a block too many.
-const NO_LENGTHS: &[usize] = &[0, SMALL - 1, SMALL - 1_024, SMALL + 1_024];
+/// Lengths that are not those of a small image, and what is told of each: no bytes, less than a block, a byte and a block too few,
+/// a byte and a block too many.
+const NO_LENGTHS: &[(usize, &str)] = &[
+    (0, "0 bytes, without a superblock"),
+    (100, "100 bytes, not a multiple of 1024"),
+    (SMALL - 1, "17407 bytes, its superblock asks for 17408"),
+    (SMALL - 1_024, "16384 bytes, its superblock asks for 17408"),
+    (SMALL + 1, "17409 bytes, its superblock asks for 17408"),
+    (SMALL + 1_024, "18432 bytes, its superblock asks for 17408"),
+];
 
 #[test]
 fn bits_refuses_what_is_no_image(rt: HostRuntime) -> Result<(), Fail> {
@@ -107,10 +133,13 @@ const NUMBERS_OF_TWO: &[(Changes<'static>, Wanted<'static>)] = &[
             2,
         ),
     ),
-    (&[(17_408, 0)], Refused("refused 5 BadGroup 1\n", 3)),
+    (
+        &[(17_408, 0)],
+        Refused("refused 5 BadGroup 1\nat rows_two_groups.img\n", 3),
+    ),
     (
         &[(1_024, 0), (17_408, 0)],
-        Refused("refused 5 BadGroup 0\n", 3),
+        Refused("refused 5 BadGroup 0\nat rows_two_groups.img\n", 3),
     ),
 ];
 
@@ -196,8 +225,17 @@ const LEFT: &[(Changes<'static>, Wanted<'static>)] = &[
     (&[], Printed(CLEAN_REPORT, 0)),
     (&[(1_056, 0)], Printed(DAMAGED_REPORT, 2)),
     (SHARED_BLOCK, Printed(SHARED_REPORT, 2)),
-    (&[(0, 0)], Refused("refused 4 BadSuper\n", 3)),
-    (&[(1_028, 1)], Refused("refused 5 BadGroup 0\n", 3)),
+    (
+        &[(0, 0)],
+        Refused(
+            "refused 4 BadSuper\nat rows_repair_nothing.img: not an image of fsvol\n",
+            3,
+        ),
+    ),
+    (
+        &[(1_028, 1)],
+        Refused("refused 5 BadGroup 0\nat rows_repair_nothing.img\n", 3),
+    ),
 ];
 
 #[test]
@@ -207,7 +245,15 @@ fn repair_writes_no_clean_or_damaged_image(rt: HostRuntime) -> Result<(), Fail> 
     let fresh = made_small(&rt, image)?;
     gives_of_each(&rt, start, image, fresh.as_slice(), LEFT)?;
     fs::remove_file(&rt, image)?;
-    gives(&rt, start, image, Refused("refused 2 Device\n", 4))
+    gives(
+        &rt,
+        start,
+        image,
+        Refused(
+            "refused 2 Device\nat rows_repair_nothing.img: no such file\n",
+            4,
+        ),
+    )
 }
 
 #[test]
@@ -237,7 +283,7 @@ fn refuses_workers<R: Files + AllocGlobal + Clock + Threads + Wait + Sync + Abor
 where
     R::File: FileExt + Send,
 {
-    let wanted = Refused("refused 6 BadWorkers\n", 3);
+    let wanted = Refused("refused 6 BadWorkers\nworkers: 1 to 64\n", 3);
     gives_of_bytes(rt, start, image, fresh, wanted)?;
     gives(rt, start, "rows_no_such_file.img", wanted)
 }
@@ -245,7 +291,7 @@ where
 /// How a check refuses a group that is none.
 const NO_GROUP: &[(Changes<'static>, Wanted<'static>)] = &[(
     &[(1_028, 1)],
-    Refused("refused 5 BadGroup 0\n", 3),
+    Refused("refused 5 BadGroup 0\nat rows_check_no_image.img\n", 3),
 )];
 
 #[test]
@@ -260,6 +306,9 @@ fn check_refuses_what_is_no_image(rt: HostRuntime) -> Result<(), Fail> {
         &rt,
         start,
         "rows_no_such_file.img",
-        Refused("refused 2 Device\n", 4),
+        Refused(
+            "refused 2 Device\nat rows_no_such_file.img: no such file\n",
+            4,
+        ),
     )
 }

@@ -80,6 +80,19 @@ const REMOVED: &[Row<'static>] = &[
     ("rmdir", "", "/a/b", Printed("", 0)),
     ("mkdir", "", "/d", Printed("", 0)),
     ("cat", "", "/c/g", Printed("abc", 0)),
+    ("ln", " /c/g", "/c/h", Printed("", 0)),
+    (
+        "rm",
+        " /c/h",
+        "/c/h",
+        Refused("refused 7 NotFound\nat /c/h\ndone 1 of 2\n", 3),
+    ),
+    (
+        "ln",
+        " /c/g",
+        "/c/g",
+        Refused("refused 8 Exists\nat /c/g\ndone 0 of 1\n", 3),
+    ),
 ];
 
 #[test]
@@ -123,29 +136,107 @@ const REFUSED: &[(&str, &str, &str, &str)] = &[
         "mkdir",
         " /a /b /a",
         "/c",
-        "refused 8 Exists\ndone 2 of 4\n",
+        "refused 8 Exists\nat /a\ndone 2 of 4\n",
     ),
-    ("mkdir", "", "/", "refused 30 IsRoot\ndone 0 of 1\n"),
-    ("mkdir", " /c", "/x/y", "refused 7 NotFound\ndone 1 of 2\n"),
-    ("mkdir", " /d", "/%2", "refused 12 BadName\n"),
-    ("rmdir", " /c", "/", "refused 30 IsRoot\ndone 1 of 2\n"),
-    ("rm", "", "/a", "refused 10 IsDirectory\ndone 0 of 1\n"),
-    ("mv", " /a /b", "/x", "refused 7 NotFound\n"),
-    ("mv", " /a", "/x/y", "refused 7 NotFound\ndone 0 of 1\n"),
-    ("mv", " /a", "/b", "refused 10 IsDirectory\ndone 0 of 1\n"),
-    ("ln", " /a", "/x", "refused 10 IsDirectory\ndone 0 of 1\n"),
-    ("ls", "", "/x", "refused 7 NotFound\n"),
-    ("ls", "", "a", "refused 12 BadName\n"),
-    ("cat", "", "/a", "refused 10 IsDirectory\n"),
-    ("stat", "", "/a/b", "refused 7 NotFound\n"),
+    ("mkdir", "", "/", "refused 30 IsRoot\nat /\ndone 0 of 1\n"),
+    (
+        "mkdir",
+        " /c",
+        "/x/y",
+        "refused 7 NotFound\nat /x/y\ndone 1 of 2\n",
+    ),
+    (
+        "rmdir",
+        " /c",
+        "/",
+        "refused 30 IsRoot\nat /\ndone 1 of 2\n",
+    ),
+    (
+        "rm",
+        "",
+        "/a",
+        "refused 10 IsDirectory\nat /a\ndone 0 of 1\n",
+    ),
+    ("ls", "", "/x", "refused 7 NotFound\nat /x\n"),
+    ("cat", "", "/a", "refused 10 IsDirectory\nat /a\n"),
+    ("stat", "", "/a/%01", "refused 7 NotFound\nat /a/%01\n"),
+];
+
+/// Those that give other names: told is the path that is at fault.
+const NOT_NAMED: &[(&str, &str, &str, &str)] = &[
+    ("mv", " /a /b", "/x", "refused 7 NotFound\nat /x\n"),
+    (
+        "mv",
+        " /x",
+        "/y",
+        "refused 7 NotFound\nat /x\ndone 0 of 1\n",
+    ),
+    (
+        "mv",
+        " /a",
+        "/x/y",
+        "refused 7 NotFound\nat /x/y\ndone 0 of 1\n",
+    ),
+    (
+        "mv",
+        " /a",
+        "/b",
+        "refused 10 IsDirectory\nat /a\ndone 0 of 1\n",
+    ),
+    (
+        "ln",
+        " /a",
+        "/x",
+        "refused 10 IsDirectory\nat /a\ndone 0 of 1\n",
+    ),
+    (
+        "ln",
+        " /",
+        "/x",
+        "refused 10 IsDirectory\nat /\ndone 0 of 1\n",
+    ),
+];
+
+/// Those with what is no path: told is the rule that it breaks.
+const NO_PATHS: &[(&str, &str, &str, &str)] = &[
+    (
+        "ls",
+        "",
+        "a",
+        "refused 12 BadName\nat a: a path begins with /\n",
+    ),
+    (
+        "mkdir",
+        "",
+        "d",
+        "refused 12 BadName\nat d: a path begins with /\ndone 0 of 1\n",
+    ),
+    (
+        "mv",
+        " a",
+        "/b",
+        "refused 12 BadName\nat a: a path begins with /\ndone 0 of 1\n",
+    ),
+    (
+        "stat",
+        "",
+        "/a//b",
+        "refused 12 BadName\nat /a//b: each part of a path has 1 to 56 bytes, no NUL among them, and is not . or ..\n",
+    ),
+    (
+        "mkdir",
+        " /d",
+        "/%2",
+        "refused 12 BadName\nat /%2: % is followed by two hexadecimal digits\n",
+    ),
 ];
 
 #[test]
 fn a_refused_change_tells_how_far_it_came(rt: HostRuntime) -> Result<(), Fail> {
     let image = "rows_everyday_refused.img";
     made_small(&rt, image)?;
-    for &(name, words, last, err) in REFUSED {
-        give(&rt, image, &[(name, words, last, Refused(err, 3))])?;
+    for rows in [REFUSED, NOT_NAMED, NO_PATHS] {
+        refuses_each(&rt, image, rows)?;
     }
     give(&rt, image, &[("ls", "", "/", Printed("a\nb\n", 0))])?;
     gives(&rt, "check --workers 1", image, Printed(CLEAN_REPORT, 0))?;
@@ -153,12 +244,62 @@ fn a_refused_change_tells_how_far_it_came(rt: HostRuntime) -> Result<(), Fail> {
     give(&rt, image, MISSING)
 }
 
+/// Carries out lines on an image, as `give` takes them, each of which is refused with this text and the status 3.
+fn refuses_each<R: Files + AllocGlobal + Clock + Threads + Wait + Sync + Abort + Clone + Drop>(
+    rt: &R,
+    image: &str,
+    rows: &[(&str, &str, &str, &str)],
+) -> Result<(), Fail>
+where
+    R::File: FileExt + Send,
+{
+    for &(name, words, last, err) in rows {
+        give(rt, image, &[(name, words, last, Refused(err, 3))])?;
+    }
+    Ok(())
+}
+
+/// How a line is refused on an image that is missing.
+const NO_FILE: Wanted<'static> = Refused(
+    "refused 2 Device\nat rows_everyday_refused.img: no such file\n",
+    4,
+);
+
 /// Lines on an image that is missing.
 const MISSING: &[Row<'static>] = &[
-    ("ls", "", "/b", Refused("refused 2 Device\n", 4)),
-    ("mkdir", "", "/b", Refused("refused 2 Device\n", 4)),
-    ("mv", " /a", "/b", Refused("refused 2 Device\n", 4)),
+    ("ls", "", "/b", NO_FILE),
+    ("mkdir", "", "/b", NO_FILE),
+    ("mv", " /a", "/b", NO_FILE),
 ];
+
+/// How a line is refused on a directory of the host.
+const A_DIRECTORY: Wanted<'static> = Refused(
+    "refused 2 Device\nat rows_directory.img: is a directory\n",
+    4,
+);
+
+/// Lines on a directory of the host in place of an image.
+const ON_DIRECTORY: &[Row<'static>] = &[
+    ("ls", "", "/", A_DIRECTORY),
+    ("check", " --workers", "1", A_DIRECTORY),
+    ("mkdir", "", "/b", A_DIRECTORY),
+    (
+        "mkfs",
+        " --groups 1 --blocks 16 --inodes",
+        "16",
+        A_DIRECTORY,
+    ),
+];
+
+#[test]
+fn a_directory_is_no_image(rt: HostRuntime) -> Result<(), Fail> {
+    let image = "rows_directory.img";
+    let _ = fs::remove_dir(&rt, image);
+    fs::create_dir(&rt, image)?;
+    give(&rt, image, ON_DIRECTORY)?;
+    fs::remove_dir(&rt, image)?;
+    Ok(())
+}
 
 /// Lines on a fresh image of 16 blocks, one after another.
 const FULL_OF_BLOCKS: &[Row<'static>] = &[
@@ -166,13 +307,13 @@ const FULL_OF_BLOCKS: &[Row<'static>] = &[
         "mkdir",
         " /1 /2 /3 /4 /5 /6 /7 /8 /9 /10 /11 /12",
         "/13",
-        Refused("refused 14 NoBlock\ndone 12 of 13\n", 3),
+        Refused("refused 14 NoBlock\nat /13\ndone 12 of 13\n", 3),
     ),
     (
         "rmdir",
         " /1 /2 /3 /4 /5 /6 /7 /8 /9 /10 /11 /12",
         "/13",
-        Refused("refused 7 NotFound\ndone 12 of 13\n", 3),
+        Refused("refused 7 NotFound\nat /13\ndone 12 of 13\n", 3),
     ),
     ("ls", "", "/", Printed("", 0)),
 ];
@@ -183,7 +324,7 @@ const FULL_OF_INODES: &[Row<'static>] = &[
         "mkdir",
         " /1 /2 /3 /4 /5 /6 /7 /8 /9 /10 /11 /12",
         "/13",
-        Refused("refused 13 NoInode\ndone 5 of 13\n", 3),
+        Refused("refused 13 NoInode\nat /6\ndone 5 of 13\n", 3),
     ),
     ("ls", "", "/", Printed("1\n2\n3\n4\n5\n", 0)),
 ];
@@ -200,11 +341,18 @@ fn a_full_image_keeps_what_went_before(rt: HostRuntime) -> Result<(), Fail> {
     Ok(())
 }
 
-/// Lines on an image of which two files have one block: the last word of each, and what it is to give.
-const DAMAGED: &[(&str, &str, Wanted<'static>)] = &[
-    ("ls", "/", Printed("a\nb\n", 0)),
-    ("mkdir", "/c", Refused("refused 24 Damaged\n", 2)),
-    ("rm", "/a", Refused("refused 24 Damaged\n", 2)),
+/// How a line is refused that would change an image of which two files have one block.
+const SEE_CHECK: Wanted<'static> = Refused(
+    "refused 24 Damaged\nsee: fsvol check rows_everyday_damaged.img\n",
+    2,
+);
+
+/// Lines on such an image.
+const DAMAGED: &[Row<'static>] = &[
+    ("ls", "", "/", Printed("a\nb\n", 0)),
+    ("mkdir", "", "/c", SEE_CHECK),
+    ("rm", "", "/a", SEE_CHECK),
+    ("mv", " /a", "/c", SEE_CHECK),
 ];
 
 #[test]
@@ -212,10 +360,10 @@ fn a_damaged_image_is_looked_into_and_not_written(rt: HostRuntime) -> Result<(),
     let image = "rows_everyday_damaged.img";
     let fresh = made_small(&rt, image)?;
     let damaged = changed(rt.alloc(), fresh.as_slice(), SHARED_BLOCK)?;
-    for &(name, last, wanted) in DAMAGED {
+    for &row in DAMAGED {
         fs::write(&rt, image, damaged.as_slice())?;
-        give(&rt, image, &[(name, "", last, wanted)])?;
-        holds(&rt, name, image, damaged.as_slice())?;
+        give(&rt, image, &[row])?;
+        holds(&rt, row.0, image, damaged.as_slice())?;
     }
     gives_of_each(&rt, "info", image, fresh.as_slice(), SOFT)?;
     fs::remove_file(&rt, image)?;
@@ -263,5 +411,13 @@ fn a_picture_is_printed(rt: HostRuntime) -> Result<(), Fail> {
     made(&rt, "--groups 1 --blocks 8 --inodes 8", image)?;
     gives(&rt, "map", image, Printed(PICTURE, 0))?;
     fs::remove_file(&rt, image)?;
-    gives(&rt, "map", image, Refused("refused 2 Device\n", 4))
+    gives(
+        &rt,
+        "map",
+        image,
+        Refused(
+            "refused 2 Device\nat rows_everyday_picture.img: no such file\n",
+            4,
+        ),
+    )
 }

@@ -28,6 +28,21 @@ const PUT: &[Row<'static>] = &[
         "rows_hosts_put",
         Refused("refused 8 Exists\nat /d\n", 3),
     ),
+    (
+        "put",
+        " /e",
+        "rows_hosts_missing",
+        Refused(
+            "refused 7 NotFound\nat rows_hosts_missing: no such file\n",
+            3,
+        ),
+    ),
+    (
+        "put",
+        " e",
+        "rows_hosts_put",
+        Refused("refused 12 BadName\nat e: a path begins with /\n", 3),
+    ),
 ];
 
 #[test]

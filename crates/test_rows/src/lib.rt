@@ -4,6 +4,8 @@
 #[cfg(test)]
 mod checking;
 #[cfg(test)]
+mod demoing;
+#[cfg(test)]
 mod everyday;
 #[cfg(test)]
 mod hosting;

@@ -71,21 +71,37 @@ where
     Ok(())
 }
 
-/// The words of numbers that no geometry has.
-const NO_GEOMETRIES: &[&str] = &[
-    "mkfs --groups 0 --blocks 16 --inodes 16",
-    "mkfs --groups 65 --blocks 16 --inodes 16",
-    "mkfs --groups 1 --blocks 4097 --inodes 16",
-    "mkfs --groups 1 --blocks 16 --inodes 12",
-    "mkfs --groups 1 --blocks 8 --inodes 56",
+/// The words of numbers that no geometry has, and the limit that is told of each.
+const NO_GEOMETRIES: &[[&str; 2]] = &[
+    ["mkfs --groups 0 --blocks 16 --inodes 16", "groups: 1 to 64"],
+    [
+        "mkfs --groups 65 --blocks 16 --inodes 16",
+        "groups: 1 to 64",
+    ],
+    [
+        "mkfs --groups 1 --blocks 7 --inodes 16",
+        "blocks: 8 to 4096",
+    ],
+    [
+        "mkfs --groups 1 --blocks 9000 --inodes 16",
+        "blocks: 8 to 4096",
+    ],
+    [
+        "mkfs --groups 1 --blocks 16 --inodes 12",
+        "inodes: 8 to 1024, a multiple of 8",
+    ],
+    [
+        "mkfs --groups 1 --blocks 8 --inodes 56",
+        "inodes: 1 + inodes / 8 must be below blocks",
+    ],
 ];
 
 #[test]
 fn mkfs_refuses_numbers_of_no_geometry(rt: HostRuntime) -> Result<(), Fail> {
     let image = "rows_no_geometry.img";
     let _ = fs::remove_file(&rt, image);
-    for &start in NO_GEOMETRIES {
-        refuses_geometry(&rt, start, image)?;
+    for [start, limit] in NO_GEOMETRIES {
+        refuses_geometry(&rt, start, limit, image)?;
     }
     Ok(())
 }
@@ -94,12 +110,14 @@ fn mkfs_refuses_numbers_of_no_geometry(rt: HostRuntime) -> Result<(), Fail> {
 fn refuses_geometry<R: Files + AllocGlobal + Clock + Threads + Wait + Sync + Abort + Clone + Drop>(
     rt: &R,
     start: &str,
+    limit: &str,
     image: &str,
 ) -> Result<(), Fail>
 where
     R::File: FileExt + Send,
 {
-    let wanted = Refused("refused 29 BadGeometry\n", 3);
+    let refused = format!(in rt.alloc(); "refused 29 BadGeometry\n{limit}\n")?;
+    let wanted = Refused(refused.as_str(), 3);
     gives(rt, start, image, wanted)?;
     is_missing(rt, start, image);
     fs::write(rt, image, "as it was")?;
@@ -109,21 +127,27 @@ where
     Ok(())
 }
 
-/// Lines, their last words, and that each is refused as a device that failed.
-const FAILED: &[(&str, &str)] = &[
-    ("bits", "rows_no_such_file.img"),
-    ("bits", ""),
-    (
+/// Lines, their last words, and why the host refused a call about these.
+const FAILED: &[[&str; 3]] = &[
+    ["bits", "rows_no_such_file.img", "no such file"],
+    ["bits", "", "no such file"],
+    [
         "mkfs --groups 1 --blocks 16 --inodes 16",
         "rows_no_such_folder/a.img",
-    ),
-    ("mkfs --groups 1 --blocks 16 --inodes 16", "."),
+        "no such file",
+    ],
+    [
+        "mkfs --groups 1 --blocks 16 --inodes 16",
+        ".",
+        "is a directory",
+    ],
 ];
 
 #[test]
 fn an_image_that_cannot_be_opened_is_a_failed_device(rt: HostRuntime) -> Result<(), Fail> {
-    for &(start, image) in FAILED {
-        gives(&rt, start, image, Refused("refused 2 Device\n", 4))?;
+    for [start, image, why] in FAILED {
+        let refused = format!(in rt.alloc(); "refused 2 Device\nat {image}: {why}\n")?;
+        gives(&rt, start, image, Refused(refused.as_str(), 4))?;
     }
     Ok(())
 }

@@ -23,7 +23,9 @@ const WRONG: &[&str] = &[
     "mkfs rows_wrong_line.img --groups 1 --blocks 16",
     "mkfs rows_wrong_line.img --groups 1 --blocks 16 --inodes x",
     "bits",
+    "demo rows_wrong_line.img",
     "--help",
+    "--version",
 ];
 
 #[test]

@@ -105,43 +105,49 @@ const RUNS_REFUSED: &[(&str, Changes<'static>, &str, Wanted<'static>)] = &[
         "run --workers 2",
         &[],
         "1 create /x\n9 create /x\n",
-        Refused("script line 2\n", 3),
+        Refused("script line 2\n9 create /x\n", 3),
     ),
     (
         "run --workers 2",
         &[(0, 0)],
         "1 create /x\n1 create /y",
-        Refused("script line 2\n", 3),
+        Refused("script line 2\n1 create /y\n", 3),
     ),
     (
         "run --workers 2",
         &[],
         "1 sync\n",
-        Refused("script line 1\n", 3),
+        Refused("script line 1\n1 sync\n", 3),
     ),
     (
         "run --workers 0",
         &[],
         "1 sync\n",
-        Refused("refused 6 BadWorkers\n", 3),
+        Refused("refused 6 BadWorkers\nworkers: 1 to 64\n", 3),
     ),
     (
         "run --workers 65",
         &[],
         "1 sync\n",
-        Refused("refused 6 BadWorkers\n", 3),
+        Refused("refused 6 BadWorkers\nworkers: 1 to 64\n", 3),
     ),
     (
         "run --workers 2",
         &[(1_056, 0)],
         "1 create /x\n",
-        Refused("refused 24 Damaged\n", 2),
+        Refused(
+            "refused 24 Damaged\nsee: fsvol check rows_run_refused.img\n",
+            2,
+        ),
     ),
     (
         "run --workers 2",
         &[(0, 0)],
         "1 create /x\n",
-        Refused("refused 4 BadSuper\n", 3),
+        Refused(
+            "refused 4 BadSuper\nat rows_run_refused.img: not an image of fsvol\n",
+            3,
+        ),
     ),
 ];
 
@@ -183,6 +189,18 @@ fn scripts_and_images_that_cannot_be_read_are_failed_devices(rt: HostRuntime) ->
     Ok(())
 }
 
+/// How a line is refused whose script is missing.
+const NO_SCRIPT: Wanted<'static> = Refused(
+    "refused 2 Device\nat rows_no_such_script: no such file\n",
+    4,
+);
+
+/// And one whose image is.
+const NO_IMAGE: Wanted<'static> = Refused(
+    "refused 2 Device\nat rows_no_such_image.img: no such file\n",
+    4,
+);
+
 /// The line is refused where its script is missing, and where its image is.
 fn fails_without_files<
     R: Files + AllocGlobal + Clock + Threads + Wait + Sync + Abort + Clone + Drop,
@@ -190,13 +208,12 @@ fn fails_without_files<
 where
     R::File: FileExt + Send,
 {
-    let wanted = Refused("refused 2 Device\n", 4);
     let script = "rows_a_script";
     let start = format!(in rt.alloc(); "{line} {image}")?;
-    gives(rt, start.as_str(), "rows_no_such_script", wanted)?;
+    gives(rt, start.as_str(), "rows_no_such_script", NO_SCRIPT)?;
     fs::write(rt, script, "1 create /x\n")?;
     let start = format!(in rt.alloc(); "{line} rows_no_such_image.img")?;
-    gives(rt, start.as_str(), script, wanted)?;
+    gives(rt, start.as_str(), script, NO_IMAGE)?;
     fs::remove_file(rt, script)?;
     Ok(())
 }
@@ -234,18 +251,46 @@ fn stops_tells_what_each_write_leaves(rt: HostRuntime) -> Result<(), Fail> {
 
 /// Changes of a fresh image, scripts, and how the stops of each are refused.
 const STOPS_REFUSED: &[(Changes<'static>, &str, Wanted<'static>)] = &[
-    (&[], "1 freeze\n", Refused("script line 1\n", 3)),
+    (&[], "1 freeze\n", Refused("script line 1\n1 freeze\n", 3)),
     (
         &[(1_056, 0)],
         "1 sync\n1  sync\n",
-        Refused("script line 2\n", 3),
+        Refused("script line 2\n1  sync\n", 3),
     ),
+    (
+        &[],
+        "9 create /%\t\u{e4}\n",
+        Refused("script line 1\n9 create /%25%09%c3%a4\n", 3),
+    ),
+    (&[], "\n", Refused("script line 1\n\n", 3)),
     (
         &[(1_056, 0)],
         "1 sync\n",
-        Refused("refused 24 Damaged\n", 2),
+        Refused(
+            "refused 24 Damaged\nsee: fsvol check rows_stops_refused.img\n",
+            2,
+        ),
     ),
 ];
+
+#[test]
+fn of_a_long_line_its_first_200_bytes_are_told(rt: HostRuntime) -> Result<(), Fail> {
+    let image = "rows_stops_long.img";
+    let fresh = made_small(&rt, image)?;
+    let script = "x".repeat(rt.alloc(), 201)?;
+    let told = "x".repeat(rt.alloc(), 200)?;
+    let refused = format!(in rt.alloc(); "script line 1\n{told}\n")?;
+    let wanted = Refused(refused.as_str(), 3);
+    leaves(
+        &rt,
+        "stops",
+        (image, fresh.as_slice()),
+        script.as_str(),
+        wanted,
+    )?;
+    fs::remove_file(&rt, image)?;
+    Ok(())
+}
 
 #[test]
 fn stops_refuses_what_cannot_be_mounted(rt: HostRuntime) -> Result<(), Fail> {

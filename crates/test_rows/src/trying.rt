@@ -171,18 +171,24 @@ where
     Ok(())
 }
 
-/// Carries out a line of these words on what is no image, since it has one of these lengths.
+/// Carries out a line of these words on what is no image, since it has one of these lengths, of which this is told.
 pub(crate) fn refuses_lengths<
     R: Files + AllocGlobal + Clock + Threads + Wait + Sync + Abort + Clone + Drop,
->(rt: &R, start: &str, image: &str, fresh: &[u8], lengths: &[usize]) -> Result<(), Fail>
+>(rt: &R, start: &str, image: &str, fresh: &[u8], lengths: &[(usize, &str)]) -> Result<(), Fail>
 where
     R::File: FileExt + Send,
 {
-    for &length in lengths {
+    for &(length, told) in lengths {
         let mut bytes = fresh.to_vec(rt.alloc())?;
         bytes.resize(length, 0)?;
-        let wanted = Refused("refused 3 BadLength\n", 3);
-        gives_of_bytes(rt, start, image, bytes.as_slice(), wanted)?;
+        let refused = format!(in rt.alloc(); "refused 3 BadLength\nat {image}: {told}\n")?;
+        gives_of_bytes(
+            rt,
+            start,
+            image,
+            bytes.as_slice(),
+            Refused(refused.as_str(), 3),
+        )?;
     }
     Ok(())
 }

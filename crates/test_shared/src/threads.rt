@@ -1,12 +1,10 @@
 ghost use Rattle.std.specs.Prelude.{◌≡◌};
 
-mod asked;
 mod images;
 mod meeting;
 mod stage;
 
 use crate::expect::{holds, same};
-use asked::{Asked, Wanted, is_as};
 use device::MemDevice;
 use findings::Finding;
 use images::{FILE_WITH_TWO_LINKS, FRESH, LOST_BLOCK, LOST_DIRECTORY, found_on, mounted};
@@ -22,6 +20,8 @@ use std::sync::Wait;
 use std::sync::ledger::{Blank, Ledger};
 use std::test::Fail;
 use std::thread::Threads;
+use test_commands::{Asked, Wanted, is_as};
+use test_images::Byte;
 
 /// How often a row with threads is carried out.
 const TIMES: u32 = 20;
@@ -37,11 +37,31 @@ const TWO_USERS: Step = Step::AtOnce(
     &[Asked::Create(b"/y"), Asked::Unlink(b"/y")],
 );
 
+/// Carries out steps on a shared volume whose trace has room for so many calls, and looks at what came of them. What came of
+/// steps has a volume, which is dear to let go, so this function alone owns it.
+fn look_at<T, R: Threads + Wait + Sync + AllocGlobal, F: FnOnce(&Outcome) -> T>(
+    rt: &R,
+    bytes: &[Byte],
+    limit: u32,
+    steps: &[Step],
+    look: F,
+) -> Result<T, Refusal>
+    requires { F.IsAlwaysCallable look }
+{
+    let outcome = carry_out(rt, rt.alloc(), bytes, limit, steps)?;
+    Ok(look(&outcome))
+}
+
 /// Expects these replies at these places.
 fn expect_replies(rt: &impl Abort, replies: &[Reply], wanted: &[(usize, Wanted)]) {
     for (place, wanted) in wanted {
         holds(rt, (*place, *wanted), is_as(replies.get(*place), *wanted));
     }
+}
+
+/// Expects these replies to the calls of the steps.
+fn expect_told(rt: &impl Abort, outcome: &Outcome, wanted: &[(usize, Wanted)]) {
+    expect_replies(rt, outcome.told.replies.as_slice(), wanted);
 }
 
 /// Whether the same is noted of two replies, which are no images.
@@ -103,8 +123,13 @@ fn expect_noted(rt: &impl Abort, outcome: &Outcome) {
 #[test]
 fn two_threads_get_the_replies_that_are_noted(rt: HostRuntime) -> Result<(), Fail> {
     for _time in 0..TIMES {
-        let outcome = carry_out(&rt, rt.alloc(), FRESH, 100, &[TWO_USERS])?;
-        expect_noted(&rt, &outcome);
+        look_at(
+            &rt,
+            FRESH,
+            100,
+            &[TWO_USERS],
+            |outcome| expect_noted(&rt, outcome),
+        )?;
     }
     Ok(())
 }
@@ -131,12 +156,19 @@ fn expect_emptied(rt: &impl Abort, outcome: &Outcome) {
     same(rt, "trace", outcome.closed.trace.len(), 1);
 }
 
+/// Two threads fill the trace, which is emptied before one more call.
+const EMPTIED: &[Step] = &[TWO_USERS, Step::Rotate, Step::Call(Asked::Read(0, 0))];
+
 #[test]
 fn a_full_trace_takes_a_call_once_it_is_emptied(rt: HostRuntime) -> Result<(), Fail> {
-    let steps = [TWO_USERS, Step::Rotate, Step::Call(Asked::Read(0, 0))];
     for _time in 0..TIMES {
-        let outcome = carry_out(&rt, rt.alloc(), FRESH, 5, &steps)?;
-        expect_emptied(&rt, &outcome);
+        look_at(
+            &rt,
+            FRESH,
+            5,
+            EMPTIED,
+            |outcome| expect_emptied(&rt, outcome),
+        )?;
     }
     Ok(())
 }
@@ -155,12 +187,19 @@ fn expect_three_repairs(rt: &impl Abort, outcome: &Outcome) {
     same(rt, "unmarked", unmarked, 12);
 }
 
+/// A check is repaired by two threads at once, and the snapshot ends.
+const REPAIRED_AT_ONCE: &[Step] = &[Step::Check, Step::RepairAll, Step::Call(Asked::Release)];
+
 #[test]
 fn two_threads_share_the_repairs(rt: HostRuntime) -> Result<(), Fail> {
-    let steps = [Step::Check, Step::RepairAll, Step::Call(Asked::Release)];
     for _time in 0..TIMES {
-        let outcome = carry_out(&rt, rt.alloc(), LOST_DIRECTORY, 100, &steps)?;
-        expect_three_repairs(&rt, &outcome);
+        look_at(
+            &rt,
+            LOST_DIRECTORY,
+            100,
+            REPAIRED_AT_ONCE,
+            |outcome| expect_three_repairs(&rt, outcome),
+        )?;
     }
     Ok(())
 }
@@ -174,18 +213,22 @@ const MOVED_AND_REPAIRED: &[Step] = &[
     Step::Call(Asked::Stat(b"/d/c")),
 ];
 
+/// Expects the repair to be carried out, and one link to be left.
+fn expect_one_link(rt: &impl Abort, outcome: &Outcome) {
+    let wanted = [(3, Wanted::Done), (4, Wanted::Links(1))];
+    expect_replies(rt, outcome.told.replies.as_slice(), &wanted);
+    same(rt, "trace", outcome.closed.trace.len(), 6);
+}
+
 #[test]
 fn a_file_that_was_moved_is_repaired(rt: HostRuntime) -> Result<(), Fail> {
-    let outcome = carry_out(
+    look_at(
         &rt,
-        rt.alloc(),
         FILE_WITH_TWO_LINKS,
         100,
         MOVED_AND_REPAIRED,
+        |outcome| expect_one_link(&rt, outcome),
     )?;
-    let wanted = [(3, Wanted::Done), (4, Wanted::Links(1))];
-    expect_replies(&rt, outcome.told.replies.as_slice(), &wanted);
-    same(&rt, "trace", outcome.closed.trace.len(), 6);
     Ok(())
 }
 
@@ -199,22 +242,19 @@ const MOVED_AND_FROZEN: &[Step] = &[
     Step::Call(Asked::Repair(0)),
 ];
 
+/// The repair is refused.
+const NO_PLAN: &[(usize, Wanted)] = &[(5, Wanted::Refused(Refusal::NoPlan))];
+
 #[test]
 fn a_plan_ends_with_the_next_freeze(rt: HostRuntime) -> Result<(), Fail> {
-    let outcome = carry_out(&rt, rt.alloc(), FILE_WITH_TWO_LINKS, 100, MOVED_AND_FROZEN)?;
-    let wanted = [(5, Wanted::Refused(Refusal::NoPlan))];
-    expect_replies(&rt, outcome.told.replies.as_slice(), &wanted);
+    look_at(
+        &rt,
+        FILE_WITH_TWO_LINKS,
+        100,
+        MOVED_AND_FROZEN,
+        |outcome| expect_told(&rt, outcome, NO_PLAN),
+    )?;
     Ok(())
-}
-
-/// What a check finds on the device after these steps, which end with a sync.
-fn found_after<R: Threads + Wait + Sync>(
-    rt: &R,
-    alloc: Global,
-    steps: &[Step],
-) -> Result<Vec<Finding>, Refusal> {
-    let outcome = carry_out(rt, alloc, FILE_WITH_TWO_LINKS, 100, steps)?;
-    found_on(rt, alloc, &outcome.closed.volume)
 }
 
 /// Expects a check to find this on the device after these steps, which end with a sync.
@@ -223,7 +263,13 @@ fn expect_found<R: Threads + Wait + Sync + AllocGlobal + Abort>(
     steps: &[Step],
     wanted: &[Finding],
 ) -> Result<(), Refusal> {
-    let found = found_after(rt, rt.alloc(), steps)?;
+    let found = look_at(
+        rt,
+        FILE_WITH_TWO_LINKS,
+        100,
+        steps,
+        |outcome| found_on(rt, &outcome.closed.volume),
+    )??;
     same(rt, "found", found.as_slice(), wanted);
     Ok(())
 }
@@ -306,16 +352,23 @@ const REPAIRED_TWICE: &[Step] = &[
     Step::Call(Asked::Read(0, 4)),
 ];
 
+/// The first repair is carried out, and the file keeps its bytes.
+const REPAIRED_ONCE: &[(usize, Wanted)] = &[
+    (1, Wanted::Done),
+    (9, Wanted::Refused(Refusal::AlreadyDone)),
+    (10, Wanted::Bytes(ZEROS)),
+];
+
 #[test]
 fn a_repair_is_carried_out_once(rt: HostRuntime) -> Result<(), Fail> {
-    let wanted = [
-        (1, Wanted::Done),
-        (9, Wanted::Refused(Refusal::AlreadyDone)),
-        (10, Wanted::Bytes(ZEROS)),
-    ];
     for _time in 0..TIMES {
-        let outcome = carry_out(&rt, rt.alloc(), LOST_BLOCK, 100, REPAIRED_TWICE)?;
-        expect_replies(&rt, outcome.told.replies.as_slice(), &wanted);
+        look_at(
+            &rt,
+            LOST_BLOCK,
+            100,
+            REPAIRED_TWICE,
+            |outcome| expect_told(&rt, outcome, REPAIRED_ONCE),
+        )?;
     }
     Ok(())
 }

@@ -1,39 +1,47 @@
 use crate::expect::same;
-use crate::volumes::mounted;
+use crate::volumes::on_mounted;
 use changing::{Outcome, change, outcome_of};
 use device::MemDevice;
 use layout::Refusal;
-use snapshot::{Command, Volume};
-use std::alloc::{AllocError, Global};
+use snapshot::Volume;
+use std::alloc::Global;
 use std::process::Abort;
 use std::test::Fail;
+use test_commands::{Asked, commands_of};
 
-/// Commands that make these directories.
-fn commands_of(alloc: Global, paths: &[&[u8]]) -> Result<Vec<Command>, AllocError> {
-    let mut commands = Vec::new(alloc);
-    for path in paths {
-        commands.push(Command::Mkdir(path.to_vec(alloc)?))?;
-    }
-    Ok(commands)
-}
-
-/// What came of commands that make these directories.
-fn made(
+/// What came of commands on a volume.
+fn outcome_on(
     alloc: Global,
     volume: &mut Volume<MemDevice>,
-    paths: &[&[u8]],
+    asked: &[Asked],
 ) -> Result<Outcome, Refusal> {
-    let commands = commands_of(alloc, paths)?;
+    let commands = commands_of(alloc, asked)?;
     let replies = change(alloc, volume, commands.as_slice())?;
     Ok(outcome_of(replies.as_slice()))
 }
 
-/// Directories that are made, how many of them are there then, and why the next one is not.
-const ROWS: &[(&[&[u8]], usize, Option<Refusal>)] = &[
-    (&[b"/a", b"/a/b"], 2, None),
-    (&[b"/c", b"/a", b"/d"], 1, Some(Refusal::Exists)),
+/// Commands, how many of them are carried out, and why the next one is not.
+const ROWS: &[(&[Asked], usize, Option<Refusal>)] = &[
+    (&[Asked::Mkdir(b"/a"), Asked::Mkdir(b"/a/b")], 2, None),
+    (
+        &[
+            Asked::Mkdir(b"/c"),
+            Asked::Mkdir(b"/a"),
+            Asked::Mkdir(b"/d"),
+        ],
+        1,
+        Some(Refusal::Exists),
+    ),
     (&[], 0, None),
-    (&[b"/d", b"/e", b"/f"], 2, Some(Refusal::NoInode)),
+    (
+        &[
+            Asked::Mkdir(b"/d"),
+            Asked::Mkdir(b"/e"),
+            Asked::Mkdir(b"/f"),
+        ],
+        2,
+        Some(Refusal::NoInode),
+    ),
 ];
 
 /// Expects the outcome of each row on a volume.
@@ -41,8 +49,8 @@ fn expect_rows<R: AllocGlobal + Abort>(
     rt: &R,
     volume: &mut Volume<MemDevice>,
 ) -> Result<(), Refusal> {
-    for (paths, done, refused) in ROWS {
-        let found = made(rt.alloc(), volume, paths)?;
+    for (asked, done, refused) in ROWS {
+        let found = outcome_on(rt.alloc(), volume, asked)?;
         let wanted = Outcome {
             done: *done,
             refused: *refused,
@@ -57,7 +65,6 @@ fn expect_rows<R: AllocGlobal + Abort>(
 /// The volume has 6 free numbers.
 #[test]
 fn commands_stop_at_the_first_refusal(rt: HostRuntime) -> Result<(), Fail> {
-    let mut volume = mounted(rt.alloc(), 8, &[])?;
-    expect_rows(&rt, &mut volume)?;
+    on_mounted(rt.alloc(), 8, &[], |volume| expect_rows(&rt, volume))?;
     Ok(())
 }

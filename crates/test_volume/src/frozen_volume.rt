@@ -1,15 +1,16 @@
 use crate::expect::{holds, same};
-use crate::volumes::mounted;
+use crate::volumes::on_mounted;
 use device::MemDevice;
 use frozen::Frozen;
 use fsck::{Checked, check_one};
 use layout::{Geometry, Refusal};
-use snapshot::{Answer, Command, Volume};
-use std::alloc::{AllocError, Global};
+use snapshot::{Answer, Command, Reply, Volume};
+use std::alloc::Global;
 use std::process::Abort;
 use std::sync::Arc;
 use std::test::Fail;
 use std::thread::Threads;
+use test_commands::{Asked, commands_of};
 use test_images::{Byte, frozen_with};
 
 /// Block 9 is marked, and in no use.
@@ -18,32 +19,21 @@ const LOST_BLOCK: &[Byte] = &[(1, 160, 0b10_0001)];
 /// The root has a link fewer than entries name it.
 const LOW_COUNT: &[Byte] = &[(2, 258, 1)];
 
-/// The command that makes this file.
-fn create(alloc: Global, path: &[u8]) -> Result<Command, AllocError> {
-    Ok(Command::Create(path.to_vec(alloc)?))
-}
+/// The file `/f` is made, opened, and written to.
+const FILE: &[Asked] = &[
+    Asked::Create(b"/f"),
+    Asked::Open(b"/f"),
+    Asked::Write(0, 0, b"abc"),
+];
 
-/// The command that opens this file.
-fn open(alloc: Global, path: &[u8]) -> Result<Command, AllocError> {
-    Ok(Command::Open(path.to_vec(alloc)?))
-}
-
-/// The command that writes this into the first file that is open.
-fn write(alloc: Global, bytes: &[u8]) -> Result<Command, AllocError> {
-    Ok(Command::Write {
-        handle: 0,
-        index: 0,
-        piece: bytes.to_vec(alloc)?,
-    })
-}
-
-/// The file `/f`, which is made, opened, and written to.
-fn file_commands(alloc: Global) -> Result<Vec<Command>, AllocError> {
-    let mut commands = Vec::new(alloc);
-    commands.push(create(alloc, b"/f")?)?;
-    commands.push(open(alloc, b"/f")?)?;
-    commands.push(write(alloc, b"abc")?)?;
-    Ok(commands)
+/// The replies of a volume to a list of commands.
+fn replies_to(
+    alloc: Global,
+    volume: &mut Volume<MemDevice>,
+    asked: &[Asked],
+) -> Result<Vec<Reply>, Refusal> {
+    let commands = commands_of(alloc, asked)?;
+    volume.run(alloc, commands)
 }
 
 /// Makes the file on a volume, which answers each command.
@@ -51,8 +41,7 @@ fn make_file<R: AllocGlobal + Abort>(
     rt: &R,
     volume: &mut Volume<MemDevice>,
 ) -> Result<(), Refusal> {
-    let commands = file_commands(rt.alloc())?;
-    let replies = volume.run(rt.alloc(), commands)?;
+    let replies = replies_to(rt.alloc(), volume, FILE)?;
     holds(rt, "made", replies.iter().all(|reply| reply.is_ok()));
     Ok(())
 }
@@ -66,8 +55,8 @@ fn freeze_and_check<R: Threads + AllocGlobal + Sync>(
     check_one(rt, rt.alloc(), &frozen)
 }
 
-/// Expects the one repair of a check of a volume to give a block back.
-fn expect_repair<R: AllocGlobal + Abort>(
+/// Expects a check of a volume to be installed, and to have one repair.
+fn expect_installed<R: AllocGlobal + Abort>(
     rt: &R,
     volume: &mut Volume<MemDevice>,
     checked: &Checked,
@@ -76,7 +65,16 @@ fn expect_repair<R: AllocGlobal + Abort>(
     volume.install(rt.alloc(), checked)?;
     same(rt, "plan", volume.plan_len(), 1);
     same(rt, "marked", volume.live().unmarked_blocks(), 10);
-    volume.repair(rt.alloc(), 0)
+    Ok(())
+}
+
+/// Expects the check of the snapshot that begins to be installed.
+fn expect_plan<R: Threads + AllocGlobal + Abort + Sync>(
+    rt: &R,
+    volume: &mut Volume<MemDevice>,
+) -> Result<(), Refusal> {
+    let checked = freeze_and_check(rt, volume)?;
+    expect_installed(rt, volume, &checked)
 }
 
 /// Expects the snapshot of a volume to have the file's bytes, and its end to give a block back.
@@ -99,45 +97,38 @@ fn expect_mended<R: Threads + AllocGlobal + Abort + Sync>(
     volume: &mut Volume<MemDevice>,
 ) -> Result<(), Refusal> {
     make_file(rt, volume)?;
-    let checked = freeze_and_check(rt, volume)?;
-    expect_repair(rt, volume, &checked)?;
+    expect_plan(rt, volume)?;
+    volume.repair(rt.alloc(), 0)?;
     expect_release(rt, volume)
 }
 
 #[test]
 fn a_lost_block_is_found_and_given_back(rt: HostRuntime) -> Result<(), Fail> {
-    let mut volume = mounted(rt.alloc(), 16, LOST_BLOCK)?;
-    expect_mended(&rt, &mut volume)?;
+    on_mounted(
+        rt.alloc(),
+        16,
+        LOST_BLOCK,
+        |volume| expect_mended(&rt, volume),
+    )?;
     Ok(())
 }
 
-/// Paths of files that are not made.
-const REFUSED: &[&[u8]] = &[b"/", b"a", b"/a/b"];
-
 /// The path of a name that is too long.
-fn long_path(alloc: Global) -> Result<Vec<u8>, AllocError> {
-    let mut path = vec![in alloc; b'x'; 58]?;
-    if let Some(first) = path.first_mut() {
-        *first = b'/';
-    }
-    Ok(path)
-}
+const LONG: &[u8] = b"/xxxxxxxxxxxxxxxxxxxxxxxxxxxxxxxxxxxxxxxxxxxxxxxxxxxxxxxxx";
 
 /// Commands that are refused, and a freeze between the last two.
-fn refused_commands(alloc: Global) -> Result<Vec<Command>, AllocError> {
-    let mut commands = Vec::new(alloc);
-    for path in REFUSED {
-        commands.push(create(alloc, path)?)?;
-    }
-    commands.push(Command::Rmdir(b"/".to_vec(alloc)?))?;
-    commands.push(Command::Close(0))?;
-    commands.push(Command::Repair(0))?;
-    commands.push(Command::Release)?;
-    commands.push(Command::Create(long_path(alloc)?))?;
-    commands.push(Command::Freeze)?;
-    commands.push(Command::Freeze)?;
-    Ok(commands)
-}
+const REFUSED: &[Asked] = &[
+    Asked::Create(b"/"),
+    Asked::Create(b"a"),
+    Asked::Create(b"/a/b"),
+    Asked::Rmdir(b"/"),
+    Asked::Close(0),
+    Asked::Repair(0),
+    Asked::Release,
+    Asked::Create(LONG),
+    Asked::Freeze,
+    Asked::Freeze,
+];
 
 /// Why each of them is refused.
 const REFUSALS: &[Option<Refusal>] = &[
@@ -158,8 +149,7 @@ fn expect_refusals<R: AllocGlobal + Abort>(
     rt: &R,
     volume: &mut Volume<MemDevice>,
 ) -> Result<(), Refusal> {
-    let commands = refused_commands(rt.alloc())?;
-    let replies = volume.run(rt.alloc(), commands)?;
+    let replies = replies_to(rt.alloc(), volume, REFUSED)?;
     same(rt, "replies", replies.len(), REFUSALS.len());
     for (reply, wanted) in replies.iter().zip(REFUSALS) {
         same(rt, *wanted, reply.as_ref().err().copied(), *wanted);
@@ -169,8 +159,7 @@ fn expect_refusals<R: AllocGlobal + Abort>(
 
 #[test]
 fn commands_are_answered_in_their_order(rt: HostRuntime) -> Result<(), Fail> {
-    let mut volume = mounted(rt.alloc(), 16, &[])?;
-    expect_refusals(&rt, &mut volume)?;
+    on_mounted(rt.alloc(), 16, &[], |volume| expect_refusals(&rt, volume))?;
     Ok(())
 }
 
@@ -194,7 +183,6 @@ fn expect_not_soft<R: Threads + AllocGlobal + Abort + Sync>(
 
 #[test]
 fn a_check_of_a_damaged_image_is_not_installed(rt: HostRuntime) -> Result<(), Fail> {
-    let mut volume = mounted(rt.alloc(), 16, &[])?;
-    expect_not_soft(&rt, &mut volume)?;
+    on_mounted(rt.alloc(), 16, &[], |volume| expect_not_soft(&rt, volume))?;
     Ok(())
 }

@@ -1,20 +1,24 @@
 //! Mounted volumes of small images.
+ghost use Rattle.std.specs.Prelude.{◌≡◌};
+
+use changing::mount;
 use device::MemDevice;
 use layout::{Geometry, Refusal};
-use snapshot::{Live, Volume};
+use snapshot::Volume;
 use std::alloc::Global;
 use test_images::{Byte, device_with};
 
-/// The mounted volume of the image of one group of 16 blocks and so many inodes that is fresh but for these bytes. What gives
-/// a volume back is dear to prove, so this alone does.
-pub(crate) fn mounted(
+/// Hands over the mounted volume of the image of one group of 16 blocks and so many inodes that is fresh but for these bytes. A
+/// volume that is let go is dear to prove, so this function alone owns one.
+pub(crate) fn on_mounted<F: FnOnce(&mut Volume<MemDevice>) -> Result<(), Refusal>>(
     alloc: Global,
     inodes: u32,
     bytes: &[Byte],
-) -> Result<Volume<MemDevice>, Refusal> {
+    expect: F,
+) -> Result<(), Refusal>
+    requires { F.IsAlwaysCallable expect }
+{
     let geometry = Geometry::new(1, 16, inodes)?;
-    match Live::mount(alloc, device_with(alloc, &geometry, bytes)?) {
-        Ok(live) => Ok(Volume::new(live)),
-        Err(refused) => Err(refused.cause),
-    }
+    let mut volume = mount(alloc, device_with(alloc, &geometry, bytes)?)?;
+    expect(&mut volume)
 }

@@ -3,12 +3,13 @@ ghost use Rattle.std.specs.Prelude.{◌≡◌, IfOk};
 
 use clap::{ArgMatches, Command};
 use command_line::{Answer, Failure, words};
+use failures::path_given;
 use file_device::FileDevice;
 use std::alloc::{AllocError, Global};
 use std::marker::Brand;
 use std::os::unix::fs::FileExt;
 use std::rt::Files;
-use tools::{cat, path_of};
+use tools::cat;
 
 /// What the line asks for: the bytes of a file in this image.
 #[derive(Clone, Copy)]
@@ -40,7 +41,22 @@ where
     R::File: FileExt,
     ensures { IfOk result (λ answer. answer.status ≡ 0) }
 {
-    let path = path_of(rt.alloc(), line.path)?;
-    let mut device: FileDevice<R::File, Brand> = FileDevice::open(rt, line.image)?;
-    Answer::of_text(cat(rt.alloc(), &mut device, &path))
+    let path = path_given(rt.alloc(), line.path)?;
+    match bytes_in_file(rt, line.image, &path) {
+        Ok(text) => Ok(Answer::of_text(text)),
+        Err(failure) => Err(failure.on_image(rt, line.image).on_path(rt.alloc(), &path)),
+    }
+}
+
+/// The bytes of a file in a file's image.
+fn bytes_in_file<R: Files + AllocGlobal>(
+    rt: &R,
+    image: &str,
+    path: &[u8],
+) -> Result<Vec<u8>, Failure>
+where
+    R::File: FileExt,
+{
+    let mut device: FileDevice<R::File, Brand> = FileDevice::open(rt, image)?;
+    Ok(cat(rt.alloc(), &mut device, path)?)
 }

@@ -1,19 +1,21 @@
 //! The lines `mkdir`, `rm`, `rmdir`, `mv` and `ln`: what is done with paths in an image.
 ghost use Rattle.std.specs.Prelude.{◌≡◌, IfOk};
 
+use crate::fault::refusal_of;
 use changing::{Outcome, change_device, outcome_of};
 use clap::{Arg, ArgMatches, Command as Words};
 use command_line::{Answer, Failure, words};
 use device::Device;
+use failures::path_given;
 use file_device::FileDevice;
 use frozen::load;
 use layout::Refusal;
-use snapshot::{Command, Reply};
+use snapshot::Command;
 use std::alloc::{AllocError, Global};
 use std::marker::Brand;
 use std::os::unix::fs::FileExt;
 use std::rt::Files;
-use tools::{Aim, Deed, Naming, aim_at, deeds, namings, path_of};
+use tools::{Aim, Deed, Naming, aim_at, deeds, namings};
 
 /// What becomes of the paths of a line.
 #[derive(Clone, Copy)]
@@ -125,18 +127,18 @@ where
     R::File: FileExt,
     ensures { IfOk result (λ answer. answer.status ≡ 0) }
 {
-    let paths = paths_of(rt.alloc(), line.paths.as_slice())?;
+    let paths = paths_given(rt.alloc(), line.paths.as_slice())?;
     match line.change {
         Change::Do(deed) => do_in_file(rt, line.image, deed, paths.as_slice()),
         Change::Name(naming) => name_in_file(rt, line.image, naming, paths.as_slice()),
     }
 }
 
-/// The paths that words stand for.
-fn paths_of(alloc: Global, words: &[&str]) -> Result<Vec<Vec<u8>>, Refusal> {
+/// The paths that arguments stand for.
+fn paths_given(alloc: Global, words: &[&str]) -> Result<Vec<Vec<u8>>, Failure> {
     let mut paths = Vec::new(alloc);
     for word in words {
-        paths.push(path_of(alloc, word)?)?;
+        paths.push(path_given(alloc, word)?)?;
     }
     Ok(paths)
 }
@@ -153,7 +155,7 @@ where
     ensures { IfOk result (λ answer. answer.status ≡ 0) }
 {
     let commands = deeds(rt.alloc(), deed, paths)?;
-    change_file(rt, image, commands.as_slice())
+    carry_out(rt, image, commands.as_slice())
 }
 
 /// Gives names in a file's image; the last path is the target.
@@ -168,11 +170,11 @@ where
     ensures { IfOk result (λ answer. answer.status ≡ 0) }
 {
     let Some((target, named)) = paths.split_last() else {
-        return Err(Failure::Refused(Refusal::BadName));
+        return Err(Failure::from(Refusal::BadName));
     };
     let aim = aim_in_file(rt, image, target, named.len())?;
     let commands = namings(rt.alloc(), naming, aim, named, target)?;
-    change_file(rt, image, commands.as_slice())
+    carry_out(rt, image, commands.as_slice())
 }
 
 /// Where so many names are given at a target in a file's image, which is read alone.
@@ -181,12 +183,28 @@ fn aim_in_file<R: Files + AllocGlobal>(
     image: &str,
     target: &[u8],
     count: usize,
-) -> Result<Aim, Refusal>
+) -> Result<Aim, Failure>
+where
+    R::File: FileExt,
+{
+    match aim_on_file(rt, image, target, count) {
+        Ok(aim) => Ok(aim),
+        Err(failure) => Err(failure.on_image(rt, image).on_path(rt.alloc(), target)),
+    }
+}
+
+/// Opens a file, and gives where so many names are given at a target in its image.
+fn aim_on_file<R: Files + AllocGlobal>(
+    rt: &R,
+    image: &str,
+    target: &[u8],
+    count: usize,
+) -> Result<Aim, Failure>
 where
     R::File: FileExt,
 {
     let mut device: FileDevice<R::File, Brand> = FileDevice::open(rt, image)?;
-    aim_on_device(rt.alloc(), &mut device, target, count)
+    Ok(aim_on_device(rt.alloc(), &mut device, target, count)?)
 }
 
 /// Where so many names are given at a target in a device's image.
@@ -201,7 +219,7 @@ fn aim_on_device<D: Device>(
 }
 
 /// Carries out commands on the volume of a file's image up to the first one that is refused, and writes all.
-fn change_file<R: Files + AllocGlobal>(
+fn carry_out<R: Files + AllocGlobal>(
     rt: &R,
     image: &str,
     commands: &[Command],
@@ -210,18 +228,28 @@ where
     R::File: FileExt,
     ensures { IfOk result (λ answer. answer.status ≡ 0) }
 {
-    let device: FileDevice<R::File, Brand> = FileDevice::open_to_write(rt, image)?;
-    let changed = change_device(rt.alloc(), device, commands)?;
-    told_of(rt.alloc(), changed.replies.as_slice(), commands.len())
+    match change_file(rt, image, commands) {
+        Ok(Outcome { refused: None, .. }) => Ok(Answer::nothing(rt.alloc())),
+        Ok(
+            Outcome {
+                done,
+                refused: Some(cause),
+            },
+        ) => Err(refusal_of(rt, image, commands.get(done), cause).after(done, commands.len())),
+        Err(failure) => Err(failure.on_image(rt, image)),
+    }
 }
 
-/// What so many commands come to that were answered so.
-fn told_of(alloc: Global, replies: &[Reply], count: usize) -> Result<Answer, Failure>
-    ensures { IfOk result (λ answer. answer.status ≡ 0) }
+/// Carries out commands on the volume of a file's image up to the first one that is refused, writes all, and tells how far it came.
+fn change_file<R: Files + AllocGlobal>(
+    rt: &R,
+    image: &str,
+    commands: &[Command],
+) -> Result<Outcome, Failure>
+where
+    R::File: FileExt,
 {
-    let Outcome { done, refused } = outcome_of(replies);
-    match refused {
-        None => Ok(Answer::nothing(alloc)),
-        Some(cause) => Err(Failure::Stopped { cause, done, count }),
-    }
+    let device: FileDevice<R::File, Brand> = FileDevice::open_to_write(rt, image)?;
+    let changed = change_device(rt.alloc(), device, commands)?;
+    Ok(outcome_of(changed.replies.as_slice()))
 }

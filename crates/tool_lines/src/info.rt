@@ -34,6 +34,17 @@ where
     R::File: FileExt,
     ensures { IfOk result (λ answer. answer.status ≡ 0) }
 {
-    let mut device: FileDevice<R::File, Brand> = FileDevice::open(rt, line.image)?;
-    Answer::of_text(info(rt.alloc(), &mut device))
+    match numbers_in_file(rt, line.image) {
+        Ok(text) => Ok(Answer::of_text(text)),
+        Err(failure) => Err(failure.on_image(rt, line.image)),
+    }
+}
+
+/// The numbers of a file's image, as they are printed.
+fn numbers_in_file<R: Files + AllocGlobal>(rt: &R, image: &str) -> Result<Vec<u8>, Failure>
+where
+    R::File: FileExt,
+{
+    let mut device: FileDevice<R::File, Brand> = FileDevice::open(rt, image)?;
+    Ok(info(rt.alloc(), &mut device)?)
 }

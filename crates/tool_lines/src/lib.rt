@@ -3,6 +3,7 @@
 
 pub mod cat;
 pub mod change;
+mod fault;
 pub mod info;
 pub mod ls;
 pub mod map;

@@ -3,12 +3,13 @@ ghost use Rattle.std.specs.Prelude.{◌≡◌, IfOk};
 
 use clap::{Arg, ArgAction, ArgMatches, Command};
 use command_line::{Answer, Failure, arguments};
+use failures::path_given;
 use file_device::FileDevice;
 use std::alloc::{AllocError, Global};
 use std::marker::Brand;
 use std::os::unix::fs::FileExt;
 use std::rt::Files;
-use tools::{Style, ls, path_of};
+use tools::{Style, ls};
 
 /// What the line asks for: the names in a directory of this image, in this style.
 #[derive(Clone, Copy)]
@@ -46,9 +47,25 @@ where
     R::File: FileExt,
     ensures { IfOk result (λ answer. answer.status ≡ 0) }
 {
-    let path = path_of(rt.alloc(), line.path)?;
-    let mut device: FileDevice<R::File, Brand> = FileDevice::open(rt, line.image)?;
-    Answer::of_text(ls(rt.alloc(), &mut device, &path, line.style))
+    let path = path_given(rt.alloc(), line.path)?;
+    match names_in_file(rt, line.image, &path, line.style) {
+        Ok(text) => Ok(Answer::of_text(text)),
+        Err(failure) => Err(failure.on_image(rt, line.image).on_path(rt.alloc(), &path)),
+    }
+}
+
+/// The names in a directory of a file's image, as they are printed.
+fn names_in_file<R: Files + AllocGlobal>(
+    rt: &R,
+    image: &str,
+    path: &[u8],
+    style: Style,
+) -> Result<Vec<u8>, Failure>
+where
+    R::File: FileExt,
+{
+    let mut device: FileDevice<R::File, Brand> = FileDevice::open(rt, image)?;
+    Ok(ls(rt.alloc(), &mut device, path, style)?)
 }
 
 /// A flag.

@@ -40,8 +40,19 @@ where
     R::File: FileExt,
     ensures { IfOk result (λ answer. answer.status ≡ 0) }
 {
-    let mut device: FileDevice<R::File, Brand> = FileDevice::open(rt, line.image)?;
-    Answer::of_text(picture_of(rt.alloc(), &mut device))
+    match picture_of_file(rt, line.image) {
+        Ok(text) => Ok(Answer::of_text(text)),
+        Err(failure) => Err(failure.on_image(rt, line.image)),
+    }
+}
+
+/// A picture of a file's image.
+fn picture_of_file<R: Files + AllocGlobal>(rt: &R, image: &str) -> Result<Vec<u8>, Failure>
+where
+    R::File: FileExt,
+{
+    let mut device: FileDevice<R::File, Brand> = FileDevice::open(rt, image)?;
+    Ok(picture_of(rt.alloc(), &mut device)?)
 }
 
 /// A picture of a device's image.

@@ -1,10 +1,11 @@
 //! Small images, and the volumes on them. Each is the fresh image of one group of 16 blocks and 16 inodes but for some bytes.
+use changing::mount;
 use device::MemDevice;
 use findings::Finding;
 use frozen::{Frozen, load};
 use fsck::check_one;
 use layout::{Geometry, Refusal};
-use snapshot::{Live, Volume};
+use snapshot::Volume;
 use std::alloc::Global;
 use std::sync::Arc;
 use std::thread::Threads;
@@ -52,10 +53,7 @@ pub const LOST_DIRECTORY: &[Byte] = &[
 /// The mounted volume of the image of so many groups that differs in these bytes.
 pub fn mounted(alloc: Global, groups: u32, bytes: &[Byte]) -> Result<Volume<MemDevice>, Refusal> {
     let geometry = Geometry::new(groups, 16, 16)?;
-    match Live::mount(alloc, device_with(alloc, &geometry, bytes)?) {
-        Ok(live) => Ok(Volume::new(live)),
-        Err(refused) => Err(refused.cause),
-    }
+    mount(alloc, device_with(alloc, &geometry, bytes)?)
 }
 
 /// What the device of a volume holds.
@@ -66,11 +64,11 @@ fn held_by(alloc: Global, volume: &Volume<MemDevice>) -> Result<Frozen, Refusal>
 }
 
 /// What a check finds on what the device of a volume holds.
-pub fn found_on<R: Threads + Sync>(
+pub fn found_on<R: Threads + AllocGlobal + Sync>(
     rt: &R,
-    alloc: Global,
     volume: &Volume<MemDevice>,
 ) -> Result<Vec<Finding>, Refusal> {
+    let alloc = rt.alloc();
     let frozen = Arc::new(alloc, held_by(alloc, volume)?)?;
     let checked = check_one(rt, alloc, &frozen)?;
     Ok(checked.findings().to_vec(alloc)?)

@@ -1,7 +1,6 @@
 //! A check by two workers of a snapshot, while a user goes on.
 ghost use Rattle.std.specs.Prelude.{◌≡◌, vec_len};
 
-use super::asked::{Asked, command_of};
 use super::images::{FRESH, mounted};
 use device::MemDevice;
 use frozen::Frozen;
@@ -17,6 +16,7 @@ use std::sync::{Arc, Wait};
 use std::thread;
 use std::thread::{Threads, join};
 use std::time::{Clock, Duration};
+use test_commands::{Asked, command_of};
 use workers::Gate;
 
 /// How often a gate looks, at most, and a millisecond lies between.

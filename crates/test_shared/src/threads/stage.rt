@@ -1,12 +1,12 @@
 //! Steps on a volume that two threads share.
 ghost use Rattle.std.specs.Prelude.{◌≡◌, ◌∷◌, [], IfOk, vec_len};
 
-use super::asked::{Asked, command_of};
 use super::images::mounted;
 use device::MemDevice;
 use findings::Finding;
 use fsck::{Checked, check_one};
 use layout::Refusal;
+use outcomes::with;
 use shared::{Closed, Progress, Seat, Shared};
 use snapshot::{Answer, Command, Reply, Volume};
 use std::alloc::{AllocError, Global};
@@ -14,6 +14,7 @@ use std::marker::Brand;
 use std::sync::ledger::{Blank, Ledger};
 use std::sync::{Arc, Wait};
 use std::thread::{Threads, join};
+use test_commands::{Asked, command_of};
 use test_images::Byte;
 
 /// What is done next.
@@ -92,10 +93,12 @@ fn carry_out_on<L: Ledger + Send + Sync, M: Ledger + Send + Sync, R: Threads + W
     requires two { (repairs.parts ≡ 2) × (others.parts ≡ 2) }
 {
     let (shared, seats) = Shared::<MemDevice, L, M>::new(alloc, volume, limit, 2, repairs, others)?;
-    let (seats, told) = do_all(rt, alloc, &shared, two_of(seats), steps);
-    let told = told?;
-    let closed = shared.close(both(alloc, seats)?);
-    Ok(Outcome { told, closed })
+    let done = do_all(rt, alloc, &shared, seats, steps);
+    let (Done { told, seats }, shared) = with(done, shared)?;
+    Ok(Outcome {
+        told,
+        closed: shared.close(seats),
+    })
 }
 
 /// Both seats.
@@ -122,27 +125,50 @@ fn both<L: Ledger, M: Ledger>(
     Ok(all)
 }
 
+/// What was answered, and the seats.
+#[derive(Drop)]
+struct Done<L: Ledger, M: Ledger> {
+    told: Told,
+    seats: Vec<Seat<L, M>>,
+}
+
 /// Carries out the steps.
 fn do_all<L: Ledger + Send + Sync, M: Ledger + Send + Sync, R: Threads + Wait + Sync>(
     rt: &R,
     alloc: Global,
     shared: &Shared<MemDevice, L, M>,
-    mut seats: Seats<L, M>,
+    seats: Vec<Seat<L, M>>,
     steps: &[Step],
-) -> (Seats<L, M>, Result<Told, Refusal>) {
+) -> Result<Done<L, M>, Refusal>
+    requires { vec_len seats ≡ 2 }
+    ensures { IfOk result (λ done. vec_len done.seats ≡ 2) }
+{
     let mut told = Told {
         replies: Vec::new(alloc),
         findings: Vec::new(alloc),
         done: 0,
     };
+    let seats = do_each(rt, alloc, shared, two_of(seats), steps, &mut told);
+    let (seats, told) = with(seats, told)?;
+    let (seats, told) = with(both(alloc, seats), told)?;
+    Ok(Done { told, seats })
+}
+
+/// Carries out the steps, and adds to what was answered.
+fn do_each<L: Ledger + Send + Sync, M: Ledger + Send + Sync, R: Threads + Wait + Sync>(
+    rt: &R,
+    alloc: Global,
+    shared: &Shared<MemDevice, L, M>,
+    mut seats: Seats<L, M>,
+    steps: &[Step],
+    told: &mut Told,
+) -> Result<Seats<L, M>, Refusal> {
     for step in steps {
-        let (later, done) = do_step(rt, alloc, shared, seats, *step, &mut told);
+        let (later, done) = do_step(rt, alloc, shared, seats, *step, told);
         seats = later;
-        if let Err(refusal) = done {
-            return (seats, Err(refusal));
-        }
+        done?;
     }
-    (seats, Ok(told))
+    Ok(seats)
 }
 
 /// Carries out a step, and adds to what was answered.

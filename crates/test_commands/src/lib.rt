@@ -1,14 +1,17 @@
-//! Calls and replies as tables tell them.
+//! Commands and replies as the tables of tests tell them.
+#![tactic(auto)]
+
 use layout::Refusal;
 use snapshot::{Answer, Command, Reply};
 use std::alloc::{AllocError, Global};
 
-/// A call.
+/// A command, whose bytes are constants.
 #[derive(Clone, Copy)]
 pub enum Asked {
     Create(&'static [u8]),
     Mkdir(&'static [u8]),
     Unlink(&'static [u8]),
+    Rmdir(&'static [u8]),
     Rename(&'static [u8], &'static [u8]),
     Open(&'static [u8]),
     Close(u32),
@@ -21,7 +24,7 @@ pub enum Asked {
     Sync,
 }
 
-/// The command of a call.
+/// The command that is asked.
 pub fn command_of(alloc: Global, asked: Asked) -> Result<Command, AllocError> {
     match asked {
         Asked::Close(handle) => Ok(Command::Close(handle)),
@@ -35,6 +38,7 @@ pub fn command_of(alloc: Global, asked: Asked) -> Result<Command, AllocError> {
         Asked::Create(path) => Ok(Command::Create(path.to_vec(alloc)?)),
         Asked::Mkdir(path) => Ok(Command::Mkdir(path.to_vec(alloc)?)),
         Asked::Unlink(path) => Ok(Command::Unlink(path.to_vec(alloc)?)),
+        Asked::Rmdir(path) => Ok(Command::Rmdir(path.to_vec(alloc)?)),
         Asked::Open(path) => Ok(Command::Open(path.to_vec(alloc)?)),
         Asked::Stat(path) => Ok(Command::Stat(path.to_vec(alloc)?)),
     }
@@ -50,10 +54,19 @@ fn written(alloc: Global, handle: u32, index: u32, piece: &[u8]) -> Result<Comma
     })
 }
 
-/// A file gets another name.
+/// An entry gets another name.
 fn renamed(alloc: Global, from: &[u8], to: &[u8]) -> Result<Command, AllocError> {
     let from = from.to_vec(alloc)?;
     Ok(Command::Rename(from, to.to_vec(alloc)?))
+}
+
+/// The commands that are asked, in their order.
+pub fn commands_of(alloc: Global, asked: &[Asked]) -> Result<Vec<Command>, AllocError> {
+    let mut commands = Vec::new(alloc);
+    for asked in asked {
+        commands.push(command_of(alloc, *asked)?)?;
+    }
+    Ok(commands)
 }
 
 /// What is expected of a reply.

@@ -1,0 +1,26 @@
+//! The geometry that the numbers of a line ask for.
+use command_line::Failure;
+use failures::Reason;
+use layout::{Geometry, INODES_PER_BLOCK};
+
+/// The geometry of these numbers. If there is none, it is refused with `BadGeometry` and the limit that is broken.
+pub(crate) fn geometry_of(groups: u32, blocks: u32, inodes: u32) -> Result<Geometry, Failure> {
+    match Geometry::new(groups, blocks, inodes) {
+        Ok(geometry) => Ok(geometry),
+        Err(cause) => Err(Failure::from(cause).because(limit_broken(groups, blocks, inodes))),
+    }
+}
+
+/// The first limit that these numbers break, which are no geometry.
+fn limit_broken(groups: u32, blocks: u32, inodes: u32) -> Reason {
+    if groups < 1 || groups > 64 {
+        return Reason::GroupCount;
+    }
+    if blocks < 8 || blocks > 4_096 {
+        return Reason::BlockCount;
+    }
+    if inodes < 8 || inodes > 1_024 || inodes % INODES_PER_BLOCK != 0 {
+        return Reason::InodeCount;
+    }
+    Reason::NoDataBlock
+}
