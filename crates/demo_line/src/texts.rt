@@ -32,14 +32,14 @@ pub(crate) const WORKERS: u32 = 2;
 
 /// Before the answers of the users, the report and the repairs.
 pub(crate) const ANSWERED: &str =
-    "Meanwhile the volume is frozen, 2 workers check the snapshot, and its leaks are\nrepaired. The output has the answers, the report and the repairs:\n";
+    "Meanwhile the program freezes the volume, checks the snapshot with 2 workers and\nrepairs its leaks. It prints the answers, the report and the repairs:\n";
 
 /// Before the verdict of the image that was repaired.
 pub(crate) const REPAIRED: &str = "A check of the image after that gives this verdict:\n";
 
 /// Before the stops of the first script.
 pub(crate) const STOPS: &str =
-    "The first script runs once more on a fresh volume. The table has a check of the\nimage that the device held after each number of writes:\n";
+    "The first script runs once more on a fresh volume. This table shows what a check\nfinds if the program is stopped after that number of writes:\n";
 
 /// After stops of which none leaves damage.
 pub(crate) const LEAKS_ALONE: &str =
