@@ -1,11 +1,11 @@
 //! What a line asks for.
-use demo_line::DemoLine;
 use host_lines::get::GetLine;
 use host_lines::mkfs::MkfsLine;
 use host_lines::put::PutLine;
 use image_lines::bits::BitsLine;
 use image_lines::check::CheckLine;
 use image_lines::repair::RepairLine;
+use script_lines::demo::DemoLine;
 use script_lines::run::RunLine;
 use script_lines::stops::StopsLine;
 use tool_lines::cat::CatLine;

@@ -7,7 +7,7 @@ use command_line::{Answer, Failure, GAVE_OUT, Screen};
 use host_lines::{get, mkfs, put};
 use image_lines::{bits, check, repair, sample};
 use progress::Watcher;
-use script_lines::{run, stops};
+use script_lines::{demo, run, stops};
 use std::convert::AsStr;
 use std::io::Write;
 use std::os::unix::fs::FileExt;
@@ -84,7 +84,7 @@ where
         Line::Run(line) => run::answer(rt, line),
         Line::Stops(line) => stops::answer(rt, line),
         Line::Bits(line) => bits::answer(rt, line),
-        Line::Demo(line) => demo_line::answer(rt, line),
+        Line::Demo(line) => demo::answer(rt, line),
         Line::Info(line) => info::answer(rt, line),
         Line::Map(line) => map::answer(rt, line),
         Line::Ls(line) => ls::answer(rt, line),

@@ -2,7 +2,7 @@
 use clap::Command;
 use host_lines::{get, mkfs, put};
 use image_lines::{bits, check, repair};
-use script_lines::{run, stops};
+use script_lines::{demo, run, stops};
 use std::alloc::{AllocError, Global};
 use tool_lines::{cat, change, info, ls, map, stat};
 
@@ -90,7 +90,7 @@ fn that_check<'a>(alloc: Global, program: Command<'a>) -> Result<Command<'a>, Al
 /// With the lines that show what the program does.
 fn that_try<'a>(alloc: Global, program: Command<'a>) -> Result<Command<'a>, AllocError> {
     let program = with_line(program, stops::command(alloc))?;
-    with_line(program, demo_line::command(alloc))
+    with_line(program, demo::command(alloc))
 }
 
 /// With one more line, if there was memory for it.

@@ -3,9 +3,9 @@ use crate::failure::Failure;
 use crate::reason::Reason;
 use layout::Refusal;
 use live_paths::Path;
+use printed_names::{path_of, write_name};
 use std::alloc::{AllocError, Global};
 use std::str::from_utf8;
-use tools::{path_of, write_name};
 
 /// How many bytes the longest path has.
 const PATH_BYTES: usize = 4_096;

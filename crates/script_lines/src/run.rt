@@ -108,7 +108,11 @@ pub fn run<D: Device + Drop + Send>(
 }
 
 /// What is printed of what users are answered, and of what was mended.
-pub fn text_of(alloc: Global, answered: &[Answered], mended: &Mended) -> Result<Answer, Refusal>
+pub(crate) fn text_of(
+    alloc: Global,
+    answered: &[Answered],
+    mended: &Mended,
+) -> Result<Answer, Refusal>
     ensures { IfOk result (λ answer. answer.status ≡ 0) }
 {
     let mut text = lines_of(alloc, answered)?;

@@ -6,10 +6,10 @@ ghost use Rattle.layout.specs.declared.refusal.Refusal.TheVariants.{NoMemory};
 use clap::Command;
 use command_line::{Failure, arguments, bytes_of_file, words};
 use layout::Refusal;
+use printed_names::write_name;
 use std::alloc::{AllocError, Global};
 use std::rt::Files;
 use std::str::from_utf8;
-use tools::write_name;
 use user_scripts::{BadScript, Commands, UserLine};
 
 /// How many bytes of a line are told at most.

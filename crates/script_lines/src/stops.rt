@@ -100,7 +100,7 @@ fn stops_of_script(
 }
 
 /// Carries out the lines of a script one by one. What the volume refuses is passed over, but for `NoMemory` and `Device`.
-pub fn carry_out<D: Device>(
+pub(crate) fn carry_out<D: Device>(
     alloc: Global,
     volume: &mut Volume<D>,
     script: Vec<UserLine>,

@@ -4,7 +4,7 @@ use Rattle.model.specs.Image.{IsImage, image_view}
 use Rattle.model.specs.Layout.{Geometry}
 use Rattle.machine.specs.Command.{ListNames, Listed, Name}
 use Rattle.reading.specs.Replies.{MayReply}
-use Rattle.tools.specs.Names.{written}
+use Rattle.printed_names.specs.Names.{written}
 
 -- a line for each name, in their order
 abbrev pub name_line : Name → List ℕ

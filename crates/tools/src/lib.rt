@@ -3,10 +3,8 @@
 #![tactic(auto)]
 
 mod looking;
-mod names;
 mod texts;
 mod words;
 
 pub use looking::{Style, cat, info, ls, stat};
-pub use names::{path_of, write_name};
 pub use words::{Aim, Deed, Naming, aim_at, deeds, namings};

@@ -3,10 +3,10 @@ ghost use Rattle.std.specs.Prelude.{◌≡◌, ◌++◌, OnOk, map};
 ghost use Rattle.live_paths.specs.Listed.{name_of};
 ghost use Rattle.tools.specs.Told.{name_line, name_lines};
 
-use crate::names::write_name;
 use frozen::Frozen;
 use inode::{DIRECTORY, FILE, Record};
 use live_paths::Named;
+use printed_names::write_name;
 use reading::{Found, Listing, record_of};
 use std::alloc::{AllocError, Global};
 

@@ -1,17 +1,17 @@
 //! The story, part by part.
-use crate::passages::{say, show};
-use crate::texts::{
+use crate::demo::passages::{say, show};
+use crate::demo::texts::{
     ANSWERED, DAMAGE, FRESH, HELP, LEAKS_ALONE, REPAIRED, SCRIPT, SCRIPT_GIVEN, STOPPED, STOPS,
     USERS_GIVEN, USERS_SCRIPT, WORKERS,
 };
-use crate::volumes::{fresh_bytes, held_by, run_of_users, script, stopped};
+use crate::demo::volumes::{fresh_bytes, held_by, run_of_users, script, stopped};
+use crate::run::text_of;
+use crate::stops::stops;
 use command_line::DAMAGED;
 use device::MemDevice;
 use findings::Verdict;
 use image_lines::check::check;
 use layout::Refusal;
-use script_lines::run::text_of;
-use script_lines::stops::stops;
 use std::alloc::{AllocError, Global};
 use std::sync::Wait;
 use std::thread::Threads;

@@ -1,23 +1,28 @@
-//! The subcommand: its arguments, and what it prints.
+//! The line `demo`: what the program does, shown on a small volume in memory. It opens no file.
 ghost use Rattle.std.specs.Prelude.{◌≡◌, IfOk};
 
-use crate::story::story;
+mod passages;
+mod story;
+mod texts;
+mod volumes;
+
+use crate::demo::story::story;
 use clap::{ArgMatches, Command};
 use command_line::{Answer, Failure};
 use std::alloc::{AllocError, Global};
 use std::sync::Wait;
 use std::thread::Threads;
 
-/// What the subcommand asks for: the demo, which takes no argument.
+/// What the line asks for: the demo, which takes no argument.
 #[derive(Clone, Copy)]
 pub struct DemoLine;
 
-/// The subcommand.
+/// The words of the line.
 pub fn command<'a>(alloc: Global) -> Result<Command<'a>, AllocError> {
     Ok(Command::new(alloc, "demo").about("Shows on a small volume in memory what fsvol does"))
 }
 
-/// What these arguments ask for.
+/// What these words ask for.
 pub fn line_of(_options: &ArgMatches<'_>) -> Option<DemoLine> {
     Some(DemoLine)
 }

@@ -1,7 +1,9 @@
 //! Names and paths as they stand in text. A byte from 33 to 126 stands as itself, but for `%`; each other one as `%` and two
 //! hexadecimal digits. So what is printed of a name is one word, whatever its bytes are, and can be given back.
+#![tactic(auto)]
+
 ghost use Rattle.std.specs.Prelude.{◌≡◌, ◌++◌, ◌<◌, IfSome, OnOk};
-ghost use Rattle.tools.specs.Names.{digit, is_plain, written, written_byte};
+ghost use Rattle.printed_names.specs.Names.{digit, is_plain, written, written_byte};
 
 use layout::Refusal;
 use std::alloc::{AllocError, Global};

@@ -1,10 +1,10 @@
 //! The volumes of the story, all of them in memory.
-use crate::texts::{SCRIPT, STOP, USERS_SCRIPT, WORKERS};
+use crate::demo::texts::{SCRIPT, STOP, USERS_SCRIPT, WORKERS};
+use crate::stops::carry_out;
 use device::MemDevice;
 use image_lines::mounting::mount;
 use layout::{BLOCK_BYTES, Block, Geometry, Refusal, fresh_block};
 use outcomes::with;
-use script_lines::stops::carry_out;
 use snapshot::{Command, Volume};
 use std::alloc::Global;
 use std::sync::Wait;
