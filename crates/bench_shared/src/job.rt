@@ -2,10 +2,9 @@
 ghost use Rattle.std.specs.Prelude.{◌≤◌};
 
 use anyhow::{Result, bail};
-use changing::mount;
 use device::MemDevice;
 use layout::Refusal;
-use snapshot::Volume;
+use snapshot::{Live, NotMounted, Volume};
 use std::alloc::Global;
 use std::fs;
 use std::rt::Files;
@@ -67,5 +66,8 @@ pub fn mounted(rt: &(impl Files + AllocGlobal), image: &str) -> Result<Volume<Me
 
 /// Mounts the volume of an image's bytes.
 fn mounted_of(alloc: Global, bytes: &[u8]) -> Result<Volume<MemDevice>, Refusal> {
-    mount(alloc, MemDevice::from_bytes(alloc, bytes)?)
+    match Live::mount(alloc, MemDevice::from_bytes(alloc, bytes)?) {
+        Ok(live) => Ok(Volume::new(live)),
+        Err(NotMounted { device: _, cause }) => Err(cause),
+    }
 }

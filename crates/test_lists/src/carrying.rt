@@ -1,6 +1,6 @@
 //! Requests carried out on a mounted volume, whatever its device.
 ghost use Rattle.std.specs.Prelude.{◌≡◌, true};
-ghost use Rattle.test_lists.specs.Refusals.{asks_only, is_refusal};
+ghost use Rattle.scripts.specs.Refusals.{asks_only, is_refusal};
 
 use crate::answer::Answer;
 use crate::request::Request;
@@ -9,7 +9,7 @@ use findings::Finding;
 use frozen::Frozen;
 use fsck::{Checked, check_one};
 use layout::Refusal;
-use snapshot::{Answer as VolumeAnswer, Command, Volume};
+use snapshot::{Answer as VolumeAnswer, Command, Live, Volume};
 use std::alloc::Global;
 use std::sync::Arc;
 use std::thread::Threads;
@@ -26,11 +26,14 @@ pub struct Mounted<D: Device> {
 
 /// Mounts the volume of a device, or tells why it cannot be.
 pub fn mount<D: Device + Drop>(alloc: Global, device: D) -> Result<Mounted<D>, Refusal> {
-    Ok(Mounted {
-        volume: changing::mount(alloc, device)?,
-        frozen: None,
-        checked: None,
-    })
+    match Live::mount(alloc, device) {
+        Ok(live) => Ok(Mounted {
+            volume: Volume::new(live),
+            frozen: None,
+            checked: None,
+        }),
+        Err(refused) => Err(refused.cause),
+    }
 }
 
 impl<D: Device> Mounted<D> {
