@@ -1,9 +1,9 @@
 -- Which answers refuse a line, and which requests leave the volume as it is.
 use Rattle.std.specs.Prelude.{Bool, true, false}
-use Rattle.scripts.specs.declared.answer.Answer.{Answer}
-use Rattle.scripts.specs.declared.answer.Answer.TheVariants.{NoCommand, Refused}
-use Rattle.scripts.specs.declared.request.Request.{Request}
-use Rattle.scripts.specs.declared.request.Request.TheVariants.{Command, Install}
+use Rattle.test_lists.specs.declared.answer.Answer.{Answer}
+use Rattle.test_lists.specs.declared.answer.Answer.TheVariants.{NoCommand, Refused}
+use Rattle.test_lists.specs.declared.request.Request.{Request}
+use Rattle.test_lists.specs.declared.request.Request.TheVariants.{Command, Install}
 
 -- the line was not carried out
 abbrev pub is_refusal : Answer → Bool

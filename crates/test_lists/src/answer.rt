@@ -30,7 +30,7 @@ pub enum Answer {
 }
 
 impl Answer {
-    ghost use Rattle.scripts.specs.Refusals.{is_refusal};
+    ghost use Rattle.test_lists.specs.Refusals.{is_refusal};
 
     /// Whether it tells that the line was not carried out.
     pub fn is_refusal(&self) -> bool

@@ -1,6 +1,6 @@
 //! Requests carried out on a mounted volume, whatever its device.
 ghost use Rattle.std.specs.Prelude.{◌≡◌, true};
-ghost use Rattle.scripts.specs.Refusals.{asks_only, is_refusal};
+ghost use Rattle.test_lists.specs.Refusals.{asks_only, is_refusal};
 
 use crate::answer::Answer;
 use crate::request::Request;
