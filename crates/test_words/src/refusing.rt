@@ -125,10 +125,14 @@ const HELPS: &[(&str, &str)] = &[
     ),
     (
         "--help",
-        "\nGroups:\n  make and move   mkfs, put, get\n  look            ls, stat, cat, info, map\n  change          mkdir, rm, rmdir, mv, ln\n  check and mend  check, repair, bits, run\n  experiments     stops\n",
+        "\nGroups:\n  make and move   mkfs, put, get\n  look            ls, stat, cat, info, map\n  change          mkdir, rm, rmdir, mv, ln\n  check and mend  check, repair, bits, run\n  experiments     stops, demo\n",
     ),
     ("--help", "\nStatus:\n  0  done, or the image is clean\n"),
     ("--help", "\n  3  the line is refused\n"),
+    (
+        "--help",
+        "\nSafety:\n  A line that changes an image syncs at its end. If the program is stopped before,\n",
+    ),
     ("--help", "\nExample:\n  fsvol mkfs disk.img "),
     ("--version", "fsvol 0.1.0\n"),
     ("-V", "fsvol 0.1.0\n"),
