@@ -9,7 +9,7 @@ use findings::Finding;
 use frozen::Frozen;
 use fsck::{Checked, check_one};
 use layout::Refusal;
-use snapshot::{Answer as VolumeAnswer, Command, Live, Volume};
+use snapshot::{Answer as VolumeAnswer, Command, Volume};
 use std::alloc::Global;
 use std::sync::Arc;
 use std::thread::Threads;
@@ -26,14 +26,11 @@ pub struct Mounted<D: Device> {
 
 /// Mounts the volume of a device, or tells why it cannot be.
 pub fn mount<D: Device + Drop>(alloc: Global, device: D) -> Result<Mounted<D>, Refusal> {
-    match Live::mount(alloc, device) {
-        Ok(live) => Ok(Mounted {
-            volume: Volume::new(live),
-            frozen: None,
-            checked: None,
-        }),
-        Err(refused) => Err(refused.cause),
-    }
+    Ok(Mounted {
+        volume: changing::mount(alloc, device)?,
+        frozen: None,
+        checked: None,
+    })
 }
 
 impl<D: Device> Mounted<D> {

@@ -1,8 +1,9 @@
 //! What the words of the program ask for, and how it is done.
-use crate::lists::{Show, carry_out_lists};
+use crate::lists::{Outcome, Show, carry_out_lists};
 use crate::runs::carry_out_on;
 use anyhow::{Result, bail};
 use layout::Refusal;
+use std::alloc::{AllocError, Global};
 use std::fs;
 use std::os::unix::fs::FileExt;
 use std::rt::Files;
@@ -64,15 +65,27 @@ fn lists<R: Files + AllocGlobal + Threads + Sync>(
     show: Show,
 ) -> Result<Output> {
     let bytes = fs::read(rt, file)?;
-    let outcome = carry_out_lists(rt, rt.alloc(), bytes.as_slice(), show)?;
-    let mut text = outcome.text;
+    Ok(output_of(rt, rt.alloc(), bytes.as_slice(), show)?)
+}
+
+/// What is printed of the lists of a file with these bytes, and the status.
+fn output_of(
+    rt: &(impl Threads + Sync),
+    alloc: Global,
+    bytes: &[u8],
+    show: Show,
+) -> Result<Output, AllocError> {
+    let Outcome {
+        mut text,
+        lists,
+        lines,
+        wrong,
+        ..
+    } = carry_out_lists(rt, alloc, bytes, show)?;
     if show == Show::Wrong {
-        let lists = outcome.lists;
-        let lines = outcome.lines;
-        let wrong = outcome.wrong;
         writeln!(text, "lists {lists} lines {lines} wrong {wrong}")?;
     }
-    let status = if show == Show::Wrong && outcome.wrong > 0 {
+    let status = if show == Show::Wrong && wrong > 0 {
         1
     } else {
         0

@@ -73,6 +73,7 @@ pub fn carry_out_lists(
     let mut outcome = Outcome::new(alloc, show);
     let mut session = Session::new();
     let done = carry_out_all(rt, alloc, &mut session, &mut outcome, bytes);
+    drop(session);
     done.and(Ok(outcome))
 }
 

@@ -6,6 +6,7 @@ use crate::request::Request;
 use crate::stops::look_at_stops;
 use device::MemDevice;
 use layout::{BLOCK_BYTES, Block, Refusal};
+use outcomes::with;
 use snapshot::{Answer as VolumeAnswer, Command};
 use std::alloc::{AllocError, Global};
 use std::thread::Threads;
@@ -31,11 +32,10 @@ enum Event {
 impl Recorded {
     /// What a device holds, mounted on a device of its own that was never written.
     pub fn mount(alloc: Global, device: &MemDevice) -> Result<Recorded, Refusal> {
-        let mounted = mount(alloc, copy_of(alloc, device)?)?;
-        match history_of(alloc, device) {
-            Ok(history) => Ok(Recorded { mounted, history }),
-            Err(refusal) => Err(refusal),
-        }
+        let history = history_of(alloc, device)?;
+        let (copy, history) = with(copy_of(alloc, device), history)?;
+        let (mounted, history) = with(mount(alloc, copy), history)?;
+        Ok(Recorded { mounted, history })
     }
 
     /// The device.

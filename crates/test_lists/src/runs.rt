@@ -33,7 +33,9 @@ where
 {
     let device: FileDevice<R::File, Brand> = FileDevice::open_to_write(rt, image)?;
     let mut mounted = mount(rt.alloc(), device)?;
-    carry_out_and_sync(rt, rt.alloc(), &mut mounted, bytes)
+    let count = carry_out_and_sync(rt, rt.alloc(), &mut mounted, bytes);
+    drop(mounted);
+    count
 }
 
 /// Carries out the commands on a mounted volume, and syncs it.

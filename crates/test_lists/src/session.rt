@@ -9,6 +9,7 @@ use fsck::check_one;
 use layout::{BLOCK_BYTES, Geometry, Refusal};
 use snapshot::Answer as VolumeAnswer;
 use std::alloc::{AllocError, Global};
+use std::mem::replace;
 use std::sync::Arc;
 use std::thread::Threads;
 
@@ -74,18 +75,23 @@ impl Session {
     /// Makes a fresh volume of these numbers, in place of the one that was there.
     fn make(&mut self, alloc: Global, groups: u32, blocks: u32, inodes: u32) {
         self.earlier_writes = 0;
-        self.volume = made(alloc, groups, blocks, inodes);
+        self.put(made(alloc, groups, blocks, inodes));
+    }
+
+    /// Puts a volume in place of the one that was there.
+    fn put(&mut self, volume: Stage) {
+        drop(replace(&mut self.volume, volume));
     }
 
     /// Sets a byte of a block before the volume is mounted; it cannot be mounted where it has no such byte.
     fn set_byte(&mut self, address: u32, place: u32, value: u8) -> Option<Answer> {
-        let put = match &mut self.volume {
+        let done = match &mut self.volume {
             Stage::Made(device) => put_byte(device, address, place as usize, value),
             Stage::Refused(_) => Ok(()),
             Stage::Absent | Stage::Mounted(_) => return Some(Answer::NoCommand),
         };
-        if let Err(refusal) = put {
-            self.volume = Stage::Refused(refusal);
+        if let Err(refusal) = done {
+            self.put(Stage::Refused(refusal));
         }
         None
     }
@@ -96,7 +102,7 @@ impl Session {
             Stage::Made(device) => mounted_copy(alloc, device),
             Stage::Absent | Stage::Mounted(_) | Stage::Refused(_) => return,
         };
-        self.volume = mounted;
+        self.put(mounted);
     }
 
     /// The answer of a line that is a command.
@@ -130,7 +136,8 @@ impl Session {
         };
         let device = recorded.device();
         self.earlier_writes = self.earlier_writes.saturating_add(device.writes());
-        self.volume = mounted_copy(alloc, device);
+        let mounted = mounted_copy(alloc, device);
+        self.put(mounted);
         match &self.volume {
             Stage::Refused(refusal) => Answer::Refused(*refusal),
             Stage::Absent | Stage::Made(_) | Stage::Mounted(_) => Answer::Given(VolumeAnswer::Done),

@@ -74,9 +74,9 @@ fn look_at(
     history: &History,
 ) -> Result<(), Fault> {
     find_fault(rt, alloc, &mut image, history)?;
-    match mount(alloc, image) {
-        Ok(_) => Ok(()),
-        Err(refusal) => Err(Fault::NotMounted(refusal)),
+    match mount(alloc, image).err() {
+        Some(refusal) => Err(Fault::NotMounted(refusal)),
+        None => Ok(()),
     }
 }
 

@@ -7,7 +7,7 @@ mod stage;
 use crate::expect::{holds, same};
 use device::MemDevice;
 use findings::Finding;
-use images::{FILE_WITH_TWO_LINKS, FRESH, LOST_BLOCK, LOST_DIRECTORY, found_on, mounted};
+use images::{FILE_WITH_TWO_LINKS, FRESH, LOST_BLOCK, LOST_DIRECTORY};
 use layout::Refusal;
 use meeting::{Met, check_beside_a_user};
 use shared::{Counts, Entry, MOST_CALLS, MOST_SEATS, Shared};
@@ -20,8 +20,8 @@ use std::sync::Wait;
 use std::sync::ledger::{Blank, Ledger};
 use std::test::Fail;
 use std::thread::Threads;
-use test_commands::{Asked, Wanted, is_as};
 use test_images::Byte;
+use test_mounted::{Asked, Wanted, found_on, is_as, mounted};
 
 /// How often a row with threads is carried out.
 const TIMES: u32 = 20;
@@ -268,7 +268,7 @@ fn expect_found<R: Threads + Wait + Sync + AllocGlobal + Abort>(
         FILE_WITH_TWO_LINKS,
         100,
         steps,
-        |outcome| found_on(rt, &outcome.closed.volume),
+        |outcome| found_on(rt, rt.alloc(), &outcome.closed.volume),
     )??;
     same(rt, "found", found.as_slice(), wanted);
     Ok(())
@@ -413,7 +413,7 @@ fn may_share_on<L: Ledger, M: Ledger>(
     requires parts { (repairs.parts ≡ L.parts) × (others.parts ≡ M.parts) }
     requires seats { (repairs.parts ≡ seats) × (others.parts ≡ seats) }
 {
-    let volume = mounted(alloc, 1, FRESH)?;
+    let volume = mounted(alloc, 1, 16, FRESH)?;
     match Shared::<MemDevice, L, M>::new(alloc, volume, limit, seats, repairs, others) {
         Ok((_shared, made)) => Ok(made.len() == seats as usize),
         Err(Refusal::BadIndex) => Ok(false),

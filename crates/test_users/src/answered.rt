@@ -4,28 +4,17 @@ use crate::expect::{holds, same};
 use command_text::write_reply;
 use device::MemDevice;
 use findings::Repair;
-use frozen::{Frozen, load};
-use fsck::check_one;
-use layout::{Geometry, Refusal};
+use layout::Refusal;
 use scripts::SCRIPTS;
-use snapshot::{Live, Volume};
 use std::alloc::{AllocError, Global};
 use std::process::Abort;
-use std::sync::{Arc, Wait};
+use std::sync::Wait;
 use std::test::Fail;
 use std::thread::Threads;
-use test_images::{Byte, device_with};
+use test_images::Byte;
+use test_mounted::{found_on, mounted};
 use user_scripts::{Commands, UserLine, parse};
 use users::{Answered, Ran, run};
-
-/// A volume with the image of one group of 16 blocks and 16 inodes that is fresh but for these bytes.
-fn mounted(alloc: Global, bytes: &[Byte]) -> Result<Volume<MemDevice>, Refusal> {
-    let geometry = Geometry::new(1, 16, 16)?;
-    match Live::mount(alloc, device_with(alloc, &geometry, bytes)?) {
-        Ok(live) => Ok(Volume::new(live)),
-        Err(refused) => Err(refused.cause),
-    }
-}
 
 /// The lines of a script.
 fn lines_of(alloc: Global, script: &[u8]) -> Result<Vec<UserLine>, Refusal> {
@@ -35,7 +24,8 @@ fn lines_of(alloc: Global, script: &[u8]) -> Result<Vec<UserLine>, Refusal> {
     }
 }
 
-/// What comes of a script on that volume, with so many workers.
+/// What comes of a script with so many workers, on the volume of an image of one group and 16 inodes that is fresh but for these
+/// bytes.
 fn ran<R: Threads + Wait + Sync>(
     rt: &R,
     alloc: Global,
@@ -44,10 +34,8 @@ fn ran<R: Threads + Wait + Sync>(
     workers: u32,
 ) -> Result<Ran<MemDevice>, Refusal> {
     let lines = lines_of(alloc, script)?;
-    match mounted(alloc, bytes) {
-        Ok(volume) => run(rt, alloc, volume, lines, workers),
-        Err(refusal) => Err(refusal),
-    }
+    let volume = mounted(alloc, 1, 16, bytes)?;
+    run(rt, alloc, volume, lines, workers)
 }
 
 /// A reply as it stands behind its line.
@@ -70,21 +58,21 @@ fn told(alloc: Global, answered: &[Answered]) -> Result<Vec<u8>, AllocError> {
     Ok(all)
 }
 
-/// What the device of a volume holds.
-fn held_by(alloc: Global, volume: &Volume<MemDevice>) -> Result<Frozen, Refusal> {
-    let device = volume.live().device();
-    let mut copy = device.image_after(alloc, device.writes())?;
-    load(alloc, &mut copy)
+/// Expects these lines with their replies.
+fn expect_lines(
+    rt: &(impl AllocGlobal + Abort),
+    answered: &[Answered],
+    lines: &[u8],
+) -> Result<(), AllocError> {
+    let told = told(rt.alloc(), answered)?;
+    same(rt, "lines", told.as_slice(), lines);
+    Ok(())
 }
 
-/// Whether a check finds nothing on what the device of a volume holds.
-fn is_clean<R: Threads + Sync>(
-    rt: &R,
-    alloc: Global,
-    volume: &Volume<MemDevice>,
-) -> Result<bool, Refusal> {
-    let frozen = Arc::new(alloc, held_by(alloc, volume)?)?;
-    Ok(check_one(rt, alloc, &frozen)?.findings().is_empty())
+/// Expects these repairs to be carried out.
+fn expect_repairs(rt: &impl Abort, ran: &Ran<MemDevice>, repairs: &[Repair]) {
+    same(rt, "repairs", ran.mended.checked.repairs(), repairs);
+    same(rt, "repaired", ran.mended.repaired as usize, repairs.len());
 }
 
 /// Expects these lines with their replies, these repairs, and a clean device.
@@ -94,11 +82,10 @@ fn expect_ran<R: Threads + AllocGlobal + Abort + Sync>(
     lines: &[u8],
     repairs: &[Repair],
 ) -> Result<(), Refusal> {
-    let told = told(rt.alloc(), ran.answered.as_slice())?;
-    same(rt, "lines", told.as_slice(), lines);
-    same(rt, "repairs", ran.mended.checked.repairs(), repairs);
-    same(rt, "repaired", ran.mended.repaired as usize, repairs.len());
-    holds(rt, "clean", is_clean(rt, rt.alloc(), &ran.volume)?);
+    expect_lines(rt, ran.answered.as_slice(), lines)?;
+    expect_repairs(rt, ran, repairs);
+    let found = found_on(rt, rt.alloc(), &ran.volume)?;
+    holds(rt, "clean", found.is_empty());
     Ok(())
 }
 
@@ -112,7 +99,9 @@ fn expect_run<R: Threads + Wait + AllocGlobal + Abort + Sync>(
     repairs: &[Repair],
 ) -> Result<(), Refusal> {
     let ran = ran(rt, rt.alloc(), bytes, script, workers)?;
-    expect_ran(rt, &ran, lines, repairs)
+    let outcome = expect_ran(rt, &ran, lines, repairs);
+    drop(ran);
+    outcome
 }
 
 #[test]

@@ -7,7 +7,7 @@ use snapshot::Volume;
 use std::alloc::Global;
 use std::process::Abort;
 use std::test::Fail;
-use test_commands::{Asked, commands_of};
+use test_mounted::{Asked, commands_of};
 
 /// What came of commands on a volume.
 fn outcome_on(

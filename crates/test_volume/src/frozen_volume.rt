@@ -10,8 +10,8 @@ use std::process::Abort;
 use std::sync::Arc;
 use std::test::Fail;
 use std::thread::Threads;
-use test_commands::{Asked, commands_of};
 use test_images::{Byte, frozen_with};
+use test_mounted::{Asked, commands_of};
 
 /// Block 9 is marked, and in no use.
 const LOST_BLOCK: &[Byte] = &[(1, 160, 0b10_0001)];

@@ -1,15 +1,15 @@
 //! Mounted volumes of small images.
 ghost use Rattle.std.specs.Prelude.{◌≡◌};
 
-use changing::mount;
 use device::MemDevice;
-use layout::{Geometry, Refusal};
+use layout::Refusal;
 use snapshot::Volume;
 use std::alloc::Global;
-use test_images::{Byte, device_with};
+use test_images::Byte;
+use test_mounted::mounted;
 
-/// Hands over the mounted volume of the image of one group of 16 blocks and so many inodes that is fresh but for these bytes. A
-/// volume that is let go is dear to prove, so this function alone owns one.
+/// Hands over the mounted volume of the image of one group and so many inodes that is fresh but for these bytes. What lets a
+/// volume go is dear to prove, so this function alone owns one.
 pub(crate) fn on_mounted<F: FnOnce(&mut Volume<MemDevice>) -> Result<(), Refusal>>(
     alloc: Global,
     inodes: u32,
@@ -18,7 +18,6 @@ pub(crate) fn on_mounted<F: FnOnce(&mut Volume<MemDevice>) -> Result<(), Refusal
 ) -> Result<(), Refusal>
     requires { F.IsAlwaysCallable expect }
 {
-    let geometry = Geometry::new(1, 16, inodes)?;
-    let mut volume = mount(alloc, device_with(alloc, &geometry, bytes)?)?;
+    let mut volume = mounted(alloc, 1, inodes, bytes)?;
     expect(&mut volume)
 }

@@ -1,15 +1,5 @@
-//! Small images, and the volumes on them. Each is the fresh image of one group of 16 blocks and 16 inodes but for some bytes.
-use changing::mount;
-use device::MemDevice;
-use findings::Finding;
-use frozen::{Frozen, load};
-use fsck::check_one;
-use layout::{Geometry, Refusal};
-use snapshot::Volume;
-use std::alloc::Global;
-use std::sync::Arc;
-use std::thread::Threads;
-use test_images::{Byte, device_with};
+//! Small images. Each is the fresh image of one group of 16 blocks and 16 inodes but for some bytes.
+use test_images::Byte;
 
 /// No byte differs.
 pub const FRESH: &[Byte] = &[];
@@ -49,27 +39,3 @@ pub const LOST_DIRECTORY: &[Byte] = &[
     (5, 132, 1),
     (5, 136, b'x'),
 ];
-
-/// The mounted volume of the image of so many groups that differs in these bytes.
-pub fn mounted(alloc: Global, groups: u32, bytes: &[Byte]) -> Result<Volume<MemDevice>, Refusal> {
-    let geometry = Geometry::new(groups, 16, 16)?;
-    mount(alloc, device_with(alloc, &geometry, bytes)?)
-}
-
-/// What the device of a volume holds.
-fn held_by(alloc: Global, volume: &Volume<MemDevice>) -> Result<Frozen, Refusal> {
-    let device = volume.live().device();
-    let mut copy = device.image_after(alloc, device.writes())?;
-    load(alloc, &mut copy)
-}
-
-/// What a check finds on what the device of a volume holds.
-pub fn found_on<R: Threads + AllocGlobal + Sync>(
-    rt: &R,
-    volume: &Volume<MemDevice>,
-) -> Result<Vec<Finding>, Refusal> {
-    let alloc = rt.alloc();
-    let frozen = Arc::new(alloc, held_by(alloc, volume)?)?;
-    let checked = check_one(rt, alloc, &frozen)?;
-    Ok(checked.findings().to_vec(alloc)?)
-}

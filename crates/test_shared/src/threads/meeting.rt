@@ -1,7 +1,7 @@
 //! A check by two workers of a snapshot, while a user goes on.
 ghost use Rattle.std.specs.Prelude.{◌≡◌, vec_len};
 
-use super::images::{FRESH, mounted};
+use super::images::FRESH;
 use device::MemDevice;
 use frozen::Frozen;
 use fsck::{Checked, check};
@@ -16,7 +16,7 @@ use std::sync::{Arc, Wait};
 use std::thread;
 use std::thread::{Threads, join};
 use std::time::{Clock, Duration};
-use test_commands::{Asked, command_of};
+use test_mounted::{Asked, command_of, mounted};
 use workers::Gate;
 
 /// How often a gate looks, at most, and a millisecond lies between.
@@ -94,7 +94,7 @@ pub fn check_beside_a_user<R: Threads + Wait + Clock + Sync>(
     rt: &R,
     alloc: Global,
 ) -> Result<Met, Refusal> {
-    let volume = mounted(alloc, 2, FRESH)?;
+    let volume = mounted(alloc, 2, 16, FRESH)?;
     check_beside_on::<Brand, Brand, R>(rt, alloc, volume, Blank::new(2), Blank::new(2))
 }
 

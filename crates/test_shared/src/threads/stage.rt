@@ -1,7 +1,6 @@
 //! Steps on a volume that two threads share.
 ghost use Rattle.std.specs.Prelude.{◌≡◌, ◌∷◌, [], IfOk, vec_len};
 
-use super::images::mounted;
 use device::MemDevice;
 use findings::Finding;
 use fsck::{Checked, check_one};
@@ -14,8 +13,8 @@ use std::marker::Brand;
 use std::sync::ledger::{Blank, Ledger};
 use std::sync::{Arc, Wait};
 use std::thread::{Threads, join};
-use test_commands::{Asked, command_of};
 use test_images::Byte;
+use test_mounted::{Asked, command_of, mounted};
 
 /// What is done next.
 #[derive(Clone, Copy)]
@@ -66,7 +65,7 @@ pub fn carry_out<R: Threads + Wait + Sync>(
     limit: u32,
     steps: &[Step],
 ) -> Result<Outcome, Refusal> {
-    let volume = mounted(alloc, 1, bytes)?;
+    let volume = mounted(alloc, 1, 16, bytes)?;
     carry_out_on::<Brand, Brand, R>(
         rt,
         alloc,

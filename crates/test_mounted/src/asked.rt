@@ -1,6 +1,4 @@
-//! Commands and replies as the tables of tests tell them.
-#![tactic(auto)]
-
+//! Commands and replies as tables tell them.
 use layout::Refusal;
 use snapshot::{Answer, Command, Reply};
 use std::alloc::{AllocError, Global};
