@@ -7,9 +7,10 @@ mod QueueLemmas
 pub mod Represented
 pub mod NewClaims
 mod HeldCuts
-mod FileLemmas
+pub mod FileLemmas
 mod OwnLemmas
 pub mod CourseLemmas
+pub mod HoldLemmas
 mod BlockLemmas
 pub mod NamingLemmas
 mod CourseHistories

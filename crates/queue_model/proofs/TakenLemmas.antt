@@ -1,12 +1,13 @@
 -- Entries that are taken one by one until no other may go are those that a flush takes.
-use Rattle.std.proofs.Common.{◌≡◌, ℕ, suc, ◌<◌, Bool, true, false, not, eqb, ◌||◌, List, [], ◌∷◌, ◌⊎◌, inl, inr, refl, sym, ap, ◌∙◌, subst, IsTrue, IsFalse, Contains, length, arith, eqb-true, eq-eqb, ne_eqb}
+use Rattle.std.proofs.Common.{◌≡◌, ◌↔◌, ℕ, zero, suc, ◌<◌, Bool, true, false, not, eqb, ◌||◌, List, [], ◌∷◌, ◌⊎◌, inl, inr, refl, sym, ap, ◌∙◌, subst, IsTrue, IsFalse, Contains, length, map, arith, eqb-true, eq-eqb, ne_eqb}
 use Rattle.std.proofs.lemmas.Bool.{or_cases, or_left, or_right, cases_Bool, both_ways}
 use Rattle.model.specs.View.{View}
-use Rattle.model.specs.Cells.{updated}
+use Rattle.model.specs.Cells.{Update, updated}
 use Rattle.ordering.specs.Cuts.{Cell, Pending, IsClosed, cell_of, fresh, seen}
+use Rattle.ordering.specs.ClosedSets.{pending_at, takes}
 use Rattle.ordering.proofs.CutLemmas.{was_fresh, is_other}
 use Rattle.ordering.proofs.Flushes.{commute}
-use Rattle.queue_model.specs.Flush.{is_ready, ready, taken}
+use Rattle.queue_model.specs.Flush.{is_ready, ready, taken, TakesChange}
 use Rattle.queue_model.specs.Entries.{Entry, has_id, entries_at, Stand, may_go, Queue, Represents, goes, AreTaken, NoOtherMayGo, view_after}
 use Rattle.queue_model.proofs.Lists.{bool_same, contains_head, contains_tail, contains_cases, contains_none, all_at, all_from}
 use Rattle.queue_model.proofs.FlushLemmas.{ready_parts, closed_step}
@@ -120,6 +121,48 @@ marks_rest x y xs ys e = ap (λ l. others l) e
     others [] = []
     others (b ∷ l) = l
 
+-- an entry in the set is an update that its cut takes
+marked : (set : ℕ → Bool) (n : ℕ) (es : List Entry) (q : List Pending) → Stand n es q → (e : Entry) → Contains es e → IsTrue (set e.id) → TakesChange q (marks set es) e.change
+marked set n [] q s x m t = absurd (contains_none x m)
+marked set n (e ∷ es) [] s x m t = absurd s
+marked set n (e ∷ es) (u ∷ q) s x m t = elim (contains_cases e x es m) [
+  | inl d ↦ (0, ap (λ (z : Entry). set z.id) d ∙ t, sym s.2.change ∙ ap (λ (z : Entry). z.change) d)
+  | inr older ↦ let more = marked set e.id es q s.1 x older t in (suc more.0, more.1, more.2)
+]
+
+unmarked : (set : ℕ → Bool) (n : ℕ) (es : List Entry) (q : List Pending) → Stand n es q → (u : Update) → TakesChange q (marks set es) u
+    → (e : Entry) × Contains es e × IsTrue (set e.id) × (e.change ≡ u)
+unmarked set n [] q s u t = absurd (let bad : false ≡ true = t.1 in cc)
+unmarked set n (e ∷ es) [] s u t = absurd s
+unmarked set n (e ∷ es) (p ∷ q) s u t = at t.0 t.1 t.2 (λ older. unmarked set e.id es q s.1 u older)
+  where
+    at : (k : ℕ) → IsTrue (takes (marks set (e ∷ es)) k) → (pending_at (p ∷ q) k).change ≡ u → (TakesChange q (marks set es) u → (x : Entry) × Contains es x × IsTrue (set x.id) × (x.change ≡ u))
+        → (x : Entry) × Contains (e ∷ es) x × IsTrue (set x.id) × (x.change ≡ u)
+    at zero t d more = (e, contains_head e es, t, s.2.change ∙ d)
+    at (suc k) t d more = let x = more (k, t, d) in (x.0, contains_tail e x.0 es x.1, x.2, x.3)
+
+-- the changes of entries, and the entries of ids
+change_of : (es : List Entry) (u : Update) → Contains (map (λ (e : Entry). e.change) es) u → (e : Entry) × Contains es e × (e.change ≡ u)
+change_of [] u m = absurd (contains_none u m)
+change_of (e ∷ es) u m = elim (contains_cases e.change u (map (λ (x : Entry). x.change) es) m) [
+  | inl d ↦ (e, contains_head e es, d)
+  | inr older ↦ let x = change_of es u older in (x.0, contains_tail e x.0 es x.1, x.2)
+]
+
+change_in : (es : List Entry) (e : Entry) → Contains es e → Contains (map (λ (x : Entry). x.change) es) e.change
+change_in [] e m = absurd (contains_none e m)
+change_in (x ∷ es) e m = elim (contains_cases x e es m) [
+  | inl d ↦ subst (λ (z : Entry). Contains (map (λ (y : Entry). y.change) (x ∷ es)) z.change) d (contains_head x.change (map (λ (y : Entry). y.change) es))
+  | inr older ↦ contains_tail x.change e.change (map (λ (y : Entry). y.change) es) (change_in es e older)
+]
+
+of_id : (es : List Entry) (i : ℕ) → IsTrue (has_id es i) → (e : Entry) × Contains es e × (e.id ≡ i)
+of_id [] i h = absurd (let bad : false ≡ true = h in cc)
+of_id (e ∷ es) i h = elim (or_cases (eqb i e.id) (has_id es i) h) [
+  | inl same ↦ (e, contains_head e es, sym (eqb-true i e.id same))
+  | inr before ↦ let x = of_id es i before in (x.0, contains_tail e x.0 es x.1, x.2)
+]
+
 module _ (home : Cell → ℕ) (a : ℕ) (queue : Queue) (q : List Pending) (r : Represents home queue q) where
   -- each entry of the block's list is an entry, and stands there
   listed : (e : Entry) → Contains (queue.lists a) e → Contains r.entries e × (home (cell_of e.change) ≡ a)
@@ -189,12 +232,14 @@ module _ (home : Cell → ℕ) (a : ℕ) (queue : Queue) (q : List Pending) (r :
     | inr there ↦ marks_tell f g es (marks_rest (f e.id) (g e.id) (marks f es) (marks g es) m) i there
   ]
 
+  taken_cut : (es : List Entry) → AreTaken queue a es → NoOtherMayGo queue a es → marks (has_id es) r.entries ≡ ready home a q
+  taken_cut es t none = settled (has_id es) queue.next r.entries q r.stand (λ i b. r.pending i) (λ e m h. after es t e m h) (λ e m at may. none e (in_list e m at) may)
+
   pub all_taken : (disk : View) (es : List Entry) → AreTaken queue a es → NoOtherMayGo queue a es
       → (view_after disk es ≡ seen disk q (ready home a q)) × (length es ≡ taken (ready home a q)) × ((i : ℕ) → goes queue a i ≡ has_id es i)
   all_taken disk es t none =
       let c = cut_view disk es t in
-      let same : marks (has_id es) r.entries ≡ ready home a q
-      = settled (has_id es) queue.next r.entries q r.stand (λ i b. r.pending i) (λ e m h. after es t e m h) (λ e m at may. none e (in_list e m at) may) in
+      let same = taken_cut es t none in
       let go : marks (goes queue a) r.entries ≡ marks (has_id es) r.entries = goes_ready home a queue q r ∙ sym same in (
         c.0 ∙ ap (seen disk q) same,
         c.1 ∙ ap taken same,
@@ -205,3 +250,24 @@ module _ (home : Cell → ℕ) (a : ℕ) (queue : Queue) (q : List Pending) (r :
               (λ g. let f = found es t i g in absurd (both_ways (has_id r.entries i) not_there (subst (λ j. IsTrue (has_id r.entries j)) f.2 (has_from r.entries f.0 (listed f.0 f.1).0))))
         ],
       )
+
+  within : (es : List Entry) → AreTaken queue a es → (e : Entry) → Contains es e → Contains r.entries e
+  within [] t e m = absurd (contains_none e m)
+  within (x ∷ es) t e m = elim (contains_cases x e es m) [
+    | inl d ↦ subst (Contains r.entries) d (listed x t.0).0
+    | inr older ↦ within es t.3 e older
+  ]
+
+  -- their changes are those of the updates that the cut takes
+  pub taken_changes : (es : List Entry) → AreTaken queue a es → NoOtherMayGo queue a es → (u : Update) → Contains (map (λ (e : Entry). e.change) es) u ↔ TakesChange q (ready home a q) u
+  taken_changes es t none u = (
+    (λ m.
+        let e = change_of es u m in
+        let marked_now = marked (has_id es) queue.next r.entries q r.stand e.0 (within es t e.0 e.1) (has_from es e.0 e.1) in
+        subst (TakesChange q (ready home a q)) e.2 (subst (λ cut. TakesChange q cut e.0.change) (taken_cut es t none) marked_now)),
+    (λ m.
+        let e = unmarked (has_id es) queue.next r.entries q r.stand u (subst (λ cut. TakesChange q cut u) (sym (taken_cut es t none)) m) in
+        let x = of_id es e.0.id e.2 in
+        let same : x.0 ≡ e.0 = one_id x.0 e.0 (within es t x.0 x.1) e.1 x.2 in
+        subst (Contains (map (λ (z : Entry). z.change) es)) (ap (λ (z : Entry). z.change) same ∙ e.3) (change_in es x.0 x.1)),
+  )

@@ -1,24 +1,31 @@
 -- What a flush leaves.
-use Rattle.std.proofs.Common.{◌≡◌, ℕ, ◌<◌, Bool, eqb, List, [], inl, inr, sym, ap, ◌∙◌, subst, length, eq-eqb, ne_eqb, slice_set, get_or-set_same, get_or-set_other}
+use Rattle.std.proofs.Common.{◌≡◌, ℕ, zero, suc, ◌<◌, Bool, true, false, IsTrue, eqb, List, [], ◌∷◌, inl, inr, refl, sym, ap, ◌∙◌, subst, length, arith, eq-eqb, ne_eqb, slice_set, get_or-set_same, get_or-set_other}
+use Rattle.std.specs.List.{All}
+use Rattle.std.proofs.lemmas.List.Elements.{All-cons, All-nil}
 use Rattle.std.proofs.lemmas.Bool.{cases_eq, cond-true, cond-false}
 use mathlib.Core.Path.{fun_ext}
 use Rattle.model.specs.Layout.{Geometry}
 use Rattle.model.specs.View.{View, view_of}
-use Rattle.model.specs.Cells.{put_at}
+use Rattle.model.specs.Cells.{Update, put_at}
 use Rattle.model.specs.Image.{block_at, image_view}
-use Rattle.ordering.specs.Cuts.{Pending, IsClosed, seen, rest}
+use Rattle.ordering.specs.Cuts.{Pending, IsClosed, cell_of, seen, rest}
+use Rattle.ordering.specs.ClosedSets.{takes}
 use Rattle.queue_model.specs.Blocks.{home_of}
 use Rattle.queue_model.specs.Flush.{ready, taken}
 use Rattle.queue_model.specs.Files.{updates}
 use Rattle.queue_model.specs.Entries as entries
-use Rattle.queue_model.specs.Entries.{Entry, NoOtherMayGo, view_after}
+use Rattle.queue_model.specs.Entries.{Entry, AreTaken}
+use Rattle.queue_model.proofs.Lists.{contains_none}
 use Rattle.queue_model.proofs.FlushLemmas.{ready_closed, none_taken}
 use Rattle.queue_model.proofs.HistoryLemmas.{write_joins}
-use Rattle.queue_model.proofs.TakenLemmas.{all_taken}
+use Rattle.queue_model.proofs.TakenLemmas.{all_taken, taken_changes}
+use Rattle.updates.specs.Places.{IsCell}
 use Rattle.softdep_queue.specs.declared.table.Table.{Table}
 use Rattle.softdep_queue.specs.Ties.{Holds}
-use Rattle.softdep_queue.specs.Taking.{TakesAll}
+use Rattle.softdep_queue.specs.Taking.{TakesAll, changes_of}
 use Rattle.softdep.specs.Queued.{Queued, IsQueue, pending_of, flushed}
+use Rattle.softdep.specs.Writing.{WritesTaken}
+use Rattle.softdep.proofs.Puts.{turned}
 
 -- the ready cut of a block
 abbrev pub ready_of : Queued → ℕ → List Bool
@@ -59,12 +66,41 @@ block_written image a block low = fun_ext (λ k. elim (cases_eq k a) [
   | inr d ↦ get_or-set_other image a k block [] d ∙ sym (cond-false (eqb k a) block (block_at image k) (ne_eqb k a d))
 ])
 
-pub flushed_view : (geo : Geometry) (queue : entries.Queue) (q : List Pending) (a : ℕ) (t t' : Table) (old new : List ℕ) (count : ℕ) (image image' : List (List ℕ)) → Holds geo t queue q
-    → TakesAll geo queue q a t' old new count → old ≡ block_at image a → image' ≡ slice_set image a new → a < length image
+pub flushed_view : (geo : Geometry) (queue : entries.Queue) (q : List Pending) (a : ℕ) (t t' : Table) (new : List ℕ) (count : ℕ) (image image' : List (List ℕ)) → Holds geo t queue q
+    → TakesAll geo queue q a t' (block_at image a) new count → image' ≡ slice_set image a new → a < length image
     → image_view geo image' ≡ seen (image_view geo image) q (ready (home_of geo) a q)
-flushed_view geo queue q a t t' old new count image image' holds takes was is low =
-    ap (image_view geo) is ∙ ap (view_of geo) (block_written image a new low) ∙ takes.turns (block_at image) (sym was)
+flushed_view geo queue q a t t' new count image image' holds takes is low =
+    ap (image_view geo) is ∙ ap (view_of geo) (block_written image a new low)
+    ∙ turned geo queue q a holds.ties.represents takes.es (block_at image a) new takes.takes.each takes.put (block_at image) refl
     ∙ (all_taken (home_of geo) a queue q holds.ties.represents (image_view geo image) takes.es takes.takes.each takes.all).0
+
+-- what is written is what was taken
+pub flushed_bytes : (geo : Geometry) (queue : entries.Queue) (q : List Pending) (a : ℕ) (t t' : Table) (old new : List ℕ) (count : ℕ) → Holds geo t queue q → TakesAll geo queue q a t' old new count → WritesTaken geo a q old new
+flushed_bytes geo queue q a t t' old new count holds takes = record {
+  changes = changes_of takes.es;
+  put = takes.put;
+  cells = cells takes.es takes.takes.each;
+  taken = taken_changes (home_of geo) a queue q holds.ties.represents takes.es takes.takes.each takes.all;
+}
+  where
+    cells : (es : List Entry) → AreTaken queue a es → All (λ u. IsCell geo (cell_of u)) (changes_of es)
+    cells [] each = All-nil (λ (u : Update). IsCell geo (cell_of u))
+    cells (e ∷ es) each = All-cons (λ (u : Update). IsCell geo (cell_of u)) e.change (changes_of es) (takes.takes.ties.node a e each.0).cell (cells es each.3)
+
+-- with nothing ready nothing is
+pub unflushed_bytes : (geo : Geometry) (q : List Pending) (a : ℕ) (block : List ℕ) → taken (ready (home_of geo) a q) ≡ 0 → WritesTaken geo a q block block
+unflushed_bytes geo q a block none = record {
+  changes = [];
+  put = refl;
+  cells = All-nil (λ (u : Update). IsCell geo (cell_of u));
+  taken = λ u. ((λ m. absurd (contains_none u m)), (λ t. absurd (takes_none (ready (home_of geo) a q) t.0 none t.1)));
+}
+  where
+    takes_none : (cut : List Bool) (k : ℕ) → taken cut ≡ 0 → IsTrue (takes cut k) → ⊥
+    takes_none [] k none t = let bad : false ≡ true = t in cc
+    takes_none (true ∷ cut) k none t = omega (arith, none)
+    takes_none (false ∷ cut) zero none t = let bad : false ≡ true = t in cc
+    takes_none (false ∷ cut) (suc k) none t = takes_none cut k none t
 
 pub flushed_count : (geo : Geometry) (queue : entries.Queue) (q : List Pending) (a : ℕ) (t t' : Table) (old new : List ℕ) (count : ℕ) → Holds geo t queue q → TakesAll geo queue q a t' old new count → count ≡ taken (ready (home_of geo) a q)
 flushed_count geo queue q a t t' old new count holds takes =

@@ -1,4 +1,8 @@
 mod Issued
+mod Puts
 mod Flushed
 mod Synced
 mod GivenBytes
+mod Framed
+mod RecordTails
+mod FreeBytes

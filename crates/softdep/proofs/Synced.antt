@@ -1,9 +1,10 @@
 -- One flush more of a sync.
 use Rattle.std.proofs.Common.{◌≡◌, ℕ, ◌+◌, Bool, List, [], ◌∷◌, ◌++◌, refl, sym, ap, ap₂, ◌∙◌, subst, length, map, reverse, append-nil}
+use Rattle.std.proofs.lemmas.List.Elements.{All-append, All-cons, All-nil}
 use Rattle.std.proofs.lemmas.List.{append_assoc, map-append, reverse-append}
 use Rattle.model.specs.Layout.{Geometry}
 use Rattle.model.specs.View.{View}
-use Rattle.model.specs.Image.{image_view}
+use Rattle.model.specs.Image.{IsImage, image_view}
 use Rattle.queue_model.specs.Sync.{Flushes, IsLeastReady}
 use Rattle.queue_model.specs.Sync as sync
 use Rattle.queue_model.specs.Flush.{ready}
@@ -100,6 +101,7 @@ flushes_nothing geo image held q = record {
   more = [];
   held_now = sym (append-nil held);
   images = refl;
+  framed = λ is. (is, All-nil (IsImage geo));
 }
 
 module _ (home : Cell → ℕ) (a : ℕ) where
@@ -114,14 +116,17 @@ module _ (home : Cell → ℕ) (a : ℕ) where
   images_push {disk = disk} {q = q} (sync.Goes b ready_b flushes) = ap (λ l. seen disk q (ready home b q) ∷ l) (images_push flushes)
 
 pub flushes_more : (geo : Geometry) (image : List (List ℕ)) (held : List (List (List ℕ))) (q : List Pending) (image1 : List (List ℕ)) (held1 : List (List (List ℕ))) (q1 : List Pending) (image2 : List (List ℕ)) (held2 : List (List (List ℕ))) (a : ℕ)
-    → AreFlushes geo image held q image1 held1 q1 → IsLeastReady (home_of geo) q1 a → image_view geo image2 ≡ seen (image_view geo image1) q1 (ready (home_of geo) a q1) → held2 ≡ held1 ++ image2 ∷ []
+    → AreFlushes geo image held q image1 held1 q1 → IsLeastReady (home_of geo) q1 a → image_view geo image2 ≡ seen (image_view geo image1) q1 (ready (home_of geo) a q1) → held2 ≡ held1 ++ image2 ∷ [] → (IsImage geo image1 → IsImage geo image2)
     → AreFlushes geo image held q image2 held2 (rest q1 (ready (home_of geo) a q1))
-flushes_more geo image held q image1 held1 q1 image2 held2 a h least view held_now = record {
+flushes_more geo image held q image1 held1 q1 image2 held2 a h least view held_now frame = record {
   blocks = h.blocks ++ a ∷ [];
   flushes = subst (λ d. Flushes (home_of geo) (image_view geo image) q (h.blocks ++ a ∷ []) d (rest q1 (ready (home_of geo) a q1))) (sym view) (flushes_push (home_of geo) a h.flushes least);
   more = h.more ++ image2 ∷ [];
   held_now = held_now ∙ ap (λ l. l ++ image2 ∷ []) h.held_now ∙ append_assoc held h.more (image2 ∷ []);
   images = map-append (image_view geo) h.more (image2 ∷ []) ∙ ap₂ (λ l v. l ++ v ∷ []) h.images view ∙ sym (images_push (home_of geo) a h.flushes);
+  framed = λ is.
+      let before = h.framed is in
+      (frame before.0, All-append (IsImage geo) h.more (image2 ∷ []) before.1 (All-cons (IsImage geo) image2 [] (frame before.0) (All-nil (IsImage geo))));
 }
 
 -- what is pending after it is the rest of a closed cut

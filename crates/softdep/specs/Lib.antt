@@ -1,2 +1,3 @@
 pub mod Queued
 pub mod Syncing
+pub mod Writing

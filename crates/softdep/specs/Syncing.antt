@@ -1,7 +1,8 @@
 -- What a sync does to a queue and a device, whether it comes to its end or not.
 use Rattle.std.specs.Prelude.{◌≡◌, ℕ, Bool, List, [], ◌∷◌, ◌++◌, map, reverse}
+use Rattle.std.specs.List.{All}
 use Rattle.model.specs.Layout.{Geometry}
-use Rattle.model.specs.Image.{image_view}
+use Rattle.model.specs.Image.{IsImage, image_view}
 use Rattle.model.specs.View.{View}
 use Rattle.ordering.specs.Cuts.{Cell, Pending, IsClosed, seen, rest, joined}
 use Rattle.queue_model.specs.Files.{updates}
@@ -33,10 +34,11 @@ abbrev pub images_of : (Cell → ℕ) → View → List Pending → List ℕ →
 images_of home disk q [] = []
 images_of home disk q (a ∷ blocks) = seen disk q (ready home a q) ∷ images_of home (seen disk q (ready home a q)) (rest q (ready home a q)) blocks
 
--- The device was flushed block after block, each the least then that had a ready update, and held no other images.
+-- The device was flushed block after block, each the least then that had a ready update, and held no other images. Where it held an image of the volume before, it held such images since.
 pub record AreFlushes (geo : Geometry) (image : List (List ℕ)) (held : List (List (List ℕ))) (q : List Pending) (image' : List (List ℕ)) (held' : List (List (List ℕ))) (q' : List Pending) : Type 0 where
   pub blocks : List ℕ
   pub flushes : Flushes (home_of geo) (image_view geo image) q blocks (image_view geo image') q'
   pub more : List (List (List ℕ))
   pub held_now : held' ≡ held ++ more
   pub images : map (image_view geo) more ≡ images_of (home_of geo) (image_view geo image) q blocks
+  pub framed : IsImage geo image → IsImage geo image' × All (IsImage geo) more

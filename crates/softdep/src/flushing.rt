@@ -1,13 +1,14 @@
 ghost use Rattle.std.specs.Prelude.{◌≡◌, ℕ, ◌<◌, ◌≤◌, ◌+◌, ◌∷◌, ◌++◌, [], Bool, List, length, IfOk, OnOk, OnErr, IsErrOf, IsOkUnless, slice_set};
 ghost use Rattle.layout.specs.declared.refusal.Refusal.TheVariants.{Device as DeviceRefusal};
 ghost use Rattle.model.specs.Layout.{block_count};
-ghost use Rattle.model.specs.Image.{image_view};
+ghost use Rattle.model.specs.Image.{IsImage, block_at, image_view};
 ghost use Rattle.ordering.specs.Cuts.{IsClosed, rest, seen, users_view};
 ghost use Rattle.queue_model.specs.Blocks.{home_of};
 ghost use Rattle.queue_model.specs.Flush.{ready, taken};
 ghost use Rattle.device.specs.Writes.{HasFailed};
 ghost use Rattle.softdep.specs.Queued.{pending_of, flushed};
 ghost use Rattle.softdep.specs.Syncing.{HasPut, IsHistory, AreFlushes};
+ghost use Rattle.softdep.specs.Writing.{WritesTaken};
 
 use crate::Queue;
 use device::Device;
@@ -15,8 +16,10 @@ use layout::Refusal;
 use spares::Spares;
 
 impl Queue {
-    /// Writes a block with those of its pending updates that may go to the device, and counts them. Where none may, the
-    /// device is not touched. Blocks whose bytes are on the device then are spare. It needs no memory.
+    /// Writes a block with those of its pending updates that may go to the device, and counts them: what stands in the
+    /// block stays, but for what these put there. Where none may, the device is not touched. An image stays one: neither
+    /// the superblock nor the magic and the number of a group change. Blocks whose bytes are on the device then are spare.
+    /// It needs no memory.
     pub fn flush<D: Device>(
         &mut self,
         device: &mut D,
@@ -31,6 +34,8 @@ impl Queue {
         ensures untouched { IfOk result (λ count. count ≡ 0 → device.new ≡ device.old) }
         ensures written { IfOk result (λ count. 0 < count → (block : List ℕ) × (D.image device.new ≡ slice_set (D.image device.old) address block) × (D.held device.new ≡ D.held device.old ++ D.image device.new ∷ [])) }
         ensures view { OnOk result (D.honest device.new → image_view self.old.geometry (D.image device.new) ≡ seen (image_view self.old.geometry (D.image device.old)) (pending_of self.old) (ready (home_of self.old.geometry) address (pending_of self.old))) }
+        ensures bytes { OnOk result (D.honest device.new → WritesTaken self.old.geometry address (pending_of self.old) (block_at (D.image device.old) address) (block_at (D.image device.new) address)) }
+        ensures frame { OnOk result (D.honest device.new → IsImage self.old.geometry (D.image device.old) → IsImage self.old.geometry (D.image device.new)) }
         ensures calm { OnOk result (D.failures device.new ≡ D.failures device.old) }
         ensures refused { OnErr result (self.new ≡ self.old) }
         ensures image { OnErr result (D.image device.new ≡ D.image device.old) }
@@ -52,6 +57,7 @@ impl Queue {
         let count = self.table.take(&self.geometry, address, block);
         match device.write(address, block) {
             Ok(()) => {
+                device.blocks(); // for the proof: its clause `whole`
                 self.table.retire(&self.geometry, address, spares);
                 self.events = self.events.and(&self.none, &Some(address));
                 Ok(count)

@@ -3,7 +3,9 @@
 
 mod flushing;
 mod issuing;
+mod laws;
 mod queue;
 
+pub use laws::a_flush_clears_a_freed_record;
 pub use queue::Queue;
 pub use updates::{Cell, Change, Update};

@@ -1,16 +1,13 @@
 -- An entry that may go is taken.
-use Rattle.std.proofs.Common.{◌≡◌, ℕ, ◌-◌, ◌<◌, ◌≤◌, Bool, true, false, not, ◌&&◌, eqb, if◌then◌else◌, List, [], ◌∷◌, ◌++◌, ◌⊎◌, inl, inr, ◌↔◌, refl, sym, ap, ap₂, ◌∙◌, subst, IsTrue, IsFalse, Contains, length, map, reverse, slice_index_or, Vec, Global, arith, eqb-true, eq-eqb, ne_eqb}
-use mathlib.Core.Path.{fun_ext}
+use Rattle.std.proofs.Common.{◌≡◌, ℕ, ◌-◌, ◌<◌, ◌≤◌, Bool, true, false, not, ◌&&◌, eqb, if◌then◌else◌, List, [], ◌∷◌, ◌++◌, ◌⊎◌, inl, inr, ◌↔◌, refl, sym, ap, ap₂, ◌∙◌, subst, IsTrue, IsFalse, Contains, length, map, reverse, slice_index_or, Vec, Global, arith, eqb-true, eq-eqb}
 use Rattle.std.specs.List.{IsDistinct, AllByRecursion}
 use Rattle.std.specs.Vec.{vec_capacity}
-use Rattle.std.proofs.lemmas.Bool.{cases_eq, cases_Bool, cond-true, cond-false, or_cases, or_left, or_right, or_parts}
+use Rattle.std.proofs.lemmas.Bool.{cases_eq, cases_Bool, cond-true, or_cases, or_left, or_right, or_parts}
 use Rattle.std.proofs.lemmas.List.Elements.{Contains-append_cases, Contains-append_left, Contains-append_right}
 use Rattle.std.proofs.lemmas.List.{reverse-append, length-map}
 use Rattle.std.proofs.lemmas.Map.Steps.{length-le_from_distinct_below}
 use Rattle.std.proofs.lemmas.Map.Views.{Contains-from_any}
 use Rattle.model.specs.Layout.{Geometry}
-use Rattle.model.specs.View.{View, view_of}
-use Rattle.model.specs.Cells.{put_at}
 use Rattle.ordering.specs.Cuts.{Pending}
 use Rattle.queue_model.specs.Blocks.{home_of}
 use Rattle.queue_model.specs.Entries.{Entry, Queue, has_id, AreTaken, NoOtherMayGo}
@@ -24,7 +21,6 @@ use Rattle.softdep_queue.specs.declared.table.Table.{Table}
 use Rattle.softdep_queue.specs.Counts.{occurrences, count_in}
 use Rattle.softdep_queue.specs.Ties.{Ties, TiesBy, Holds, Takes, due_after, Shows, node_at, waiters_of}
 use Rattle.softdep_queue.specs.Lowering.{released, AreWaiting, MayBeReleased}
-use Rattle.softdep_queue.specs.Taking.{TurnsBlock}
 use Rattle.softdep_queue.proofs.Counting.{count_same, taken_one, may_go_of_none, none_of_may_go}
 use Rattle.softdep_queue.proofs.Steps.{ties_due}
 
@@ -310,21 +306,3 @@ takes_nothing geo t queue q a holds = record {
         step : (x : Bool) → count_in queue.pending e.waits ≡ (if x then count_in (λ i. queue.pending i && not (has_id [] i)) e.waits else count_in queue.pending e.waits)
         step true = count_same queue.pending (λ i. queue.pending i && not (has_id [] i)) (λ i. all (queue.pending i)) e.waits
         step false = refl
-
--- one change after the others
-pub turns_more : (geo : Geometry) (a : ℕ) (first old new : List ℕ) (f g : View → View) → TurnsBlock geo a first old f → TurnsBlock geo a old new g → TurnsBlock geo a first new (λ v. g (f v))
-turns_more geo a first old new f g one two blocks is =
-    ap (view_of geo) (sym (twice blocks)) ∙ two (put_at blocks a old) (cond-true (eqb a a) old (blocks a) (eq-eqb a a refl)) ∙ ap g (one blocks is)
-  where
-    twice : (blocks : ℕ → List ℕ) → put_at (put_at blocks a old) a new ≡ put_at blocks a new
-    twice blocks = fun_ext (λ k. step (eqb k a) k)
-      where
-        step : (x : Bool) (k : ℕ) → (if x then new else (if x then old else blocks k)) ≡ (if x then new else blocks k)
-        step true k = refl
-        step false k = refl
-
-pub turns_nothing : (geo : Geometry) (a : ℕ) (block : List ℕ) → TurnsBlock geo a block block (λ v. v)
-turns_nothing geo a block blocks is = ap (view_of geo) (fun_ext (λ k. elim (cases_eq k a) [
-  | inl d ↦ cond-true (eqb k a) block (blocks k) (eq-eqb k a d) ∙ sym (ap blocks d ∙ is)
-  | inr d ↦ cond-false (eqb k a) block (blocks k) (ne_eqb k a d)
-]))

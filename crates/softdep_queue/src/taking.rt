@@ -1,13 +1,12 @@
 ghost use Rattle.std.specs.Prelude.{◌≡◌, ℕ, ◌<◌, List, [], ◌∷◌, length};
 ghost use Rattle.model.specs.Layout.{block_count};
 ghost use Rattle.ordering.specs.Cuts.{Pending};
-ghost use Rattle.queue_model.specs.Entries.{Entry, Queue, NoOtherMayGo, view_after};
+ghost use Rattle.queue_model.specs.Entries.{Entry, Queue, NoOtherMayGo};
 ghost use Rattle.softdep_queue.specs.Ties.{Holds, Takes};
 ghost use Rattle.softdep_queue.specs.Rooms.{IsTable};
-ghost use Rattle.softdep_queue.specs.Taking.{TurnsBlock, MayBeTakenFrom, TakesOne, TakesAll, StaysGroupBlock, ShowsCell};
-ghost use Rattle.model.specs.Cells.{Update, updated};
-ghost use Rattle.ordering.specs.Cuts.{cell_of};
-ghost use Rattle.queue_model.specs.Blocks.{home_of};
+ghost use Rattle.softdep_queue.specs.Taking.{MayBeTakenFrom, TakesOne, TakesAll, ShowsCell};
+ghost use Rattle.model.specs.Cells.{Update};
+ghost use Rattle.updates.specs.Alone.{IsPutInto};
 ghost use Rattle.softdep_queue.specs.Ties.{Shows, node_at};
 
 use crate::Table;
@@ -18,8 +17,7 @@ impl Table {
     pub fn take(&mut self, geometry: &Geometry, address: u32, block: &mut Block) -> usize
         requires held { IsTable geometry.now self.old }
         requires address { address < block_count geometry.now }
-        ensures taken { (queue : Queue) (q : List Pending) → Holds geometry.now self.old queue q → TakesAll geometry.now queue q address self.new block.old block.new result }
-        ensures group_block { StaysGroupBlock geometry.now address block.old block.new }
+        ensures { (queue : Queue) (q : List Pending) → Holds geometry.now self.old queue q → TakesAll geometry.now queue q address self.new block.old block.new result }
     {
         let mut count = 0;
         while self.take_one(geometry, address, block) {
@@ -33,8 +31,7 @@ impl Table {
     fn take_one(&mut self, geometry: &Geometry, address: u32, block: &mut Block) -> bool
         requires held { MayBeTakenFrom geometry.now self.old address }
         requires address { address < block_count geometry.now }
-        ensures taken { (queue : Queue) (q : List Pending) (es : List Entry) → Takes geometry.now self.old queue q address es → TakesOne geometry.now queue q address es self.new block.old block.new result }
-        ensures group_block { StaysGroupBlock geometry.now address block.old block.new }
+        ensures { (queue : Queue) (q : List Pending) (es : List Entry) → Takes geometry.now self.old queue q address es → TakesOne geometry.now queue q address es self.new block.old block.new result }
     {
         let Some(number) = self.ready.pop(address) else {
             return false;
@@ -48,8 +45,7 @@ impl Table {
     /// Puts the change of an update into the block in which its cell stands.
     fn put(&self, geometry: &Geometry, number: u32, block: &mut Block)
         requires { ShowsCell geometry.now self.now number }
-        ensures view { (u : Update) → Shows (node_at self.now.nodes.items number).change u → TurnsBlock geometry.now (home_of geometry.now (cell_of u)) block.old block.new (λ v. updated v u) }
-        ensures group_block { (u : Update) → Shows (node_at self.now.nodes.items number).change u → StaysGroupBlock geometry.now (home_of geometry.now (cell_of u)) block.old block.new }
+        ensures { (u : Update) → Shows (node_at self.now.nodes.items number).change u → IsPutInto geometry.now u block.old block.new }
     {
         if let Some(change) = &self.nodes[number as usize].change {
             change.put(geometry, block);

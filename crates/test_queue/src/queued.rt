@@ -726,3 +726,33 @@ fn a_long_chain_goes_to_and_fro(rt: HostRuntime) -> Result<(), Fail> {
     expect_turns(&rt, &mut bed)?;
     Ok(())
 }
+
+/// The bytes of block 3 on the device once a record 9 with so many links is there, which begins at byte 128.
+fn with_record_9<R: AllocGlobal + Abort>(rt: &R, links: u16) -> Result<Block, Fail> {
+    let mut bed = Bed::new(rt.alloc(), NONE)?;
+    bed.issue(updates_of(rt.alloc(), &[Told(Put::Record(9, links), &[])])?)?;
+    same(rt, "flush", bed.flush(3), Ok(1));
+    let mut image = bed.device.device().image_after(rt.alloc(), 1)?;
+    let block = read_block(&mut image, 3).ok_or("block 3 is not read")?;
+    Ok(block)
+}
+
+#[test]
+fn no_byte_of_a_freed_record_stays(rt: HostRuntime) -> Result<(), Fail> {
+    let block = with_record_9(&rt, 0)?;
+    let mut wanted = block_of(3);
+    wanted[128..256].copy_from_slice(&[0; 128]);
+    holds(&rt, "record 9 is freed", block == wanted);
+    Ok(())
+}
+
+#[test]
+fn a_changed_record_keeps_what_is_not_looked_at(rt: HostRuntime) -> Result<(), Fail> {
+    let block = with_record_9(&rt, 7)?;
+    let mut wanted = block_of(3);
+    wanted[128..188].copy_from_slice(&[0; 60]);
+    wanted[128] = 1; // the mode of a file
+    wanted[130] = 7;
+    holds(&rt, "record 9 has 7 links", block == wanted);
+    Ok(())
+}

@@ -1,5 +1,5 @@
 -- A block in which one cell was changed updates that cell of the view, whatever the other blocks are.
-use Rattle.std.proofs.Common.{◌≡◌, ◌*◌, ◌%◌, ℕ, Bool, List, IsTrue, ◌≤◌, sym, ap, subst, ◌∙◌, arith}
+use Rattle.std.proofs.Common.{◌≡◌, ◌*◌, ◌%◌, ℕ, Bool, List, IsTrue, ◌≤◌, refl, sym, ap, subst, ◌∙◌, arith}
 use Rattle.model.specs.Layout.{Geometry, IsGeometry, is_number, is_data_address, inode_byte, data_bit, group_block}
 use Rattle.model.specs.View.{Inode, inode_at, view_of}
 use Rattle.model.specs.Cells.{Update, SetInode, SetNumber, SetBlock, SetBytes, put_at, updated}
@@ -8,7 +8,7 @@ use Rattle.queue_model.specs.Blocks.{home_of}
 use Rattle.model.specs.Image.{IsGroupBlock}
 use Rattle.layout.proofs.PutLemmas.{same_number}
 use Rattle.updates.specs.Places.{IsCell}
-use Rattle.updates.specs.Alone.{ChangesAlone}
+use Rattle.updates.specs.Alone.{ChangesAlone, IsPutInto}
 use Rattle.cgmaps.specs.Maps.{ChangesBit}
 use Rattle.cgmaps.proofs.BitWrites.{number_write, block_write}
 use Rattle.model.proofs.Addresses.{inode_places}
@@ -49,3 +49,7 @@ module _ (geo : Geometry) (ok : IsGeometry geo) (old new : List ℕ) where
   group_block_kept (SetNumber n marked) t alone g e b = kept_bytes 32 (n % geo.inodes) g marked (omega arith) alone b
   group_block_kept (SetBlock a marked) t alone g e b = kept_bytes 160 (data_bit geo a) g marked (omega arith) alone b
   group_block_kept (SetBytes a bytes) t alone g e b = absurd (maps_are_no_data geo ok g a t (sym e))
+
+  -- bytes that are given are put into any block
+  pub given_put : (a : ℕ) → IsTrue (is_data_address geo a) → IsPutInto geo (SetBytes a new) old new
+  given_put a t = record { view = bytes_put a t; alone = refl; group_block = group_block_kept (SetBytes a new) t refl }

@@ -1,2 +1,2 @@
 mod RecordPuts
-mod CellPuts
+pub mod CellPuts

@@ -1,8 +1,10 @@
 -- A record that was written over its bytes in its block.
-use Rattle.std.proofs.Common.{◌≡◌, ◌<◌, ◌≤◌, ◌+◌, ◌-◌, ◌*◌, ◌⊎◌, ℕ, List, length, take, drop, slice_index, sym, ap, ap₂, ◌∙◌, arith}
-use Rattle.model.specs.View.{Inode, inode_at}
+use Rattle.std.proofs.Common.{◌≡◌, ◌<◌, ◌≤◌, ◌+◌, ◌-◌, ◌*◌, ◌⊎◌, inl, inr, ℕ, List, length, take, drop, replicate, slice_index, sym, ap, ap₂, ◌∙◌, arith}
+use Rattle.model.specs.View.{Inode, free_inode, inode_at}
 use Rattle.layout.specs.Fresh.{put}
+use Rattle.layout.proofs.PutLemmas.{put_inside, put_apart, zeroes}
 use Rattle.inode.proofs.RecordBytes.{part_put, record_here, record_there, rest_stays}
+use Rattle.updates.specs.Alone.{ChangesRecord}
 use borrow.Rule.Slice.PartMut.{put_mid, mid_of}
 
 module _ (place : ℕ) (low : place < 8) (block bytes : List ℕ) (size : length block ≡ 1024) (long : length bytes ≡ 128) where
@@ -31,7 +33,30 @@ module _ (place : ℕ) (low : place < 8) (block bytes : List ℕ) (size : length
       let count : place * 128 + 128 - place * 128 ≡ 128 = omega arith in
       ap₂ (λ n m. take n (drop m block)) count from
 
-  pub rest_stays_there : drop 60 bytes ≡ drop 60 (mid_of (place * 128) (place * 128 + 128 - place * 128) block)
-      → (k : ℕ) → (k < 128 * place) ⊎ (128 * place + 60 ≤ k) → slice_index after k ≡ slice_index block k
-  rest_stays_there e k apart =
-      ap (λ xs. slice_index xs k) after_is_put ∙ rest_stays block bytes (128 * place) long fits (e ∙ ap (drop 60) before_is_cut) k apart
+  whole : 128 * place + length bytes ≤ length block
+  whole = omega (arith, fits, long)
+
+  outside_stays : (k : ℕ) → (k < 128 * place) ⊎ (128 * place + 128 ≤ k) → slice_index after k ≡ slice_index block k
+  outside_stays k (inl before) = ap (λ xs. slice_index xs k) after_is_put ∙ put_apart (128 * place) bytes block whole k (inl before)
+  outside_stays k (inr behind) = ap (λ xs. slice_index xs k) after_is_put ∙ put_apart (128 * place) bytes block whole k (inr (omega (arith, long, behind)))
+
+  zero_there : bytes ≡ replicate 128 0 → (k : ℕ) → k < 128 → slice_index after (128 * place + k) ≡ 0
+  zero_there e k inside =
+      ap (λ xs. slice_index xs (128 * place + k)) after_is_put
+      ∙ put_inside (128 * place) bytes block whole (128 * place + k) (omega arith) (omega (arith, long, inside))
+      ∙ ap (λ xs. slice_index xs (128 * place + k - 128 * place)) e
+      ∙ zeroes 128 (128 * place + k - 128 * place)
+
+  rest_stays_there : drop 60 bytes ≡ drop 60 (mid_of (place * 128) (place * 128 + 128 - place * 128) block)
+      → (k : ℕ) → 60 ≤ k → slice_index after (128 * place + k) ≡ slice_index block (128 * place + k)
+  rest_stays_there e k high =
+      ap (λ xs. slice_index xs (128 * place + k)) after_is_put
+      ∙ rest_stays block bytes (128 * place) long fits (e ∙ ap (drop 60) before_is_cut) (128 * place + k) (inr (omega (arith, high)))
+
+  pub record_changed : (inode : Inode) → (inode ≡ free_inode → bytes ≡ replicate 128 0)
+      → ((inode ≡ free_inode → ⊥) → drop 60 bytes ≡ drop 60 (mid_of (place * 128) (place * 128 + 128 - place * 128) block)) → ChangesRecord block after (128 * place) inode
+  record_changed inode freed kept = record {
+    outside = outside_stays;
+    freed = λ e k inside. zero_there (freed e) k inside;
+    kept = λ other k high inside. rest_stays_there (kept other) k high;
+  }

@@ -1,6 +1,6 @@
 ghost use Rattle.std.specs.Arc.{arc_value};
-ghost use Rattle.std.specs.Prelude.{◌≡◌, ◌≢◌, ◌<◌, ◌≤◌, ◌+◌, ◌*◌, ◌⊎◌, ℕ, IfSome, List, length, drop, slice_index};
-ghost use Rattle.model.specs.View.{inode_at, view_of};
+ghost use Rattle.std.specs.Prelude.{◌≡◌, ◌≢◌, ◌<◌, ◌*◌, ◌↔◌, ℕ, IfSome, IsTrue, List, length, drop, replicate};
+ghost use Rattle.model.specs.View.{free_inode, inode_at, view_of};
 ghost use Rattle.model.specs.Image.{IsGroupBlock};
 ghost use Rattle.model.specs.Layout.{Geometry as Numbers, IsGeometry, group_block};
 ghost use Rattle.model.specs.Cells.{put_at, updated};
@@ -8,13 +8,22 @@ ghost use Rattle.ordering.specs.Cuts.{cell_of};
 ghost use Rattle.queue_model.specs.Blocks.{home_of};
 ghost use Rattle.updates.specs.Values.{cell, change};
 ghost use Rattle.updates.specs.Places.{IsCell};
-ghost use Rattle.updates.specs.Alone.{ChangesAlone, IsPutInto};
+ghost use Rattle.updates.specs.Alone.{ChangesAlone, ChangesRecord, IsPutInto};
 
 use crate::Cell;
 use cgmaps::{Map, put_bit};
-use inode::{RECORD_BYTES, Record};
+use inode::{DIRECT_POINTERS, FREE, RECORD_BYTES, Record};
 use layout::{Block, Geometry, INODES_PER_BLOCK};
 use std::sync::Arc;
+
+/// A freed record.
+const FREED: Record = Record {
+    mode: FREE,
+    links: 0,
+    size: 0,
+    direct: [0; DIRECT_POINTERS],
+    indirect: 0,
+};
 
 /// A cell and its new value.
 #[derive(Debug, Drop)]
@@ -63,7 +72,7 @@ impl Change {
         }
     }
 
-    /// Puts the new value into the block in which the cell stands.
+    /// Puts the new value into the block in which the cell stands. Of a record that is freed all bytes become zero.
     pub fn put(&self, geometry: &Geometry, block: &mut Block)
         requires { IsCell geometry.now (cell_of (change self.now)) }
         ensures view { (blocks : ℕ → List ℕ) → blocks (home_of geometry.now (cell_of (change self.now))) ≡ block.old
@@ -93,20 +102,33 @@ fn put_record(inode: &Record, place: u32, block: &mut Block)
     requires { place < 8 }
     ensures written { inode_at block.new (128 * place) ≡ inode.now }
     ensures others { (k : ℕ) → k ≢ place → inode_at block.new (128 * k) ≡ inode_at block.old (128 * k) }
-    ensures rest { (k : ℕ) → (k < 128 * place) ⊎ (128 * place + 60 ≤ k) → slice_index block.new k ≡ slice_index block.old k }
+    ensures alone { ChangesRecord block.old block.new (128 * place) inode.now }
 {
     let byte = place as usize * RECORD_BYTES;
     write_record(inode, &mut block[byte..byte + RECORD_BYTES]);
 }
 
-/// Writes a record over its bytes, but for those that are not looked at.
+/// Writes a record over its bytes. No byte of a freed one stays, so that whoever is given the record next finds nothing
+/// in it; of any other one those stay that are not looked at.
 fn write_record(inode: &Record, bytes: &mut [u8])
     requires { length bytes.old ≡ 128 }
     ensures read { inode_at bytes.new 0 ≡ inode.now }
-    ensures rest { drop 60 bytes.new ≡ drop 60 bytes.old }
+    ensures freed { inode.now ≡ free_inode → bytes.new ≡ replicate 128 0 }
+    ensures kept { inode.now ≢ free_inode → drop 60 bytes.new ≡ drop 60 bytes.old }
 {
     let Some(record) = bytes.as_mut_array::<RECORD_BYTES>() else {
         unreachable!()
     };
-    inode.write(record);
+    if is_freed(inode) {
+        *record = [0; RECORD_BYTES];
+    } else {
+        inode.write(record);
+    }
+}
+
+/// Whether each field of a record is zero.
+fn is_freed(inode: &Record) -> bool
+    ensures { IsTrue result ↔ (inode.now ≡ free_inode) }
+{
+    *inode == FREED
 }

@@ -1,5 +1,5 @@
 use Rattle.std.proofs.Common.{◌≡◌, length, rules}
-use Rattle.updates.proofs.RecordPuts.{written_there, others_stay, rest_stays_there}
+use Rattle.updates.proofs.RecordPuts.{written_there, others_stay, record_changed}
 use Rattle.updates.proofs.change.put_record.Goals as goal
 
 pub returns-clause-written : goal.returns-clause-written
@@ -12,7 +12,7 @@ returns-clause-others c =
     let long : length c.write_record.new.bytes ≡ 128 = search rules in
     others_stay c.args.place c.requires c.args.block.now c.write_record.new.bytes c.told-block long
 
-pub returns-clause-rest : goal.returns-clause-rest
-returns-clause-rest c =
+pub returns-clause-alone : goal.returns-clause-alone
+returns-clause-alone c =
     let long : length c.write_record.new.bytes ≡ 128 = search rules in
-    rest_stays_there c.args.place c.requires c.args.block.now c.write_record.new.bytes c.told-block long c.write_record.ensures.rest
+    record_changed c.args.place c.requires c.args.block.now c.write_record.new.bytes c.told-block long c.args.inode.now c.write_record.ensures.freed c.write_record.ensures.kept

@@ -1,7 +1,7 @@
 use Rattle.std.proofs.Common.{◌≡◌, ◌+◌, ◌<◌, ◌≤◌, [], ◌∷◌, refl, sym, ap, ◌∙◌, subst, length, arith, length-append}
 use Rattle.std.proofs.lemmas.List.{length-set}
 use Rattle.model.specs.Layout.{block_count}
-use Rattle.model.specs.Image.{image_view}
+use Rattle.model.specs.Image.{IsImage, image_view}
 use Rattle.ordering.specs.Cuts.{seen, rest}
 use Rattle.queue_model.specs.Blocks.{home_of}
 use Rattle.queue_model.specs.Flush.{ready, taken}
@@ -76,10 +76,11 @@ loop-address-preserved g c =
           let before = i.flushes (c.in_ok-flush.ensures.honest h) in
           let view = subst (λ x. image_view x (g.D.Device.image c.flush.new.device) ≡ seen (image_view x (g.D.Device.image c.loop-address.device)) (pending_of now) (ready (home_of x) c.in-Some.address (pending_of now))) i.put.geometry (c.in_ok-flush.ensures.view h) in
           let least = subst (λ x. IsLeastReady (home_of x) (pending_of now) c.in-Some.address) i.put.geometry c.in-Some.ensures.least in
+          let frame = subst (λ x. IsImage x (g.D.Device.image c.loop-address.device) → IsImage x (g.D.Device.image c.flush.new.device)) i.put.geometry (c.in_ok-flush.ensures.frame h) in
           subst (AreFlushes geo (g.D.Device.image c.args.device.now) (g.D.Device.held c.args.device.now) (pending_of c.args.self.now) (g.D.Device.image c.flush.new.device) (g.D.Device.held c.flush.new.device))
           (sym (ap pending_of c.in_ok-flush.ensures.flushed ∙ pending_flushed now c.in-Some.address c.in-Some.ensures.closed ∙ ap (λ x. rest (pending_of now) (ready (home_of x) c.in-Some.address (pending_of now))) i.put.geometry))
           (flushes_more geo (g.D.Device.image c.args.device.now) (g.D.Device.held c.args.device.now) (pending_of c.args.self.now) (g.D.Device.image c.loop-address.device) (g.D.Device.held c.loop-address.device) (pending_of now)
-          (g.D.Device.image c.flush.new.device) (g.D.Device.held c.flush.new.device) c.in-Some.address before least view w.2);
+          (g.D.Device.image c.flush.new.device) (g.D.Device.held c.flush.new.device) c.in-Some.address before least view w.2 frame);
     }
 
 pub returns-clause-view : goal.returns-clause-view

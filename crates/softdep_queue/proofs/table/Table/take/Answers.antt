@@ -1,17 +1,16 @@
 use Rattle.std.proofs.Common.{◌≡◌, ◌+◌, ◌≤◌, List, [], ◌∷◌, refl, sym, ◌∙◌, subst, length, arith, true, false}
-use Rattle.model.specs.Cells.{updated}
 use Rattle.ordering.specs.Cuts.{Pending}
-use Rattle.queue_model.specs.Entries.{Entry, Queue, view_after}
+use Rattle.queue_model.specs.Entries.{Entry, Queue}
+use Rattle.updates.specs.Alone.{IsPutAll}
 use Rattle.softdep_queue.specs.Ties.{Takes}
-use Rattle.softdep_queue.specs.Taking.{TakesOne, TurnsBlock}
-use Rattle.softdep_queue.proofs.Taken.{few_taken, takes_nothing, turns_more, turns_nothing}
+use Rattle.softdep_queue.specs.Taking.{TakesOne, changes_of}
+use Rattle.softdep_queue.proofs.Taken.{few_taken, takes_nothing}
 use Rattle.softdep_queue.proofs.table.Table.take.Goals as goal
 
 pub loop-count-init : goal.loop-count-init
 loop-count-init c = record {
   held = c.requires.held;
-  taken = λ queue q holds. ([], takes_nothing c.args.geometry.now c.args.self.now queue q c.args.address holds, refl, turns_nothing c.args.geometry.now c.args.address c.args.block.now);
-  group_block = λ g at is. is;
+  taken = λ queue q holds. ([], takes_nothing c.args.geometry.now c.args.self.now queue q c.args.address holds, refl, refl);
 }
 
 pub take_one-requires-clause-held : goal.take_one-requires-clause-held
@@ -23,7 +22,7 @@ take_one-requires-clause-held c =
 module _ (c : goal.In-loop-count) where
   one : (queue : Queue) (q : List Pending) (es : List Entry) → Takes c.args.geometry.now c.loop-count.self queue q c.args.address es
       → TakesOne c.args.geometry.now queue q c.args.address es c.take_one.new.self c.loop-count.block c.take_one.new.block true
-  one queue q es takes = subst (TakesOne c.args.geometry.now queue q c.args.address es c.take_one.new.self c.loop-count.block c.take_one.new.block) c.loop-count-test.true (c.take_one.ensures.taken queue q es takes)
+  one queue q es takes = subst (TakesOne c.args.geometry.now queue q c.args.address es c.take_one.new.self c.loop-count.block c.take_one.new.block) c.loop-count-test.true (c.take_one.ensures queue q es takes)
 
   few : c.loop-count.count + 1 ≤ length c.take_one.new.self.nodes.items
   few =
@@ -55,21 +54,20 @@ loop-count-preserved c = record {
         next.0 ∷ now.0,
         next.1,
         (let n = now.2 in omega (arith, n)),
-        turns_more c.args.geometry.now c.args.address c.args.block.now c.loop-count.block c.take_one.new.block (λ v. view_after v now.0) (λ v. updated v next.0.change) now.3 next.2,
+        (c.loop-count.block, now.3, next.2),
       );
-  group_block = λ g at is. c.take_one.ensures.group_block g at (c.loop-count.invariant.group_block g at is);
 }
 
-pub returns-clause-taken : goal.returns-clause-taken
-returns-clause-taken c queue q holds =
+pub returns : goal.returns
+returns c queue q holds =
     let geo = c.args.geometry.now in
     let now = c.loop-count.invariant.taken queue q holds in
     let end : TakesOne geo queue q c.args.address now.0 c.take_one.new.self c.loop-count.block c.take_one.new.block false
-    = subst (TakesOne geo queue q c.args.address now.0 c.take_one.new.self c.loop-count.block c.take_one.new.block) c.loop-count-test.false (c.take_one.ensures.taken queue q now.0 now.1) in
+    = subst (TakesOne geo queue q c.args.address now.0 c.take_one.new.self c.loop-count.block c.take_one.new.block) c.loop-count-test.false (c.take_one.ensures queue q now.0 now.1) in
     record {
       es = now.0;
       takes = end.0;
       all = end.1;
       count = now.2;
-      turns = subst (λ b. TurnsBlock geo c.args.address c.args.block.now b (λ v. view_after v now.0)) (sym end.2) now.3;
+      put = subst (IsPutAll geo (changes_of now.0) c.args.block.now) (sym end.2) now.3;
     }

@@ -1,18 +1,16 @@
 use Rattle.std.proofs.Common.{◌∷◌, refl, sym, ap, ◌∙◌, subst, length, arith}
 use Rattle.std.proofs.lemmas.List.{length-reverse, length-map}
-use Rattle.model.specs.Cells.{updated}
 use Rattle.queue_model.specs.Blocks.{home_of}
 use Rattle.queue_model.specs.Entries.{Entry}
-use Rattle.queue_model.proofs.Standing.{home_is, id_low}
+use Rattle.queue_model.proofs.Standing.{id_low}
 use Rattle.stacks.specs.Stacks.{stack_at}
 use Rattle.softdep_queue.specs.declared.table.Table.{Table}
 use Rattle.softdep_queue.specs.Ties.{Takes, due_after, Shows, node_at}
-use Rattle.softdep_queue.specs.Taking.{TurnsBlock}
 use Rattle.softdep_queue.proofs.Taken.{moved_to, moved_ties, ids, few_taken, none_left, next_entry, next_listed, next_id, next_taken, waits_next, may_be_released, takes_more}
 use Rattle.softdep_queue.proofs.table.Table.take_one.Goals as goal
 
-pub returns-in_default-clause-taken : goal.returns-in_default-clause-taken
-returns-in_default-clause-taken c queue q es takes =
+pub returns-in_default : goal.returns-in_default
+returns-in_default c queue q es takes =
     let same = c.in_default.ensures.none in (
       subst (λ r. Takes c.args.geometry.now (record c.args.self.now { ready = r }) queue q c.args.address es) (sym same) takes,
       none_left c.args.geometry.now c.args.self.now queue q c.args.address es takes c.in_default.ensures.popped,
@@ -53,8 +51,8 @@ lower-requires c =
     (record c.args.self.now { ready = c.pop.new.self; taken = c.push_reserved.new.self })
     (moved_to c.args.self.now c.pop.new.self c.push_reserved.new.self c.args.address c.in-Some.number c.in-Some.ensures.popped c.in-Some.ensures.others c.in-Some.ensures.none c.in-Some.ensures.count c.in-Some.ensures.room c.push_reserved.ensures.items c.push_reserved.ensures.capacity)
 
-pub returns-clause-taken : goal.returns-clause-taken
-returns-clause-taken c queue q es takes =
+pub returns : goal.returns
+returns c queue q es takes =
     let t = c.args.self.now in
     let geo = c.args.geometry.now in
     let a = c.args.address in
@@ -67,23 +65,9 @@ returns-clause-taken c queue q es takes =
     let moved = moved_to t c.pop.new.self c.push_reserved.new.self a number popped c.in-Some.ensures.others c.in-Some.ensures.none c.in-Some.ensures.count c.in-Some.ensures.room c.push_reserved.ensures.items c.push_reserved.ensures.capacity in
     let t1 : Table = record t { ready = c.pop.new.self; taken = c.push_reserved.new.self } in
     let shows = subst (λ i. Shows (node_at t.nodes.items i).change e.change) id (takes.ties.node a e listed).change in
-    let home = home_is (home_of geo) queue q takes.ties.represents a e listed in
     let lowered = c.lower.ensures.lowered geo queue q (due_after queue a es) a e (moved_ties geo t queue q a es takes number rest popped t1 moved) listed id
     (waits_next geo t queue q a es takes number rest popped t1 moved) in (
       e,
       takes_more geo t queue q a es takes number rest popped t1 moved c.lower.new.self lowered c.lower.ensures.taken,
-      subst (λ k. TurnsBlock geo k c.args.block.now c.put.new.block (λ v. updated v e.change)) home (c.put.ensures.view e.change shows),
+      c.put.ensures e.change shows,
     )
-
-pub returns-clause-group_block : goal.returns-clause-group_block
-returns-clause-group_block c g at is =
-    let h = c.requires.held in
-    let t = c.args.self.now in
-    let geo = c.args.geometry.now in
-    let a = c.args.address in
-    let rest = stack_at c.pop.new.self a in
-    let e = next_entry geo t h.queue h.q a h.es h.takes c.in-Some.number rest c.in-Some.ensures.popped in
-    let listed = next_listed geo t h.queue h.q a h.es h.takes c.in-Some.number rest c.in-Some.ensures.popped in
-    let id = next_id geo t h.queue h.q a h.es h.takes c.in-Some.number rest c.in-Some.ensures.popped in
-    let shows = subst (λ i. Shows (node_at t.nodes.items i).change e.change) id (h.takes.ties.node a e listed).change in
-    c.put.ensures.group_block e.change shows g (home_is (home_of geo) h.queue h.q h.takes.ties.represents a e listed ∙ at) is

@@ -1,0 +1,46 @@
+-- A record that reads as a free one has zeroes in all bytes that are looked at.
+use Rattle.std.proofs.Common.{◌≡◌, ℕ, zero, suc, ◌<◌, ◌≤◌, ◌+◌, ◌-◌, ◌*◌, inl, inr, List, replicate, drop, slice_index, sym, ap, ◌∙◌, arith}
+use Rattle.std.proofs.lemmas.Bool.{cases_eq, cases_lt}
+use Rattle.std.proofs.lemmas.List.{get_or-drop}
+use Rattle.byteorder.specs.Endian.{little_from, little_number}
+use Rattle.model.specs.View.{Inode, inode_at, free_inode, u32_at, u32s_at}
+
+from_zero : (n i : ℕ) (xs : List ℕ) → little_from i n xs ≡ 0 → (k : ℕ) → i ≤ k → k < i + n → slice_index xs k ≡ 0
+from_zero zero i xs e k a b = absurd (omega (arith, a, b))
+from_zero (suc n) i xs e k a b = elim (cases_eq k i) [
+  | inl same ↦ ap (slice_index xs) same ∙ first (slice_index xs i) (little_from (suc i) n xs) e
+  | inr other ↦ from_zero n (suc i) xs (later (slice_index xs i) (little_from (suc i) n xs) e) k (omega (arith, a, other)) (omega (arith, b))
+]
+  where
+    first : (x y : ℕ) → x + 256 * y ≡ 0 → x ≡ 0
+    first x y e = omega (arith, e)
+
+    later : (x y : ℕ) → x + 256 * y ≡ 0 → y ≡ 0
+    later x y e = omega (arith, e)
+
+number_zero : (n at : ℕ) (block : List ℕ) → little_number n (drop at block) ≡ 0 → (k : ℕ) → at ≤ k → k < at + n → slice_index block k ≡ 0
+number_zero n at block e k a b =
+    let place : k ≡ at + (k - at) = omega (arith, a) in
+    ap (slice_index block) place ∙ sym (get_or-drop at block (k - at) 0) ∙ from_zero n 0 (drop at block) e (k - at) (omega arith) (omega (arith, a, b))
+
+numbers_zero : (n at : ℕ) (block : List ℕ) → u32s_at block at n ≡ replicate n 0 → (k : ℕ) → at ≤ k → k < at + 4 * n → slice_index block k ≡ 0
+numbers_zero zero at block e k a b = absurd (omega (arith, a, b))
+numbers_zero (suc n) at block e k a b = elim (cases_lt k (at + 4)) [
+  | inl here ↦ (let number : u32_at block at ≡ 0 = cc in number_zero 4 at block number k a here)
+  | inr there ↦ (let numbers : u32s_at block (at + 4) n ≡ replicate n 0 = cc in numbers_zero n (at + 4) block numbers k there (omega (arith, b)))
+]
+
+pub free_bytes : (block : List ℕ) (byte : ℕ) → inode_at block byte ≡ free_inode → (k : ℕ) → k < 60 → slice_index block (byte + k) ≡ 0
+free_bytes block byte e k low = elim (cases_lt k 2) [
+  | inl mode ↦ number_zero 2 byte block (ap (λ (r : Inode). r.mode) e) (byte + k) (omega arith) (omega (arith, mode))
+  | inr a ↦ elim (cases_lt k 4) [
+    | inl links ↦ number_zero 2 (byte + 2) block (ap (λ (r : Inode). r.links) e) (byte + k) (omega (arith, a)) (omega (arith, links))
+    | inr b ↦ elim (cases_lt k 8) [
+      | inl size ↦ number_zero 4 (byte + 4) block (ap (λ (r : Inode). r.size) e) (byte + k) (omega (arith, b)) (omega (arith, size))
+      | inr c ↦ elim (cases_lt k 56) [
+        | inl direct ↦ numbers_zero 12 (byte + 8) block (ap (λ (r : Inode). r.direct) e) (byte + k) (omega (arith, c)) (omega (arith, direct))
+        | inr d ↦ number_zero 4 (byte + 56) block (ap (λ (r : Inode). r.indirect) e) (byte + k) (omega (arith, d)) (omega (arith, low))
+      ]
+    ]
+  ]
+]
