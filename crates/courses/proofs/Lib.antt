@@ -10,9 +10,17 @@ pub mod LifeCourses
 mod Spared
 mod Images
 mod Runs
+mod LifeBytes
 mod AcceptedPlans
 mod AcceptedWrites
 mod SafeModes
 mod Doing
 mod Serving
 pub mod ServiceLemmas
+pub mod Leaving
+mod OwnBytes
+mod Firm
+mod WritesKeep
+mod PlansHold
+mod BytesHeld
+pub mod ServiceBytes

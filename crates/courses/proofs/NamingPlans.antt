@@ -28,7 +28,7 @@ module _ (geo : Geometry) (disk : View) (q : List Pending) (rules : ObeysRules g
   start = users_view disk q
 
   -- slot s of a block of a directory is written
-  slot_still : (file : ℕ) (d s block : ℕ) (what : Slot) (bytes : List ℕ) (t : ℕ) (entry : List ℕ) (after : List Cell) (p : List Pending) → StandsAt geo start d s block what → Still geo disk file q p → Still geo disk file q (slot_written block bytes t entry after ∷ p)
+  pub slot_still : (file : ℕ) (d s block : ℕ) (what : Slot) (bytes : List ℕ) (t : ℕ) (entry : List ℕ) (after : List Cell) (p : List Pending) → StandsAt geo start d s block what → Still geo disk file q p → Still geo disk file q (slot_written block bytes t entry after ∷ p)
   slot_still file d s block what bytes t entry after p place f = bytes_still geo disk file q block (with_slot bytes t entry) after p (place_no_files geo start rules d s block what place) f
 
   -- slot s of the new block is written
@@ -122,7 +122,7 @@ module _ (geo : Geometry) (disk : View) (q : List Pending) (rules : ObeysRules g
       (linking_fits i i d' s' block' name' entry after' can.to)
 
   -- a directory that grows leaves a file's record
-  other_record : (i d : ℕ) (parent : Inode) (b : ℕ) (holder : Holder) (p : List Pending) → (i ≡ d → ⊥) → (users_view disk (grown d parent b holder p)).inode i ≡ (users_view disk p).inode i
+  pub other_record : (i d : ℕ) (parent : Inode) (b : ℕ) (holder : Holder) (p : List Pending) → (i ≡ d → ⊥) → (users_view disk (grown d parent b holder p)).inode i ≡ (users_view disk p).inode i
   other_record i d parent b InRecord p other = put_there (users_view disk p).inode d i _ other
   other_record i d parent b (InTable table) p other = put_there (users_view disk p).inode d i _ other
   other_record i d parent b (InNewTable x table) p other = put_there (users_view disk p).inode d i _ other

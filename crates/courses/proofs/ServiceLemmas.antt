@@ -1,5 +1,5 @@
 -- What a volume goes through that carries out commands is a session, and what each stop of it leaves.
-use Rattle.std.proofs.Common.{◌≡◌, ℕ, Bool, List, [], refl, sym, ◌∙◌, ap, subst, IsTrue, Err}
+use Rattle.std.proofs.Common.{◌≡◌, ℕ, Bool, List, [], ◌∷◌, refl, sym, ◌∙◌, ap, subst, IsTrue, Ok, Err}
 use Rattle.model.specs.Layout.{Geometry}
 use Rattle.model.specs.View.{View}
 use Rattle.model.specs.Image.{IsImage, image_view}
@@ -14,17 +14,17 @@ use Rattle.queue_model.specs.Flush.{ready}
 use Rattle.queue_model.proofs.FlushLemmas.{ready_closed}
 use Rattle.machine.specs.State.{State, mounted}
 use Rattle.machine.specs.Command.{Command, Answer, Reply}
+use Rattle.machine.specs.Causes.{Accepts}
 use Rattle.machine.specs.Paths.{number_at}
 use Rattle.machine.proofs.WholeBlocks.{image_whole, image_records}
 use Rattle.courses.specs.Leads.{IsMoment}
-use Rattle.courses.specs.Life.{IsLived}
 use Rattle.courses.specs.Session.{Session, Opened, Answers, Stores, IsServed}
 use Rattle.courses.specs.Done.{IsDoneBy, CreatesInSlot, CreatesInNewBlock, MakesInSlot, MakesInNewBlock, LinksInSlot, LinksInNewBlock, RenamesInSlot, MovesToSlot, MovesToNewBlock, UnlinksName, UnlinksFile, RemovesName, RemovesDirectory, WritesInPlace, WritesBehind, WritesElsewhere, TruncatesFile, ClosesHandle, CarriesOutRepair}
 use Rattle.courses.specs.Serves.{Serves, ByPlan, Quietly, FlushesNone, FlushesSome, SyncsAll, Freezes, Releases, IsBeginning, Service, Starts, CarriesOut, Refuses, Flushed, TakesNameOf, IsSpared, IsSafeService}
 use Rattle.courses.proofs.Images.{each_safe}
 use Rattle.courses.proofs.LifeCourses.{life_lived, mount_moment, anew_moment}
 use Rattle.courses.proofs.Runs.{served}
-use Rattle.courses.proofs.Serving.{moment_agrees, session_stands, serves}
+use Rattle.courses.proofs.Serving.{moment_agrees, performs, session_stands, serves}
 use Rattle.courses.proofs.Spared.{but_other}
 
 -- ---- where a volume may begin
@@ -76,7 +76,7 @@ module _ (geo : Geometry) (mounted : View) (h : List Written) (cut : List Bool) 
 
   serving_spares : (disk : View) (q : List Pending) (old : State) (safe : ℕ → Bool) (command : Command) (answer : Answer) (disk' : View) (q' : List Pending) (new : State) (safe' : ℕ → Bool) (later : List View) → users_view disk q ≡ old.view
       → Serves geo disk q old safe command answer disk' q' new safe' later → (f : ℕ) → (TakesNameOf geo old command f → ⊥) → IsTrue (safe f) → IsTrue (safe' f)
-  serving_spares disk q old safe command answer disk' q' new safe' later same (ByPlan c a file plan n s done) f spares t = done_spares disk q old safe c a file plan n s same done f spares t
+  serving_spares disk q old safe command answer disk' q' new safe' later same (ByPlan c a file plan n s done rest) f spares t = done_spares disk q old safe c a file plan n s same done f spares t
   serving_spares disk q old safe command answer disk' q' new safe' later same (Quietly c a n quiet effect) f spares t = t
   serving_spares disk q old safe command answer disk' q' new safe' later same (FlushesNone a none) f spares t = t
   serving_spares disk q old safe command answer disk' q' new safe' later same (FlushesSome a some) f spares t = t
@@ -98,23 +98,35 @@ module _ (geo : Geometry) (mounted : View) (h : List Written) (cut : List Bool) 
 
   -- ---- stops, and a new beginning
 
-  module _ (disk : View) (q : List Pending) (new : State) (safe : ℕ → Bool) (commands : List Command) (replies : List Reply) (images : List View) (service : Service geo disk0 q0 old0 safe0 disk q new safe commands replies images) where
-    lived : IsLived geo mounted h cut disk0 q0 old0.held safe0 disk q new.held safe images (service_served disk q new safe commands replies images service).life
-    lived = life_lived geo mounted h cut disk0 q0 old0.held safe0 begin.moment disk q new.held safe images (service_served disk q new safe commands replies images service).life
+  pub session_safe : (disk : View) (q : List Pending) (new : State) (safe : ℕ → Bool) (commands : List Command) (replies : List Reply) (images : List View) → Session geo disk0 q0 old0 safe0 disk q new safe commands replies images
+      → IsSafeService geo mounted h cut disk0 q0 old0 safe0 disk q new safe commands replies images
+  session_safe disk q new safe commands replies images session =
+      let s = served geo disk0 q0 old0 safe0 begin.stands.same disk q new safe commands replies images session in
+      let l = life_lived geo mounted h cut disk0 q0 old0.held safe0 begin.moment disk q new.held safe images s.life in
+      record {
+        run = s.run;
+        stands = session_stands geo mounted h cut disk0 q0 old0 safe0 begin disk q new safe commands replies images session;
+        life = s.life;
+        lived = l;
+        stops = λ image c. each_safe geo mounted l.h' l.cut' safe images l.images_safe image c;
+      }
 
+  -- after one command that is done by a plan, also where it leaves nothing behind a piece
+  pub plan_safe : (command : Command) (answer : Answer) (file : ℕ) (plan : List Pending) (new : State) (safe : ℕ → Bool) → Accepts geo old0 command → IsDoneBy geo disk0 q0 old0 safe0 command answer file plan new safe
+      → IsSafeService geo mounted h cut disk0 q0 old0 safe0 disk0 plan new safe (command ∷ []) (Ok answer ∷ []) []
+  plan_safe command answer file plan new safe accepts done =
+      session_safe disk0 plan new safe (command ∷ []) (Ok answer ∷ []) []
+      (performs geo mounted h cut disk0 q0 old0 safe0 begin disk0 q0 old0 safe0 [] [] [] Opened command answer file plan new safe accepts done)
+
+  module _ (disk : View) (q : List Pending) (new : State) (safe : ℕ → Bool) (commands : List Command) (replies : List Reply) (images : List View) (service : Service geo disk0 q0 old0 safe0 disk q new safe commands replies images) where
     pub service_safe : IsSafeService geo mounted h cut disk0 q0 old0 safe0 disk q new safe commands replies images
-    service_safe = record {
-      run = (service_served disk q new safe commands replies images service).run;
-      stands = session_stands geo mounted h cut disk0 q0 old0 safe0 begin disk q new safe commands replies images (service_session disk q new safe commands replies images service);
-      life = (service_served disk q new safe commands replies images service).life;
-      lived = lived;
-      stops = λ image c. each_safe geo mounted lived.h' lived.cut' safe images lived.images_safe image c;
-    }
+    service_safe = session_safe disk q new safe commands replies images (service_session disk q new safe commands replies images service)
 
     pub begins_anew : q ≡ [] → (more : ℕ → Bool) → ((f : ℕ) → IsTrue (more f) → IsReachable geo disk f × ((disk.inode f).mode ≡ 1))
         → (h' : List Written) × (cut' : List Bool) × IsBeginning geo mounted h' cut' disk q new more
     begins_anew none more files =
         let s = service_safe.stands in
+        let lived = service_safe.lived in
         let m : IsMoment geo mounted lived.h' lived.cut' (at_rest new.held safe) disk [] = subst (λ p. IsMoment geo mounted lived.h' lived.cut' (at_rest new.held safe) disk p) none lived.moment in
         let is : disk ≡ new.view = ap (λ p. users_view disk p) (sym none) ∙ s.same in
         let moment : IsMoment geo mounted lived.h' lived.cut' (at_rest new.held more) disk q =

@@ -36,7 +36,7 @@ use Rattle.courses.proofs.Doing.{steps}
 -- ---- quiet commands
 
 -- they change neither the image nor what is held
-quiet_keeps : (geo : Geometry) (old : State) (command : Command) (answer : Answer) (new : State) → IsTrue (is_quiet command) → Effect geo old command answer new → (new.view ≡ old.view) × (new.held ≡ old.held)
+pub quiet_keeps : (geo : Geometry) (old : State) (command : Command) (answer : Answer) (new : State) → IsTrue (is_quiet command) → Effect geo old command answer new → (new.view ≡ old.view) × (new.held ≡ old.held)
 quiet_keeps geo old (Open p) (Number h) new t e = (ap (λ (s : State). s.view) e.whole, ap (λ (s : State). s.held) e.whole)
 quiet_keeps geo old (Open p) _ new t e = absurd e
 quiet_keeps geo old (Read h k) (Bytes bytes) new t e = (ap (λ (s : State). s.view) e.1, ap (λ (s : State). s.held) e.1)
@@ -53,7 +53,7 @@ quiet_keeps geo old _ answer new t e = absurd (both_ways false refl t)
 -- ---- flushes
 
 -- what was held before stays last
-images_last : (home : Cell → ℕ) (disk : View) (q : List Pending) (blocks : List ℕ) (images older : List View) → flush_images home disk q blocks images ++ older ≡ flush_images home disk q blocks (images ++ older)
+pub images_last : (home : Cell → ℕ) (disk : View) (q : List Pending) (blocks : List ℕ) (images older : List View) → flush_images home disk q blocks images ++ older ≡ flush_images home disk q blocks (images ++ older)
 images_last home disk q [] images older = refl
 images_last home disk q (a ∷ blocks) images older = images_last home (seen disk q (ready home a q)) (rest q (ready home a q)) blocks (seen disk q (ready home a q) ∷ images) older
 
@@ -107,7 +107,7 @@ module _ (geo : Geometry) (mounted : View) (h : List Written) (cut : List Bool) 
         (plan_release geo stands.geometry t stands.balance n few) refl (ap (λ (x : State). x.view) (release_steps_on geo disk' t safe stands accepted n few).1))
 
     -- by a plan
-    performs : (command : Command) (answer : Answer) (file : ℕ) (plan : List Pending) (new : State) (safe' : ℕ → Bool) → Accepts geo old command → IsDoneBy geo disk q old safe command answer file plan new safe'
+    pub performs : (command : Command) (answer : Answer) (file : ℕ) (plan : List Pending) (new : State) (safe' : ℕ → Bool) → Accepts geo old command → IsDoneBy geo disk q old safe command answer file plan new safe'
         → Session geo disk0 q0 old0 safe0 disk plan new safe' (commands ++ command ∷ []) (replies ++ Ok answer ∷ []) images
     performs command answer file plan new safe' accepts done =
         let s = session_stands disk q old safe commands replies images session in
@@ -117,7 +117,7 @@ module _ (geo : Geometry) (mounted : View) (h : List Written) (cut : List Bool) 
 
     pub serves : (command : Command) (answer : Answer) (disk' : View) (q' : List Pending) (new : State) (safe' : ℕ → Bool) (later : List View) → Accepts geo old command → Serves geo disk q old safe command answer disk' q' new safe' later
         → Session geo disk0 q0 old0 safe0 disk' q' new safe' (commands ++ command ∷ []) (replies ++ Ok answer ∷ []) (later ++ images)
-    serves command answer disk' q' new safe' later accepts (ByPlan c a file plan n s done) = performs c a file plan n s accepts done
+    serves command answer disk' q' new safe' later accepts (ByPlan c a file plan n s done rest) = performs c a file plan n s accepts done
     serves command answer disk' q' new safe' later accepts (Quietly c a n quiet effect) =
         let k = quiet_keeps geo old c a n quiet effect in
         Answers c (Ok a) n session (accepts, effect) k.0 k.1

@@ -1,6 +1,6 @@
 -- How a command that no cause refuses is carried out by updates: what it chooses, and what it issues.
-use Rattle.std.specs.Prelude.{◌≡◌, ◌≢◌, ℕ, ◌<◌, ◌≤◌, ◌-◌, ◌/◌, Bool, true, List, Some, slice_get, IsTrue, IsFalse}
-use Rattle.std.specs.List.{Contains}
+use Rattle.std.specs.Prelude.{◌≡◌, ◌≢◌, ℕ, ◌<◌, ◌≤◌, ◌-◌, ◌/◌, Bool, true, List, ◌++◌, length, drop, replicate, Some, slice_get, IsTrue, IsFalse}
+use Rattle.std.specs.List.{All, Contains}
 use Rattle.model.specs.Layout.{Geometry}
 use Rattle.model.specs.View.{View, free_inode}
 use Rattle.model.specs.Cells.{put_at}
@@ -26,17 +26,18 @@ use Rattle.plans_data.specs.Lists.{given_up_with}
 use Rattle.plans_data.specs.Plans.{IsChoice, holder_of, holder_in_use, named_by}
 use Rattle.plans_naming.specs.Entries.{HasBlocks, HasOtherBlocks}
 use Rattle.plans_naming.specs.Grow.{AreOther}
-use Rattle.plans_naming.specs.Move.{HasGrounds}
 use Rattle.plans_naming.specs.Unlink.{StaysWith, safe_but}
 use Rattle.plans_naming.specs.Plans.{slot_block, entry_block, create_plan, create_plan_grown, make_plan, make_plan_grown, link_plan, link_plan_grown, rename_plan, move_plan, move_plan_grown, unlink_plan, unlink_plan_last, remove_plan, remove_plan_last}
+use Rattle.courses.specs.After.{AreBlocks, AreGroundsWith, AreOtherBlocks, IsBeforeEntry, IsNewCell}
 
 -- In slot s, which is empty, of the directory that holds the last part of a path, this entry gives a number that part as its name.
 pub record InSlot (geo : Geometry) (view : View) (path : List ℕ) (number s : ℕ) (entry : List ℕ) (after : List Cell) : Type 0 where
   pub empty : slot geo view (holder geo view path) s ≡ Empty
   pub says : IsEntryFor number (name_in path) entry
-  -- it is written after the number's record and the directory's other blocks
+  -- it is written after the number's record and the directory's other blocks, and after nothing else
   pub record_first : Contains after (Record number)
   pub others_first : HasOtherBlocks geo view (holder geo view path) (slot_block geo view path s) after
+  pub only : All (IsBeforeEntry geo view (holder geo view path) number) after
 
 -- And so in slot s of a new block b, where no slot of the directory is empty.
 pub record InNewBlock (geo : Geometry) (view : View) (path : List ℕ) (number b : ℕ) (kept : Holder) (s : ℕ) (entry : List ℕ) (after : List Cell) : Type 0 where
@@ -46,9 +47,10 @@ pub record InNewBlock (geo : Geometry) (view : View) (path : List ℕ) (number b
   pub keeps : IsKeptIn geo view (holder geo view path) (blocks_of (view.inode (holder geo view path)).size) b kept
   pub stands : s / 16 ≡ blocks_of (view.inode (holder geo view path)).size
   pub says : IsEntryFor number (name_in path) entry
-  -- it is written after the number's record and the directory's blocks
+  -- it is written after the number's record and the directory's blocks, and after nothing else
   pub record_first : Contains after (Record number)
   pub blocks_first : HasBlocks geo view (holder geo view path) after
+  pub only : All (IsBeforeEntry geo view (holder geo view path) number) after
 
 -- The last link of an inode goes that is not open, and these are its blocks, but for those that the snapshot keeps.
 pub record GoesWith (geo : Geometry) (old : State) (number : ℕ) (blocks : List ℕ) : Type 0 where
@@ -74,18 +76,18 @@ pub data IsDoneBy (geo : Geometry) (disk : View) (q : List Pending) (old : State
       → IsDoneBy geo disk q old safe (Link p r) Done (number_at geo (users_view disk q) p) (link_plan geo (users_view disk q) p r s entry after q) (now disk (link_plan geo (users_view disk q) p r s entry after q) old) safe
   LinksInNewBlock : (p r : List ℕ) (b : ℕ) (kept : Holder) (s : ℕ) (entry : List ℕ) (after : List Cell) → InNewBlock geo (users_view disk q) r (number_at geo (users_view disk q) p) b kept s entry after
       → IsDoneBy geo disk q old safe (Link p r) Done (number_at geo (users_view disk q) p) (link_plan_grown geo (users_view disk q) p r b kept s entry after q) (now disk (link_plan_grown geo (users_view disk q) p r b kept s entry after q) old) safe
-  -- an entry gets another name in its slot
+  -- an entry gets another name in its slot, after the directory's other blocks
   RenamesInSlot : (p r : List ℕ) (entry : List ℕ) (after : List Cell) → holder geo (users_view disk q) p ≡ holder geo (users_view disk q) r
-      → IsEntryFor (number_at geo (users_view disk q) p) (name_in r) entry → HasOtherBlocks geo (users_view disk q) (holder geo (users_view disk q) p) (entry_block geo (users_view disk q) p) after
+      → IsEntryFor (number_at geo (users_view disk q) p) (name_in r) entry → AreOtherBlocks geo (users_view disk q) (holder geo (users_view disk q) p) (entry_block geo (users_view disk q) p) after
       → IsDoneBy geo disk q old safe (Rename p r) Done (number_at geo (users_view disk q) p) (rename_plan geo (users_view disk q) p entry after q) (now disk (rename_plan geo (users_view disk q) p entry after q) old) safe
   -- or its file gets one in another directory, and this one goes, after the new one and the grounds of its directory
   MovesToSlot : (p r : List ℕ) (s : ℕ) (entry : List ℕ) (after' after : List Cell) → holder geo (users_view disk q) p ≢ holder geo (users_view disk q) r
       → InSlot geo (users_view disk q) r (number_at geo (users_view disk q) p) s entry after' → Contains after (Block (slot_block geo (users_view disk q) r s))
-      → HasGrounds geo (users_view disk q) (holder geo (users_view disk q) r) (entry_block geo (users_view disk q) p) after
+      → AreGroundsWith geo (users_view disk q) (holder geo (users_view disk q) r) (entry_block geo (users_view disk q) p) (λ c. c ≡ Block (slot_block geo (users_view disk q) r s)) after
       → IsDoneBy geo disk q old safe (Rename p r) Done (number_at geo (users_view disk q) p) (move_plan geo (users_view disk q) p r s entry after' after q) (now disk (move_plan geo (users_view disk q) p r s entry after' after q) old) safe
   MovesToNewBlock : (p r : List ℕ) (b : ℕ) (kept : Holder) (s : ℕ) (entry : List ℕ) (after' after : List Cell) → holder geo (users_view disk q) p ≢ holder geo (users_view disk q) r
       → InNewBlock geo (users_view disk q) r (number_at geo (users_view disk q) p) b kept s entry after' → Contains after (Block b)
-      → HasGrounds geo (users_view disk q) (holder geo (users_view disk q) r) (entry_block geo (users_view disk q) p) after
+      → AreGroundsWith geo (users_view disk q) (holder geo (users_view disk q) r) (entry_block geo (users_view disk q) p) (IsNewCell b kept) after
       → (direct_positions ≤ blocks_of ((users_view disk q).inode (holder geo (users_view disk q) r)).size
       → IsKnown after (entry_block geo (users_view disk q) p) (Block (pointed ((users_view disk q).inode (holder geo (users_view disk q) r)) (blocks_of ((users_view disk q).inode (holder geo (users_view disk q) r)).size) b kept).indirect))
       → IsDoneBy geo disk q old safe (Rename p r) Done (number_at geo (users_view disk q) p) (move_plan_grown geo (users_view disk q) p r b kept s entry after' after q) (now disk (move_plan_grown geo (users_view disk q) p r b kept s entry after' after q) old) safe
@@ -95,11 +97,11 @@ pub data IsDoneBy (geo : Geometry) (disk : View) (q : List Pending) (old : State
   UnlinksFile : (p : List ℕ) (blocks : List ℕ) → ((users_view disk q).inode (number_at geo (users_view disk q) p)).links ≡ 1 → GoesWith geo (now disk q old) (number_at geo (users_view disk q) p) blocks
       → IsDoneBy geo disk q old safe (Unlink p) Done (number_at geo (users_view disk q) p) (unlink_plan_last geo (users_view disk q) p blocks q)
       (becomes disk (unlink_plan_last geo (users_view disk q) p blocks q) (held_with geo (now disk q old) (number_at geo (users_view disk q) p) free_inode) old) (safe_but (number_at geo (users_view disk q) p) safe)
-  -- and so with a directory
-  RemovesName : (p : List ℕ) (after : List Cell) → HasBlocks geo (users_view disk q) (number_at geo (users_view disk q) p) after
+  -- and so with a directory, after its own blocks
+  RemovesName : (p : List ℕ) (after : List Cell) → AreBlocks geo (users_view disk q) (number_at geo (users_view disk q) p) after
       → StaysWith old (number_at geo (users_view disk q) p) (((users_view disk q).inode (number_at geo (users_view disk q) p)).links - 2)
       → IsDoneBy geo disk q old safe (Rmdir p) Done (number_at geo (users_view disk q) p) (remove_plan geo (users_view disk q) p after q) (now disk (remove_plan geo (users_view disk q) p after q) old) safe
-  RemovesDirectory : (p : List ℕ) (blocks : List ℕ) (after : List Cell) → HasBlocks geo (users_view disk q) (number_at geo (users_view disk q) p) after
+  RemovesDirectory : (p : List ℕ) (blocks : List ℕ) (after : List Cell) → AreBlocks geo (users_view disk q) (number_at geo (users_view disk q) p) after
       → ((users_view disk q).inode (number_at geo (users_view disk q) p)).links ≡ 2 → GoesWith geo (now disk q old) (number_at geo (users_view disk q) p) blocks
       → IsDoneBy geo disk q old safe (Rmdir p) Done (number_at geo (users_view disk q) p) (remove_plan_last geo (users_view disk q) p blocks after q)
       (becomes disk (remove_plan_last geo (users_view disk q) p blocks after q) (held_with geo (now disk q old) (number_at geo (users_view disk q) p) free_inode) old) safe
@@ -136,3 +138,13 @@ pub data IsDoneBy (geo : Geometry) (disk : View) (q : List Pending) (old : State
       → IsDoneBy geo disk q old safe (RepairAt k) Done (named_by r)
       (repairing r (inode_of (users_view disk q) r) (open_of old r) (given_up_with geo (now disk q old) (named_by r) free_inode) q)
       (record (becomes disk (repairing r (inode_of (users_view disk q) r) (open_of old r) (given_up_with geo (now disk q old) (named_by r) free_inode) q) (held_after geo (now disk q old) r) old) { plan = Some (record plan { done = put_at plan.done k true }) }) safe
+
+-- Of a write: its block gets the piece and nothing else. Behind the piece, below the file's size or not, stands what users saw of the whole block, or zeroes in a block behind the last one.
+abbrev pub LeavesTheRest : {geo : Geometry} {disk : View} {q : List Pending} {old : State} {safe : ℕ → Bool} {command : Command} {answer : Answer} {file : ℕ} {plan : List Pending} {new : State} {safe' : ℕ → Bool}
+    → IsDoneBy geo disk q old safe command answer file plan new safe' → Type 0
+LeavesTheRest {geo = geo} {disk = disk} {q = q} {old = old} (WritesInPlace h k piece bytes over inside free) =
+    bytes ≡ piece ++ drop (length piece) ((users_view disk q).bytes (block_of geo (users_view disk q) (file_of old h) k))
+LeavesTheRest (WritesBehind h k piece bytes b x table over choice past) = bytes ≡ piece ++ drop (length piece) (replicate 1024 0)
+LeavesTheRest {geo = geo} {disk = disk} {q = q} {old = old} (WritesElsewhere h k piece bytes b over free inside kept) =
+    bytes ≡ piece ++ drop (length piece) ((users_view disk q).bytes (block_of geo (users_view disk q) (file_of old h) k))
+LeavesTheRest _ = Unit {0}

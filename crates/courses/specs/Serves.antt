@@ -22,7 +22,7 @@ use Rattle.queue_model.specs.Flush.{ready, taken}
 use Rattle.queue_model.specs.Sync.{Syncs}
 use Rattle.courses.specs.Leads.{IsMoment}
 use Rattle.courses.specs.Life.{Life, IsLived}
-use Rattle.courses.specs.Done.{IsDoneBy}
+use Rattle.courses.specs.Done.{IsDoneBy, LeavesTheRest}
 
 -- a command that changes neither the image nor what is held
 abbrev pub is_quiet : Command → Bool
@@ -42,8 +42,8 @@ flush_images home disk q (a ∷ blocks) images =
 
 -- Over a device with this pending, in this state and with these safe files, a command is answered so: the device and what is pending then, the state and the safe files, and what the device held after each write of the command, newest first.
 pub data Serves (geo : Geometry) (disk : View) (q : List Pending) (old : State) (safe : ℕ → Bool) : Command → Answer → View → List Pending → State → (ℕ → Bool) → List View → Type 0 where
-  -- by updates, which stay pending
-  ByPlan : (command : Command) (answer : Answer) (file : ℕ) (plan : List Pending) (new : State) (safe' : ℕ → Bool) → IsDoneBy geo disk q old safe command answer file plan new safe'
+  -- by updates, which stay pending; a write leaves what stands behind its piece
+  ByPlan : (command : Command) (answer : Answer) (file : ℕ) (plan : List Pending) (new : State) (safe' : ℕ → Bool) (done : IsDoneBy geo disk q old safe command answer file plan new safe') → LeavesTheRest done
       → Serves geo disk q old safe command answer disk plan new safe' []
   -- with no change of the image
   Quietly : (command : Command) (answer : Answer) (new : State) → IsTrue (is_quiet command) → Effect geo old command answer new → Serves geo disk q old safe command answer disk q new safe []

@@ -12,6 +12,7 @@ ghost use Rattle.machine.specs.Causes.{Accepts};
 ghost use Rattle.machine.specs.Command.{Answer, Command, Reply};
 ghost use Rattle.machine.specs.State.{State, mounted};
 ghost use Rattle.queue_model.specs.Files.{Written};
+ghost use Rattle.courses.specs.Bytes.{IsOwnService};
 ghost use Rattle.courses.specs.Serves.{IsBeginning, IsSafeService, IsSpared, Serves, Service};
 ghost use Rattle.courses.specs.Session.{Session};
 
@@ -70,4 +71,14 @@ pub fn services_begin_anew_with_nothing_pending()
         → Service geo disk0 q0 old0 safe0 disk q new safe commands replies images → q ≡ []
         → (more : ℕ → Bool) → ((f : ℕ) → IsTrue (more f) → IsReachable geo disk f × ((disk.inode f).mode ≡ 1))
         → (h' : List Written) × (cut' : List Bool) × IsBeginning geo mount h' cut' disk q new more }
+{}
+
+/// Below a file's size and behind it each image shows the file's own bytes: each byte of a block of a file is a zero, or
+/// that byte of a piece which users wrote at this position of this very file, or the file had it there at the beginning.
+pub fn files_show_their_own_bytes()
+    ensures { (geo : Geometry) (mount : View) (h : List Written) (cut : List Bool) (disk0 : View) (q0 : List Pending) (old0 : State) (safe0 : ℕ → Bool)
+        → IsBeginning geo mount h cut disk0 q0 old0 safe0
+        → (disk : View) (q : List Pending) (new : State) (safe : ℕ → Bool) (commands : List Command) (replies : List Reply) (images : List View)
+        → (service : Service geo disk0 q0 old0 safe0 disk q new safe commands replies images)
+        → IsOwnService mount h cut service }
 {}

@@ -67,23 +67,23 @@ module _ (geo : Geometry) (disk : View) (q : List Pending) where
         (accepted_link_grown geo st stands.balance stands.geometry p r ok b kept s entry after place.full place.free place.keeps place.stands place.says place.record_first place.blocks_first))
     plans command answer file plan new safe' ok (RenamesInSlot p r entry after same says others) = gives _ _
         (renaming_since geo disk q rules (number_at geo start p) (holder geo start p) (slot_at geo start p) (entry_block geo start p) (name_in p) (name_in r) entry after
-        (accepted_rename geo st stands.balance stands.geometry p r ok same entry after says others))
+        (accepted_rename geo st stands.balance stands.geometry p r ok same entry after says others.needs))
     plans command answer file plan new safe' ok (MovesToSlot p r s entry after' after apart place entered grounds) = gives _ _
         (moving_since geo disk q rules (number_at geo start p) (holder geo start r) s (slot_block geo start r s) (name_in r) entry after' (holder geo start p) (slot_at geo start p) (entry_block geo start p) (name_in p) after
-        (accepted_move geo st stands.balance stands.geometry p r ok apart s entry after' after place.empty place.says place.record_first place.others_first entered grounds))
+        (accepted_move geo st stands.balance stands.geometry p r ok apart s entry after' after place.empty place.says place.record_first place.others_first entered grounds.needs))
     plans command answer file plan new safe' ok (MovesToNewBlock p r b kept s entry after' after apart place entered grounds table) = gives _ _
         (moving_grown_since geo disk q rules (number_at geo start p) (holder geo start r) b kept s (name_in r) entry after' (holder geo start p) (slot_at geo start p) (entry_block geo start p) (name_in p) after
-        (accepted_move_grown geo st stands.balance stands.geometry p r ok apart b kept s entry after' after place.full place.free place.keeps place.stands place.says place.record_first place.blocks_first entered grounds table))
+        (accepted_move_grown geo st stands.balance stands.geometry p r ok apart b kept s entry after' after place.full place.free place.keeps place.stands place.says place.record_first place.blocks_first entered grounds.needs table))
     plans command answer file plan new safe' ok (UnlinksName p stays) = gives _ _
         (unlinking_since geo disk q rules (number_at geo start p) (holder geo start p) (slot_at geo start p) (entry_block geo start p) (name_in p) (accepted_unlink geo st stands.balance stands.geometry p ok))
     plans command answer file plan new safe' ok (UnlinksFile p blocks one goes) = gives _ _
         (unlinking_last_since geo disk q rules (number_at geo start p) (holder geo start p) (slot_at geo start p) (entry_block geo start p) (name_in p) blocks (accepted_unlink geo st stands.balance stands.geometry p ok))
     plans command answer file plan new safe' ok (RemovesName p after all stays) = gives _ _
         (removing_name_since geo disk q rules (number_at geo start p) (block_of geo start (number_at geo start p) 0) (holder geo start p) (slot_at geo start p) (entry_block geo start p) (name_in p) after
-        (accepted_remove geo st stands.balance stands.geometry p ok after all))
+        (accepted_remove geo st stands.balance stands.geometry p ok after all.needs))
     plans command answer file plan new safe' ok (RemovesDirectory p blocks after all two goes) = gives _ _
         (removing_since geo disk q rules (number_at geo start p) (block_of geo start (number_at geo start p) 0) (holder geo start p) (slot_at geo start p) (entry_block geo start p) (name_in p) after blocks
-        (accepted_remove geo st stands.balance stands.geometry p ok after all))
+        (accepted_remove geo st stands.balance stands.geometry p ok after all.needs))
     plans command answer file plan new safe' ok (WritesInPlace h k piece bytes over inside free) = gives _ _
         (written_since geo disk q rules old (file_of old h) k piece bytes (plan_in_place geo stands.geometry st stands.balance h k piece ok bytes over inside free))
     plans command answer file plan new safe' ok (WritesBehind h k piece bytes b x table over choice past) = gives _ _

@@ -1,5 +1,5 @@
 -- A new entry in a directory is one of the path's, and the updates of a command carry it out.
-use Rattle.std.proofs.Common.{◌≡◌, ◌+◌, ◌/◌, ℕ, Bool, true, List, [], ◌∷◌, sym, ap, ap₂, ◌∙◌, subst, IsTrue, IsFalse, Option, Some, Ok}
+use Rattle.std.proofs.Common.{◌≡◌, ◌+◌, ◌/◌, ℕ, Bool, true, List, [], ◌∷◌, sym, ap, ap₂, ◌∙◌, subst, All, IsTrue, IsFalse, Option, Some, Ok}
 use Rattle.std.specs.Prelude.{IfSome, unwrap_or}
 use Rattle.std.specs.Result.{result_unwrap_or}
 use Rattle.model.specs.Layout.{Geometry, is_number, root}
@@ -28,6 +28,7 @@ use Rattle.plans_naming.specs.Grow.{empty_block, grown}
 use Rattle.plans_naming.specs.Link.{raised}
 use Rattle.plans_naming.specs.Make.{made}
 use Rattle.plans_naming.specs.Plans.{create_plan, create_plan_grown, link_plan, link_plan_grown, make_plan, make_plan_grown, slot_block}
+use Rattle.courses.specs.After.{IsBeforeEntry}
 use Rattle.courses.specs.Done.{IsDoneBy, InSlot, InNewBlock, CreatesInSlot, CreatesInNewBlock, LinksInSlot, LinksInNewBlock, MakesInSlot, MakesInNewBlock}
 use Rattle.live_paths.specs.Shown.{IsShownBy}
 use Rattle.live_places.specs.Chosen.{AreChosen, IsEmptySlot, IsNewBlock, IsOther, IsOwn, IsPlace}
@@ -59,6 +60,7 @@ module _ (geo : Geometry) (view : View) (path : List ℕ) (ps : List (List ℕ))
       says = says_it x.entry x.says;
       record_first = x.record_first;
       others_first = subst (λ h. HasOtherBlocks geo view h (slot_block geo view path s) x.after) (sym to) (subst (λ b. HasOtherBlocks geo view d b x.after) at x.others_first);
+      only = subst (λ h. All (IsBeforeEntry geo view h n) x.after) (sym to) x.only;
     }
 
   pub in_new_block : (inode : Inode) (block : ℕ) (table : Option ℕ) → IsNewBlock geo view d block table → (x : EntersNewBlock geo view d inode n (last_part ps) block table old new)
@@ -71,6 +73,7 @@ module _ (geo : Geometry) (view : View) (path : List ℕ) (ps : List (List ℕ))
     says = says_it x.entry x.says;
     record_first = x.record_first;
     blocks_first = subst (λ h. HasBlocks geo view h x.after) (sym to) x.blocks_first;
+    only = subst (λ h. All (IsBeforeEntry geo view h n) x.after) (sym to) x.only;
   }
 
 -- ---- a command is carried out by an equal list, in the name of an equal number, with an equal answer

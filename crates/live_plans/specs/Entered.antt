@@ -1,6 +1,6 @@
 -- The updates by which a name is entered into a directory.
 use Rattle.std.specs.Prelude.{◌≡◌, ℕ, ◌/◌, List, ◌∷◌, Option, unwrap_or}
-use Rattle.std.specs.List.{Contains}
+use Rattle.std.specs.List.{All, Contains}
 use Rattle.model.specs.Layout.{Geometry}
 use Rattle.model.specs.View.{View, Inode}
 use Rattle.model.specs.Uses.{blocks_of}
@@ -9,6 +9,7 @@ use Rattle.machine.specs.Cells.{IsEntryFor}
 use Rattle.plans_data.specs.Append.{Holder, IsKeptIn, pointed}
 use Rattle.plans_naming.specs.Entries.{HasBlocks, HasOtherBlocks, slot_written}
 use Rattle.plans_naming.specs.Grow.{AreOther, empty_block, grown}
+use Rattle.courses.specs.After.{IsBeforeEntry}
 use Rattle.live_places.specs.declared.choosing.Place.{Place}
 use Rattle.live_places.specs.declared.choosing.Place.TheVariants.{Slot, NewBlock}
 use Rattle.live_places.specs.Chosen.{IsOther}
@@ -18,10 +19,11 @@ use Rattle.live_states.specs.Drafts.{Draft, GoesOn}
 pub record EntersSlot (geo : Geometry) (view : View) (d number : ℕ) (name : List ℕ) (s block : ℕ) (old new : Draft) : Type 0 where
   pub entry : List ℕ
   pub says : IsEntryFor number name entry
-  -- after the number's record and the directory's other blocks
+  -- after the number's record and the directory's other blocks, and after nothing else
   pub after : List Cell
   pub record_first : Contains after (Record number)
   pub others_first : HasOtherBlocks geo view d block after
+  pub only : All (IsBeforeEntry geo view d number) after
   pub goes_on : GoesOn old new (λ q. slot_written block (view.bytes block) s entry after ∷ q)
 
 -- It goes into a new block, with a block for the pointer where there is one; before the directory grows its record is this.
@@ -35,10 +37,11 @@ pub record EntersNewBlock (geo : Geometry) (view : View) (d : ℕ) (inode : Inod
   pub stands : slot / 16 ≡ blocks_of (view.inode d).size
   pub entry : List ℕ
   pub says : IsEntryFor number name entry
-  -- after the number's record and the directory's blocks
+  -- after the number's record and the directory's blocks, and after nothing else
   pub after : List Cell
   pub record_first : Contains after (Record number)
   pub blocks_first : HasBlocks geo view d after
+  pub only : All (IsBeforeEntry geo view d number) after
   pub goes_on : GoesOn old new (λ q. slot_written block empty_block slot entry after ∷ grown d inode block kept q)
 
 -- and so at this place

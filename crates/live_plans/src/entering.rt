@@ -37,7 +37,7 @@ pub struct NewEntry<'a> {
 }
 
 /// Adds the updates that enter a name into a directory: where it needs one, a new block of zeroes and the pointer to it,
-/// and then the entry, after the record of the number and the directory's other blocks.
+/// and then the entry, after the record of the number and the directory's other blocks, and after nothing else.
 pub fn enter(
     alloc: Global,
     metadata: &Metadata,

@@ -1,4 +1,4 @@
-ghost use Rattle.std.specs.Prelude.{◌≡◌, ◌≤◌, ◌<◌, ◌∷◌, ◌++◌, ℕ, IsSome, IsTrue, List, OnOk, length, map};
+ghost use Rattle.std.specs.Prelude.{◌≡◌, ◌≤◌, ◌<◌, ◌∷◌, ◌++◌, ◌⊎◌, ℕ, IsSome, IsTrue, List, OnOk, length, map};
 ghost use Rattle.std.specs.List.{All, Contains};
 ghost use Rattle.frozen.specs.Kept.{frozen_view};
 ghost use Rattle.model.specs.Layout.{is_data_address, is_number};
@@ -8,6 +8,7 @@ ghost use Rattle.machine.specs.Cells.{IsEntryFor};
 ghost use Rattle.metadata.specs.Shown.{Shows};
 ghost use Rattle.ordering.specs.Cuts.{Cell as OrderedCell};
 ghost use Rattle.plans_naming.specs.Entries.{HasBlocks, slot_written};
+ghost use Rattle.courses.specs.After.{IsBlockOf};
 ghost use Rattle.updates.specs.Places.{IsCell};
 ghost use Rattle.updates.specs.Values.{cell};
 ghost use Rattle.live_states.specs.Drafts.{GoesOn};
@@ -62,7 +63,7 @@ pub fn put_slot(
     plan.push(change, after)
 }
 
-/// Adds the cells of a directory's blocks of slots behind these.
+/// Adds the cells of a directory's blocks of slots behind these, and no others.
 pub fn add_blocks(
     metadata: &Metadata,
     directory: u32,
@@ -70,6 +71,8 @@ pub fn add_blocks(
 ) -> Result<(), AllocError>
     ensures kept { OnOk result ((c : OrderedCell) → Contains (map cell cells.old.items) c → Contains (map cell cells.new.items) c) }
     ensures blocks { OnOk result ((view : View) → Shows metadata.now view → HasBlocks metadata.now.geometry view directory (map cell cells.new.items)) }
+    ensures only { OnOk result ((view : View) → Shows metadata.now view
+        → All (λ c. Contains (map cell cells.old.items) c ⊎ IsBlockOf metadata.now.geometry view directory c) (map cell cells.new.items)) }
     ensures cells { OnOk result (All (IsCell metadata.now.geometry) (map cell cells.old.items) → All (IsCell metadata.now.geometry) (map cell cells.new.items)) }
 {
     let frozen = metadata.frozen();

@@ -24,6 +24,7 @@ use Rattle.plans_naming.specs.Plans.{entry_block, remove_plan, remove_plan_last}
 use Rattle.plans_naming.specs.RemoveDirectory.{CanRemove, removing, removing_name}
 use Rattle.plans_naming.specs.Unlink.{StaysWith, lowered}
 use Rattle.plans_naming.proofs.AcceptedCommands.{accepted_remove}
+use Rattle.courses.specs.After.{AreBlocks}
 use Rattle.courses.specs.Done.{IsDoneBy, RemovesDirectory, RemovesName}
 use Rattle.frozen.specs.Kept.{Kept, KeepsMetadata, frozen_view}
 use Rattle.metadata.specs.Shown.{Shows}
@@ -74,8 +75,8 @@ module _ (decided : StaysOrGoes) (kept : Kept) (holdings : Holdings) (path : Lis
     file : number_at kept.geometry view path ≡ draft.file
     file = on.number ∙ sym (removed.lowers.file ∙ leaves_file kept.geometry view holdings found 2 removed.after removed.left holds removed.leaves)
 
-    own : HasBlocks kept.geometry view (number_at kept.geometry view path) removed.after
-    own = subst (λ n. HasBlocks kept.geometry view n removed.after) (sym on.number) removed.own_first
+    own : AreBlocks kept.geometry view (number_at kept.geometry view path) removed.after
+    own = subst (λ n. AreBlocks kept.geometry view n removed.after) (sym on.number) removed.own_first
 
     -- a directory is not open
     closed : (after : List Cell) → HasBlocks kept.geometry view (number_at kept.geometry view path) after → IsFalse (is_open old (number_at kept.geometry view path))
@@ -103,8 +104,8 @@ module _ (decided : StaysOrGoes) (kept : Kept) (holdings : Holdings) (path : Lis
         let after = removed.after in
         let st = now disk q old in
         let st_has : Has holdings st = record { opened = has.opened; held = has.held; frozen = has.frozen; plan = has.plan } in
-        let can = accepted_remove kept.geometry st on.balance stands.geometry path accepts after own in
-        let last = goes_closed st n (view.inode n).links 2 (subst (λ m. (view.inode m).links ≤ 2) (sym on.number) few) (closed after own)
+        let can = accepted_remove kept.geometry st on.balance stands.geometry path accepts after own.needs in
+        let last = goes_closed st n (view.inode n).links 2 (subst (λ m. (view.inode m).links ≤ 2) (sym on.number) few) (closed after own.needs)
         (decided kept.geometry st on.balance.rules n (block_of kept.geometry view n 0) (holder kept.geometry view path) (slot_at kept.geometry view path) (entry_block kept.geometry view path) (name_in path) after can) in
         let cut = free_is_cut kept.geometry (view.inode n) in
         done_as kept.geometry disk q old safe (Rmdir path) n draft.file (remove_plan_last kept.geometry view path (freed kept.geometry view holdings n 0) after q) (over q draft.updates) old.opened _ safe safe (with_held holdings holds) file

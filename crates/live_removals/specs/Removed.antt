@@ -3,8 +3,9 @@ use Rattle.std.specs.Prelude.{ℕ, List, [], ◌∷◌}
 use Rattle.model.specs.Layout.{Geometry}
 use Rattle.model.specs.View.{View}
 use Rattle.ordering.specs.Cuts.{Cell}
-use Rattle.plans_naming.specs.Entries.{HasBlocks, no_entry, slot_written}
+use Rattle.plans_naming.specs.Entries.{no_entry, slot_written}
 use Rattle.plans_naming.specs.Unlink.{lowered}
+use Rattle.courses.specs.After.{AreBlocks}
 use Rattle.live_states.specs.Drafts.{Draft, GoesOn}
 use Rattle.live_states.specs.Holdings.{Holdings}
 use Rattle.live_plans.specs.declared.locating.Found.{Found}
@@ -30,10 +31,10 @@ pub record Unnamed (geo : Geometry) (view : View) (found : Found) (draft : Draft
   pub empties : GoesOn (no_updates geo found.number) emptied (λ q. slot_written found.block (view.bytes found.block) found.slot no_entry [] ∷ q)
   pub lowers : GoesOn emptied draft (lowered found.number (view.inode found.number) 1 found.block)
 
--- a directory goes, after its own blocks, and then a link of its parent
+-- a directory goes, after its own blocks and nothing else, and then a link of its parent
 pub record Removed (geo : Geometry) (view : View) (holdings : Holdings) (found : Found) (draft : Draft) (holds : List ℕ) : Type 0 where
   pub after : List Cell
-  pub own_first : HasBlocks geo view found.number after
+  pub own_first : AreBlocks geo view found.number after
   pub left : Draft
   pub leaves : Leaves geo view holdings found 2 after left holds
   pub lowers : GoesOn left draft (lowered found.directory (view.inode found.directory) 1 found.block)

@@ -12,9 +12,9 @@ use Rattle.machine.specs.Paths.{holder, last_part, name_in, number_at, parts_of,
 use Rattle.machine.specs.State.{State}
 use Rattle.metadata.specs.Shown.{Shows}
 use Rattle.plans_data.specs.Now.{now}
-use Rattle.plans_naming.specs.Entries.{HasOtherBlocks}
 use Rattle.plans_naming.specs.Plans.{entry_block, rename_plan}
 use Rattle.plans_naming.specs.Rename.{renaming}
+use Rattle.courses.specs.After.{AreOtherBlocks}
 use Rattle.courses.specs.Done.{IsDoneBy, RenamesInSlot}
 use Rattle.live_states.specs.Drafts.{Draft, over}
 use Rattle.live_renames.specs.declared.renaming.Ends.{Ends}
@@ -76,9 +76,9 @@ module _ (kept : Kept) (p q : List ℕ) (ps qs : List (List ℕ)) (e : parts_of 
   pub renamed_done : ends.found.directory ≡ ends.directory → IsRenamed kept ends.found (last_part qs) draft → IsDone draft.file (over pending draft.updates)
   renamed_done same is =
       let from = holder_from geo p q ps qs e f ends view are in
-      let others : HasOtherBlocks geo view (holder geo view p) (entry_block geo view p) is.after =
-      subst (λ d. HasOtherBlocks geo view d (entry_block geo view p) is.after) (sym from)
-      (subst (λ b. HasOtherBlocks geo view ends.found.directory b is.after) (sym (block_is geo p q ps qs e f ends view are)) (is.others_first view shows)) in
+      let others : AreOtherBlocks geo view (holder geo view p) (entry_block geo view p) is.after =
+      subst (λ d. AreOtherBlocks geo view d (entry_block geo view p) is.after) (sym from)
+      (subst (λ b. AreOtherBlocks geo view ends.found.directory b is.after) (sym (block_is geo p q ps qs e f ends view are)) (is.others_first view shows)) in
       done_with (number_at geo view p) (rename_plan geo view p is.entry is.after pending) (file_is is.file)
       (is.pending view shows pending ∙ renames_it geo p q ps qs e f ends view are is.entry is.after pending)
       (RenamesInSlot p q is.entry is.after (from ∙ same ∙ sym (holder_to geo p q ps qs e f ends view are)) (says_it geo p q ps qs e f ends view are is.entry is.says) others)

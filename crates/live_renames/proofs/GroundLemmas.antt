@@ -1,11 +1,12 @@
 -- The grounds of a directory, as they are gathered part after part.
-use Rattle.std.proofs.Common.{◌≡◌, ◌<◌, ◌≤◌, ◌/◌, ◌++◌, ℕ, zero, suc, true, false, List, [], ◌∷◌, inl, inr, refl, sym, ap, ◌∙◌, subst, arith, IsTrue, Option, Some, None, Result, Ok, Err, Contains, ltb, All, map}
+use Rattle.std.proofs.Common.{◌≡◌, ◌<◌, ◌≤◌, ◌/◌, ◌++◌, ◌⊎◌, ℕ, zero, suc, true, false, List, [], ◌∷◌, inl, inr, refl, sym, ap, ◌∙◌, subst, arith, IsTrue, Option, Some, None, Result, Ok, Err, Contains, ltb, All, map}
 use Rattle.std.specs.Option.{option_map}
 use Rattle.std.proofs.lemmas.Bool.{and_parts}
 use Rattle.std.proofs.lemmas.Bool.Decides.{nat_tests}
-use Rattle.std.proofs.lemmas.List.Elements.{All-push, Contains-append_left, Contains-push}
+use Rattle.std.proofs.lemmas.List.Elements.{All-contains, All-contains_itself, All-push, All-weaker, Contains-append_left, Contains-push, Contains-push_cases}
 use Rattle.std.proofs.lemmas.List.{map-append}
 use Rattle.updates.specs.declared.cell.Cell as program
+use Rattle.updates.specs.declared.cell.Cell.TheVariants as variants
 use Rattle.updates.specs.Values.{cell}
 use Rattle.model.specs.Layout.{Geometry, is_number, root}
 use Rattle.model.specs.View.{View}
@@ -25,6 +26,7 @@ use Rattle.machine.proofs.Walks.{part_behind, slot_fits}
 use Rattle.metadata.specs.Shown.{Shows}
 use Rattle.metadata.proofs.ShownLemmas.{shows_metadata}
 use Rattle.plans_naming.specs.Move.{HasGrounds}
+use Rattle.courses.specs.After.{AreGroundsWith, IsBlockAt, IsGround, IsOfDirectory}
 use Rattle.updates.specs.Places.{IsCell}
 use Rattle.live_plans.specs.Found.{IsFoundAt}
 use Rattle.live_plans.specs.declared.locating.Found.{Found}
@@ -61,6 +63,14 @@ module _ (geo : Geometry) where
       cells = λ all. subst (All (IsCell geo)) (sym pushed_is) (All-push (IsCell geo) (map cell xs) (cell x) all good);
     }
 
+    -- and no other came
+    pub one_pushed : (c : Cell) → Contains (map cell ys) c → Contains (map cell xs) c ⊎ (cell x ≡ c)
+    one_pushed c m = Contains-push_cases (map cell xs) (cell x) c (subst (λ zs. Contains zs c) pushed_is m)
+
+    -- what holds of the cells before and of that one holds of all
+    pub all_pushed : (P : Cell → Type 0) → All P (map cell xs) → P (cell x) → All P (map cell ys)
+    all_pushed P all good = subst (All P) (sym pushed_is) (All-push P (map cell xs) (cell x) all good)
+
 -- ---- more cells
 module _ (geo : Geometry) (v : View) (old new : List Cell) (kept : (c : Cell) → Contains old c → Contains new c) where
   known_more : (block : ℕ) (c : Cell) → IsKnown old block c → IsKnown new block c
@@ -70,13 +80,10 @@ module _ (geo : Geometry) (v : View) (old new : List Cell) (kept : (c : Cell) �
   pointers_more : (block d : ℕ) → ArePointersKnown geo v old block d → ArePointersKnown geo v new block d
   pointers_more block d known = λ k used low high. known_more block (Block (v.inode d).indirect) (known k used low high)
 
-  grounds_more : (block n d : ℕ) (p : Path geo v n d) → AreGrounds geo v old block n d p → AreGrounds geo v new block n d p
+  pub grounds_more : (block n d : ℕ) (p : Path geo v n d) → AreGrounds geo v old block n d p → AreGrounds geo v new block n d p
   grounds_more block zero d p g = (known_more block (Record root) g.0, pointers_more block root g.1)
   grounds_more block (suc n) d p g =
       (grounds_more block n p.0 p.2 g.0, known_more block (Record d) g.1, pointers_more block d g.2, (λ b claim. known_more block (Block b) (g.3 b claim)))
-
-  pub grounded_more : (d : ℕ) → IsGrounded geo v d old → IsGrounded geo v d new
-  grounded_more d h = λ block. let g = h block in record { steps = g.steps; path = g.path; grounds = grounds_more block g.steps d g.path g.grounds }
 
 -- ---- one directory
 module _ (geo : Geometry) (v : View) where
@@ -100,18 +107,38 @@ module _ (geo : Geometry) (v : View) where
     pointers = λ block k used low high. not_some (v.inode d).indirect (sym (table_claimed d k dir used low high) ∙ none);
   }
 
-  pub root_grounded : (after : List Cell) → IsTrue (is_directory_at geo v root) → HasDirectory geo v root after → IsGrounded geo v root after
-  root_grounded after dir has = λ block. record { steps = 0; path = (refl, dir); grounds = (inl has.record_first, has.pointers block) }
+  pub root_grounded : (first after : List Cell) → IsTrue (is_directory_at geo v root) → HasDirectory geo v root after → All (λ c. Contains first c ⊎ IsOfDirectory geo v root c) after → IsGrounded geo v root first after
+  root_grounded first after dir has only = record { steps = 0; path = (refl, dir); needs = λ block. (inl has.record_first, has.pointers block); only = only }
 
-  pub next_grounded : (after : List Cell) (d s e b : ℕ) (name : List ℕ) → IsGrounded geo v d after → IsTrue (is_part name) → slot geo v d s ≡ Good e name → IsTrue (is_directory_at geo v e) → HasDirectory geo v e after
-      → claim_at geo v d (s / 16) ≡ Some b → Contains after (Block b) → IsGrounded geo v e after
-  next_grounded after d s e b name grounded part good dir has claim known = λ block.
-      let h = grounded block in
-      let behind = part_behind s name part (slot_fits geo v d s e name good) in
+  -- these cells were there, or are of directory e, or are the block in which its name stands
+  abbrev pub IsNext : List Cell → ℕ → ℕ → Cell → Type 0
+  IsNext old e b c = (Contains old c ⊎ (Block b ≡ c)) ⊎ IsOfDirectory geo v e c
+
+  -- and then they are first ones or grounds of e, where those before were so of the directory that names it
+  before : (first : List Cell) (steps e : ℕ) (p : Path geo v (suc steps) e) (c : Cell) → Contains first c ⊎ IsGround geo v c steps p.0 p.2 → Contains first c ⊎ IsGround geo v c (suc steps) e p
+  before first steps e p c (inl m) = inl m
+  before first steps e p c (inr g) = inr (inl g)
+
+  next : (first old : List Cell) (steps e b : ℕ) (p : Path geo v (suc steps) e) → All (λ x. Contains first x ⊎ IsGround geo v x steps p.0 p.2) old → IsClaim geo v p.0 (p.1 / 16) b
+      → (c : Cell) → IsNext old e b c → Contains first c ⊎ IsGround geo v c (suc steps) e p
+  next first old steps e b p only claim c (inl (inl m)) = before first steps e p c (All-contains (λ x. Contains first x ⊎ IsGround geo v x steps p.0 p.2) old c only m)
+  next first old steps e b p only claim c (inl (inr same)) = inr (inr (inr (b, claim, sym same)))
+  next first old steps e b p only claim c (inr own) = inr (inr (inl own))
+
+  pub next_grounded : (first old after : List Cell) (d s e b : ℕ) (name : List ℕ) → IsGrounded geo v d first old → ((c : Cell) → Contains old c → Contains after c) → IsTrue (is_part name) → slot geo v d s ≡ Good e name
+      → IsTrue (is_directory_at geo v e) → HasDirectory geo v e after → claim_at geo v d (s / 16) ≡ Some b → Contains after (Block b) → All (IsNext old e b) after → IsGrounded geo v e first after
+  next_grounded first old after d s e b name h kept part good dir has claim known only =
+      let way : Path geo v (suc h.steps) e = (d, s, h.path, part_behind s name part (slot_fits geo v d s e name good), (name, good), dir) in
       record {
         steps = suc h.steps;
-        path = (d, s, h.path, behind, (name, good), dir);
-        grounds = (h.grounds, inl has.record_first, has.pointers block, (λ a claims. inl (subst (λ z. Contains after (Block z)) (some_same b a (sym claim ∙ claim_from geo v d (s / 16) a claims)) known)));
+        path = way;
+        needs = λ block. (
+          grounds_more geo v old after kept block h.steps d h.path (h.needs block),
+          inl has.record_first,
+          has.pointers block,
+          (λ a claims. inl (subst (λ z. Contains after (Block z)) (some_same b a (sym claim ∙ claim_from geo v d (s / 16) a claims)) known)),
+        );
+        only = All-weaker (IsNext old e b) (λ c. Contains first c ⊎ IsGround geo v c (suc h.steps) e way) (next first old h.steps e b way h.only (claim_parts geo v d (s / 16) b claim)) after only;
       }
 
   -- ---- a walk, part after part
@@ -187,6 +214,29 @@ module _ (geo : Geometry) (v : View) where
   pub pointers_of : (after : List Cell) (block d : ℕ) → HasGrounds geo v d block after → ArePointersKnown geo v after block d
   pointers_of after block d h = pointers_last after block h.steps d h.path h.grounds
 
+-- ---- no cell came but these
+-- the record of a directory, and its indirect block where it has one
+module _ (geo : Geometry) (v : View) (d : ℕ) (xs : List program.Cell) where
+  abbrev IsThere : Cell → Type 0
+  IsThere c = Contains (map cell xs) c ⊎ IsOfDirectory geo v d c
+
+  pub only_record : (ys : List program.Cell) → ys ≡ xs ++ variants.Record d ∷ [] → All IsThere (map cell ys)
+  only_record ys is =
+      all_pushed geo xs ys (variants.Record d) is IsThere (All-weaker (Contains (map cell xs)) IsThere (λ c m. inl m) (map cell xs) (All-contains_itself (map cell xs))) (inr (inl refl))
+
+  pub only_table : (ys zs : List program.Cell) (table : ℕ) → ys ≡ xs ++ variants.Record d ∷ [] → zs ≡ ys ++ variants.Block table ∷ [] → claim_at geo v d indirect_position ≡ Some table → All IsThere (map cell zs)
+  only_table ys zs table first second claim =
+      all_pushed geo ys zs (variants.Block table) second IsThere (only_record ys first) (inr (inr (table, claim_parts geo v d indirect_position table claim, refl)))
+
+-- a block, and behind it what is of a directory
+pub only_next : (geo : Geometry) (v : View) (xs ys : List program.Cell) (e b : ℕ) (new : List Cell) → ys ≡ xs ++ variants.Block b ∷ [] → All (λ c. Contains (map cell ys) c ⊎ IsOfDirectory geo v e c) new
+    → All (IsNext geo v (map cell xs) e b) new
+only_next geo v xs ys e b new is all = All-weaker (λ c. Contains (map cell ys) c ⊎ IsOfDirectory geo v e c) (IsNext geo v (map cell xs) e b) there new all
+  where
+    there : (c : Cell) → Contains (map cell ys) c ⊎ IsOfDirectory geo v e c → IsNext geo v (map cell xs) e b c
+    there c (inl m) = inl (one_pushed geo xs ys (variants.Block b) is c m)
+    there c (inr own) = inr own
+
 -- ---- the entry that was found
 module _ (geo : Geometry) (v : View) (ps : List (List ℕ)) (found : Found) (is : IsFoundAt geo v ps found) where
   pub found_directory : IsTrue (is_directory_at geo v found.directory)
@@ -220,5 +270,27 @@ module _ (kept : Kept) (view : View) (keeps : KeepsMetadata kept) (shows : Shows
     grounds_there zero d p g = (g.0, pointers_there root g.1)
     grounds_there (suc n) d p g = (grounds_there n p.0 p.2 g.0, g.1, pointers_there d g.2, (λ b claim. g.3 b (facts.uses p.0 (p.1 / 16) ∙ claim.0, claim.1)))
 
-    pub has_grounds_there : (d : ℕ) → HasGrounds kept.geometry (frozen_view kept) d block after → HasGrounds kept.geometry view d block after
-    has_grounds_there d h = record { steps = h.steps; path = path_there h.steps d h.path; grounds = grounds_there h.steps d h.path h.grounds }
+  -- and no others
+  block_there : (d k : ℕ) (c : Cell) → IsBlockAt kept.geometry (frozen_view kept) d k c → IsBlockAt kept.geometry view d k c
+  block_there d k c h = (h.0, (sym (facts.uses d k) ∙ h.1.0, h.1.1), h.2)
+
+  of_directory_there : (d : ℕ) (c : Cell) → IsOfDirectory kept.geometry (frozen_view kept) d c → IsOfDirectory kept.geometry view d c
+  of_directory_there d c (inl is) = inl is
+  of_directory_there d c (inr h) = inr (block_there d indirect_position c h)
+
+  ground_there : (c : Cell) (n d : ℕ) (p : Path kept.geometry (frozen_view kept) n d) → IsGround kept.geometry (frozen_view kept) c n d p → IsGround kept.geometry view c n d (path_there n d p)
+  unfolding path_there
+  ground_there c zero d p g = of_directory_there root c g
+  ground_there c (suc n) d p (inl g) = inl (ground_there c n p.0 p.2 g)
+  ground_there c (suc n) d p (inr (inl g)) = inr (inl (of_directory_there d c g))
+  ground_there c (suc n) d p (inr (inr g)) = inr (inr (block_there p.0 (p.1 / 16) c g))
+
+  pub grounds_with_there : (is_new : Cell → Type 0) (first after : List Cell) (d block : ℕ) → All is_new first → IsGrounded kept.geometry (frozen_view kept) d first after → AreGroundsWith kept.geometry view d block is_new after
+  grounds_with_there is_new first after d block new h = record {
+    needs = record { steps = h.steps; path = path_there h.steps d h.path; grounds = grounds_there after block h.steps d h.path (h.needs block) };
+    only = All-weaker (λ c. Contains first c ⊎ IsGround kept.geometry (frozen_view kept) c h.steps d h.path) (λ c. is_new c ⊎ IsGround kept.geometry view c h.steps d (path_there h.steps d h.path)) there after h.only;
+  }
+    where
+      there : (c : Cell) → Contains first c ⊎ IsGround kept.geometry (frozen_view kept) c h.steps d h.path → is_new c ⊎ IsGround kept.geometry view c h.steps d (path_there h.steps d h.path)
+      there c (inl m) = inl (All-contains is_new first c new m)
+      there c (inr g) = inr (ground_there c h.steps d h.path g)

@@ -9,7 +9,8 @@ use Rattle.ordering.specs.Cuts.{Block, Cell}
 use Rattle.frozen.specs.Kept.{Kept, frozen_view}
 use Rattle.machine.specs.Cells.{IsEntryFor}
 use Rattle.metadata.specs.Shown.{Shows}
-use Rattle.plans_naming.specs.Entries.{HasBlocks, no_entry, slot_written}
+use Rattle.plans_naming.specs.Entries.{no_entry, slot_written}
+use Rattle.courses.specs.After.{AreBlocks}
 use Rattle.live_plans.specs.declared.locating.Found.{Found}
 use Rattle.live_renames.specs.Renamed.{IsRenamed}
 use Rattle.plans_naming.specs.Link.{raised}
@@ -60,7 +61,7 @@ entered_file geo v d inode n name (NewBlock block table) old new enters = enters
 -- an entry gets another name, after the directory's blocks
 pub renamed_with : (kept : Kept) (found : Found) (name entry : List ℕ) (after : List Cell) (geo : Geometry) (bytes : List ℕ) (first last : Draft)
     → first ≡ record { geometry = geo; file = found.number; updates = [] } → geo ≡ kept.geometry → IsEntryFor found.number name entry
-    → ((view : View) → Shows kept view → HasBlocks kept.geometry view found.directory after) → ((view : View) → Shows kept view → view.bytes found.block ≡ bytes)
+    → ((view : View) → Shows kept view → AreBlocks kept.geometry view found.directory after) → ((view : View) → Shows kept view → view.bytes found.block ≡ bytes)
     → GoesOn first last (λ q. slot_written found.block bytes found.slot entry after ∷ q) → IsRenamed kept found name last
 renamed_with kept found name entry after geo bytes first last is same says blocks held goes = record {
   geometry = goes.geometry ∙ ap (λ (d : Draft). d.geometry) is ∙ same;
@@ -68,7 +69,7 @@ renamed_with kept found name entry after geo bytes first last is same says block
   entry = entry;
   says = says;
   after = after;
-  others_first = λ view shows k b below claim differs. blocks view shows k b below claim;
+  others_first = λ view shows. record { needs = λ k b below claim differs. (blocks view shows).needs k b below claim; only = (blocks view shows).only };
   pending = λ view shows q.
       goes.pending q
       ∙ ap (λ (d : Draft). slot_written found.block bytes found.slot entry after ∷ over q d.updates) is

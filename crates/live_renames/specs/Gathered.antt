@@ -1,11 +1,12 @@
 -- The cells on which a name in a directory rests, as they are gathered.
-use Rattle.std.specs.Prelude.{ℕ, List}
+use Rattle.std.specs.Prelude.{ℕ, ◌⊎◌, List}
 use Rattle.std.specs.List.{All, Contains}
 use Rattle.model.specs.Layout.{Geometry}
 use Rattle.model.specs.View.{View}
+use Rattle.model.specs.Reach.{Path}
 use Rattle.ordering.specs.Cuts.{Cell, Record}
-use Rattle.ordering.specs.OneSlot.{ArePointersKnown}
-use Rattle.plans_naming.specs.Move.{HasGrounds}
+use Rattle.ordering.specs.OneSlot.{AreGrounds, ArePointersKnown}
+use Rattle.courses.specs.After.{IsGround}
 use Rattle.updates.specs.Places.{IsCell}
 
 -- No cell was taken away, and what came is a cell of the volume.
@@ -18,6 +19,9 @@ pub record HasDirectory (geo : Geometry) (view : View) (d : ℕ) (after : List C
   pub record_first : Contains after (Record d)
   pub pointers : (block : ℕ) → ArePointersKnown geo view after block d
 
--- the grounds of directory d are among these cells, whichever block is written
-abbrev pub IsGrounded : Geometry → View → ℕ → List Cell → Type 0
-IsGrounded geo view d after = (block : ℕ) → HasGrounds geo view d block after
+-- The grounds of directory d are among these cells, whichever block is written, and no others besides the first ones.
+pub record IsGrounded (geo : Geometry) (view : View) (d : ℕ) (first after : List Cell) : Type 0 where
+  pub steps : ℕ
+  pub path : Path geo view steps d
+  pub needs : (block : ℕ) → AreGrounds geo view after block steps d path
+  pub only : All (λ c. Contains first c ⊎ IsGround geo view c steps d path) after

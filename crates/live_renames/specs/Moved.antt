@@ -1,5 +1,5 @@
 -- The updates by which a file gets a name in another directory in place of the one that it has.
-use Rattle.std.specs.Prelude.{◌≡◌, ℕ, ◌<◌, List, Ok, IfSome, IsFalse, IsTrue}
+use Rattle.std.specs.Prelude.{◌≡◌, ℕ, ◌<◌, List, [], ◌∷◌, Some, None, Ok, IfSome, IsFalse, IsTrue}
 use Rattle.std.specs.List.{Contains}
 use Rattle.model.specs.Layout.{Geometry, root}
 use Rattle.model.specs.View.{View}
@@ -32,10 +32,16 @@ abbrev pub IsPlaceIn : Place → List Cell → Type 0
 IsPlaceIn (Slot s block) after = Contains after (Block block)
 IsPlaceIn (NewBlock block table) after = Contains after (Block block) × IfSome table (λ x. Contains after (Block x))
 
--- the cells that come before the old name goes
+-- and these are all of them
+abbrev pub cells_of : Place → List Cell
+cells_of (Slot s block) = Block block ∷ []
+cells_of (NewBlock block None) = Block block ∷ []
+cells_of (NewBlock block (Some x)) = Block block ∷ Block x ∷ []
+
+-- the cells that come before the old name goes: those of the place, the grounds of its directory, and no others
 pub record AreFirst (geo : Geometry) (view : View) (qs : List (List ℕ)) (place : Place) (after : List Cell) : Type 0 where
   pub place_first : IsPlaceIn place after
-  pub grounds : (d : ℕ) → walk geo view root qs ≡ Ok d → IsGrounded geo view d after
+  pub grounds : (d : ℕ) → walk geo view root qs ≡ Ok d → IsGrounded geo view d (cells_of place) after
 
 -- Where users see what is kept, they are these: a link more, the new entry, the old slot emptied, and the record as it was.
 pub record IsMoved (kept : Kept) (ends : Ends) (qs : List (List ℕ)) (place : Place) (draft : Draft) : Type 0 where

@@ -1,9 +1,11 @@
-ghost use Rattle.std.specs.Prelude.{◌≡◌, ℕ, IsTrue, OnOk, IfOk, Ok, Some, map};
+ghost use Rattle.std.specs.Prelude.{◌≡◌, ◌⊎◌, ℕ, IsTrue, List, OnOk, IfOk, Ok, Some, map};
+ghost use Rattle.std.specs.List.{All, Contains};
 ghost use Rattle.frozen.specs.Kept.{frozen_view};
 ghost use Rattle.model.specs.Layout.{root};
 ghost use Rattle.model.specs.Uses.{is_directory_at};
 ghost use Rattle.machine.specs.Paths.{is_part, lookup, walk as machine_walk};
-ghost use Rattle.plans_naming.specs.Move.{HasGrounds};
+ghost use Rattle.ordering.specs.Cuts.{Cell as OrderedCell};
+ghost use Rattle.courses.specs.After.{IsOfDirectory};
 ghost use Rattle.updates.specs.Values.{cell};
 ghost use Rattle.live_renames.specs.Gathered.{Gathers, HasDirectory, IsGrounded};
 
@@ -16,7 +18,7 @@ use std::alloc::AllocError;
 use updates::Cell;
 
 /// Adds the grounds of the directory that holds the last part of a path, behind these cells: for each directory from the
-/// root to it its record, its indirect block where it has one, and the block in which its name stands.
+/// root to it its record, its indirect block where it has one, and the block in which its name stands. Nothing else is added.
 pub(crate) fn add_grounds(
     frozen: &Frozen,
     path: &Path,
@@ -25,7 +27,7 @@ pub(crate) fn add_grounds(
     requires { (d : ℕ) × (machine_walk frozen.now.geometry (frozen_view frozen.now) root path.now ≡ Ok d) }
     ensures gathers { OnOk result (Gathers frozen.now.geometry (map cell cells.old.items) (map cell cells.new.items)) }
     ensures grounds { OnOk result ((d : ℕ) → machine_walk frozen.now.geometry (frozen_view frozen.now) root path.now ≡ Ok d
-        → IsGrounded frozen.now.geometry (frozen_view frozen.now) d (map cell cells.new.items)) }
+        → IsGrounded frozen.now.geometry (frozen_view frozen.now) d (map cell cells.old.items) (map cell cells.new.items)) }
 {
     let Some((mut name, mut rest)) = path.split_first() else {
         unreachable!()
@@ -54,8 +56,8 @@ fn add_name(
     requires part { IsTrue (is_part name.now) }
     ensures names { IfOk result (λ i. lookup frozen.now.geometry (frozen_view frozen.now) directory name.now ≡ Some i) }
     ensures gathers { OnOk result (Gathers frozen.now.geometry (map cell cells.old.items) (map cell cells.new.items)) }
-    ensures grounds { IfOk result (λ i. IsGrounded frozen.now.geometry (frozen_view frozen.now) directory (map cell cells.old.items)
-        → IsGrounded frozen.now.geometry (frozen_view frozen.now) i (map cell cells.new.items)) }
+    ensures grounds { IfOk result (λ i. (first : List OrderedCell) → IsGrounded frozen.now.geometry (frozen_view frozen.now) directory first (map cell cells.old.items)
+        → IsGrounded frozen.now.geometry (frozen_view frozen.now) i first (map cell cells.new.items)) }
 {
     let Some(entry) = find(frozen, directory, name) else {
         unreachable!()
@@ -68,11 +70,12 @@ fn add_name(
     Ok(entry.number)
 }
 
-/// Adds the record of a directory, and its indirect block where it has one.
+/// Adds the record of a directory, and its indirect block where it has one, and nothing else.
 fn add_directory(frozen: &Frozen, directory: u32, cells: &mut Vec<Cell>) -> Result<(), AllocError>
     requires { IsTrue (is_directory_at frozen.now.geometry (frozen_view frozen.now) directory) }
     ensures gathers { OnOk result (Gathers frozen.now.geometry (map cell cells.old.items) (map cell cells.new.items)) }
     ensures directory { OnOk result (HasDirectory frozen.now.geometry (frozen_view frozen.now) directory (map cell cells.new.items)) }
+    ensures only { OnOk result (All (λ c. Contains (map cell cells.old.items) c ⊎ IsOfDirectory frozen.now.geometry (frozen_view frozen.now) directory c) (map cell cells.new.items)) }
 {
     cells.push(Cell::Record(directory))?;
     if let Some(table) = frozen.claim_at(directory, INDIRECT_POSITION) {

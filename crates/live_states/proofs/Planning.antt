@@ -8,17 +8,19 @@ use Rattle.machine.specs.Command.{Answer, Command, Create, Mkdir, Link, Unlink, 
 use Rattle.machine.specs.State.{State}
 use Rattle.machine.specs.Step.{Step}
 use Rattle.plans_data.specs.Carried.{Stands}
-use Rattle.courses.specs.Done.{IsDoneBy}
-use Rattle.courses.specs.Serves.{IsBeginning, IsSafeService, Serves, ByPlan, Starts, CarriesOut}
-use Rattle.courses.proofs.ServiceLemmas.{service_safe}
+use Rattle.courses.specs.Done.{IsDoneBy, LeavesTheRest}
+use Rattle.courses.specs.Serves.{IsBeginning, IsSafeService, Serves, ByPlan}
+use Rattle.courses.proofs.Leaving.{others_leave}
+use Rattle.courses.proofs.ServiceLemmas.{plan_safe}
 use Rattle.frozen.specs.Kept.{Kept, KeepsMetadata}
+use Rattle.metadata.specs.Shown.{Shows}
 use Rattle.metadata.specs.declared.staged.Staged.{Staged}
 use Rattle.metadata.specs.Staged.{IsStaged, after, changes}
 use Rattle.kept_claims.specs.Claims.{IsMetadataClaim, GivesBytes}
 use Rattle.kept_claims.proofs.Commands.{plans_give}
 use Rattle.live_states.specs.Drafts.{Draft, over}
-use Rattle.live_states.specs.Holdings.{Beside, Holdings, IsImageOf}
-use Rattle.live_states.specs.Planned.{AreSeen, IsPlannedWith, Seen, safe_after}
+use Rattle.live_states.specs.Holdings.{Beside, Has, Holdings, IsImageOf}
+use Rattle.live_states.specs.Planned.{AreSeen, IsPlannedFor, IsPlannedWith, Seen, safe_after}
 use Rattle.live_states.specs.Volume.{IsVolume, state_over}
 use Rattle.live_states.proofs.Staging.{keeps' as keeps_staged, over_after, same, shows'}
 use Rattle.live_states.proofs.Standing.{has}
@@ -69,20 +71,19 @@ module _ (kept : Kept) (holdings : Holdings) (q : List Pending) (disk : View) (v
     accepts : Accepts geo old command
     accepts = planned.accepted old volume.shows (has disk q holdings beside frozen)
 
-    done : (safe : ℕ → Bool) → Stands geo disk q old safe → IsDoneBy geo disk q old safe command answer draft.file q' new (safe_after geo (users_view disk q) command safe)
+    abbrev done : (safe : ℕ → Bool) → Stands geo disk q old safe → IsDoneBy geo disk q old safe command answer draft.file q' new (safe_after geo (users_view disk q) command safe)
     done safe stands = planned.done disk q old safe stands volume.shows (has disk q holdings beside frozen) sees
 
-    pub serves : (safe : ℕ → Bool) → Stands geo disk q old safe → Serves geo disk q old safe command answer disk q' new (safe_after geo (users_view disk q) command safe) []
-    serves safe stands = ByPlan command answer draft.file q' new (safe_after geo (users_view disk q) command safe) (done safe stands)
+    pub serves : (safe : ℕ → Bool) (stands : Stands geo disk q old safe) → LeavesTheRest (done safe stands) → Serves geo disk q old safe command answer disk q' new (safe_after geo (users_view disk q) command safe) []
+    serves safe stands rest = ByPlan command answer draft.file q' new (safe_after geo (users_view disk q) command safe) (done safe stands) rest
 
     abbrev safe' : ℕ → Bool
     safe' = safe_after geo (users_view disk q) command nothing_safe
 
     module _ (stands : Stands geo disk q old nothing_safe) where
       safely : IsSafeService geo volume.mount volume.history volume.cut disk q old nothing_safe disk q' new safe' (command ∷ []) (Ok answer ∷ []) []
-      safely = service_safe geo volume.mount volume.history volume.cut disk q old nothing_safe (record { stands = stands; moment = volume.beginning.moment }) disk q' new safe'
-          (command ∷ []) (Ok answer ∷ []) []
-          (CarriesOut command answer disk q' new safe' [] Starts accepts (serves nothing_safe stands))
+      safely = plan_safe geo volume.mount volume.history volume.cut disk q old nothing_safe (record { stands = stands; moment = volume.beginning.moment }) command answer draft.file q' new safe' accepts
+          (done nothing_safe stands)
 
       pub step : Step geo old command (Ok answer) new
       step = let run = safely.run in subst (Step geo old command (Ok answer)) (sym run.2) run.1
@@ -116,3 +117,40 @@ module _ (kept : Kept) (holdings : Holdings) (q : List Pending) (disk : View) (v
           (sym (same kept q disk draft.updates keeps volume.shows claimed_before staged is)) begins;
       shows = shows' kept q disk draft.updates keeps volume.shows claimed_before staged is;
     }
+
+-- ---- a user's command
+
+-- what is planned for one is planned
+abbrev pub planned_with : (kept : Kept) (holdings : Holdings) (seen : List Seen) (command : Command) (answer : Answer) (draft : Draft) (holdings' : Holdings) → IsPlannedFor kept holdings seen command answer draft holdings'
+    → IsPlannedWith kept holdings seen command answer draft holdings'
+planned_with kept holdings seen (Write h k piece) answer draft holdings' planned = planned.planned
+planned_with kept holdings seen _ answer draft holdings' planned = planned
+
+-- and leaves what stands behind a piece
+leaves : (kept : Kept) (holdings : Holdings) (seen : List Seen) (command : Command) (answer : Answer) (draft : Draft) (holdings' : Holdings) (planned : IsPlannedFor kept holdings seen command answer draft holdings')
+    (disk : View) (q : List Pending) (old : State) (safe : ℕ → Bool) (stands : Stands kept.geometry disk q old safe) (shows : Shows kept old.view) (has : Has holdings old) (sees : AreSeen seen old.view)
+    → LeavesTheRest ((planned_with kept holdings seen command answer draft holdings' planned).done disk q old safe stands shows has sees)
+leaves kept holdings seen (Write h k piece) answer draft holdings' planned disk q old safe stands shows has sees = planned.rest disk q old safe stands shows has sees
+leaves kept holdings seen _ answer draft holdings' planned disk q old safe stands shows has sees =
+    others_leave kept.geometry disk q old safe _ answer draft.file _ _ _ (planned.done disk q old safe stands shows has sees) refl
+
+module _ (kept : Kept) (holdings : Holdings) (q : List Pending) (disk : View) (volume : IsVolume kept holdings q disk)
+    (seen : List Seen) (command : Command) (answer : Answer) (draft : Draft) (holdings' : Holdings) (planned : IsPlannedFor kept holdings seen command answer draft holdings')
+    (sees : AreSeen seen (users_view disk q)) (beside : Beside) (frozen : IsImageOf holdings.snapshot beside.frozen) where
+  abbrev plain : IsPlannedWith kept holdings seen command answer draft holdings'
+  plain = planned_with kept holdings seen command answer draft holdings' planned
+
+  abbrev before : State
+  before = state_over disk q holdings beside
+
+  abbrev behind : State
+  behind = state_over disk (over q draft.updates) holdings' beside
+
+  pub steps : Stands kept.geometry disk q before nothing_safe → Step kept.geometry before command (Ok answer) behind
+  steps stands = step kept holdings q disk volume seen command answer draft holdings' plain sees beside frozen stands
+
+  pub is_served : (safe : ℕ → Bool) → Stands kept.geometry disk q before safe
+      → Serves kept.geometry disk q before safe command answer disk (over q draft.updates) behind (safe_after kept.geometry (users_view disk q) command safe) []
+  is_served safe stands =
+      serves kept holdings q disk volume seen command answer draft holdings' plain sees beside frozen safe stands
+      (leaves kept holdings seen command answer draft holdings' planned disk q before safe stands volume.shows (has disk q holdings beside frozen) sees)

@@ -7,14 +7,14 @@ use Rattle.layout.specs.declared.refusal.Refusal.{Refusal}
 use Rattle.layout.specs.declared.refusal.Refusal.TheVariants.{NoMemory}
 use Rattle.ordering.specs.Cuts.{Pending, users_view}
 use Rattle.machine.specs.Causes.{Accepts, FirstRefusal}
-use Rattle.machine.specs.Command.{Answer, Command, Unlink}
+use Rattle.machine.specs.Command.{Answer, Command, Unlink, Write}
 use Rattle.machine.specs.Paths.{number_at}
 use Rattle.machine.specs.State.{State}
 use Rattle.machine.specs.Step.{Effect}
 use Rattle.plans_data.specs.Carried.{Stands}
 use Rattle.plans_data.specs.Now.{now}
 use Rattle.plans_naming.specs.Unlink.{safe_but}
-use Rattle.courses.specs.Done.{IsDoneBy}
+use Rattle.courses.specs.Done.{IsDoneBy, LeavesTheRest}
 use Rattle.courses.specs.Serves.{is_quiet}
 use Rattle.frozen.specs.Kept.{Kept}
 use Rattle.metadata.specs.Shown.{Shows}
@@ -66,6 +66,17 @@ pub record IsPlannedWith (kept : Kept) (holdings : Holdings) (seen : List Seen) 
   pub accepted : (old : State) → Shows kept old.view → Has holdings old → Accepts kept.geometry old command
   pub done : (disk : View) (q : List Pending) (old : State) (safe : ℕ → Bool) → Stands kept.geometry disk q old safe → Shows kept old.view → Has holdings old → AreSeen seen old.view
       → IsDoneBy kept.geometry disk q old safe command answer draft.file (over q draft.updates) (going_on old holdings' (users_view disk (over q draft.updates))) (safe_after kept.geometry old.view command safe)
+
+-- The same, and a write leaves what stands behind its piece.
+pub record IsPlannedToTheByte (kept : Kept) (holdings : Holdings) (seen : List Seen) (command : Command) (answer : Answer) (draft : Draft) (holdings' : Holdings) : Type 0 where
+  pub planned : IsPlannedWith kept holdings seen command answer draft holdings'
+  pub rest : (disk : View) (q : List Pending) (old : State) (safe : ℕ → Bool) (stands : Stands kept.geometry disk q old safe) (shows : Shows kept old.view) (has : Has holdings old) (sees : AreSeen seen old.view)
+      → LeavesTheRest (planned.done disk q old safe stands shows has sees)
+
+-- what has to be planned for a user's command
+abbrev pub IsPlannedFor : Kept → Holdings → List Seen → Command → Answer → Draft → Holdings → Type 0
+IsPlannedFor kept holdings seen (Write h k piece) answer draft holdings' = IsPlannedToTheByte kept holdings seen (Write h k piece) answer draft holdings'
+IsPlannedFor kept holdings seen command answer draft holdings' = IsPlannedWith kept holdings seen command answer draft holdings'
 
 -- Where this is kept, open and held, this is the first cause that refuses the command; or there is no memory.
 abbrev pub IsFirstCauseWith : Kept → Holdings → Command → Refusal → Type 0

@@ -23,7 +23,7 @@ ghost use Rattle.metadata.specs.declared.staged.Staged.{Staged};
 ghost use Rattle.metadata.specs.Staged.{IsStaged, after, changes};
 ghost use Rattle.live_states.specs.Drafts.{Draft, over};
 ghost use Rattle.live_states.specs.Holdings.{Beside, Holdings, IsIdle, IsImageOf};
-ghost use Rattle.live_states.specs.Planned.{AreSeen, IsOfVolume, IsOfVolumeWith, IsPlanned, IsPlannedWith, IsQuietlyDone, Seen, safe_after};
+ghost use Rattle.live_states.specs.Planned.{AreSeen, IsOfVolume, IsOfVolumeWith, IsPlanned, IsPlannedFor, IsPlannedWith, IsQuietlyDone, Seen, safe_after};
 ghost use Rattle.live_states.specs.Snapshots.{IsInstallable, IsSettled, held_blocks, installing, keeping, let_go};
 ghost use Rattle.live_states.specs.Volume.{IsVolume, state_over};
 
@@ -58,10 +58,11 @@ pub fn planned_commands_keep_volumes()
 {}
 
 /// It is a step of the machine from what users saw to what they see then, whatever stands beside the volume, and for each
-/// choice of files that no stop loses the command is carried out by a plan.
+/// choice of files that no stop loses the command is carried out by a plan, of a write by one that leaves what stands
+/// behind its piece.
 pub fn planned_commands_are_steps()
     ensures { (kept : Kept) (holdings : Holdings) (q : List Pending) (disk : View) → IsVolume kept holdings q disk
-        → (seen : List Seen) (command : Command) (answer : Answer) (draft : Draft) (holdings' : Holdings) → IsPlannedWith kept holdings seen command answer draft holdings' → AreSeen seen (users_view disk q)
+        → (seen : List Seen) (command : Command) (answer : Answer) (draft : Draft) (holdings' : Holdings) → IsPlannedFor kept holdings seen command answer draft holdings' → AreSeen seen (users_view disk q)
         → (beside : Beside) → IsImageOf holdings.snapshot beside.frozen
         → (Stands kept.geometry disk q (state_over disk q holdings beside) (λ f. false)
         → Step kept.geometry (state_over disk q holdings beside) command (Ok answer) (state_over disk (over q draft.updates) holdings' beside))

@@ -1,5 +1,5 @@
 -- The updates of a write carry it out.
-use Rattle.std.proofs.Common.{◌≡◌, ◌<◌, ◌≤◌, ◌+◌, ◌*◌, ◌^◌, ◌||◌, ℕ, Bool, true, false, eqb, List, [], ◌∷◌, length, max, replicate, inl, inr, refl, sym, ap, ap₂, ◌∙◌, subst, arith, Option, Some, None, IsTrue, IsFalse, slice_index_or, slice_set, get_or-set_same, get_or-set_other, eq-eqb}
+use Rattle.std.proofs.Common.{◌≡◌, ◌<◌, ◌≤◌, ◌+◌, ◌*◌, ◌^◌, ◌||◌, ℕ, Bool, true, false, eqb, List, [], ◌∷◌, ◌++◌, length, drop, max, replicate, inl, inr, refl, sym, ap, ap₂, ◌∙◌, subst, arith, Option, Some, None, IsTrue, IsFalse, slice_index_or, slice_set, get_or-set_same, get_or-set_other, eq-eqb}
 use Rattle.std.specs.Prelude.{unwrap_or}
 use Rattle.std.proofs.lemmas.Bool.{cases_eq}
 use Rattle.std.proofs.lemmas.Bool.Decides.{nat_tests}
@@ -24,12 +24,12 @@ use Rattle.plans_data.specs.Carried.{Stands}
 use Rattle.plans_data.specs.Now.{becomes, now}
 use Rattle.plans_data.specs.Plans.{IsChoice, holder_in_use, holder_of}
 use Rattle.plans_data.specs.Write.{held_besides, relocated, written}
-use Rattle.courses.specs.Done.{IsDoneBy, WritesBehind, WritesElsewhere, WritesInPlace}
+use Rattle.courses.specs.Done.{IsDoneBy, LeavesTheRest, WritesBehind, WritesElsewhere, WritesInPlace}
 use Rattle.frozen.specs.Kept.{Kept, KeepsMetadata, frozen_view}
 use Rattle.metadata.specs.Shown.{Shows}
 use Rattle.live_states.specs.Drafts.{Draft, GoesOn, over}
 use Rattle.live_states.specs.Holdings.{Has, Holdings, going_on, held_by, opened_by, with_held}
-use Rattle.live_states.specs.Planned.{AreSeen, IsOfVolumeWith, IsPlannedWith, Seen}
+use Rattle.live_states.specs.Planned.{AreSeen, IsOfVolumeWith, IsPlannedToTheByte, IsPlannedWith, Seen}
 use Rattle.live_plans.proofs.GrowLemmas.{free_there, zeroes_whole}
 use Rattle.live_writes.specs.Aimed.{IsAimed, IsPlaced, IsTableFor, block_count_of, blocks_needed}
 use Rattle.live_writes.specs.Written.{grown_size, held_for, holder_at, updates_at, updates_by}
@@ -63,6 +63,12 @@ one_more held a low x = elim (cases_eq x a) [
     or_false true = refl
     or_false false = refl
 
+-- the piece over all that users see of the block, or over zeroes behind the last one
+abbrev pub IsOverAll : Kept → View → ℕ → ℕ → List ℕ → List ℕ → Place → Type 0
+IsOverAll kept view i k piece bytes (InPlace a) = bytes ≡ piece ++ drop (length piece) (view.bytes (block_of kept.geometry view i k))
+IsOverAll kept view i k piece bytes (Behind b table) = bytes ≡ piece ++ drop (length piece) (replicate 1024 0)
+IsOverAll kept view i k piece bytes (Elsewhere a b) = bytes ≡ piece ++ drop (length piece) (view.bytes (block_of kept.geometry view i k))
+
 module _ (kept : Kept) (holdings : Holdings) (keeps : KeepsMetadata kept) (volume : IsOfVolumeWith kept holdings) (all : block_count kept.geometry ≤ length holdings.held)
     (h k i : ℕ) (piece bytes : List ℕ) (opened : (old : State) → Has holdings old → file_of old h ≡ i) (claims : 12 < block_count_of kept i → IsClaim kept.geometry (frozen_view kept) i indirect_position ((frozen_view kept).inode i).indirect)
     (room : k < indirect_position) (some : 1 ≤ length piece) where
@@ -73,8 +79,9 @@ module _ (kept : Kept) (holdings : Holdings) (keeps : KeepsMetadata kept) (volum
     sees : Shows kept view
     sees = subst (λ v. Shows kept v) (sym stands.same) shown
 
-    abbrev Does : ℕ → List Pending → State → Type 0
-    Does j p new = IsDoneBy kept.geometry disk q old safe (Write h k piece) Done j p new safe
+    -- it is done so, and leaves what stands behind the piece if these are the bytes
+    abbrev Does : Type 0 → ℕ → List Pending → State → Type 0
+    Does Whole j p new = (done : IsDoneBy kept.geometry disk q old safe (Write h k piece) Done j p new safe) × (Whole → LeavesTheRest done)
 
     at : file_of old h ≡ i
     at = opened old has
@@ -89,9 +96,10 @@ module _ (kept : Kept) (holdings : Holdings) (keeps : KeepsMetadata kept) (volum
         ∙ ap (λ (r : Option Plan). record old { view = users_view disk p; opened = opened_by holdings; held = held_by (with_held holdings blocks); plan = r }) has.plan
 
     -- what is done so is done with other words for the same
-    finish : (blocks : List ℕ) (held : ℕ → Bool) (p r : List Pending) → r ≡ p → held ≡ held_by (with_held holdings blocks) → Does i p (becomes disk p held old) → Does i r (going_on old (with_held holdings blocks) (users_view disk r))
-    finish blocks held p r list e does =
-        subst (λ l. Does i l (going_on old (with_held holdings blocks) (users_view disk l))) (sym list) (subst (λ new. Does i p new) (state_then blocks held p e) does)
+    finish : (Whole : Type 0) (blocks : List ℕ) (held : ℕ → Bool) (p r : List Pending) → r ≡ p → held ≡ held_by (with_held holdings blocks) → Does Whole i p (becomes disk p held old)
+        → Does Whole i r (going_on old (with_held holdings blocks) (users_view disk r))
+    finish Whole blocks held p r list e does =
+        subst (λ l. Does Whole i l (going_on old (with_held holdings blocks) (users_view disk l))) (sym list) (subst (λ new. Does Whole i p new) (state_then blocks held p e) does)
 
     sized_so : grown_size kept i k piece ≡ size_then i
     sized_so = ap (λ (n : Inode). max n.size (1024 * k + length piece)) (sees.inode i)
@@ -104,16 +112,25 @@ module _ (kept : Kept) (holdings : Holdings) (keeps : KeepsMetadata kept) (volum
 
     -- ---- in place
     module _ (over_it : IsOverwritten piece (seen kept.geometry view i k) bytes) where
+      -- what the block holds that the file has
+      abbrev OverBlock : ℕ → Type 0
+      OverBlock j = bytes ≡ piece ++ drop (length piece) (view.bytes (block_of kept.geometry view j k))
+
+      abbrev OverZeroes : Type 0
+      OverZeroes = bytes ≡ piece ++ drop (length piece) (replicate 1024 0)
+
       done_in_place : (a : ℕ) → IsPlaced kept holdings i k (InPlace a) → (r : List Pending) → r ≡ updates_by kept i k bytes (grown_size kept i k piece) (InPlace a) q
-          → Does i r (going_on old (with_held holdings []) (users_view disk r))
+          → Does (OverBlock i) i r (going_on old (with_held holdings []) (users_view disk r))
       done_in_place a is r list =
           let b = block_so a is.1 in
-          finish [] old.held (written i (view.inode i) (block_of kept.geometry view i k) bytes (size_then i) q) r
+          finish (OverBlock i) [] old.held (written i (view.inode i) (block_of kept.geometry view i k) bytes (size_then i) q) r
           (list ∙ ap (λ (n : Inode). written i n a bytes (grown_size kept i k piece) q) (sees.inode i) ∙ ap₂ (λ x s. written i (view.inode i) x bytes s q) (sym b) sized_so) has.held
-          (subst (λ j. Does j (written j (view.inode j) (block_of kept.geometry view j k) bytes (size_then j) q) (becomes disk (written j (view.inode j) (block_of kept.geometry view j k) bytes (size_then j) q) old.held old)) at
-          (WritesInPlace h k piece bytes (subst (λ j. IsOverwritten piece (seen kept.geometry view j k) bytes) (sym at) over_it)
-          (subst (λ j. k < blocks_of (view.inode j).size) (sym at) (inside_so is.0))
-          (subst (λ j. IsFalse (is_kept old (block_of kept.geometry view j k))) (sym at) (ap (is_kept old) b ∙ same_kept holdings old has a ∙ is.2))))
+          (subst (λ j. Does (OverBlock j) j (written j (view.inode j) (block_of kept.geometry view j k) bytes (size_then j) q) (becomes disk (written j (view.inode j) (block_of kept.geometry view j k) bytes (size_then j) q) old.held old)) at (
+            WritesInPlace h k piece bytes (subst (λ j. IsOverwritten piece (seen kept.geometry view j k) bytes) (sym at) over_it)
+                (subst (λ j. k < blocks_of (view.inode j).size) (sym at) (inside_so is.0))
+                (subst (λ j. IsFalse (is_kept old (block_of kept.geometry view j k))) (sym at) (ap (is_kept old) b ∙ same_kept holdings old has a ∙ is.2)),
+            λ all. all,
+          ))
 
       -- ---- behind the last block
       grows : k ≡ block_count_of kept i → (view.inode i).size < size_then i
@@ -123,13 +140,15 @@ module _ (kept : Kept) (holdings : Holdings) (keeps : KeepsMetadata kept) (volum
           omega (arith, here, upper, some)
 
       behind_with : (b x : ℕ) (table : List ℕ) → k ≡ block_count_of kept i → IsChoice kept.geometry view k b x table
-          → Does i (appended i (view.inode i) k b bytes (size_then i) (holder_of k (view.bytes (view.inode i).indirect) x table) q)
+          → Does OverZeroes i (appended i (view.inode i) k b bytes (size_then i) (holder_of k (view.bytes (view.inode i).indirect) x table) q)
           (becomes disk (appended i (view.inode i) k b bytes (size_then i) (holder_of k (view.bytes (view.inode i).indirect) x table) q) old.held old)
       behind_with b x table next choice =
-          subst (λ j. Does j (appended j (view.inode j) k b bytes (size_then j) (holder_of k (view.bytes (view.inode j).indirect) x table) q)
-          (becomes disk (appended j (view.inode j) k b bytes (size_then j) (holder_of k (view.bytes (view.inode j).indirect) x table) q) old.held old)) at
-          (WritesBehind h k piece bytes b x table (subst (λ j. IsOverwritten piece (seen kept.geometry view j k) bytes) (sym at) over_it) choice
-          (subst (λ j. blocks_of (view.inode j).size ≤ k) (sym at) (subst (λ (n : Inode). blocks_of n.size ≤ k) (sees.inode i) (omega (arith, next)))))
+          subst (λ j. Does OverZeroes j (appended j (view.inode j) k b bytes (size_then j) (holder_of k (view.bytes (view.inode j).indirect) x table) q)
+          (becomes disk (appended j (view.inode j) k b bytes (size_then j) (holder_of k (view.bytes (view.inode j).indirect) x table) q) old.held old)) at (
+            WritesBehind h k piece bytes b x table (subst (λ j. IsOverwritten piece (seen kept.geometry view j k) bytes) (sym at) over_it) choice
+                (subst (λ j. blocks_of (view.inode j).size ≤ k) (sym at) (subst (λ (n : Inode). blocks_of n.size ≤ k) (sees.inode i) (omega (arith, next)))),
+            λ all. all,
+          )
 
       -- the list by what users see
       list_behind : (b x : ℕ) (t : List ℕ) (table : Option ℕ) → k ≡ block_count_of kept i → holder_at kept i k b table ≡ holder_of k (view.bytes (view.inode i).indirect) x t
@@ -141,15 +160,15 @@ module _ (kept : Kept) (holdings : Holdings) (keeps : KeepsMetadata kept) (volum
 
       done_behind : (b : ℕ) (table : Option ℕ) → k ≡ block_count_of kept i → IsFreeBlock kept.geometry (frozen_view kept) b → IsTableFor kept.geometry (frozen_view kept) k b table
           → (r : List Pending) → r ≡ updates_by kept i k bytes (grown_size kept i k piece) (Behind b table) q
-          → Does i r (going_on old (with_held holdings []) (users_view disk r))
+          → Does OverZeroes i r (going_on old (with_held holdings []) (users_view disk r))
       done_behind b None next free apart r list =
-          finish [] old.held (appended i (view.inode i) k b bytes (size_then i) (holder_of k (view.bytes (view.inode i).indirect) 0 []) q) r
+          finish OverZeroes [] old.held (appended i (view.inode i) k b bytes (size_then i) (holder_of k (view.bytes (view.inode i).indirect) 0 []) q) r
           (list ∙ list_behind b 0 [] None next (holder_behind kept view keeps sees i k b apart (λ many. claims (omega (arith, many, next, apart))) 0 [])) has.held
           (behind_with b 0 [] next (record { free = free_there kept view sees b free; other = λ e. absurd (apart e) }))
       done_behind b (Some x) next free is r list =
           let t = with_pointer (replicate 1024 0) 0 b in
           let low = small kept.geometry stands.geometry b free.address in
-          finish [] old.held (appended i (view.inode i) k b bytes (size_then i) (holder_of k (view.bytes (view.inode i).indirect) x t) q) r
+          finish OverZeroes [] old.held (appended i (view.inode i) k b bytes (size_then i) (holder_of k (view.bytes (view.inode i).indirect) x t) q) r
           (list ∙ list_behind b x t (Some x) next (holder_first kept view keeps sees i k b is.0 x)) has.held
           (behind_with b x t next (record {
             free = free_there kept view sees b free;
@@ -168,47 +187,73 @@ module _ (kept : Kept) (holdings : Holdings) (keeps : KeepsMetadata kept) (volum
           fun_ext (λ x. ap₂ (λ (l : ℕ → Bool) y. l x || eqb x y) has.held (block_so a e) ∙ one_more holdings.held a low x)
 
       done_elsewhere : (a b : ℕ) → IsPlaced kept holdings i k (Elsewhere a b) → (r : List Pending) → r ≡ updates_by kept i k bytes (grown_size kept i k piece) (Elsewhere a b) q
-          → Does i r (going_on old (with_held holdings (a ∷ [])) (users_view disk r))
+          → Does (OverBlock i) i r (going_on old (with_held holdings (a ∷ [])) (users_view disk r))
       done_elsewhere a b is r list =
           let e = block_so a is.1 in
-          finish (a ∷ []) (held_besides kept.geometry (now disk q old) i k)
+          finish (OverBlock i) (a ∷ []) (held_besides kept.geometry (now disk q old) i k)
           (relocated i (view.inode i) k b bytes (size_then i) (holder_in_use k (view.bytes (view.inode i).indirect)) q) r
           (list ∙ ap (λ (n : Inode). relocated i n k b bytes (grown_size kept i k piece) (holder_at kept i k b None) q) (sees.inode i)
           ∙ ap₂ (λ s holder. relocated i (view.inode i) k b bytes s holder q) sized_so (holder_used kept view keeps sees i k b (λ many. claims (omega (arith, many, is.0)))))
           (held_then a is.1)
-          (subst (λ j. Does j (relocated j (view.inode j) k b bytes (size_then j) (holder_in_use k (view.bytes (view.inode j).indirect)) q)
-          (becomes disk (relocated j (view.inode j) k b bytes (size_then j) (holder_in_use k (view.bytes (view.inode j).indirect)) q) (held_besides kept.geometry (now disk q old) j k) old)) at
-          (WritesElsewhere h k piece bytes b (subst (λ j. IsOverwritten piece (seen kept.geometry view j k) bytes) (sym at) over_it) (free_there kept view sees b is.3)
-          (subst (λ j. k < blocks_of (view.inode j).size) (sym at) (inside_so is.0))
-          (subst (λ j. IsTrue (is_kept old (block_of kept.geometry view j k))) (sym at) (ap (is_kept old) e ∙ same_kept holdings old has a ∙ is.2))))
+          (subst (λ j. Does (OverBlock j) j (relocated j (view.inode j) k b bytes (size_then j) (holder_in_use k (view.bytes (view.inode j).indirect)) q)
+          (becomes disk (relocated j (view.inode j) k b bytes (size_then j) (holder_in_use k (view.bytes (view.inode j).indirect)) q) (held_besides kept.geometry (now disk q old) j k) old)) at (
+            WritesElsewhere h k piece bytes b (subst (λ j. IsOverwritten piece (seen kept.geometry view j k) bytes) (sym at) over_it) (free_there kept view sees b is.3)
+                (subst (λ j. k < blocks_of (view.inode j).size) (sym at) (inside_so is.0))
+                (subst (λ j. IsTrue (is_kept old (block_of kept.geometry view j k))) (sym at) (ap (is_kept old) e ∙ same_kept holdings old has a ∙ is.2)),
+            λ all. all,
+          ))
 
       pub done_at : (place : Place) → IsPlaced kept holdings i k place → (r : List Pending) → r ≡ updates_by kept i k bytes (grown_size kept i k piece) place q
-          → Does i r (going_on old (with_held holdings (held_for place)) (users_view disk r))
+          → Does (IsOverAll kept view i k piece bytes place) i r (going_on old (with_held holdings (held_for place)) (users_view disk r))
       done_at (InPlace a) is r list = done_in_place a is r list
       done_at (Behind b table) is r list = done_behind b table is.0 is.1 is.2 r list
       done_at (Elsewhere a b) is r list = done_elsewhere a b is r list
 
--- the plan of a write where these bytes are the right ones whatever users see
-pub write_planned : (kept : Kept) (holdings : Holdings) → KeepsMetadata kept → IsOfVolumeWith kept holdings → block_count kept.geometry ≤ length holdings.held
-    → (h k : ℕ) (piece bytes : List ℕ) (target : Target) → IsAimed kept holdings h k piece target
-    → (draft : Draft) → GoesOn (record { geometry = kept.geometry; file = target.file; updates = [] }) draft (updates_at kept target bytes (grown_size kept target.file k piece))
-    → (blocks : List ℕ) → blocks ≡ held_for target.place
-    → (sight : List Seen) → ((view : View) → HasWholeBlocks kept.geometry view → Shows kept view → AreSeen sight view → IsOverwritten piece (seen kept.geometry view target.file k) bytes)
-    → IsPlannedWith kept holdings sight (Write h k piece) Done draft (with_held holdings blocks)
-write_planned kept holdings keeps volume all h k piece bytes target aimed draft goes blocks held sight overwrites =
-    let i = target.file in
-    let place = subst (λ j. IsPlaced kept holdings i j target.place) aimed.index aimed.fits.placed in
-    let room = subst (λ j. j < indirect_position) aimed.index aimed.fits.room in
-    let same_list = λ (q : List Pending). goes.pending q ∙ ap (λ j. updates_by kept i j bytes (grown_size kept i k piece) target.place q) aimed.index in
-    record {
-      geometry = goes.geometry;
-      snapshot = refl;
-      accepted = write_accepted kept holdings h k piece i aimed.opened (good_if piece aimed.some aimed.few) room aimed.near keeps (subst (λ j. blocks_needed kept holdings i j ≤ unmarked_blocks kept.geometry (frozen_view kept)) aimed.index aimed.enough);
-      done = λ disk q old safe stands shows has sees.
-          let view = users_view disk q in
-          let over_it = overwrites view (subst (λ v. HasWholeBlocks kept.geometry v) (sym stands.same) stands.balance.whole) (subst (λ v. Shows kept v) (sym stands.same) shows) (subst (λ v. AreSeen sight v) (sym stands.same) sees) in
-          subst (λ bs. IsDoneBy kept.geometry disk q old safe (Write h k piece) Done draft.file (over q draft.updates) (going_on old (with_held holdings bs) (users_view disk (over q draft.updates))) safe) (sym held)
-          (subst (λ f. IsDoneBy kept.geometry disk q old safe (Write h k piece) Done f (over q draft.updates) (going_on old (with_held holdings (held_for target.place)) (users_view disk (over q draft.updates))) safe) (sym goes.file)
-          (done_at kept holdings keeps volume all h k i piece bytes (λ s its. ap (λ o. unwrap_or o 0) (open_there holdings s its h ∙ aimed.opened)) (has_indirect kept volume.volume i aimed.fits.sound) room aimed.some
-          disk q old safe stands shows has over_it target.place place (over q draft.updates) (same_list q)));
-    }
+-- these bytes are the right ones, whatever users see
+module _ (kept : Kept) (holdings : Holdings) (keeps : KeepsMetadata kept) (volume : IsOfVolumeWith kept holdings) (all : block_count kept.geometry ≤ length holdings.held)
+    (h k : ℕ) (piece bytes : List ℕ) (target : Target) (aimed : IsAimed kept holdings h k piece target)
+    (draft : Draft) (goes : GoesOn (record { geometry = kept.geometry; file = target.file; updates = [] }) draft (updates_at kept target bytes (grown_size kept target.file k piece)))
+    (blocks : List ℕ) (held : blocks ≡ held_for target.place)
+    (sight : List Seen) (overwrites : (view : View) → HasWholeBlocks kept.geometry view → Shows kept view → AreSeen sight view → IsOverwritten piece (seen kept.geometry view target.file k) bytes) where
+  abbrev i : ℕ
+  i = target.file
+
+  placed_at : IsPlaced kept holdings i k target.place
+  placed_at = subst (λ j. IsPlaced kept holdings i j target.place) aimed.index aimed.fits.placed
+
+  near_enough : k < indirect_position
+  near_enough = subst (λ j. j < indirect_position) aimed.index aimed.fits.room
+
+  -- it is done, and leaves the rest if the bytes are the piece over all that users see
+  abbrev DoesSo : (disk : View) (q : List Pending) (old : State) (safe : ℕ → Bool) → ℕ → State → Type 0
+  DoesSo disk q old safe file new =
+      (done : IsDoneBy kept.geometry disk q old safe (Write h k piece) Done file (over q draft.updates) new safe) × (IsOverAll kept (users_view disk q) i k piece bytes target.place → LeavesTheRest done)
+
+  does : (disk : View) (q : List Pending) (old : State) (safe : ℕ → Bool) (stands : Stands kept.geometry disk q old safe) (shows : Shows kept old.view) (has : Has holdings old) (sees : AreSeen sight old.view)
+      → DoesSo disk q old safe draft.file (going_on old (with_held holdings blocks) (users_view disk (over q draft.updates)))
+  does disk q old safe stands shows has sees =
+      let view = users_view disk q in
+      let over_it = overwrites view (subst (λ v. HasWholeBlocks kept.geometry v) (sym stands.same) stands.balance.whole) (subst (λ v. Shows kept v) (sym stands.same) shows) (subst (λ v. AreSeen sight v) (sym stands.same) sees) in
+      subst (λ bs. DoesSo disk q old safe draft.file (going_on old (with_held holdings bs) (users_view disk (over q draft.updates)))) (sym held)
+      (subst (λ f. DoesSo disk q old safe f (going_on old (with_held holdings (held_for target.place)) (users_view disk (over q draft.updates)))) (sym goes.file)
+      (done_at kept holdings keeps volume all h k i piece bytes (λ s its. ap (λ o. unwrap_or o 0) (open_there holdings s its h ∙ aimed.opened)) (has_indirect kept volume.volume i aimed.fits.sound) near_enough aimed.some
+      disk q old safe stands shows has over_it target.place placed_at (over q draft.updates) (goes.pending q ∙ ap (λ j. updates_by kept i j bytes (grown_size kept i k piece) target.place q) aimed.index)))
+
+  abbrev plan : IsPlannedWith kept holdings sight (Write h k piece) Done draft (with_held holdings blocks)
+  plan = record {
+    geometry = goes.geometry;
+    snapshot = refl;
+    accepted = write_accepted kept holdings h k piece i aimed.opened (good_if piece aimed.some aimed.few) near_enough aimed.near keeps (subst (λ j. blocks_needed kept holdings i j ≤ unmarked_blocks kept.geometry (frozen_view kept)) aimed.index aimed.enough);
+    done = λ disk q old safe stands shows has sees. (does disk q old safe stands shows has sees).0;
+  }
+
+  pub write_planned : IsPlannedWith kept holdings sight (Write h k piece) Done draft (with_held holdings blocks)
+  write_planned = plan
+
+  -- and where they are the piece over all that users see, the rest stays
+  pub write_leaves : ((view : View) → Shows kept view → AreSeen sight view → IsOverAll kept view i k piece bytes target.place) → IsPlannedToTheByte kept holdings sight (Write h k piece) Done draft (with_held holdings blocks)
+  write_leaves whole = record {
+    planned = plan;
+    rest = λ disk q old safe stands shows has sees.
+        (does disk q old safe stands shows has sees).1 (whole (users_view disk q) (subst (λ v. Shows kept v) (sym stands.same) shows) (subst (λ v. AreSeen sight v) (sym stands.same) sees));
+  }

@@ -1,5 +1,5 @@
 -- The new bytes are those that the piece asks for, whatever is seen of the old ones.
-use Rattle.std.proofs.Common.{◌≡◌, ◌<◌, ◌≤◌, ◌+◌, ◌-◌, ◌*◌, ℕ, zero, suc, List, [], ◌++◌, length, take, drop, max, min, replicate, Some, sym, ap, ◌∙◌, subst, arith, length-take}
+use Rattle.std.proofs.Common.{◌≡◌, ◌<◌, ◌≤◌, ◌+◌, ◌-◌, ◌*◌, ℕ, zero, suc, List, [], ◌++◌, length, take, drop, max, min, replicate, Some, refl, sym, ap, ◌∙◌, subst, arith, length-take}
 use Rattle.std.specs.Prelude.{unwrap_or}
 use Rattle.std.specs.List.{All}
 use Rattle.model.specs.Image.{IsBlock}
@@ -16,7 +16,7 @@ use Rattle.frozen.specs.Kept.{Kept, KeepsMetadata, frozen_view}
 use Rattle.metadata.specs.Shown.{Shows}
 use Rattle.live_states.specs.Drafts.{Draft, GoesOn}
 use Rattle.live_states.specs.Holdings.{Holdings, with_held}
-use Rattle.live_states.specs.Planned.{AreSeen, IsOfVolume, IsOfVolumeWith, IsPlannedWith}
+use Rattle.live_states.specs.Planned.{AreSeen, IsOfVolume, IsOfVolumeWith, IsPlannedToTheByte, IsPlannedWith}
 use Rattle.live_writes.specs.Aimed.{IsAimed, IsPlaced, seen_at, seen_so}
 use Rattle.live_writes.specs.Written.{bytes_after, grown_size, held_for, updates_at}
 use Rattle.live_writes.specs.declared.aiming.Place.{Place}
@@ -24,7 +24,7 @@ use Rattle.live_writes.specs.declared.aiming.Place.TheVariants.{InPlace, Behind,
 use Rattle.live_writes.specs.declared.aiming.Target.{Target}
 use Rattle.live_writes.proofs.Bytes.{over_first, over_none, over_short}
 use Rattle.live_writes.proofs.Facts.{claim_there}
-use Rattle.live_writes.proofs.Planning.{write_planned}
+use Rattle.live_writes.proofs.Planning.{IsOverAll, write_leaves, write_planned}
 
 module _ (kept : Kept) (holdings : Holdings) (keeps : KeepsMetadata kept) (i k : ℕ) (view : View) (shows : Shows kept view) where
   at : (a : ℕ) → claim_at kept.geometry (frozen_view kept) i k ≡ Some a → block_of kept.geometry view i k ≡ a
@@ -48,6 +48,17 @@ module _ (kept : Kept) (holdings : Holdings) (keeps : KeepsMetadata kept) (i k :
   over_seen (InPlace a) before piece is whole sees = over_known a before piece is.1 (sees 0 (record { address = a; bytes = before }) (omega arith)) whole
   over_seen (Behind b table) before piece is whole sees = over_none piece (replicate 1024 0) (seen kept.geometry view i k) (nothing is.0) whole
   over_seen (Elsewhere a b) before piece is whole sees = over_known a before piece is.1 (sees 0 (record { address = a; bytes = before }) (omega arith)) whole
+
+  -- and they are the piece over the whole block
+  over_whole : (a : ℕ) (before piece : List ℕ) → claim_at kept.geometry (frozen_view kept) i k ≡ Some a → view.bytes a ≡ before
+      → piece ++ drop (length piece) before ≡ piece ++ drop (length piece) (view.bytes (block_of kept.geometry view i k))
+  over_whole a before piece e bytes = ap (λ (l : List ℕ). piece ++ drop (length piece) l) (sym (ap view.bytes (at a e) ∙ bytes))
+
+  pub over_all_seen : (place : Place) (before piece : List ℕ) → IsPlaced kept holdings i k place → AreSeen (seen_so (seen_at place) before) view
+      → IsOverAll kept view i k piece (bytes_after place before piece) place
+  over_all_seen (InPlace a) before piece is sees = over_whole a before piece is.1 (sees 0 (record { address = a; bytes = before }) (omega arith))
+  over_all_seen (Behind b table) before piece is sees = refl
+  over_all_seen (Elsewhere a b) before piece is sees = over_whole a before piece is.1 (sees 0 (record { address = a; bytes = before }) (omega arith))
 
   -- no more is seen than stands in the block, and than the file has
   sight_of : (a : ℕ) → claim_at kept.geometry (frozen_view kept) i k ≡ Some a → HasWholeBlocks kept.geometry view → length (seen kept.geometry view i k) ≤ min 1024 (((frozen_view kept).inode i).size - 1024 * k)
@@ -80,11 +91,13 @@ module _ (kept : Kept) (holdings : Holdings) (keeps : KeepsMetadata kept) (volum
   placed : IsPlaced kept holdings target.file k target.place
   placed = subst (λ j. IsPlaced kept holdings target.file j target.place) aimed.index aimed.fits.placed
 
-  pub planned : (before : List ℕ) → bytes ≡ bytes_after target.place before piece → IsPlannedWith kept holdings (seen_so (seen_at target.place) before) (Write h k piece) Done draft (with_held holdings blocks)
+  pub planned : (before : List ℕ) → bytes ≡ bytes_after target.place before piece → IsPlannedToTheByte kept holdings (seen_so (seen_at target.place) before) (Write h k piece) Done draft (with_held holdings blocks)
   planned before is =
-      write_planned kept holdings keeps volume all h k piece bytes target aimed draft goes blocks held (seen_so (seen_at target.place) before)
+      write_leaves kept holdings keeps volume all h k piece bytes target aimed draft goes blocks held (seen_so (seen_at target.place) before)
       (λ view wholes shows sees. subst (λ (l : List ℕ). IsOverwritten piece (seen kept.geometry view target.file k) l) (sym is)
       (over_seen kept holdings keeps target.file k view shows target.place before piece placed (subst (λ (l : List ℕ). IsBlock l) is whole) sees))
+      (λ view shows sees. subst (λ (l : List ℕ). IsOverAll kept view target.file k piece l target.place) (sym is)
+      (over_all_seen kept holdings keeps target.file k view shows target.place before piece placed sees))
 
   abbrev other : List ℕ
   other = take (reach kept target.file k piece) bytes

@@ -13,7 +13,7 @@ ghost use Rattle.updates.specs.Values.{cell};
 ghost use Rattle.live_plans.specs.Grown.{HasPointers};
 ghost use Rattle.live_states.specs.Drafts.{GoesOn};
 ghost use Rattle.live_states.specs.Holdings.{Holdings as Held, with_held};
-ghost use Rattle.live_states.specs.Planned.{IsOfVolumeWith, IsPlannedWith};
+ghost use Rattle.live_states.specs.Planned.{IsOfVolumeWith, IsPlannedToTheByte, IsPlannedWith};
 ghost use Rattle.live_writes.specs.Aimed.{Fits, IsAimed, seen_before};
 ghost use Rattle.live_writes.specs.Written.{HasTable, bytes_after, held_for, holder_at, repointed, updates_at};
 
@@ -29,7 +29,8 @@ use std::sync::Arc;
 use updates::{Cell, Change};
 
 /// The plan by which a piece is written where `aim` has settled, over these bytes of the block that is seen there. Behind
-/// the last block it is put over zeroes.
+/// the last block it is put over zeroes. What is behind the piece stays, also behind the file's size: a stop may show an
+/// older, larger size with these bytes.
 ///
 /// Whatever the bytes of the block were, the same plan is that of a piece, which reaches to the end of the block or of
 /// the file. Spare blocks serve for its new bytes, where there are some.
@@ -46,7 +47,7 @@ pub fn write(
     requires aimed { (h : ℕ) × (k : ℕ) × IsAimed metadata.now holdings.now h k piece.now target.now }
     requires wide { block_count metadata.now.geometry ≤ length holdings.now.held }
     ensures planned { IfOk result (λ planned. (h k : ℕ) → IsAimed metadata.now holdings.now h k piece.now target.now
-        → IsPlannedWith metadata.now holdings.now (seen_before target.now before.now) (Write h k piece.now) Done planned.plan (with_held holdings.now planned.holds.items)) }
+        → IsPlannedToTheByte metadata.now holdings.now (seen_before target.now before.now) (Write h k piece.now) Done planned.plan (with_held holdings.now planned.holds.items)) }
     ensures planned_anyhow { IfOk result (λ planned. (h k : ℕ) → IsAimed metadata.now holdings.now h k piece.now target.now
         → (other : List ℕ) × IsPlannedWith metadata.now holdings.now [] (Write h k other) Done planned.plan (with_held holdings.now planned.holds.items)) }
     ensures holds { IfOk result (λ planned. All (λ a. a < block_count metadata.now.geometry) planned.holds.items) }

@@ -73,7 +73,7 @@ module _ (geo : Geometry) (disk0 : View) (q0 : List Pending) (old0 : State) (saf
 
   refused_instead : (disk : View) (q : List Pending) (old : State) (safe : ℕ → Bool) (images : List View) (command : Command) (answer : Answer) (disk' : View) (q' : List Pending) (new : State) (safe' : ℕ → Bool) (later : List View)
       → Refused disk q old safe command images → Accepts geo old command → IsCopied (Ok answer) → Serves geo disk q old safe command answer disk' q' new safe' later → Refused disk' q' new safe' command (later ++ images)
-  refused_instead disk q old safe images command answer disk' q' new safe' later refused accepts copied (ByPlan c a file plan n s done) = absurd (plan_not_copied geo disk q old safe c a file plan n s done copied)
+  refused_instead disk q old safe images command answer disk' q' new safe' later refused accepts copied (ByPlan c a file plan n s done rest) = absurd (plan_not_copied geo disk q old safe c a file plan n s done copied)
   refused_instead disk q old safe images command answer disk' q' new safe' later refused accepts copied (Quietly c a n quiet effect) =
       subst (λ (s : State). Refused disk q s safe c images) (sym (copied_keeps geo old n c (Ok a) copied (accepts, effect))) refused
   refused_instead disk q old safe images command answer disk' q' new safe' later refused accepts copied (FlushesNone a none) = absurd copied

@@ -8,7 +8,7 @@ use Rattle.updates.specs.Places.{IsCell}
 use Rattle.updates.specs.Values.{cell}
 use Rattle.live_places.specs.Chosen.{IsEmptySlot, IsPlace}
 use Rattle.live_plans.specs.Entered.{EntersAt}
-use Rattle.live_plans.proofs.EnterLemmas.{cells_after, enters_new_block, enters_slot, record_first}
+use Rattle.live_plans.proofs.EnterLemmas.{cells_after, enters_new_block, enters_slot, only_these, record_first}
 use Rattle.live_plans.proofs.GrowLemmas.{same_size}
 use Rattle.live_plans.proofs.entering.enter_at.Goals as goal
 
@@ -43,6 +43,7 @@ returns-in-Slot c =
     (λ puts view shows. subst (λ p. EntersAt kept.geometry view new.directory new.parent new.number new.name.now p c.args.plan.now c.put_slot.new.plan) (sym c.in-Slot.is)
     (enters_slot kept.geometry view new.directory new.number new.name.now c.entry-entry.result (map cell c.add_blocks.new.cells.items) c.entry-entry.ensures
     (record_first new.number (map cell c.in_ok-after.after.items) (map cell c.add_blocks.new.cells.items) (ap (map cell) c.in_ok-after.ensures.items) c.in_ok-add_blocks.ensures.kept) (c.in_ok-add_blocks.ensures.blocks view shows)
+    (only_these kept.geometry view new.directory new.number (map cell c.in_ok-after.after.items) (map cell c.add_blocks.new.cells.items) (ap (map cell) c.in_ok-after.ensures.items) (c.in_ok-add_blocks.ensures.only view shows))
     c.in-Slot.slot c.in-Slot.block c.bytes_of-bytes.result.now c.args.plan.now c.put_slot.new.plan (c.bytes_of-bytes.ensures.bytes view shows) puts))
     c.put_slot.ensures
 
@@ -56,6 +57,7 @@ returns-in_ok-grow-in-NewBlock c =
     subst (λ p. EntersAt kept.geometry view new.directory new.parent new.number new.name.now p c.args.plan.now c.put_slot-in-NewBlock.new.plan) (sym c.in-NewBlock.is)
     (enters_new_block kept.geometry view new.directory new.number new.name.now c.entry-entry.result (map cell c.add_blocks.new.cells.items) c.entry-entry.ensures
     (record_first new.number (map cell c.in_ok-after.after.items) (map cell c.add_blocks.new.cells.items) (ap (map cell) c.in_ok-after.ensures.items) c.in_ok-add_blocks.ensures.kept) (c.in_ok-add_blocks.ensures.blocks view shows)
+    (only_these kept.geometry view new.directory new.number (map cell c.in_ok-after.after.items) (map cell c.add_blocks.new.cells.items) (ap (map cell) c.in_ok-after.ensures.items) (c.in_ok-add_blocks.ensures.only view shows))
     new.parent c.in-NewBlock.block c.in-NewBlock.table (16 * c.blocks-in-NewBlock.result) c.args.plan.now c.grow.new.plan c.put_slot-in-NewBlock.new.plan (omega (arith, size, c.blocks-in-NewBlock.ensures))
     (c.in_ok-grow-in-NewBlock.ensures.grows view shows) puts))
     c.put_slot-in-NewBlock.ensures

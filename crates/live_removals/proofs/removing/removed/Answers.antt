@@ -10,6 +10,7 @@ use Rattle.updates.specs.declared.cell.Cell.{Cell}
 use Rattle.updates.specs.Places.{IsCell}
 use Rattle.updates.specs.Values.{cell}
 use Rattle.live_states.specs.Drafts.{Draft, GoesOn}
+use Rattle.live_plans.proofs.BlockLemmas.{are_blocks}
 use Rattle.live_removals.specs.Removed.{no_updates}
 use Rattle.live_removals.proofs.Showing.{shows_itself}
 use Rattle.live_removals.proofs.Leaving.{loses_geometry}
@@ -43,7 +44,7 @@ returns c = λ view shows.
     c.new-plan.ensures ∙ ap (λ (g : Geometry). no_updates g c.args.found.now.number) (c.geometry.ensures.geometry ∙ ap (λ (k : Kept). k.geometry) c.frozen-frozen.ensures.same) in
     record {
       after = map cell c.add_blocks.new.cells.items;
-      own_first = c.in_ok-add_blocks.ensures.blocks view shows;
+      own_first = are_blocks kept.geometry view found.number c.new-after.result.items (map cell c.add_blocks.new.cells.items) c.new-after.ensures.items (c.in_ok-add_blocks.ensures.blocks view shows) (c.in_ok-add_blocks.ensures.only view shows);
       left = c.lose_links.new.plan;
       leaves = record {
         emptied = c.empty.new.plan;

@@ -24,7 +24,8 @@ parts-init c =
       ap (walk kept.geometry (frozen_view kept) root) c.in-Some.ensures.parts,
       c.in-Some.ensures.part,
       c.in_ok-add_directory.ensures.gathers,
-      root_grounded kept.geometry (frozen_view kept) (map cell c.add_directory.new.cells.items) (walk_directory kept.geometry (frozen_view kept) c.args.path.now root c.requires.0 c.requires.1) c.in_ok-add_directory.ensures.directory,
+      root_grounded kept.geometry (frozen_view kept) (map cell c.args.cells.now.items) (map cell c.add_directory.new.cells.items) (walk_directory kept.geometry (frozen_view kept) c.args.path.now root c.requires.0 c.requires.1)
+          c.in_ok-add_directory.ensures.directory c.in_ok-add_directory.ensures.only,
     )
 
 pub returns-in_default-split_first-clause-grounds : goal.returns-in_default-split_first-clause-grounds
@@ -33,7 +34,7 @@ returns-in_default-split_first-clause-grounds c = λ d way.
     let view = frozen_view kept in
     let name = c.parts.name.now in
     let end = sym (ap (λ ps. walk kept.geometry view c.parts.directory (name ∷ ps)) c.in_default-split_first.ensures.parts) ∙ sym c.parts.invariant.0 ∙ way in
-    subst (λ e. IsGrounded kept.geometry view e (map cell c.parts.cells.items)) (walk_end kept.geometry view name c.parts.directory d end) c.parts.invariant.3
+    subst (λ e. IsGrounded kept.geometry view e (map cell c.args.cells.now.items) (map cell c.parts.cells.items)) (walk_end kept.geometry view name c.parts.directory d end) c.parts.invariant.3
 
 pub add_name-requires-clause-named : goal.add_name-requires-clause-named
 add_name-requires-clause-named c =
@@ -59,5 +60,5 @@ parts-preserved c =
       c.requires.1 ∙ sym (subst (λ i. walk kept.geometry view i (next ∷ behind) ≡ Ok c.requires.0) here step.2),
       c.in-Some-split_first.ensures.part,
       gathers_both kept.geometry _ (map cell c.parts.cells.items) _ c.parts.invariant.2 c.in_ok-directory.ensures.gathers,
-      c.in_ok-directory.ensures.grounds c.parts.invariant.3,
+      c.in_ok-directory.ensures.grounds (map cell c.args.cells.now.items) c.parts.invariant.3,
     )

@@ -12,7 +12,7 @@ invariant-parts l =
     (walk l.frozen.geometry (frozen_view l.frozen) root l.fn.path ≡ walk l.frozen.geometry (frozen_view l.frozen) l.directory (l.name ∷ l.rest))
     × IsTrue (is_part l.name)
     × Gathers l.frozen.geometry (map cell l.fn.cells.items) (map cell l.cells.items)
-    × IsGrounded l.frozen.geometry (frozen_view l.frozen) l.directory (map cell l.cells.items)
+    × IsGrounded l.frozen.geometry (frozen_view l.frozen) l.directory (map cell l.fn.cells.items) (map cell l.cells.items)
 
 abbrev pub decreases-parts : goal.decreases-parts
 decreases-parts l = length l.rest

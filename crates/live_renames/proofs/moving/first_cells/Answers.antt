@@ -1,8 +1,9 @@
 -- The blocks of the place come first, and the grounds behind them.
-use Rattle.std.proofs.Common.{◌∙◌, ap, map, vec_items}
+use Rattle.std.proofs.Common.{◌∙◌, ap, map, subst, vec_items}
 use Rattle.frozen.specs.Kept.{frozen_view}
 use Rattle.live_places.specs.declared.choosing.Place.TheVariants.{NewBlock}
 use Rattle.updates.specs.Values.{cell}
+use Rattle.live_renames.specs.Gathered.{IsGrounded}
 use Rattle.live_renames.proofs.MoveLemmas.{none_cells}
 use Rattle.live_renames.proofs.PlaceLemmas.{Placed, block_placed, blocks_placed, place_more, slot_placed}
 use Rattle.live_renames.proofs.moving.first_cells.Goals.{in-Slot+in_ok-push-in-Slot, in-NewBlock+in_ok-push-in-NewBlock+in-Some+in_ok-push-in-NewBlock-2, in-NewBlock+in_ok-push-in-NewBlock+in_default}
@@ -42,5 +43,5 @@ returns-clause-first c =
     ] in
     record {
       place_first = place_more place (map cell cells) (map cell c.add_grounds.new.cells.items) c.in_ok-add_grounds.ensures.gathers.kept placed.1;
-      grounds = c.in_ok-add_grounds.ensures.grounds;
+      grounds = λ e way. subst (λ first. IsGrounded geo view e first (map cell c.add_grounds.new.cells.items)) (placed.2 c.new-cells.ensures.items) (c.in_ok-add_grounds.ensures.grounds e way);
     }

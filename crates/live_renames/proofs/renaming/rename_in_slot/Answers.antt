@@ -5,6 +5,7 @@ use Rattle.model.specs.Layout.{is_data_address}
 use Rattle.updates.specs.Places.{IsCell}
 use Rattle.updates.specs.Values.{cell}
 use Rattle.live_states.specs.Drafts.{Draft}
+use Rattle.live_plans.proofs.BlockLemmas.{are_blocks}
 use Rattle.live_renames.proofs.GroundLemmas.{found_claim, found_directory}
 use Rattle.live_renames.proofs.MoveLemmas.{none_cells, renamed_with}
 use Rattle.live_renames.proofs.renaming.rename_in_slot.Goals as goal
@@ -34,4 +35,6 @@ put_slot-requires-clause-after c =
 pub returns : goal.returns
 returns c =
     renamed_with c.args.metadata.now c.args.found.now c.args.name.now c.entry-entry.result (map cell c.add_blocks.new.cells.items) c.geometry.result c.bytes_of-bytes.result.now c.new-plan.result c.put_slot.new.plan
-    c.new-plan.ensures (c.geometry.ensures.geometry ∙ ap (λ (k : Kept). k.geometry) c.frozen-frozen.ensures.same) c.entry-entry.ensures c.in_ok-add_blocks.ensures.blocks c.bytes_of-bytes.ensures.bytes c.in_ok-put_slot.ensures
+    c.new-plan.ensures (c.geometry.ensures.geometry ∙ ap (λ (k : Kept). k.geometry) c.frozen-frozen.ensures.same) c.entry-entry.ensures
+    (λ view shows. are_blocks c.args.metadata.now.geometry view c.args.found.now.directory c.new-after.result.items (map cell c.add_blocks.new.cells.items) c.new-after.ensures.items (c.in_ok-add_blocks.ensures.blocks view shows) (c.in_ok-add_blocks.ensures.only view shows))
+    c.bytes_of-bytes.ensures.bytes c.in_ok-put_slot.ensures
