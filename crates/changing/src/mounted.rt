@@ -1,7 +1,7 @@
-ghost use Rattle.std.specs.Prelude.{◌≡◌, [], IfOk, length, take};
+ghost use Rattle.std.specs.Prelude.{◌≡◌, [], IfErr, IfOk, length, take};
 ghost use Rattle.changing.specs.Changes.{ChangesMounted};
 ghost use Rattle.changing.specs.Stops.{StopsAtRefusal};
-ghost use Rattle.snapshot.specs.Mounting.{IsMountable};
+ghost use Rattle.snapshot.specs.Mounting.{IsMountable, IsNotMounted};
 ghost use Rattle.live_states.specs.Holdings.{IsIdle};
 ghost use Rattle.softdep.specs.Queued.{pending_of};
 
@@ -35,12 +35,13 @@ pub fn change_device<D: Device + Drop>(
     Ok(Changed { replies, volume })
 }
 
-/// Mounts the volume of a device, which is let go where it cannot be mounted.
+/// Mounts the volume of a device, which is let go if it cannot be mounted. Refused as `Live::mount` is.
 pub fn mount<D: Device + Drop>(alloc: Global, device: D) -> Result<Volume<D>, Refusal>
     ensures image { IfOk result (λ volume. D.image volume.device ≡ D.image device) }
     ensures pending { IfOk result (λ volume. pending_of volume.queue ≡ []) }
     ensures idle { IfOk result (λ volume. IsIdle volume.holdings) }
     ensures mounted { IfOk result (λ volume. D.honest volume.device → IsMountable volume.kept.geometry (D.image device)) }
+    ensures refused { IfErr result (IsNotMounted D.honest D.image D.held D.failures device) }
 {
     match Live::mount(alloc, device) {
         Ok(live) => Ok(Volume::new(live)),

@@ -49,8 +49,8 @@ left_alone device image image' text status geo checked is_image is_checked told 
 pub mended_well : {D : Type 0} (old new : Alive D) (image0 image image' : List (List ℕ)) (text : List ℕ) (status : ℕ) (given checked : CheckedImage)
     → ((geo : Geometry) (view : View) (fs : List Finding) → AreFindings geo view fs → (verdict_of fs ≡ Damaged) ↔ (ObeysRules geo view → ⊥))
     → image0 ≡ image → IsMountable old.kept.geometry image0 → IsChecked old.kept.geometry (disk_of image0 old) checked → given ≡ checked
-    → text ≡ repair_text_of given.verdict given → status ≡ status_of_verdict given.verdict → AreFindings new.kept.geometry (disk_of image' new) [] → IsRepaired image text status (Mended new) image'
-mended_well old new image0 image image' text status given checked damaged same mountable is_checked is told with_status clean =
+    → text ≡ repair_text_of given.verdict given → status ≡ status_of_verdict given.verdict → IsImage new.kept.geometry image' → AreFindings new.kept.geometry (disk_of image' new) [] → IsRepaired image text status (Mended new) image'
+mended_well old new image0 image image' text status given checked damaged same mountable is_checked is told with_status framed clean =
     subst (λ i. IsRepaired i text status (Mended new) image') same (record {
       geometry = old.kept.geometry;
       is_image = mountable.is_image;
@@ -58,5 +58,5 @@ mended_well old new image0 image image' text status given checked damaged same m
       is_checked = is_checked;
       told = told ∙ ap (λ (x : CheckedImage). repair_text_of x.verdict x) is;
       with_status = with_status ∙ ap (λ (x : CheckedImage). status_of_verdict x.verdict) is;
-      after = (clean, λ bad. (damaged old.kept.geometry (disk_of image0 old) checked.findings is_checked.findings).0 (sym is_checked.verdict ∙ bad) mountable.obeys);
+      after = (framed, clean, λ bad. (damaged old.kept.geometry (disk_of image0 old) checked.findings is_checked.findings).0 (sym is_checked.verdict ∙ bad) mountable.obeys);
     })

@@ -32,10 +32,10 @@ abbrev pub device_of : {D : Type 0} → Outcome D → D
 device_of (Left device) = device
 device_of (Mended volume) = volume.device
 
--- A device that held this image holds it still, which is not soft; or a check finds nothing on what it holds now, and the image was not damaged.
+-- A device that held this image holds it still, which is not soft; or it holds an image now, which can be loaded, and a check finds nothing on it, and the image was not damaged.
 abbrev pub IsAfter : {D : Type 0} → List (List ℕ) → Verdict → Outcome D → List (List ℕ) → Type 0
 IsAfter image was (Left device) image' = (image' ≡ image) × (was ≡ verdict.Soft → ⊥)
-IsAfter image was (Mended volume) image' = AreFindings volume.kept.geometry (disk_of image' volume) [] × (was ≡ verdict.Damaged → ⊥)
+IsAfter image was (Mended volume) image' = IsImage volume.kept.geometry image' × AreFindings volume.kept.geometry (disk_of image' volume) [] × (was ≡ verdict.Damaged → ⊥)
 
 -- The device held an image; this is what is printed of it, with this status, and what came of the device.
 pub record IsRepaired {D : Type 0} (image : List (List ℕ)) (text : List ℕ) (status : ℕ) (outcome : Outcome D) (image' : List (List ℕ)) : Type 0 where

@@ -2,7 +2,7 @@
 use Rattle.std.proofs.Common.{◌≡◌, ◌<◌, ◌≤◌, ℕ, All, Bool, true, false, List, [], ◌∷◌, length, map, Ok, Option, None, Some, arith, slice_index_or, slice_set, length-set, refl, sym, ap, ◌∙◌, subst}
 use Rattle.std.specs.Option.{option_map}
 use Rattle.std.proofs.lemmas.List.Elements.{All-nil}
-use Rattle.model.specs.Image.{image_view}
+use Rattle.model.specs.Image.{IsImage, image_view}
 use Rattle.model.specs.Layout.{Geometry, block_count}
 use Rattle.model.specs.View.{View}
 use Rattle.ordering.specs.Cuts.{Pending, users_view}
@@ -19,10 +19,10 @@ use Rattle.metadata.proofs.Steps.{same_geometry}
 use Rattle.softdep.specs.Queued.{Queued, issued, pending_of}
 use Rattle.live_states.specs.Drafts.{Draft, over}
 use Rattle.live_states.specs.Holdings.{Holdings, Repairs, with_held}
-use Rattle.live_states.specs.Planned.{AreSeen, IsPlanned, IsPlannedWith, Seen, safe_after}
+use Rattle.live_states.specs.Planned.{AreSeen, IsPlanned, IsPlannedFor, IsPlannedWith, Seen, safe_after}
 use Rattle.live_states.specs.Snapshots.{AreRepairsOf}
 use Rattle.live_states.specs.Volume.{IsVolume, state_over}
-use Rattle.live_states.proofs.Planning.{keeps', serves, step, volume'}
+use Rattle.live_states.proofs.Planning.{is_served, keeps', planned_with, steps, volume'}
 use Rattle.live_states.proofs.Standing.{left_alone}
 use Rattle.live_holdings.proofs.Tables.{holding_length}
 use Rattle.live.specs.Alive.{Answers, IsLive, IsSnapshotOf}
@@ -105,6 +105,7 @@ module _ (honest : Type 0) (image : List (List ℕ)) (queue : Queued) (kept : Ke
       marks = subst (λ n. n ≤ length holdings'.held) (ap block_count (sym geometry')) (subst (λ n. block_count kept.geometry ≤ n) (sym marks) live.marks);
       repairs = subst (λ geo. AreRepairsOf geo holdings'.repairs) (sym geometry') repairs;
       snapshot = subst (λ geo. IsSnapshotOf geo holdings'.snapshot) (sym geometry') (subst (IsSnapshotOf kept.geometry) (sym planned.snapshot) live.snapshot);
+      framed = λ h. subst (λ geo. IsImage geo image) (sym geometry') (live.framed h);
     }
       where
         goes_on : (disk : View) → IsVolume kept holdings (pending_of queue) disk → IsVolume kept' holdings' (pending_of queue') disk
@@ -114,7 +115,7 @@ module _ (honest : Type 0) (image : List (List ℕ)) (queue : Queued) (kept : Ke
 
   -- ---- the answer
 
-  module _ (seen : List Seen) (command : Command) (answer : Answer) (planned : IsPlannedWith kept holdings seen command answer draft holdings')
+  module _ (seen : List Seen) (command : Command) (answer : Answer) (planned : IsPlannedFor kept holdings seen command answer draft holdings')
       (queue' : Queued) (pending : pending_of queue' ≡ over (pending_of queue) draft.updates) where
     abbrev disk : View
     disk = image_view kept.geometry image
@@ -130,10 +131,10 @@ module _ (honest : Type 0) (image : List (List ℕ)) (queue : Queued) (kept : Ke
         let volume = live.alive.true h in
         record {
           geometry = geometry';
-          snapshot = planned.snapshot;
+          snapshot = (planned_with kept holdings seen command answer draft holdings' planned).snapshot;
           step = λ stands. said (λ d q. Step kept.geometry old command (Ok answer) (state_over d q holdings' beside))
-              (step kept holdings (pending_of queue) disk volume seen command answer draft holdings' planned sees beside belongs stands);
+              (steps kept holdings (pending_of queue) disk volume seen command answer draft holdings' planned sees beside belongs stands);
           serves = λ safe stands.
               said (λ d q. Serves kept.geometry disk (pending_of queue) old safe command answer d q (state_over d q holdings' beside) (safe_after kept.geometry (users_view disk (pending_of queue)) command safe) [])
-              (serves kept holdings (pending_of queue) disk volume seen command answer draft holdings' planned sees beside belongs safe stands);
+              (is_served kept holdings (pending_of queue) disk volume seen command answer draft holdings' planned sees beside belongs safe stands);
         }

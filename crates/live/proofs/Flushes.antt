@@ -5,9 +5,10 @@ use Rattle.std.specs.Bool.{then_some}
 use Rattle.std.specs.Option.{option_or}
 use Rattle.std.proofs.lemmas.Bool.{le-leb}
 use Rattle.std.proofs.lemmas.Bool.Decides.{nat_tests}
+use Rattle.std.proofs.lemmas.List.Elements.{All-cons, All-nil}
 use Rattle.std.proofs.lemmas.List.{append-nil, append_assoc, length-set, reverse-append}
 use Rattle.layout.specs.declared.refusal.Refusal.TheVariants.{BadIndex}
-use Rattle.model.specs.Image.{image_view}
+use Rattle.model.specs.Image.{IsImage, image_view}
 use Rattle.model.specs.Layout.{Geometry, block_count}
 use Rattle.model.specs.View.{View}
 use Rattle.ordering.specs.Cuts.{Cell, Pending, IsClosed, rest, seen, users_view}
@@ -52,8 +53,8 @@ pub live_after : (honest honest' : Type 0) (image image' : List (List ℕ)) (que
     → queue'.geometry ≡ queue.geometry → length image' ≡ block_count queue'.geometry
     → (cut : List Bool) → IsClosed (pending_of queue) cut → pending_of queue' ≡ rest (pending_of queue) cut
     → (honest' → honest) → (honest' → IsVolume kept holdings (pending_of queue) (image_view kept.geometry image) → IsVolume kept holdings (pending_of queue') (image_view kept.geometry image'))
-    → IsLive honest' image' queue' kept holdings
-live_after honest honest' image image' queue queue' kept holdings live same count cut closed pending back goes = record {
+    → (honest' → IsImage kept.geometry image → IsImage kept.geometry image') → IsLive honest' image' queue' kept holdings
+live_after honest honest' image image' queue queue' kept holdings live same count cut closed pending back goes frame = record {
   geometry = same ∙ live.geometry;
   alive = record {
     count = count ∙ ap block_count (same ∙ live.geometry);
@@ -65,6 +66,7 @@ live_after honest honest' image image' queue queue' kept holdings live same coun
   marks = live.marks;
   repairs = live.repairs;
   snapshot = live.snapshot;
+  framed = λ h. frame h (live.framed (back h));
 }
 
 pub still_live : (honest honest' : Type 0) (image image' : List (List ℕ)) (queue queue' : Queued) (kept : Kept) (holdings : Holdings) → IsLive honest image queue kept holdings → queue' ≡ queue → image' ≡ image → (honest' → honest) → IsLive honest' image' queue' kept holdings
@@ -81,6 +83,7 @@ still_live honest honest' image image' queue queue' kept holdings live same_queu
       marks = live.marks;
       repairs = live.repairs;
       snapshot = live.snapshot;
+      framed = λ h. live.framed (back h);
     }))
 
 -- a flush leaves as many blocks
@@ -167,15 +170,15 @@ module _ {D : Type 0} (device device' : D) (image image' : List (List ℕ)) (hel
         (λ e r. Serves kept.geometry d p (state_over d p holdings beside) safe (Flush a) (Number n) e r (state_over e r holdings beside) safe later) (serves beside safe);
   }
 
-  pub flush_answers : (n : ℕ) → n ≡ taken taken_now → (n ≡ 0 → held' ≡ held) → (0 < n → held' ≡ held ++ image' ∷ []) → IsAnswered n
-  flush_answers zero count none some = (
+  pub flush_answers : (n : ℕ) → IsImage kept.geometry image' → n ≡ taken taken_now → (n ≡ 0 → held' ≡ held) → (0 < n → held' ≡ held ++ image' ∷ []) → IsAnswered n
+  flush_answers zero is count none some = (
     [],
-    record { more = []; held_now = none refl ∙ sym (append-nil held); views = refl },
+    record { more = []; held_now = none refl ∙ sym (append-nil held); views = refl; framed = All-nil (IsImage kept.geometry) },
     answered 0 [] (λ beside. serves_none kept holdings d p a beside count),
   )
-  flush_answers (suc n) count none some = (
+  flush_answers (suc n) is count none some = (
     seen d p taken_now ∷ [],
-    record { more = image' ∷ []; held_now = some (omega arith); views = ap (λ v. v ∷ []) view },
+    record { more = image' ∷ []; held_now = some (omega arith); views = ap (λ v. v ∷ []) view; framed = All-cons (IsImage kept.geometry) image' [] is (All-nil (IsImage kept.geometry)) },
     answered (suc n) (seen d p taken_now ∷ []) (λ beside. serves_some kept holdings d p a beside n count),
   )
 
@@ -203,15 +206,16 @@ module _ (image image' : List (List ℕ)) (held held' : List (List (List ℕ))) 
   pub sync_keeps : IsVolume kept holdings (pending_of queue) (image_view kept.geometry image) → IsVolume kept holdings (pending_of queue') (image_view kept.geometry image')
   sync_keeps = flushes_keep kept holdings (image_view kept.geometry image) (pending_of queue) are.blocks (image_view kept.geometry image') (pending_of queue') are.flushes
 
-  pub sync_answers : {D : Type 0} (device device' : D) → pending_of queue' ≡ [] → image_view queue.geometry image' ≡ users_view (image_view queue.geometry image) (pending_of queue)
+  pub sync_answers : {D : Type 0} (device device' : D) → IsImage kept.geometry image → pending_of queue' ≡ [] → image_view queue.geometry image' ≡ users_view (image_view queue.geometry image) (pending_of queue)
       → (later : List View) × HeldMore kept.geometry held held' later
       × Answers image (record { device = device; queue = queue; kept = kept; holdings = holdings }) Sync Done image' (record { device = device'; queue = queue'; kept = kept; holdings = holdings }) later
-  sync_answers device device' none view = (
+  sync_answers device device' is none view = (
     flush_images (home_of kept.geometry) disk (pending_of queue) are.blocks [],
     record {
       more = are.more;
       held_now = are.held_now;
       views = ap reverse are.images ∙ sym (append-nil (reverse (images_of (home_of kept.geometry) disk (pending_of queue) are.blocks))) ∙ sym (newest_first (home_of kept.geometry) disk (pending_of queue) are.blocks []);
+      framed = (are.framed is).1;
     },
     λ beside belongs. record {
       geometry = refl;

@@ -43,6 +43,7 @@ module _ (honest : Type 0) (image : List (List ℕ)) (queue : Queued) (kept : Ke
     marks = live.marks;
     repairs = live.repairs;
     snapshot = live.snapshot;
+    framed = live.framed;
   }
 
 -- what a volume answered it answered also with another part of the image in memory

@@ -5,6 +5,7 @@ mod Commands
 mod Flushes
 mod LettingGo
 mod Looks
+mod Mountable
 mod Mounting
 mod Quietly
 mod RunLemmas

@@ -65,4 +65,5 @@ module _ (honest : Type 0) (image : List (List ℕ)) (kept : Kept) (of : honest 
           marks = subst (λ n. block_count kept.geometry ≤ n) (sym fresh.marks) (omega arith);
           repairs = subst (AreRepairsOf kept.geometry) (sym idle.repairs) tt;
           snapshot = subst (IsSnapshotOf kept.geometry) (sym idle.snapshot) tt;
+          framed = λ h. (of h).is_image;
         }))

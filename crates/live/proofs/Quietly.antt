@@ -41,6 +41,7 @@ module _ (honest : Type 0) (image : List (List ℕ)) (queue : Queued) (kept : Ke
     marks = subst (λ (held : List Bool). block_count kept.geometry ≤ length held) (sym done.held) live.marks;
     repairs = repairs;
     snapshot = subst (IsSnapshotOf kept.geometry) (sym done.snapshot) live.snapshot;
+    framed = live.framed;
   }
     where
       sees : (disk : View) → AreSeen seen (users_view disk (pending_of queue))

@@ -6,7 +6,7 @@ use Rattle.std.proofs.lemmas.List.Elements.{All-contains_itself, All-weaker}
 use Rattle.std.specs.List.{Contains}
 use Rattle.findings.proofs.FoundBelow.{found_members}
 use Rattle.model.specs.Cells.{SetBlock}
-use Rattle.model.specs.Image.{image_view}
+use Rattle.model.specs.Image.{IsImage, image_view}
 use Rattle.model.specs.Layout.{block_count, is_data_address}
 use Rattle.model.specs.View.{View}
 use Rattle.ordering.specs.Cuts.{Pending, users_view}
@@ -78,6 +78,7 @@ module _ (honest : Type 0) (image : List (List ℕ)) (queue : Queued) (kept : Ke
       marks = live.marks;
       repairs = tt;
       snapshot = whole;
+      framed = live.framed;
     }
 
   -- ---- it ends
@@ -113,6 +114,7 @@ module _ (honest : Type 0) (image : List (List ℕ)) (queue : Queued) (kept : Ke
         marks = subst (λ n. n ≤ length (let_go holdings).held) (ap block_count (sym geometry')) (subst (λ n. block_count kept.geometry ≤ n) (sym (length-replicate {A = Bool} (length holdings.held) false)) live.marks);
         repairs = subst (λ geo. AreRepairsOf geo holdings.repairs) (sym geometry') live.repairs;
         snapshot = tt;
+        framed = λ h. subst (λ geo. IsImage geo image) (sym geometry') (live.framed h);
       }
 
       -- users see what the machine has then

@@ -1,20 +1,23 @@
 -- The value of a mounted volume, what its users see, and how commands are answered.
 use Rattle.std.specs.Prelude.{◌≡◌, ◌≤◌, ℕ, Bool, false, List, Option, Some, None, length, Ok, Err}
-use Rattle.model.specs.Image.{image_view}
+use Rattle.model.specs.Image.{IsImage, image_view}
 use Rattle.model.specs.Layout.{Geometry, block_count}
 use Rattle.model.specs.View.{View}
 use Rattle.layout.specs.declared.refusal.Refusal.{Refusal}
 use Rattle.ordering.specs.Cuts.{users_view}
+use Rattle.ordering.specs.Ghosts.{at_rest}
 use Rattle.machine.specs.Causes.{FirstRefusal}
 use Rattle.machine.specs.Command.{Answer, Command}
 use Rattle.machine.specs.State.{State}
 use Rattle.machine.specs.Step.{Step}
 use Rattle.plans_data.specs.Carried.{Stands}
+use Rattle.queue_model.specs.Files.{Written}
+use Rattle.courses.specs.Leads.{IsMoment}
 use Rattle.courses.specs.Serves.{Serves}
 use Rattle.frozen.specs.Kept.{Kept, KeepsMetadata}
 use Rattle.metadata.specs.Shown.{Shows}
 use Rattle.softdep.specs.Queued.{Queued, pending_of}
-use Rattle.live_states.specs.Holdings.{Beside, Holdings, IsImageOf}
+use Rattle.live_states.specs.Holdings.{Beside, Holdings, IsImageOf, held_by}
 use Rattle.live_states.specs.Planned.{safe_after}
 use Rattle.live_states.specs.Snapshots.{AreRepairsOf}
 use Rattle.live_states.specs.Volume.{IsAlive, state_over}
@@ -31,13 +34,14 @@ abbrev pub IsSnapshotOf : Geometry → Option Kept → Type 0
 IsSnapshotOf geo None = Unit {0}
 IsSnapshotOf geo (Some snapshot) = (snapshot.geometry ≡ geo) × KeepsMetadata snapshot
 
--- the device holds an image of the volume, and the metadata in memory is what users see over it where it is honest; each block can be held, and what is to be repaired and the snapshot are of the volume
+-- where it is honest, the device holds an image of the volume, which can be loaded, and the metadata in memory is what users see over it where it is honest; each block can be held, and what is to be repaired and the snapshot are of the volume
 pub record IsLive (honest : Type 0) (image : List (List ℕ)) (queue : Queued) (kept : Kept) (holdings : Holdings) : Type 0 where
   pub geometry : queue.geometry ≡ kept.geometry
   pub alive : IsAlive honest image (pending_of queue) kept holdings
   pub marks : block_count kept.geometry ≤ length holdings.held
   pub repairs : AreRepairsOf kept.geometry holdings.repairs
   pub snapshot : IsSnapshotOf kept.geometry holdings.snapshot
+  pub framed : honest → IsImage kept.geometry image
 
 -- what an image holds that the device of a volume has, and what its users see over it, whatever stands beside the volume
 abbrev pub disk_of : {D : Type 0} → List (List ℕ) → Alive D → View
@@ -64,11 +68,20 @@ Answers image old command answer image' new later = (beside : Beside) → IsImag
 abbrev pub MayRefuse : {D : Type 0} → List (List ℕ) → Alive D → Command → Refusal → Type 0
 MayRefuse image live command r = (beside : Beside) → IsImageOf live.holdings.snapshot beside.frozen → Step live.kept.geometry (state_of image live beside) command (Err r) (state_of image live beside)
 
--- The volume stands, with something beside it that belongs to it.
+-- What was written since some mount led to what is on the device and to what is pending, at a good moment.
+pub record HasBegun {D : Type 0} (image : List (List ℕ)) (live : Alive D) : Type 0 where
+  pub mount : View
+  pub history : List Written
+  pub cut : List Bool
+  pub moment : IsMoment live.kept.geometry mount history cut (at_rest (held_by live.holdings) (λ f. false)) (disk_of image live) (pending_of live.queue)
+
+-- The volume stands, with something beside it that belongs to it, over an image that can be loaded, and was mounted once.
 pub record StandsSo {D : Type 0} (image : List (List ℕ)) (live : Alive D) : Type 0 where
   pub beside : Beside
   pub belongs : IsImageOf live.holdings.snapshot beside.frozen
   pub stands : Stands live.kept.geometry (disk_of image live) (pending_of live.queue) (state_of image live beside) (λ f. false)
+  pub framed : IsImage live.kept.geometry image
+  pub begun : HasBegun image live
 
 -- Whatever users see where this is kept, this is the first cause that refuses the command.
 abbrev pub IsFirstCause : Kept → Command → Refusal → Type 0

@@ -1,11 +1,24 @@
--- The images that the device of a volume held in a call.
-use Rattle.std.specs.Prelude.{◌≡◌, ℕ, List, ◌++◌, map, reverse}
-use Rattle.model.specs.Image.{image_view}
+-- What a call writes to the device of a volume, and the images that the device held in it.
+use Rattle.std.specs.Prelude.{◌≡◌, ℕ, List, [], ◌∷◌, ◌++◌, map, reverse, slice_set}
+use Rattle.std.specs.List.{All}
+use Rattle.model.specs.Image.{IsImage, image_view}
 use Rattle.model.specs.Layout.{Geometry}
 use Rattle.model.specs.View.{View}
 
--- it held these images since, newest first, and no others
+-- it held these images since, newest first, and no others; each is an image of the volume, which can be loaded
 pub record HeldMore (geo : Geometry) (held held' : List (List (List ℕ))) (later : List View) : Type 0 where
   pub more : List (List (List ℕ))
   pub held_now : held' ≡ held ++ more
   pub views : reverse (map (image_view geo) more) ≡ later
+  pub framed : All (IsImage geo) more
+
+-- it writes nothing: the device holds what it held, and held no other image
+pub record WritesNothing (image : List (List ℕ)) (held : List (List (List ℕ))) (image' : List (List ℕ)) (held' : List (List (List ℕ))) : Type 0 where
+  pub image_stays : image' ≡ image
+  pub held_stays : held' ≡ held
+
+-- it writes one block, once: the other blocks have the bytes that they had
+pub record WritesBlock (a : ℕ) (image : List (List ℕ)) (held : List (List (List ℕ))) (image' : List (List ℕ)) (held' : List (List (List ℕ))) : Type 0 where
+  pub bytes : List ℕ
+  pub image_is : image' ≡ slice_set image a bytes
+  pub held_is : held' ≡ held ++ image' ∷ []

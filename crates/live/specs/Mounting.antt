@@ -1,7 +1,8 @@
 -- Which images can be mounted.
 use Rattle.std.specs.Prelude.{◌≡◌, ℕ, List, length}
 use Rattle.layout.specs.declared.refusal.Refusal.{Refusal}
-use Rattle.layout.specs.declared.refusal.Refusal.TheVariants.{Damaged}
+use Rattle.layout.specs.declared.refusal.Refusal.TheVariants.{Damaged, Device as DeviceRefusal}
+use Rattle.device.specs.Writes.{HasFailed}
 use Rattle.model.specs.Image.{IsImage, image_view}
 use Rattle.model.specs.Layout.{Geometry, block_count}
 use Rattle.model.specs.Rules.{ObeysRules}
@@ -33,3 +34,11 @@ pub record IsFresh (frozen metadata : Kept) (queue : Queued) (holdings : Holding
 abbrev pub MountRefuses : Type 0 → List (List ℕ) → Refusal → Type 0
 MountRefuses honest image Damaged = honest → BreaksRule image
 MountRefuses honest image r = LoadRefuses honest image r
+
+-- A device was let go whose mount was refused so: it stayed as it was in all that it holds and held.
+pub record IsNotMounted {D : Type 0} (honest : D → Type 0) (image_of : D → List (List ℕ)) (held_of : D → List (List (List ℕ))) (failures_of : D → ℕ) (device : D) (r : Refusal) : Type 0 where
+  pub after : D
+  pub image_stays : image_of after ≡ image_of device
+  pub held_stays : held_of after ≡ held_of device
+  pub refuses : MountRefuses (honest after) (image_of device) r
+  pub cause : r ≡ DeviceRefusal → HasFailed (failures_of device) (failures_of after)

@@ -1,4 +1,4 @@
-ghost use Rattle.std.specs.Prelude.{◌≡◌, ℕ, ◌≤◌, [], ◌⊎◌, IfErr, IfOk, IsErrOf, IsOkUnless, List, MatchOption, OnErr, OnOk};
+ghost use Rattle.std.specs.Prelude.{◌≡◌, ℕ, ◌<◌, ◌≤◌, [], ◌⊎◌, IfErr, IfOk, IsErrOf, IsOkUnless, List, MatchOption, OnErr, OnOk};
 ghost use Rattle.layout.specs.declared.refusal.Refusal.TheVariants.{BadIndex, Device as DeviceRefusal};
 ghost use Rattle.device.specs.Writes.{HasFailed};
 ghost use Rattle.machine.specs.Command.{Done, Flush, Number, Sync};
@@ -12,7 +12,7 @@ ghost use Rattle.softdep.specs.Queued.{pending_of};
 ghost use Rattle.softdep.specs.Syncing.{AreFlushes};
 ghost use Rattle.softdep_queue.specs.Next.{IsNextReady, NothingReadyFrom};
 ghost use Rattle.live.specs.Alive.{Answers, MayRefuse, disk_of};
-ghost use Rattle.live.specs.Held.{HeldMore};
+ghost use Rattle.live.specs.Held.{HeldMore, WritesBlock};
 
 use crate::Live;
 use device::Device;
@@ -40,14 +40,16 @@ impl<D: Device> Live<D> {
         self.queue.next_ready(from)
     }
 
-    /// Writes a block with those of its pending updates that may go to the device, and counts them. Refused with `BadIndex`
-    /// where the volume has no such block.
+    /// Writes a block with those of its pending updates that may go to the device, and counts them. If none may, the device is
+    /// not touched. Refused with `BadIndex` if the volume has no such block, and with `Device`; then nothing is written.
     pub fn flush(&mut self, address: u32) -> Result<usize, Refusal>
         // What the device held after it is what the flush wrote.
         ensures done { IfOk result (λ count. D.honest self.new.device → (later : List View) × HeldMore self.old.kept.geometry (D.held self.old.device) (D.held self.new.device) later
             × Answers (D.image self.old.device) self.old (Flush address) (Number count) (D.image self.new.device) self.new later) }
         ensures refused { IfErr result (λ r. D.honest self.new.device → MayRefuse (D.image self.old.device) self.old (Flush address) r) }
         ensures untouched { OnErr result ((self.new.queue ≡ self.old.queue) × (D.image self.new.device ≡ D.image self.old.device) × (D.held self.new.device ≡ D.held self.old.device)) }
+        ensures idle { IfOk result (λ count. count ≡ 0 → self.new.device ≡ self.old.device) }
+        ensures written { IfOk result (λ count. 0 < count → WritesBlock address (D.image self.old.device) (D.held self.old.device) (D.image self.new.device) (D.held self.new.device)) }
         ensures metadata { self.new.kept ≡ self.old.kept }
         ensures holdings { self.new.holdings ≡ self.old.holdings }
         ensures error { IfErr result (λ r. (r ≡ DeviceRefusal) ⊎ ((r ≡ BadIndex) × (block_count self.old.kept.geometry ≤ address))) }

@@ -1,4 +1,4 @@
-//! The mounted volume: an image that obeys the rules of soft updates is mounted at once, without a check, and commands
+//! The mounted volume: an image that obeys the rules of soft updates is mounted, which tests the rules on one thread, and commands
 //! change what its users see. No command writes to the device: it issues updates, which reach the device when a block is
 //! flushed or the volume is synced, in an order in which the device obeys the rules at each stop.
 //!
@@ -21,4 +21,4 @@ mod snapshots;
 
 pub use live::{Live, NotMounted};
 pub use looking::Status;
-pub use runs::{each_stop_of_a_run_is_safe, mounted_volumes_begin};
+pub use runs::{each_stop_of_a_run_is_safe, mountable_images_mount, mounted_volumes_begin};

@@ -11,7 +11,7 @@ ghost use Rattle.model.specs.Rules.{ObeysRules};
 ghost use Rattle.machine.specs.Command.{Answer, Command};
 ghost use Rattle.softdep.specs.Queued.{fresh_queue, pending_of};
 ghost use Rattle.live_states.specs.Holdings.{IsIdle, with_held};
-ghost use Rattle.live_states.specs.Planned.{AreSeen, IsPlannedWith, Seen};
+ghost use Rattle.live_states.specs.Planned.{AreSeen, IsPlannedFor, IsPlannedWith, Seen};
 ghost use Rattle.live.specs.Alive.{Answers, IsLive, StandsSo, disk_of};
 ghost use Rattle.live.specs.Ended.{ended};
 ghost use Rattle.live.specs.Issued.{IsIssued};
@@ -186,7 +186,7 @@ impl<D: Device> Live<D> {
         requires planned { (command : Command) × (answer : Answer) × IsPlannedWith self.old.kept self.old.holdings [] command answer planned.plan (with_held (ended self.old.holdings ending) planned.holds.items) }
         requires holds { All (λ a. a < block_count self.old.kept.geometry) planned.holds.items }
         ensures done { OnOk result ((seen : List Seen) (command : Command) (answer : Answer)
-            → IsPlannedWith self.old.kept self.old.holdings seen command answer planned.plan (with_held (ended self.old.holdings ending) planned.holds.items) → D.honest self.old.device
+            → IsPlannedFor self.old.kept self.old.holdings seen command answer planned.plan (with_held (ended self.old.holdings ending) planned.holds.items) → D.honest self.old.device
             → AreSeen seen (users_view (disk_of (D.image self.old.device) self.old) (pending_of self.old.queue)) → Answers (D.image self.old.device) self.old command answer (D.image self.new.device) self.new []) }
         ensures device { self.new.device ≡ self.old.device }
         ensures untouched { OnErr result (self.new ≡ self.old) }

@@ -1,7 +1,10 @@
 //! What holds of a mounted volume over a whole run of calls: laws, without code.
 
-ghost use Rattle.std.specs.Prelude.{◌≡◌, ℕ, Bool, false, None, List, [], IsTrue};
+ghost use Rattle.std.specs.Prelude.{◌≡◌, ◌⊎◌, ℕ, Bool, false, None, List, [], IsTrue};
+ghost use Rattle.layout.specs.declared.refusal.Refusal.{Refusal};
+ghost use Rattle.layout.specs.declared.refusal.Refusal.TheVariants.{Device as DeviceRefusal, NoMemory};
 ghost use Rattle.model.specs.Image.{image_view};
+ghost use Rattle.model.specs.Layout.{Geometry};
 ghost use Rattle.model.specs.Reach.{IsReachable};
 ghost use Rattle.model.specs.View.{View};
 ghost use Rattle.machine.specs.Command.{Command, Reply};
@@ -11,7 +14,7 @@ ghost use Rattle.softdep.specs.Queued.{pending_of};
 ghost use Rattle.live_states.specs.Holdings.{Beside, IsIdle, IsImageOf};
 ghost use Rattle.live_states.specs.Volume.{state_over};
 ghost use Rattle.live.specs.Alive.{Alive, disk_of, state_of};
-ghost use Rattle.live.specs.Mounting.{IsMountable};
+ghost use Rattle.live.specs.Mounting.{IsMountable, MountRefuses};
 ghost use Rattle.live.specs.Runs.{Lives};
 
 use device::Device;
@@ -21,6 +24,12 @@ pub fn mounted_volumes_begin<D: Device>()
     ensures { (image : List (List ℕ)) (live : Alive D) → IsMountable live.kept.geometry image → pending_of live.queue ≡ [] → IsIdle live.holdings
         → (safe : ℕ → Bool) → ((f : ℕ) → IsTrue (safe f) → IsReachable live.kept.geometry (disk_of image live) f × (((disk_of image live).inode f).mode ≡ 1))
         → IsBeginning live.kept.geometry (disk_of image live) [] [] (disk_of image live) (pending_of live.queue) (state_of image live (record { frozen = None })) safe }
+{}
+
+/// An image of a volume that obeys the rules is mounted: it is refused for want of memory and for a fault of the device alone.
+pub fn mountable_images_mount<D: Device>()
+    ensures { (geo : Geometry) (image : List (List ℕ)) (device : D) (r : Refusal) → IsMountable geo image → MountRefuses (D.honest device) image r → D.honest device
+        → (r ≡ NoMemory) ⊎ (r ≡ DeviceRefusal) }
 {}
 
 /// From a beginning on, what a volume goes through by its calls is a service, whatever files no stop is to lose. So its

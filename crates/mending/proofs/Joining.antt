@@ -1,6 +1,8 @@
 -- The calls of a whole cycle, one after another.
 use Rattle.std.proofs.Common.{◌≡◌, ℕ, suc, List, [], ◌∷◌, ◌++◌, refl, sym, subst, Ok, Err, None, Some}
+use Rattle.std.proofs.lemmas.List.Elements.{All-nil}
 use Rattle.std.proofs.lemmas.List.{append-nil}
+use Rattle.model.specs.Image.{IsImage}
 use Rattle.frozen.specs.Kept.{Kept}
 use Rattle.machine.specs.Command.{Answer, Check, Command, Done, Freeze, Image, Install, Release, RepairAt, Reply, Sync}
 use Rattle.machine.specs.Snapshot.{settled}
@@ -19,7 +21,7 @@ starts beside held image old is = record {
   is = is;
   run = refl;
   later = [];
-  since = record { more = []; held_now = sym (append-nil held); views = refl };
+  since = record { more = []; held_now = sym (append-nil held); views = refl; framed = All-nil (IsImage old.kept.geometry) };
   service = λ mount h cut safe begins. (safe, Starts);
 }
 

@@ -58,7 +58,7 @@ module _ (geo : Geometry) where
   sync_leaves : (disk : View) (q : List Pending) (old : State) (safe : ℕ → Bool) (command : Command) (answer : Answer) (disk' : View) (q' : List Pending) (new : State) (safe' : ℕ → Bool) (later : List View)
       → Serves geo disk q old safe command answer disk' q' new safe' later → is_sync command ≡ true → q' ≡ []
   unfolding is_sync
-  sync_leaves disk q old safe command answer disk' q' new safe' later (ByPlan c a file plan s f done) t = absurd (no_plan disk q old safe c a file plan s f done t)
+  sync_leaves disk q old safe command answer disk' q' new safe' later (ByPlan c a file plan s f done rest) t = absurd (no_plan disk q old safe c a file plan s f done t)
   sync_leaves disk q old safe command answer disk' q' new safe' later (Quietly c a s quiet effect) t = quiet_is_none c quiet t
     where
       quiet_is_none : (c : Command) → IsTrue (is_quiet c) → is_sync c ≡ true → q ≡ []

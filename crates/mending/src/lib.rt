@@ -7,6 +7,7 @@ ghost use Rattle.std.specs.Arc.{arc_value};
 ghost use Rattle.findings.specs.Findings.{AreFindings};
 ghost use Rattle.fsck.specs.Checked.{IsChecked};
 ghost use Rattle.live_states.specs.Holdings.{IsIdle};
+ghost use Rattle.model.specs.Image.{IsImage};
 ghost use Rattle.snapshot.specs.Mounting.{IsMountable};
 ghost use Rattle.snapshot.specs.Alive.{disk_of};
 ghost use Rattle.softdep.specs.Queued.{pending_of};
@@ -43,6 +44,8 @@ pub fn mend<D: Device, G: Gate>(
     // Where the device was honest, a check finds nothing on the image that it now holds.
     ensures clean { IfOk result (λ checked. D.honest volume.new.device
         → AreFindings volume.new.kept.geometry (disk_of (D.image volume.new.device) volume.new) []) }
+    // What the device then holds is an image of the volume, which can be loaded.
+    ensures framed { IfOk result (λ checked. D.honest volume.new.device → IsImage volume.new.kept.geometry (D.image volume.new.device)) }
     // The check is that of the image that was mounted.
     ensures checked { IfOk result (λ checked. D.honest volume.new.device
         → IsChecked volume.old.kept.geometry (disk_of (D.image volume.old.device) volume.old) (arc_value checked)) }

@@ -36,7 +36,7 @@ module _ (geo : Geometry) (disk : View) (q : List Pending) (old : State) (safe :
 
   serves_count : (answer : Answered) (disk' : View) (q' : List Pending) (new : State) (safe' : ℕ → Bool) (later : List View) → Serves geo disk q old safe (AsksFlush a) answer disk' q' new safe' later
       → answer ≡ IsNumber (taken (ready (home_of geo) a q))
-  serves_count answer disk' q' new safe' later (ByPlan command x file plan n s done) = absurd (no_plan x file plan n s done)
+  serves_count answer disk' q' new safe' later (ByPlan command x file plan n s done rest) = absurd (no_plan x file plan n s done)
   serves_count answer disk' q' new safe' later (Quietly command x n quiet effect) = let bad : false ≡ true = quiet in cc
   serves_count answer disk' q' new safe' later (FlushesNone b none) = ap IsNumber (sym none)
   serves_count answer disk' q' new safe' later (FlushesSome b some) = refl

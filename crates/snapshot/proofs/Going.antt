@@ -1,8 +1,9 @@
 -- What a volume goes through by a call.
 use Rattle.std.proofs.Common.{◌≡◌, ℕ, Bool, true, false, List, [], ◌∷◌, ◌++◌, reverse, Ok, Err, IsTrue, refl, sym, ap, ◌∙◌, subst}
+use Rattle.std.proofs.lemmas.List.Elements.{All-nil}
 use Rattle.std.proofs.lemmas.List.{append_assoc, append-nil, reverse-append}
 use Rattle.layout.specs.declared.refusal.Refusal.{Refusal}
-use Rattle.model.specs.Image.{image_view}
+use Rattle.model.specs.Image.{IsImage, image_view}
 use Rattle.model.specs.Layout.{Geometry}
 use Rattle.model.specs.View.{View}
 use Rattle.ordering.specs.Cuts.{Cell, Pending, rest, seen, users_view}
@@ -52,6 +53,8 @@ module _ {D : Type 0} (image' : List (List ℕ)) (new : Alive D) (so : StandsSo 
         belongs = belongs;
         stands = stands_then (subst (λ g. Balance g t) (sym geometry) (step_keeps old.kept.geometry is.stands.geometry s t command reply is.stands.balance step));
         files = subst (λ g. KeepsFiles g t) (sym geometry) (step_keeps_files old.kept.geometry is.stands.geometry s t command reply is.stands.balance is.files step);
+        framed = so.framed;
+        begun = so.begun;
       }
 
   -- where users see what they saw
@@ -61,11 +64,13 @@ module _ {D : Type 0} (image' : List (List ℕ)) (new : Alive D) (so : StandsSo 
     belongs = belongs;
     stands = stands_then (subst (λ g. Balance g (state_of image' new beside')) (sym geometry) (subst (Balance old.kept.geometry) (sym same) is.stands.balance));
     files = subst (λ g. KeepsFiles g (state_of image' new beside')) (sym geometry) (subst (KeepsFiles old.kept.geometry) (sym same) is.files);
+    framed = so.framed;
+    begun = so.begun;
   }
 
 -- the device held nothing else
 pub held_nothing : (geo : Geometry) (held held' : List (List (List ℕ))) → held' ≡ held → HeldMore geo held held' []
-held_nothing geo held held' e = record { more = []; held_now = e ∙ sym (append-nil held); views = refl }
+held_nothing geo held held' e = record { more = []; held_now = e ∙ sym (append-nil held); views = refl; framed = All-nil (IsImage geo) }
 
 -- ---- a command that is carried out
 
@@ -101,7 +106,7 @@ module _ {D : Type 0} (held held' : List (List (List ℕ))) (image : List (List 
       → Goes beside held image old (command ∷ []) (Err r ∷ []) beside held' image (record { device = device; queue = old.queue; kept = old.kept; holdings = old.holdings })
   refused_here device command r step = record {
     geometry = refl;
-    is = record { belongs = is.belongs; stands = is.stands; files = is.files };
+    is = record { belongs = is.belongs; stands = is.stands; files = is.files; framed = is.framed; begun = record { mount = is.begun.mount; history = is.begun.history; cut = is.begun.cut; moment = is.begun.moment } };
     run = (state_of image old beside, step, refl);
     later = [];
     since = held_nothing old.kept.geometry held held' same_held;
@@ -134,7 +139,7 @@ module _ {D : Type 0} (held held' : List (List (List ℕ))) (image : List (List 
       let s = state_of image old beside in
       record {
         geometry = refl;
-        is = record { belongs = is.belongs; stands = is.stands; files = is.files };
+        is = record { belongs = is.belongs; stands = is.stands; files = is.files; framed = is.framed; begun = record { mount = is.begun.mount; history = is.begun.history; cut = is.begun.cut; moment = is.begun.moment } };
         run = (s, step, refl);
         later = [];
         since = held_nothing geo held held' same_held;
@@ -188,7 +193,7 @@ module _ {D : Type 0} (held held' : List (List (List ℕ))) (image image' : List
   images = reverse (images_of (home_of geo) disk (pending_of old.queue) flushes.blocks)
 
   pub flushed_since : HeldMore geo held held' images
-  flushed_since = record { more = flushes.more; held_now = flushes.held_now; views = ap reverse flushes.images }
+  flushed_since = record { more = flushes.more; held_now = flushes.held_now; views = ap reverse flushes.images; framed = (flushes.framed is.framed).1 }
 
   pub flushed_state : (holdings : Holdings) → state_over (image_view geo image') (pending_of queue) holdings beside ≡ state_over disk (pending_of old.queue) holdings beside
   flushed_state holdings =

@@ -1,7 +1,8 @@
 -- What a volume goes through by calls, one after another.
 use Rattle.std.proofs.Common.{ℕ, Bool, List, [], ◌∷◌, ◌++◌, map, reverse, Ok, Err, sym, ap, ap₂, ◌∙◌, subst}
+use Rattle.std.proofs.lemmas.List.Elements.{All-append}
 use Rattle.std.proofs.lemmas.List.{append_assoc, append-nil, reverse-append, map-append}
-use Rattle.model.specs.Image.{image_view}
+use Rattle.model.specs.Image.{IsImage, image_view}
 use Rattle.model.specs.Layout.{Geometry}
 use Rattle.model.specs.View.{View}
 use Rattle.ordering.specs.Cuts.{Pending}
@@ -56,6 +57,7 @@ held_joins geo held held' held'' later latest one two = record {
   more = one.more ++ two.more;
   held_now = two.held_now ∙ ap (λ xs. xs ++ two.more) one.held_now ∙ append_assoc held one.more two.more;
   views = ap reverse (map-append (image_view geo) one.more two.more) ∙ reverse-append (map (image_view geo) one.more) (map (image_view geo) two.more) ∙ ap₂ (λ xs ys. xs ++ ys) two.views one.views;
+  framed = All-append (IsImage geo) one.more two.more one.framed two.framed;
 }
 
 -- ---- all of it

@@ -11,4 +11,6 @@ mod ReadLemmas
 mod Splitting
 mod Standing
 mod UserReplies
+mod Writing
 mod Written
+mod HeldImages

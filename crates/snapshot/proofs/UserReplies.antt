@@ -1,7 +1,9 @@
 -- A command of users is answered, or refused.
 use Rattle.std.proofs.Common.{◌≡◌, ℕ, Bool, List, [], Ok, Err, Result, IfErr, IfOk, IsTrue, MatchResult, OnErr, OnOk, refl, sym, ap, ◌∙◌, subst}
+use Rattle.std.proofs.lemmas.List.Elements.{All-nil}
 use Rattle.std.proofs.lemmas.List.{append-nil}
 use Rattle.layout.specs.declared.refusal.Refusal.{Refusal}
+use Rattle.model.specs.Image.{IsImage}
 use Rattle.model.specs.View.{View}
 use Rattle.ordering.specs.Cuts.{users_view}
 use Rattle.machine.specs.Command.{Answer as Answered, Command as Request, Done as IsDone}
@@ -26,7 +28,7 @@ pub no_flushes : {D : Type 0} (held held' : List (List (List ℕ))) (image image
 no_flushes held held' image image' old new same_image same_held queue =
     subst (λ i. AreFlushes old.kept.geometry image held (pending_of old.queue) i held' (pending_of new.queue)) (sym same_image)
     (subst (λ (q : Queued). AreFlushes old.kept.geometry image held (pending_of old.queue) image held' (pending_of q)) (sym queue)
-    (record { blocks = []; flushes = Stops; more = []; held_now = same_held ∙ sym (append-nil held); images = refl }))
+    (record { blocks = []; flushes = Stops; more = []; held_now = same_held ∙ sym (append-nil held); images = refl; framed = λ is. (is, All-nil (IsImage old.kept.geometry)) }))
 
 module _ {D : Type 0} (held held' : List (List (List ℕ))) (image image' : List (List ℕ)) (old new : Alive D) (command : Request) {T : Type 0} (as_given : T → Answer) (as_answer : T → Answered)
     (stands_for : (t : T) → StandsFor (as_given t) (as_answer t)) where

@@ -1,6 +1,7 @@
 -- What stands beside a volume, and what a volume goes through by its calls.
 use Rattle.std.specs.Prelude.{◌≡◌, ℕ, Bool, false, List, [], ◌∷◌, Some, None, Ok, Result}
 use Rattle.layout.specs.declared.refusal.Refusal.{Refusal}
+use Rattle.model.specs.Image.{IsImage}
 use Rattle.model.specs.View.{View}
 use Rattle.machine.specs.Command.{Command, Done, Freeze, Image, Release, Reply}
 use Rattle.machine.specs.Snapshot.{settled}
@@ -13,16 +14,18 @@ use Rattle.frozen_files.specs.Standing.{KeepsFiles}
 use Rattle.metadata.specs.Shown.{Shows}
 use Rattle.softdep.specs.Queued.{pending_of}
 use Rattle.live_states.specs.Holdings.{Beside, IsImageOf}
-use Rattle.live.specs.Alive.{Alive, disk_of, state_of}
+use Rattle.live.specs.Alive.{Alive, HasBegun, disk_of, state_of}
 use Rattle.live.specs.Held.{HeldMore}
 use Rattle.snapshot.specs.declared.answer.Answer.{Answer as Given}
 use Rattle.snapshot.specs.Asked.{AreReplies, IsReply}
 
--- This is the whole image of a volume's snapshot, where one stands: with it the volume stands, in balance, and the blocks of the snapshot's files have their bytes still.
+-- This is the whole image of a volume's snapshot, where one stands: with it the volume stands, in balance, over an image that can be loaded, since some mount, and the blocks of the snapshot's files have their bytes still.
 pub record IsBeside {D : Type 0} (image : List (List ℕ)) (live : Alive D) (beside : Beside) : Type 0 where
   pub belongs : IsImageOf live.holdings.snapshot beside.frozen
   pub stands : Stands live.kept.geometry (disk_of image live) (pending_of live.queue) (state_of image live beside) (λ f. false)
   pub files : KeepsFiles live.kept.geometry (state_of image live beside)
+  pub framed : IsImage live.kept.geometry image
+  pub begun : HasBegun image live
 
 -- there is one
 pub record HasBeside {D : Type 0} (image : List (List ℕ)) (live : Alive D) : Type 0 where

@@ -2,6 +2,8 @@ pub use Rattle.live.specs.Alive
 pub use Rattle.live.specs.Held
 pub use Rattle.live.specs.Mounting
 pub mod Asked
+pub mod Cycles
 pub mod Goes
 pub mod Pieces
 pub mod Replied
+pub mod Writes

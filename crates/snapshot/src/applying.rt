@@ -6,6 +6,7 @@ ghost use Rattle.queue_model.specs.Flush.{ready, taken};
 ghost use Rattle.softdep.specs.Queued.{pending_of};
 ghost use Rattle.snapshot.specs.Asked.{HasBytesOrNames, asked, is_users};
 ghost use Rattle.snapshot.specs.Goes.{Applies, Runs};
+ghost use Rattle.snapshot.specs.Writes.{Writes};
 
 use crate::answer::{bytes, done, image};
 use crate::users::user_reply;
@@ -16,7 +17,8 @@ use std::alloc::Global;
 
 impl<D: Device> Volume<D> {
     /// Carries out a command, and answers it. A refused one leaves what users see, what is open and held, and the repairs,
-    /// as they were.
+    /// as they were. Nothing is written to the device but by a flush, which writes its block alone, and by a sync, a freeze and
+    /// a release, which write what is pending.
     pub fn apply(&mut self, alloc: Global, command: &Command) -> Reply
         ensures applied { D.honest self.new.device → Applies (D.held self.old.device) (D.image self.old.device) self.old (asked self.old.kept.geometry command.now) result (D.held self.new.device) (D.image self.new.device) self.new }
         ensures untouched { OnErr result ((self.new.kept ≡ self.old.kept) × (self.new.holdings ≡ self.old.holdings)) }
@@ -24,6 +26,7 @@ impl<D: Device> Volume<D> {
         ensures reading { HasBytesOrNames result → (self.new.kept ≡ self.old.kept) × (self.new.holdings ≡ self.old.holdings) }
         // A flush counts the updates of its block that could go.
         ensures flushed { (a : ℕ) → command.now ≡ Command.Flush a → D.honest self.new.device → IfOk result (λ answer. answer ≡ Answer.Number (taken (ready (home_of self.old.kept.geometry) a (pending_of self.old.queue)))) }
+        ensures writes { Writes D.honest D.held D.image self.old command.now result self.new }
         ensures cause { IsErrOf result Refusal.Device → HasFailed (D.failures self.old.device) (D.failures self.new.device) }
         ensures no_trace { IsErrOf result Refusal.TraceFull → ⊥ }
         ensures honest { D.honest self.new.device → D.honest self.old.device }
@@ -47,6 +50,7 @@ impl<D: Device> Volume<D> {
         ensures reading { HasBytesOrNames result → (self.new.kept ≡ self.old.kept) × (self.new.holdings ≡ self.old.holdings) }
         // A flush counts the updates of its block that could go.
         ensures flushed { (a : ℕ) → command.now ≡ Command.Flush a → D.honest self.new.device → IfOk result (λ answer. answer ≡ Answer.Number (taken (ready (home_of self.old.kept.geometry) a (pending_of self.old.queue)))) }
+        ensures writes { Writes D.honest D.held D.image self.old command.now result self.new }
         ensures cause { IsErrOf result Refusal.Device → HasFailed (D.failures self.old.device) (D.failures self.new.device) }
         ensures no_trace { IsErrOf result Refusal.TraceFull → ⊥ }
         ensures honest { D.honest self.new.device → D.honest self.old.device }

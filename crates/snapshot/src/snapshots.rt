@@ -16,6 +16,7 @@ ghost use Rattle.live_states.specs.Snapshots.{IsSettled};
 ghost use Rattle.live.specs.Alive.{StandsSo, state_of};
 ghost use Rattle.snapshot.specs.Goes.{Freezes, Releases, Replies};
 ghost use Rattle.snapshot.specs.Pieces.{IsPieceOfSnapshot};
+ghost use Rattle.snapshot.specs.Writes.{WritesLeast};
 
 use crate::Volume;
 use crate::pieces::{Piece, first_bytes, piece_of};
@@ -35,6 +36,8 @@ impl<D: Device> Volume<D> {
         ensures frozen { IfOk result (λ snapshot. D.honest self.new.device → Freezes (D.held self.old.device) (D.image self.old.device) self.old (arc_value snapshot) (D.held self.new.device) (D.image self.new.device) self.new) }
         ensures refused { IfErr result (λ r. D.honest self.new.device → Replies (D.held self.old.device) (D.image self.old.device) self.old Freeze (Err r) (D.held self.new.device) (D.image self.new.device) self.new) }
         ensures untouched { OnErr result ((self.new.kept ≡ self.old.kept) × (self.new.holdings ≡ self.old.holdings)) }
+        ensures writes { D.honest self.new.device → WritesLeast self.old.kept.geometry (pending_of self.old.queue) (D.image self.old.device) (D.held self.old.device) (D.image self.new.device) (D.held self.new.device) }
+        ensures standing { IsErrOf result Refusal.SnapshotStands → self.new ≡ self.old }
         ensures cause { IsErrOf result Refusal.Device → HasFailed (D.failures self.old.device) (D.failures self.new.device) }
         ensures no_trace { IsErrOf result Refusal.TraceFull → ⊥ }
         ensures honest { D.honest self.new.device → D.honest self.old.device }
@@ -56,6 +59,8 @@ impl<D: Device> Volume<D> {
         ensures read { IfOk result (λ bytes. D.honest self.new.device → Replies (D.held self.old.device) (D.image self.old.device) self.old (SnapRead inode index) (Ok (Bytes bytes.items)) (D.held self.new.device) (D.image self.new.device) self.new) }
         ensures refused { IfErr result (λ r. D.honest self.new.device → Replies (D.held self.old.device) (D.image self.old.device) self.old (SnapRead inode index) (Err r) (D.held self.new.device) (D.image self.new.device) self.new) }
         ensures untouched { (self.new.queue ≡ self.old.queue) × (self.new.kept ≡ self.old.kept) × (self.new.holdings ≡ self.old.holdings) }
+        ensures image { D.image self.new.device ≡ D.image self.old.device }
+        ensures held { D.held self.new.device ≡ D.held self.old.device }
         ensures cause { IsErrOf result Refusal.Device → HasFailed (D.failures self.old.device) (D.failures self.new.device) }
         ensures no_trace { IsErrOf result Refusal.TraceFull → ⊥ }
         ensures honest { D.honest self.new.device → D.honest self.old.device }
@@ -71,6 +76,8 @@ impl<D: Device> Volume<D> {
         ensures released { OnOk result (D.honest self.new.device → Releases (D.held self.old.device) (D.image self.old.device) self.old (D.held self.new.device) (D.image self.new.device) self.new) }
         ensures refused { IfErr result (λ r. D.honest self.new.device → Replies (D.held self.old.device) (D.image self.old.device) self.old Release (Err r) (D.held self.new.device) (D.image self.new.device) self.new) }
         ensures untouched { OnErr result ((self.new.kept ≡ self.old.kept) × (self.new.holdings ≡ self.old.holdings)) }
+        ensures writes { D.honest self.new.device → WritesLeast self.old.kept.geometry (pending_of self.old.queue) (D.image self.old.device) (D.held self.old.device) (D.image self.new.device) (D.held self.new.device) }
+        ensures none { IsErrOf result Refusal.NoSnapshot → self.new ≡ self.old }
         ensures cause { IsErrOf result Refusal.Device → HasFailed (D.failures self.old.device) (D.failures self.new.device) }
         ensures no_trace { IsErrOf result Refusal.TraceFull → ⊥ }
         ensures honest { D.honest self.new.device → D.honest self.old.device }

@@ -3,6 +3,7 @@ ghost use Rattle.std.specs.Prelude.{◌≡◌, true, IsErrOf, OnErr};
 ghost use Rattle.device.specs.Writes.{HasFailed};
 ghost use Rattle.snapshot.specs.Asked.{HasBytesOrNames, asked, is_users};
 ghost use Rattle.snapshot.specs.Replied.{Replied};
+ghost use Rattle.snapshot.specs.Writes.{Writes};
 
 use crate::answer::{bytes, count, done, names, number, status};
 use crate::{Command, Reply};
@@ -18,6 +19,7 @@ pub(crate) fn user_reply<D: Device>(live: &mut Live<D>, alloc: Global, command: 
     ensures untouched { OnErr result ((live.new.kept ≡ live.old.kept) × (live.new.holdings ≡ live.old.holdings)) }
     // An answer of bytes or names leaves all of that too.
     ensures reading { HasBytesOrNames result → (live.new.kept ≡ live.old.kept) × (live.new.holdings ≡ live.old.holdings) }
+    ensures writes { Writes D.honest D.held D.image live.old command.now result live.new }
     ensures cause { IsErrOf result Refusal.Device → HasFailed (D.failures live.old.device) (D.failures live.new.device) }
     ensures no_trace { IsErrOf result Refusal.TraceFull → ⊥ }
     ensures honest { D.honest live.new.device → D.honest live.old.device }

@@ -43,6 +43,7 @@ returns g c =
           let e = ended h5 in
           c.mended_images_are_clean.ensures e.cycle.beside (held v0.device) (held v5.device) (image v0.device) (image v5.device) v0 v5 (settled v0.kept.geometry (state_of (image v0.device) v0 nothing_beside)) check checked.findings n e.cycle.answer
           (c.requires.mounted (first h5)) c.requires.pending c.requires.idle e.is e.is_settled.findings e.count e.cycle.goes;
+      framed = λ h5. (ended h5).cycle.goes.is.framed;
       checked = λ h5. subst (λ x. IsChecked v0.kept.geometry (disk_of (image v0.device) v0) x) (sym given) (ended h5).is_checked;
       geometry = λ h5. (ended h5).cycle.goes.geometry;
       honest = first;

@@ -11,4 +11,4 @@ returns-clause-repaired g c =
     let new = c.mend.new.volume in
     mended_well old new (image old.device) (image old.device) (image new.device) told.text.items told.status c.deref.result.now (arc_value c.in_ok-checked.checked)
     c.damaged_where_a_rule_is_broken.ensures refl (c.requires.mounted (c.mend.ensures.honest h))
-    (c.in_ok-checked.ensures.checked h) c.deref.ensures text status (c.in_ok-checked.ensures.clean h)) c.told_of_repairs.ensures.text c.told_of_repairs.ensures.status
+    (c.in_ok-checked.ensures.checked h) c.deref.ensures text status (c.in_ok-checked.ensures.framed h) (c.in_ok-checked.ensures.clean h)) c.told_of_repairs.ensures.text c.told_of_repairs.ensures.status

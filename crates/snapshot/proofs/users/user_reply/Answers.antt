@@ -1,11 +1,13 @@
 use Rattle.std.proofs.Common.{ℕ, map, refl, sym, ap, ap₂, ◌∙◌}
 use Rattle.machine.specs.Command.{Create as AsksCreate, Mkdir as AsksMkdir, Link as AsksLink, Unlink as AsksUnlink, Rmdir as AsksRmdir, Rename as AsksRename, Open as AsksOpen, Close as AsksClose, Read as AsksRead, Write as AsksWrite, Truncate as AsksTruncate, ListNames, Stat as AsksStat, Flush as AsksFlush, Sync as AsksSync}
 use Rattle.machine.specs.Command.{Number as IsNumber, Bytes as AreBytes, Listed, Status as IsStatus}
+use Rattle.softdep.specs.Queued.{pending_of}
 use Rattle.live_paths.specs.Listed.{name_of}
 use Rattle.snapshot.specs.declared.answer.Answer.TheVariants.{Done, Number, Bytes, Names, Status}
 use Rattle.snapshot.specs.Asked.{asked}
 use Rattle.snapshot.proofs.AnswerLemmas.{neither}
 use Rattle.snapshot.proofs.Blaming.{device_blamed, no_trace_blamed, of_caused, of_device, of_device_or_caused, of_device_or_index, of_first, of_refused, replied_so}
+use Rattle.snapshot.proofs.Writing.{idle_writes, refused_writes, untouched, writes_flush}
 use Rattle.snapshot.proofs.UserReplies.{looked, on_err_always, plain, plainly_done, reading, reading_done, unflushed, writing, writing_done}
 use Rattle.snapshot.proofs.users.user_reply.Goals as goal
 
@@ -326,3 +328,55 @@ returns-in-Flush-clause-reading g c = neither (λ (n : ℕ). Number n) (λ n has
 
 pub returns-in-Sync-clause-reading : goal.returns-in-Sync-clause-reading
 returns-in-Sync-clause-reading g c = neither (λ t. Done) (λ t has. has) _ c.sync.result c.done-in-Sync.result c.done-in-Sync.ensures
+
+-- ---- what it wrote
+
+pub returns-in-Create-clause-writes : goal.returns-in-Create-clause-writes
+returns-in-Create-clause-writes g c = rw c.in-Create.is (untouched g.D.Device.held g.D.Device.image c.args.live.now.device c.create.new.self.device c.create.ensures.device)
+
+pub returns-in-Mkdir-clause-writes : goal.returns-in-Mkdir-clause-writes
+returns-in-Mkdir-clause-writes g c = rw c.in-Mkdir.is (untouched g.D.Device.held g.D.Device.image c.args.live.now.device c.mkdir.new.self.device c.mkdir.ensures.device)
+
+pub returns-in-Link-clause-writes : goal.returns-in-Link-clause-writes
+returns-in-Link-clause-writes g c = rw c.in-Link.is (untouched g.D.Device.held g.D.Device.image c.args.live.now.device c.link.new.self.device c.link.ensures.device)
+
+pub returns-in-Unlink-clause-writes : goal.returns-in-Unlink-clause-writes
+returns-in-Unlink-clause-writes g c = rw c.in-Unlink.is (untouched g.D.Device.held g.D.Device.image c.args.live.now.device c.unlink.new.self.device c.unlink.ensures.device)
+
+pub returns-in-Rmdir-clause-writes : goal.returns-in-Rmdir-clause-writes
+returns-in-Rmdir-clause-writes g c = rw c.in-Rmdir.is (untouched g.D.Device.held g.D.Device.image c.args.live.now.device c.rmdir.new.self.device c.rmdir.ensures.device)
+
+pub returns-in-Rename-clause-writes : goal.returns-in-Rename-clause-writes
+returns-in-Rename-clause-writes g c = rw c.in-Rename.is (untouched g.D.Device.held g.D.Device.image c.args.live.now.device c.rename.new.self.device c.rename.ensures.device)
+
+pub returns-in-Open-clause-writes : goal.returns-in-Open-clause-writes
+returns-in-Open-clause-writes g c = rw c.in-Open.is (untouched g.D.Device.held g.D.Device.image c.args.live.now.device c.open.new.self.device c.open.ensures.device)
+
+pub returns-in-Close-clause-writes : goal.returns-in-Close-clause-writes
+returns-in-Close-clause-writes g c = rw c.in-Close.is (untouched g.D.Device.held g.D.Device.image c.args.live.now.device c.close.new.self.device c.close.ensures.device)
+
+pub returns-in-Read-clause-writes : goal.returns-in-Read-clause-writes
+returns-in-Read-clause-writes g c = rw c.in-Read.is (record { image_stays = c.read.ensures.image; held_stays = c.read.ensures.held })
+
+pub returns-in-Write-clause-writes : goal.returns-in-Write-clause-writes
+returns-in-Write-clause-writes g c = rw c.in-Write.is (record { image_stays = c.write.ensures.image; held_stays = c.write.ensures.held })
+
+pub returns-in-Truncate-clause-writes : goal.returns-in-Truncate-clause-writes
+returns-in-Truncate-clause-writes g c = rw c.in-Truncate.is (untouched g.D.Device.held g.D.Device.image c.args.live.now.device c.truncate.new.self.device c.truncate.ensures.device)
+
+pub returns-in-List-clause-writes : goal.returns-in-List-clause-writes
+returns-in-List-clause-writes g c = rw c.in-List.is (record { image_stays = refl; held_stays = refl })
+
+pub returns-in-Stat-clause-writes : goal.returns-in-Stat-clause-writes
+returns-in-Stat-clause-writes g c = rw c.in-Stat.is (record { image_stays = refl; held_stays = refl })
+
+pub returns-in-Flush-clause-writes : goal.returns-in-Flush-clause-writes
+returns-in-Flush-clause-writes g c =
+    let old = c.args.live.now.device in
+    let new = c.flush.new.self.device in
+    rw c.in-Flush.is (writes_flush c.in-Flush.address (g.D.Device.image old) (g.D.Device.held old) (g.D.Device.image new) (g.D.Device.held new) c.flush.result c.count.result c.count.ensures
+    (idle_writes g.D.Device.held g.D.Device.image old new c.flush.result c.flush.ensures.idle) c.flush.ensures.written
+    (refused_writes _ (g.D.Device.image old) (g.D.Device.held old) (g.D.Device.image new) (g.D.Device.held new) c.flush.result c.flush.ensures.untouched))
+
+pub returns-in-Sync-clause-writes : goal.returns-in-Sync-clause-writes
+returns-in-Sync-clause-writes g c = rw c.in-Sync.is (λ h. (pending_of c.sync.new.self.queue, c.sync.ensures.flushes h))

@@ -3,7 +3,7 @@ use Rattle.model.specs.Layout.{block_count}
 use Rattle.ordering.specs.Cuts.{users_view}
 use Rattle.softdep.specs.Queued.{pending_of}
 use Rattle.live_states.specs.Holdings.{Holdings, with_held}
-use Rattle.live_states.specs.Planned.{AreSeen, IsPlannedWith}
+use Rattle.live_states.specs.Planned.{AreSeen, IsPlannedFor, IsPlannedWith}
 use Rattle.live.specs.Alive.{Alive, Answers, IsLive, disk_of}
 use Rattle.live.specs.Ended.{ended}
 use Rattle.live.proofs.Carrying.{answers, held_within, keeps_after, left_marks, live_after, still_marks, still_repairs}
@@ -59,7 +59,7 @@ returns-clause-done g c = λ seen command answer planned h sees.
     let done =
     answers honest image c.self.inside.queue c.self.inside.metadata c.self.inside.holdings c.self.invariant c.args.planned.plan holdings
     is.staged is.is_staged seen command answer
-    (subst (λ (l : Alive _). IsPlannedWith l.kept l.holdings seen command answer c.args.planned.plan (with_held (ended l.holdings c.args.ending) c.args.planned.holds.items)) (sym c.self.view_is) planned)
+    (subst (λ (l : Alive _). IsPlannedFor l.kept l.holdings seen command answer c.args.planned.plan (with_held (ended l.holdings c.args.ending) c.args.planned.holds.items)) (sym c.self.view_is) planned)
     c.issue.new.queue is.pending c.self.inside.device
     (subst (λ (l : Alive _). g.D.Device.honest l.device) (sym c.self.view_is) h)
     (subst (λ (l : Alive _). AreSeen seen (users_view (disk_of (g.D.Device.image l.device) l) (pending_of l.queue))) (sym c.self.view_is) sees) in

@@ -1,5 +1,5 @@
 use Rattle.std.proofs.Common.{◌≡◌, ◌<◌, ◌≤◌, List, inl, inr, refl, sym, ap, ◌∙◌, subst}
-use Rattle.model.specs.Image.{image_view}
+use Rattle.model.specs.Image.{IsImage, image_view}
 use Rattle.model.specs.Layout.{block_count}
 use Rattle.model.specs.View.{View}
 use Rattle.ordering.specs.Cuts.{rest, seen}
@@ -9,7 +9,7 @@ use Rattle.queue_model.proofs.FlushLemmas.{ready_closed}
 use Rattle.machine.specs.Command.{Flush, Number}
 use Rattle.softdep.specs.Queued.{Queued, pending_of}
 use Rattle.live.specs.Alive.{Alive, Answers}
-use Rattle.live.specs.Held.{HeldMore}
+use Rattle.live.specs.Held.{HeldMore, WritesBlock}
 use Rattle.live.proofs.Flushes.{flush_answers, flush_keeps, live_after, refuses_flush, same_length, still_live}
 use Rattle.live.proofs.live.Live.flush.Goals as goal
 
@@ -40,6 +40,7 @@ invariant_of-self-2 g c =
     (ready (home_of kept.geometry) a (pending_of queue)) (ready_closed (home_of kept.geometry) a (pending_of queue)) pending e.honest
     (λ h. flush_keeps kept c.self.inside.holdings (image_view kept.geometry image) (pending_of queue) a (image_view kept.geometry image') (pending_of c.flush.new.self)
     (subst (λ geo. image_view geo image' ≡ seen (image_view geo image) (pending_of queue) (ready (home_of geo) a (pending_of queue))) same (e.view h)) pending)
+    (λ h. subst (λ geo. IsImage geo image → IsImage geo image') same (e.frame h))
 
 pub returns-clause-done : goal.returns-clause-done
 returns-clause-done g c = λ h.
@@ -57,5 +58,15 @@ returns-clause-done g c = λ h.
     (flush_answers c.self.inside.device c.flush.new.device image image' (g.D.Device.held c.self.inside.device) (g.D.Device.held c.flush.new.device) queue c.flush.new.self kept c.self.inside.holdings a
     (subst (λ n. a < n) blocks c.if-address-blocks.false)
     (subst (λ geo. image_view geo image' ≡ seen (image_view geo image) (pending_of queue) (ready (home_of geo) a (pending_of queue))) same (e.view h)) pending
-    c.in_ok-count.count (subst (λ geo. c.in_ok-count.count ≡ taken (ready (home_of geo) a (pending_of queue))) same e.count)
+    c.in_ok-count.count (subst (λ geo. IsImage geo image → IsImage geo image') same (e.frame h) (c.self.invariant.framed (e.honest h)))
+    (subst (λ geo. c.in_ok-count.count ≡ taken (ready (home_of geo) a (pending_of queue))) same e.count)
     (λ z. ap g.D.Device.held (e.untouched z)) (λ s. (e.written s).2))
+
+pub returns-clause-idle : goal.returns-clause-idle
+returns-clause-idle g c = λ none. c.in_ok-count.ensures.untouched none ∙ ap (λ (l : Alive _). l.device) c.self.view_is
+
+pub returns-clause-written : goal.returns-clause-written
+returns-clause-written g c = λ some.
+    let w = c.in_ok-count.ensures.written some in
+    subst (λ (l : Alive _). WritesBlock c.args.address (g.D.Device.image l.device) (g.D.Device.held l.device) (g.D.Device.image c.flush.new.device) (g.D.Device.held c.flush.new.device)) c.self.view_is
+    (record { bytes = w.0; image_is = w.1; held_is = w.2 })

@@ -16,6 +16,7 @@ invariant_of-self g c =
     live_after (g.D.Device.honest c.self.inside.device) (g.D.Device.honest c.sync.new.device) image image' c.self.inside.queue c.sync.new.self c.self.inside.metadata c.self.inside.holdings c.self.invariant
     e.put.geometry e.count e.rest.0 e.rest.1 e.rest.2 e.honest
     (λ h. sync_keeps image image' (g.D.Device.held c.self.inside.device) (g.D.Device.held c.sync.new.device) c.self.inside.queue c.sync.new.self c.self.inside.metadata c.self.inside.holdings c.self.invariant.geometry (e.flushes h))
+    (λ h is. ((subst (λ geo. AreFlushes geo image (g.D.Device.held c.self.inside.device) (pending_of c.self.inside.queue) image' (g.D.Device.held c.sync.new.device) (pending_of c.sync.new.self)) c.self.invariant.geometry (e.flushes h)).framed is).0)
 
 pub invariant_of-self-2 : goal.invariant_of-self-2
 invariant_of-self-2 g c =
@@ -25,6 +26,7 @@ invariant_of-self-2 g c =
     live_after (g.D.Device.honest c.self.inside.device) (g.D.Device.honest c.sync.new.device) image image' c.self.inside.queue c.sync.new.self c.self.inside.metadata c.self.inside.holdings c.self.invariant
     e.put.geometry e.count e.rest.0 e.rest.1 e.rest.2 e.honest
     (λ h. sync_keeps image image' (g.D.Device.held c.self.inside.device) (g.D.Device.held c.sync.new.device) c.self.inside.queue c.sync.new.self c.self.inside.metadata c.self.inside.holdings c.self.invariant.geometry (e.flushes h))
+    (λ h is. ((subst (λ geo. AreFlushes geo image (g.D.Device.held c.self.inside.device) (pending_of c.self.inside.queue) image' (g.D.Device.held c.sync.new.device) (pending_of c.sync.new.self)) c.self.invariant.geometry (e.flushes h)).framed is).0)
 
 pub returns-clause-done : goal.returns-clause-done
 returns-clause-done g c = λ h.
@@ -34,7 +36,7 @@ returns-clause-done g c = λ h.
     subst (λ (l : Alive _). (later : List View) × HeldMore l.kept.geometry (g.D.Device.held l.device) (g.D.Device.held c.sync.new.device) later
     × Answers (g.D.Device.image l.device) l Sync Done image' (record { device = c.sync.new.device; queue = c.sync.new.self; kept = c.self.inside.metadata; holdings = c.self.inside.holdings }) later) c.self.view_is
     (sync_answers image image' (g.D.Device.held c.self.inside.device) (g.D.Device.held c.sync.new.device) c.self.inside.queue c.sync.new.self c.self.inside.metadata c.self.inside.holdings c.self.invariant.geometry (e.flushes h)
-    c.self.inside.device c.sync.new.device e.pending (e.view h))
+    c.self.inside.device c.sync.new.device (c.self.invariant.framed (e.honest h)) e.pending (e.view h))
 
 pub returns-in_err-sync-clause-flushes : goal.returns-in_err-sync-clause-flushes
 returns-in_err-sync-clause-flushes g c = λ h.

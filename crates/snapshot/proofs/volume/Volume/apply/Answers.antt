@@ -6,6 +6,9 @@ use Rattle.snapshot.specs.Asked.{asked, check_of}
 use Rattle.snapshot.proofs.AnswerLemmas.{neither}
 use Rattle.snapshot.proofs.AppliesLemmas.{freezing, releasing, stays, stays_done}
 use Rattle.snapshot.proofs.Blaming.{device_blamed, no_trace_blamed, of_caused, of_told, replied_so}
+use Rattle.layout.specs.declared.refusal.Refusal.TheVariants.{NoSnapshot, SnapshotStands}
+use Rattle.live.specs.Alive.{Alive}
+use Rattle.snapshot.proofs.Writing.{refused_by, untouched}
 use Rattle.snapshot.proofs.volume.Volume.apply.Goals as goal
 
 pub returns-in-Freeze-clause-applied : goal.returns-in-Freeze-clause-applied
@@ -100,3 +103,30 @@ returns-in-Install-clause-reading g c = neither (λ t. Done) (λ t has. has) _ c
 
 pub returns-in-Repair-clause-reading : goal.returns-in-Repair-clause-reading
 returns-in-Repair-clause-reading g c = neither (λ t. Done) (λ t has. has) _ c.repair.result c.done-in-Repair.result c.done-in-Repair.ensures
+
+-- ---- what it wrote
+
+pub returns-in-Freeze-clause-writes : goal.returns-in-Freeze-clause-writes
+returns-in-Freeze-clause-writes g c =
+    rw c.in-Freeze.is (
+      c.freeze.ensures.writes,
+      λ e. untouched g.D.Device.held g.D.Device.image c.args.self.now.device c.freeze.new.self.device
+          (ap (λ (l : Alive _). l.device) (c.freeze.ensures.standing (refused_by Image c.freeze.result c.image.result SnapshotStands c.image.ensures e))),
+    )
+
+pub returns-in-SnapRead-clause-writes : goal.returns-in-SnapRead-clause-writes
+returns-in-SnapRead-clause-writes g c = rw c.in-SnapRead.is (record { image_stays = c.snap_read.ensures.image; held_stays = c.snap_read.ensures.held })
+
+pub returns-in-Release-clause-writes : goal.returns-in-Release-clause-writes
+returns-in-Release-clause-writes g c =
+    rw c.in-Release.is (
+      c.release.ensures.writes,
+      λ e. untouched g.D.Device.held g.D.Device.image c.args.self.now.device c.release.new.self.device
+          (ap (λ (l : Alive _). l.device) (c.release.ensures.none (refused_by (λ t. Done) c.release.result c.done.result NoSnapshot c.done.ensures e))),
+    )
+
+pub returns-in-Install-clause-writes : goal.returns-in-Install-clause-writes
+returns-in-Install-clause-writes g c = rw c.in-Install.is (untouched g.D.Device.held g.D.Device.image c.args.self.now.device c.install.new.self.device c.install.ensures.device)
+
+pub returns-in-Repair-clause-writes : goal.returns-in-Repair-clause-writes
+returns-in-Repair-clause-writes g c = rw c.in-Repair.is (untouched g.D.Device.held g.D.Device.image c.args.self.now.device c.repair.new.self.device c.repair.ensures.device)

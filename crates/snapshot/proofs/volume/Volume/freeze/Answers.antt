@@ -1,7 +1,7 @@
 use Rattle.std.proofs.Common.{◌≡◌, ℕ, List, [], false, Err, Some, is_some, inl, inr, refl, sym, ap, ◌∙◌, subst}
 use Rattle.std.specs.Arc.{arc_value}
 use Rattle.std.proofs.lemmas.Result.{err_from_is_err_and}
-use Rattle.layout.specs.declared.refusal.Refusal.TheVariants.{NoMemory, SnapshotStands}
+use Rattle.layout.specs.declared.refusal.Refusal.TheVariants.{Device, NoMemory, SnapshotStands}
 use Rattle.machine.specs.Command.{Freeze}
 use Rattle.machine.specs.Snapshot.{frozen, settled}
 use Rattle.frozen.specs.Kept.{Kept}
@@ -15,6 +15,7 @@ use Rattle.snapshot.specs.Goes.{Freezes, HasBeside, Replies}
 use Rattle.snapshot.proofs.CallLemmas.{same_err}
 use Rattle.snapshot.proofs.Standing.{none_frozen, refuses_freeze}
 use Rattle.snapshot.proofs.Written.{begins, none_where, written_err, written_keeps}
+use Rattle.snapshot.proofs.Writing.{Wrote, wrote_none, wrote_so}
 use Rattle.snapshot.proofs.volume.Volume.freeze.Goals as goal
 
 pub returns-then-has_snapshot-clause-refused : goal.returns-then-has_snapshot-clause-refused
@@ -98,3 +99,38 @@ returns-clause-frozen g c =
     snapshot c.keep.ensures.kept
     c.in_ok-kept.ensures.shown
     c.keep.ensures.frozen c.device.ensures.stands h))
+
+-- ---- what it wrote
+
+pub returns-then-has_snapshot-clause-writes : goal.returns-then-has_snapshot-clause-writes
+returns-then-has_snapshot-clause-writes g c = λ h.
+    subst (λ (l : Alive _). Wrote g.D.Device.held g.D.Device.image l l.device) c.self.view_is (wrote_none g.D.Device.held g.D.Device.image c.self.inside.live)
+
+pub returns-in_err-write_all-clause-writes : goal.returns-in_err-write_all-clause-writes
+returns-in_err-write_all-clause-writes g c =
+    let mid = c.write_all.new.live in
+    subst (λ (l : Alive _). g.D.Device.honest mid.device → Wrote g.D.Device.held g.D.Device.image l mid.device) c.self.view_is
+    (wrote_so g.D.Device.held g.D.Device.image g.D.Device.honest c.self.inside.live mid mid.device refl c.in_err-write_all.ensures.flushes)
+
+pub returns-in_err-write_all-clause-standing : goal.returns-in_err-write_all-clause-standing
+returns-in_err-write_all-clause-standing g c =
+    let p = err_from_is_err_and c.from_residual.result c.from_residual.ensures.1 in
+    rw (p.1, p.2, c.in_err-write_all.ensures.error) (λ is. absurd (let bad : Err Device ≡ Err SnapshotStands = is in cc))
+
+pub returns-in_err-kept-clause-writes : goal.returns-in_err-kept-clause-writes
+returns-in_err-kept-clause-writes g c =
+    let mid = c.write_all.new.live in
+    subst (λ (l : Alive _). g.D.Device.honest mid.device → Wrote g.D.Device.held g.D.Device.image l mid.device) c.self.view_is
+    (wrote_so g.D.Device.held g.D.Device.image g.D.Device.honest c.self.inside.live mid mid.device refl c.in_ok-write_all.ensures.flushes)
+
+pub returns-in_err-kept-clause-standing : goal.returns-in_err-kept-clause-standing
+returns-in_err-kept-clause-standing g c =
+    let p = err_from_is_err_and c.from_residual-in_err-kept.result c.from_residual-in_err-kept.ensures.1 in
+    rw (p.1, p.2) (λ is. absurd (let bad : Err NoMemory ≡ Err SnapshotStands = is in cc))
+
+pub returns-clause-writes : goal.returns-clause-writes
+returns-clause-writes g c =
+    let mid = c.write_all.new.live in
+    let new = c.keep.new.self in
+    subst (λ (l : Alive _). g.D.Device.honest new.device → Wrote g.D.Device.held g.D.Device.image l new.device) c.self.view_is
+    (wrote_so g.D.Device.held g.D.Device.image g.D.Device.honest c.self.inside.live mid new.device (ap (λ (l : Alive _). l.device) c.keep.ensures.kept) c.in_ok-write_all.ensures.flushes)

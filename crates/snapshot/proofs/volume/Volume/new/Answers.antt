@@ -13,5 +13,7 @@ invariant_of-result g c = λ h.
         belongs = so.belongs;
         stands = so.stands;
         files = none_kept live.kept.geometry (state_of (g.D.Device.image live.device) live so.beside) (none_stands live.holdings.snapshot so.beside.frozen c.requires.none so.belongs);
+        framed = so.framed;
+        begun = so.begun;
       };
     }

@@ -1,12 +1,13 @@
-use Rattle.std.proofs.Common.{Err, OnOk, IfErr, inl, inr, refl, sym, ◌∙◌, subst}
+use Rattle.std.proofs.Common.{◌≡◌, Err, OnOk, IfErr, inl, inr, refl, sym, ◌∙◌, subst}
 use Rattle.std.proofs.lemmas.Result.{err_from_is_err_and}
-use Rattle.layout.specs.declared.refusal.Refusal.TheVariants.{NoSnapshot}
+use Rattle.layout.specs.declared.refusal.Refusal.TheVariants.{Device, NoMemory, NoSnapshot}
 use Rattle.machine.specs.Command.{Release}
 use Rattle.live.specs.Alive.{Alive, state_of}
 use Rattle.snapshot.specs.Goes.{Releases, Replies}
 use Rattle.snapshot.proofs.CallLemmas.{same_err}
 use Rattle.snapshot.proofs.Standing.{none_frozen, refuses_release}
 use Rattle.snapshot.proofs.Written.{ends_err, ends_keeps, ends_ok, written_err, written_keeps}
+use Rattle.snapshot.proofs.Writing.{Wrote, unless_memory, wrote_none, wrote_so}
 use Rattle.snapshot.proofs.volume.Volume.release.Goals as goal
 
 pub returns-then-not-has_snapshot-clause-refused : goal.returns-then-not-has_snapshot-clause-refused
@@ -62,3 +63,30 @@ returns-clause-refused g c =
     let standing = sym c.has_snapshot.ensures ∙ c.if-not-has_snapshot.false in
     subst (λ (l : Alive _). IfErr c.end_keep-outcome.result (λ r. g.D.Device.honest new.device → Replies (g.D.Device.held l.device) (g.D.Device.image l.device) l Release (Err r) (g.D.Device.held new.device) (g.D.Device.image new.device) new)) c.self.view_is
     (ends_err g.D.Device.honest g.D.Device.held g.D.Device.image c.self.inside.live mid e.metadata e.holdings e.flushes e.stands new standing e.pending o.device c.end_keep-outcome.result o.error o.untouched)
+
+-- ---- what it wrote
+
+pub returns-then-not-has_snapshot-clause-writes : goal.returns-then-not-has_snapshot-clause-writes
+returns-then-not-has_snapshot-clause-writes g c = λ h.
+    subst (λ (l : Alive _). Wrote g.D.Device.held g.D.Device.image l l.device) c.self.view_is (wrote_none g.D.Device.held g.D.Device.image c.self.inside.live)
+
+pub returns-in_err-write_all-clause-writes : goal.returns-in_err-write_all-clause-writes
+returns-in_err-write_all-clause-writes g c =
+    let mid = c.write_all.new.live in
+    subst (λ (l : Alive _). g.D.Device.honest mid.device → Wrote g.D.Device.held g.D.Device.image l mid.device) c.self.view_is
+    (wrote_so g.D.Device.held g.D.Device.image g.D.Device.honest c.self.inside.live mid mid.device refl c.in_err-write_all.ensures.flushes)
+
+pub returns-in_err-write_all-clause-none : goal.returns-in_err-write_all-clause-none
+returns-in_err-write_all-clause-none g c =
+    let p = err_from_is_err_and c.from_residual.result c.from_residual.ensures.1 in
+    rw (p.1, p.2, c.in_err-write_all.ensures.error) (λ is. absurd (let bad : Err Device ≡ Err NoSnapshot = is in cc))
+
+pub returns-clause-writes : goal.returns-clause-writes
+returns-clause-writes g c =
+    let mid = c.write_all.new.live in
+    let new = c.end_keep-outcome.new.self in
+    subst (λ (l : Alive _). g.D.Device.honest new.device → Wrote g.D.Device.held g.D.Device.image l new.device) c.self.view_is
+    (wrote_so g.D.Device.held g.D.Device.image g.D.Device.honest c.self.inside.live mid new.device c.end_keep-outcome.ensures.device c.in_ok-write_all.ensures.flushes)
+
+pub returns-clause-none : goal.returns-clause-none
+returns-clause-none g c = λ is. absurd (unless_memory c.end_keep-outcome.result c.end_keep-outcome.ensures.error is)

@@ -1,10 +1,14 @@
-use Rattle.std.proofs.Common.{◌≡◌, ◌+◌, ◌<◌, ◌≤◌, ℕ, arith, List, [], ◌∷◌, ◌++◌, Err, Result, length, ap, sym, ◌∙◌, subst}
+use Rattle.std.proofs.Common.{◌≡◌, ◌+◌, ◌<◌, ◌≤◌, ℕ, arith, List, [], ◌∷◌, ◌++◌, Err, Result, length, map, take, ap, sym, ◌∙◌, subst}
 use Rattle.std.specs.Prelude.{vec_capacity, vec_len}
 use Rattle.std.specs.List.{All}
+use Rattle.std.proofs.lemmas.List.{take_all}
 use Rattle.std.proofs.lemmas.List.Elements.{All-nil, All-push}
 use Rattle.layout.specs.declared.refusal.Refusal.{Refusal}
 use Rattle.layout.specs.declared.refusal.Refusal.TheVariants.{TraceFull}
 use Rattle.snapshot.specs.declared.answer.Answer.{Answer}
+use Rattle.snapshot.specs.Asked.{asked}
+use Rattle.snapshot.specs.Goes.{Runs}
+use Rattle.snapshot.specs.declared.command.Command.{Command}
 use Rattle.snapshot.proofs.AppliesLemmas.{runs_next, runs_none}
 use Rattle.snapshot.proofs.volume.Volume.run.Goals as goal
 
@@ -52,3 +56,13 @@ loop-command-preserved g c =
           i c.command-item.result within c.command-item.is c.loop-command.replies.items c.push.new.self.items c.apply-reply.result c.in_ok-push.ensures.items
           (inv.ran (c.apply-reply.ensures.honest h)) (c.apply-reply.ensures.applied h);
     }
+
+pub returns-clause-ran : goal.returns-clause-ran
+returns-clause-ran g c = λ h.
+    let old = c.args.self.now in
+    let l = c.loop-command in
+    let held = g.D.Device.held in
+    let image = g.D.Device.image in
+    let past : length c.args.commands.items ≤ l.command-index = subst (λ (cs : List Command). length cs ≤ l.command-index) c.deref-command-items.ensures.value c.loop-command-test.false in
+    subst (λ (cs : List Command). Runs (held old.device) (image old.device) old (map (asked old.kept.geometry) cs) l.replies.items (held l.self.device) (image l.self.device) l.self)
+    (take_all l.command-index c.args.commands.items past) (l.invariant.ran h)
