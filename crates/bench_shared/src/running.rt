@@ -5,7 +5,7 @@ use crate::job::Load;
 use crate::rounds::{Used, use_volume};
 use device::MemDevice;
 use layout::Refusal;
-use shared::{Seat, Shared};
+use shared::{Rotating, Seat, Shared};
 use snapshot::Volume;
 use std::alloc::{AllocError, Global};
 use std::marker::Brand;
@@ -49,7 +49,11 @@ pub fn run<R: Threads + Wait + Clock + Sync>(
 }
 
 /// The same with the ledgers of these blanks.
-fn run_on<L: Ledger + Send + Sync, M: Ledger + Send + Sync, R: Threads + Wait + Clock + Sync>(
+fn run_on<
+    L: Rotating<MemDevice> + Send + Sync,
+    M: Ledger + Send + Sync,
+    R: Threads + Wait + Clock + Sync,
+>(
     rt: &R,
     alloc: Global,
     volume: Volume<MemDevice>,
@@ -62,6 +66,7 @@ fn run_on<L: Ledger + Send + Sync, M: Ledger + Send + Sync, R: Threads + Wait + 
     requires parts { (repairs.parts ≡ L.parts) × (others.parts ≡ M.parts) }
     requires seats { (repairs.parts ≡ seats) × (others.parts ≡ seats) }
     requires users { load.now.users + 2 ≡ seats }
+    requires sharing { (L.limit ≡ 10000) × L.opens volume }
 {
     let (shared, seats) = Shared::<MemDevice, L, M>::new(
         alloc,
@@ -75,7 +80,11 @@ fn run_on<L: Ledger + Send + Sync, M: Ledger + Send + Sync, R: Threads + Wait + 
 }
 
 /// Runs this load on a shared volume.
-fn measure<L: Ledger + Send + Sync, M: Ledger + Send + Sync, R: Threads + Wait + Clock + Sync>(
+fn measure<
+    L: Rotating<MemDevice> + Send + Sync,
+    M: Ledger + Send + Sync,
+    R: Threads + Wait + Clock + Sync,
+>(
     rt: &R,
     alloc: Global,
     shared: &Shared<MemDevice, L, M>,
@@ -139,7 +148,11 @@ fn posted<L: Ledger, M: Ledger>(
 }
 
 /// Lets all users carry out so many rounds, each in a thread of its own. Gives what they did, and the nanoseconds of all.
-fn use_all<L: Ledger + Send + Sync, M: Ledger + Send + Sync, R: Threads + Wait + Clock + Sync>(
+fn use_all<
+    L: Rotating<MemDevice> + Send + Sync,
+    M: Ledger + Send + Sync,
+    R: Threads + Wait + Clock + Sync,
+>(
     rt: &R,
     alloc: Global,
     shared: &Shared<MemDevice, L, M>,
@@ -162,7 +175,11 @@ fn use_all<L: Ledger + Send + Sync, M: Ledger + Send + Sync, R: Threads + Wait +
 }
 
 /// Checks and mends the volume again and again until all users have ended, if the load has that. Counts the checks.
-fn check_until<L: Ledger + Send + Sync, M: Ledger + Send + Sync, R: Threads + Wait + Clock + Sync>(
+fn check_until<
+    L: Rotating<MemDevice> + Send + Sync,
+    M: Ledger + Send + Sync,
+    R: Threads + Wait + Clock + Sync,
+>(
     rt: &R,
     alloc: Global,
     shared: &Shared<MemDevice, L, M>,

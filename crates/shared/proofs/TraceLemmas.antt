@@ -1,8 +1,10 @@
 -- A trace begins, goes on by one entry, and begins anew.
-use Rattle.std.proofs.Common.{◌≡◌, ◌⊎◌, inl, inr, refl, sym, ap, ◌∙◌, subst, ℕ, List, [], ◌∷◌, ◌++◌, Ok, Err, IfOk, Result, IsErrOf, OnErr, arith, ◌↔◌}
-use Rattle.std.proofs.lemmas.List.{map-append}
+use Rattle.std.proofs.Common.{◌≡◌, ◌⊎◌, ◌+◌, inl, inr, refl, sym, ap, ap₂, ◌∙◌, subst, ℕ, List, [], ◌∷◌, ◌++◌, Ok, Err, IfOk, Result, IsErrOf, OnErr, arith, ◌↔◌, cond, length}
+use Rattle.std.specs.List.{count_by}
+use Rattle.std.proofs.lemmas.List.{map-append, length-append, length-map}
+use Rattle.std.proofs.lemmas.List.Sums.{sum_by-append, sum_by-cons}
 use Rattle.layout.specs.declared.refusal.Refusal.{Refusal}
-use Rattle.layout.specs.declared.refusal.Refusal.TheVariants.{Device, NoMemory, TraceFull}
+use Rattle.layout.specs.declared.refusal.Refusal.TheVariants.{Device, NoMemory, NoSnapshot, SnapshotStands, TraceFull}
 use Rattle.model.specs.Layout.{Geometry}
 use Rattle.machine.specs.Command.{Command as Request, Reply as Response, Done as IsDone, Number as IsNumber, Bytes as AreBytes, Listed, Status as IsStatus, Image as IsImage}
 use Rattle.replies.specs.Replies.{IsCopied}
@@ -17,13 +19,18 @@ use Rattle.snapshot.specs.declared.command.Command.{Command}
 use Rattle.snapshot.specs.declared.answer.Answer.{Answer}
 use Rattle.snapshot.specs.declared.answer.Answer.TheVariants.{Done, Number, Bytes, Names, Status, Image}
 use Rattle.snapshot.specs.Asked.{HasBytesOrNames, IsReply, asked}
+use Rattle.snapshot.specs.declared.command.Command.TheVariants.{Create, Mkdir, Link, Unlink, Rmdir, Rename, Open, Close, Read, Write, Truncate, List as ListOf, Stat, Freeze, SnapRead, Release, Install, Repair, Flush, Sync}
 use Rattle.snapshot.specs.Goes.{Applies, Goes, HasBeside}
+use Rattle.snapshot.specs.Writes.{Writes}
 use Rattle.snapshot.proofs.AppliesLemmas.{goes_nowhere, zip_push}
 use Rattle.snapshot.proofs.Joining.{joined}
 use Rattle.shared.specs.declared.entry.Entry.{Entry}
 use Rattle.shared.specs.Next.{IsNext}
+use Rattle.shared.specs.declared.counts.Counts.{Counts}
+use Rattle.shared.specs.Calls.{no_calls}
 use Rattle.shared.specs.Noted.{IsNoted, Notes}
-use Rattle.shared.specs.Traces.{HasOpening, asked_by}
+use Rattle.shared.specs.Repairing.{asks_repair, is_repair, is_repair_entry}
+use Rattle.shared.specs.Traces.{HasHistory, HasOpening, asked_by}
 
 -- ---- replies
 
@@ -95,6 +102,37 @@ module _ {D : Type 0} (held held' : List (List (List ℕ))) (image image' : List
       let a = applied beside is in
       (a.0, Err NoMemory, refl, goes_refused beside a.0 command a.1 (copied_so reply a.1 copied a.2) a.3))
 
+-- what was written does not hang on a copy of bytes or names
+module _ {D : Type 0} (honest : D → Type 0) (held_of : D → List (List (List ℕ))) (image_of : D → List (List ℕ)) (old new : Alive D) where
+  copied_writes : (command : Command) (reply : Result Answer Refusal) → HasBytesOrNames reply → Writes honest held_of image_of old command reply new → Writes honest held_of image_of old command (Err NoMemory) new
+  copied_writes (Create path) reply c w = w
+  copied_writes (Mkdir path) reply c w = w
+  copied_writes (Link path other) reply c w = w
+  copied_writes (Unlink path) reply c w = w
+  copied_writes (Rmdir path) reply c w = w
+  copied_writes (Rename path other) reply c w = w
+  copied_writes (Open path) reply c w = w
+  copied_writes (Close handle) reply c w = w
+  copied_writes (Read handle index) reply c w = w
+  copied_writes (Write handle index piece) reply c w = w
+  copied_writes (Truncate handle size) reply c w = w
+  copied_writes (ListOf path) reply c w = w
+  copied_writes (Stat path) reply c w = w
+  copied_writes Freeze reply c w = (w.0, λ e. let bad : Err NoMemory ≡ Err SnapshotStands = e in cc)
+  copied_writes (SnapRead inode index) reply c w = w
+  copied_writes Release reply c w = (w.0, λ e. let bad : Err NoMemory ≡ Err NoSnapshot = e in cc)
+  copied_writes (Install checked) reply c w = w
+  copied_writes (Repair place) reply c w = w
+  copied_writes (Flush address) (Ok (Bytes bytes)) c w = absurd w
+  copied_writes (Flush address) (Ok (Names names)) c w = absurd w
+  copied_writes (Flush address) reply c w = absurd c
+  copied_writes Sync reply c w = w
+
+  pub writes_so : (command : Command) (reply answer : Result Answer Refusal) → (answer ≡ reply) ⊎ (HasBytesOrNames reply × (answer ≡ Err NoMemory))
+      → Writes honest held_of image_of old command reply new → Writes honest held_of image_of old command answer new
+  writes_so command reply answer (inl same) w = subst (λ r. Writes honest held_of image_of old command r new) (sym same) w
+  writes_so command reply answer (inr (copied, none)) w = subst (λ r. Writes honest held_of image_of old command r new) (sym none) (copied_writes command reply copied w)
+
 -- ---- traces
 
 -- an empty trace begins where it ends
@@ -110,10 +148,6 @@ begins held image now has = record {
   beside = has.beside;
   goes = goes_nowhere held image now has.beside has.is;
 }
-
--- so a trace may be emptied
-pub dropped : {D : Type 0} (held : List (List (List ℕ))) (image : List (List ℕ)) (trace : List Entry) (now : Alive D) → HasOpening held image trace now → HasOpening held image [] now
-dropped held image trace now o = begins held image now (record { beside = o.beside; is = o.goes.is })
 
 -- one more call
 pub noted_on : {D : Type 0} (held held' : List (List (List ℕ))) (image image' : List (List ℕ)) (trace : List Entry) (old new : Alive D) (command : Command) (reply noted : Result Answer Refusal)
@@ -136,6 +170,94 @@ noted_on held held' image image' trace old new command reply noted o applied not
       goes = subst (λ cs. Goes o.opening_beside o.opening_held o.opening_image o.opening cs (o.responses ++ last.1 ∷ []) last.0 held' image' new) (sym (map-append (λ (e : Entry). asked geo e.command) trace (entry ∷ [])))
           (joined o.opening_beside o.beside last.0 o.opening_held held held' o.opening_image image image' o.opening old new (asked_by geo trace) (asked geo command ∷ []) o.responses (last.1 ∷ []) o.goes goes);
     }
+
+-- ---- histories
+
+asks_so : (geo : Geometry) (command : Command) → asks_repair (asked geo command) ≡ is_repair command
+asks_so geo (Create path) = refl
+asks_so geo (Mkdir path) = refl
+asks_so geo (Link path other) = refl
+asks_so geo (Unlink path) = refl
+asks_so geo (Rmdir path) = refl
+asks_so geo (Rename path other) = refl
+asks_so geo (Open path) = refl
+asks_so geo (Close handle) = refl
+asks_so geo (Read handle index) = refl
+asks_so geo (Write handle index piece) = refl
+asks_so geo (Truncate handle size) = refl
+asks_so geo (ListOf path) = refl
+asks_so geo (Stat path) = refl
+asks_so geo Freeze = refl
+asks_so geo (SnapRead inode index) = refl
+asks_so geo Release = refl
+asks_so geo (Install checked) = refl
+asks_so geo (Repair place) = refl
+asks_so geo (Flush address) = refl
+asks_so geo Sync = refl
+
+repairs_asked : (geo : Geometry) (trace : List Entry) → count_by asks_repair (asked_by geo trace) ≡ count_by is_repair_entry trace
+repairs_asked geo [] = refl
+repairs_asked geo (e ∷ es) =
+    sum_by-cons (λ (c : Request). cond (asks_repair c) 1 0) (asked geo e.command) (asked_by geo es)
+    ∙ ap₂ (λ m n. m + n) (ap (λ b. cond b 1 0) (asks_so geo e.command)) (repairs_asked geo es)
+    ∙ sym (sum_by-cons (λ (e : Entry). cond (is_repair_entry e) 1 0) e es)
+
+module _ {D : Type 0} (held_of : D → List (List (List ℕ))) (image_of : D → List (List ℕ)) (opens : Alive D → Type 0) where
+  -- a volume that is shared has no calls before it
+  pub opened : (now : Alive D) → opens now → HasBeside (image_of now.device) now → HasHistory held_of image_of opens no_calls [] now
+  unfolding begins
+  opened now known has = record {
+    opening = begins (held_of now.device) (image_of now.device) now has;
+    past = record {
+      first = now;
+      known = known;
+      beside = has.beside;
+      stands = has.is;
+      commands = [];
+      responses = [];
+      repairs = refl;
+      calls = refl;
+      goes = goes_nowhere (held_of now.device) (image_of now.device) now has.beside has.is;
+    };
+  }
+
+  -- one more call
+  pub called : (before : Counts) (trace : List Entry) (old new : Alive D) (command : Command) (reply noted : Result Answer Refusal) → HasHistory held_of image_of opens before trace old
+      → Applies (held_of old.device) (image_of old.device) old (asked old.kept.geometry command) reply (held_of new.device) (image_of new.device) new → Notes reply noted
+      → HasHistory held_of image_of opens before (trace ++ record { command = command; reply = noted } ∷ []) new
+  unfolding noted_on
+  called before trace old new command reply noted h applied notes =
+      let p = h.past in
+      record {
+        opening = noted_on (held_of old.device) (held_of new.device) (image_of old.device) (image_of new.device) trace old new command reply noted h.opening applied notes;
+        past = record { first = p.first; known = p.known; beside = p.beside; stands = p.stands; commands = p.commands; responses = p.responses; repairs = p.repairs; calls = p.calls; goes = p.goes };
+      }
+
+  -- the trace is emptied
+  pub rotated : (before before' : Counts) (trace : List Entry) (now : Alive D) → HasHistory held_of image_of opens before trace now
+      → before'.repairs ≡ before.repairs + count_by is_repair_entry trace → before'.others + count_by is_repair_entry trace ≡ before.others + length trace
+      → HasHistory held_of image_of opens before' [] now
+  unfolding begins
+  rotated before before' trace now h repairs others =
+      let o = h.opening in
+      let p = h.past in
+      let geo = o.opening.kept.geometry in
+      let more = asked_by geo trace in
+      record {
+        opening = begins (held_of now.device) (image_of now.device) now (record { beside = o.beside; is = o.goes.is });
+        past = record {
+          first = p.first;
+          known = p.known;
+          beside = p.beside;
+          stands = p.stands;
+          commands = p.commands ++ more;
+          responses = p.responses ++ o.responses;
+          repairs = sum_by-append (λ (c : Request). cond (asks_repair c) 1 0) p.commands more ∙ ap₂ (λ m n. m + n) p.repairs (repairs_asked geo trace) ∙ sym repairs;
+          calls = let all = length-append p.commands more in let mapped = length-map trace (λ (e : Entry). asked geo e.command) in omega (arith, all, mapped, p.calls, repairs, others);
+          goes = joined p.beside o.opening_beside o.beside (held_of p.first.device) o.opening_held (held_of now.device) (image_of p.first.device) o.opening_image (image_of now.device)
+              p.first o.opening now p.commands more p.responses o.responses p.goes o.goes;
+        };
+      }
 
 -- ---- flushes
 

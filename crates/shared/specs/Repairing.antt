@@ -1,14 +1,21 @@
 -- Which calls are repairs.
-use Rattle.std.specs.Prelude.{◌≡◌, ◌⊎◌, Bool, true, false, ℕ, nat_lt, if◌then◌else◌, Ok, Err, Result}
+use Rattle.std.specs.Prelude.{◌≡◌, ◌⊎◌, ◌+◌, Bool, true, false, ℕ, nat_lt, if◌then◌else◌, Ok, Err, Result}
 use Rattle.layout.specs.declared.refusal.Refusal.{Refusal}
-use Rattle.layout.specs.declared.refusal.Refusal.TheVariants.{BadIndex, NoPlan, TraceFull}
+use Rattle.layout.specs.declared.refusal.Refusal.TheVariants.{AlreadyDone, BadIndex, NoPlan, TraceFull}
+use Rattle.machine.specs.Command.{Command as Request, RepairAt}
 use Rattle.snapshot.specs.declared.command.Command.{Command}
 use Rattle.snapshot.specs.declared.command.Command.TheVariants.{Repair}
+use Rattle.snapshot.specs.declared.answer.Answer.{Answer}
 use Rattle.shared.specs.declared.entry.Entry.{Entry}
 
 abbrev pub is_repair : Command → Bool
 is_repair (Repair place) = true
 is_repair _ = false
+
+-- and what they ask of the machine
+abbrev pub asks_repair : Request → Bool
+asks_repair (RepairAt place) = true
+asks_repair _ = false
 
 abbrev pub is_repair_entry : Entry → Bool
 is_repair_entry entry = is_repair entry.command
@@ -19,6 +26,12 @@ of_repairs command = if is_repair command then 1 else 0
 
 abbrev pub of_others : Command → ℕ
 of_others command = if is_repair command then 0 else 1
+
+-- Calls of repairs, each of which this was known of with its place and its reply, led from a place and a count to another place and another count: each was of the next place, and counts if it was carried out, but not if it was found to be done.
+pub data Repairs (called : ℕ → Result Answer Refusal → Type 0) (next done : ℕ) : ℕ → ℕ → Type 0 where
+  Stays : Repairs called next done next done
+  CarriedOut : {place count : ℕ} (answer : Answer) → Repairs called next done place count → called place (Ok answer) → Repairs called next done (place + 1) (count + 1)
+  PassedOver : {place count : ℕ} → Repairs called next done place count → called place (Err AlreadyDone) → Repairs called next done (place + 1) count
 
 -- there is no repair at a place, or no check
 abbrev pub IsEnd : Refusal → Type 0

@@ -1,13 +1,20 @@
 -- What a volume went through by the calls of its trace.
-use Rattle.std.specs.Prelude.{ℕ, List, map}
-use Rattle.std.specs.List.{AllZip}
+use Rattle.std.specs.Prelude.{◌≡◌, ◌+◌, ℕ, Bool, List, length, map}
+use Rattle.std.specs.List.{AllZip, count_by}
 use Rattle.machine.specs.Command.{Command, Reply as Response}
 use Rattle.model.specs.Layout.{Geometry}
+use Rattle.model.specs.View.{View}
+use Rattle.queue_model.specs.Files.{Written}
+use Rattle.courses.specs.Serves.{IsSafeService, Service}
+use Rattle.softdep.specs.Queued.{pending_of}
 use Rattle.live_states.specs.Holdings.{Beside}
-use Rattle.snapshot.specs.Alive.{Alive}
+use Rattle.snapshot.specs.Alive.{Alive, disk_of, state_of}
+use Rattle.snapshot.specs.Held.{HeldMore}
 use Rattle.snapshot.specs.Asked.{asked}
 use Rattle.snapshot.specs.Goes.{Goes, IsBeside}
 use Rattle.shared.specs.Noted.{IsNoted}
+use Rattle.shared.specs.Repairing.{asks_repair}
+use Rattle.shared.specs.declared.counts.Counts.{Counts}
 use Rattle.shared.specs.declared.entry.Entry.{Entry}
 
 -- what was asked of a volume of this geometry
@@ -30,3 +37,31 @@ pub record HasOpening {D : Type 0} (held : List (List (List ℕ))) (image : List
   pub noted : AreNoted trace responses
   pub beside : Beside
   pub goes : Goes opening_beside opening_held opening_image opening (asked_by opening.kept.geometry trace) responses beside held image now
+
+-- Before a trace, so many repairs and other calls led to its opening from a volume of which this was known.
+pub record HasPast {D : Type 0} (held_of : D → List (List (List ℕ))) (image_of : D → List (List ℕ)) (opens : Alive D → Type 0) (before : Counts)
+    {held : List (List (List ℕ))} {image : List (List ℕ)} {trace : List Entry} {now : Alive D} (o : HasOpening held image trace now) : Type 0 where
+  pub first : Alive D
+  pub known : opens first
+  pub beside : Beside
+  pub stands : IsBeside (image_of first.device) first beside
+  pub commands : List Command
+  pub responses : List Response
+  pub repairs : count_by asks_repair commands ≡ before.repairs
+  pub calls : length commands ≡ before.repairs + before.others
+  pub goes : Goes beside (held_of first.device) (image_of first.device) first commands responses o.opening_beside o.opening_held o.opening_image o.opening
+
+-- A volume with its trace has a history: the calls before the trace and those in it led here, one after another, from a volume of which this was known.
+pub record HasHistory {D : Type 0} (held_of : D → List (List (List ℕ))) (image_of : D → List (List ℕ)) (opens : Alive D → Type 0) (before : Counts) (trace : List Entry) (now : Alive D) : Type 0 where
+  pub opening : HasOpening (held_of now.device) (image_of now.device) trace now
+  pub past : HasPast held_of image_of opens before opening
+
+-- From its opening, which is such a beginning, with these files that no stop is to lose, the volume went through a service of the trace's commands, and each image that the device held since is safe.
+pub record IsSafeTrace {D : Type 0} {held : List (List (List ℕ))} {image : List (List ℕ)} {trace : List Entry} {now : Alive D} (o : HasOpening held image trace now) (mount : View) (h : List Written) (cut : List Bool) (safe : ℕ → Bool) : Type 0 where
+  pub later : List View
+  pub since : HeldMore o.opening.kept.geometry o.opening_held held later
+  pub safe' : ℕ → Bool
+  pub service : Service o.opening.kept.geometry (disk_of o.opening_image o.opening) (pending_of o.opening.queue) (state_of o.opening_image o.opening o.opening_beside) safe
+      (disk_of image now) (pending_of now.queue) (state_of image now o.beside) safe' (asked_by o.opening.kept.geometry trace) o.responses later
+  pub stops : IsSafeService o.opening.kept.geometry mount h cut (disk_of o.opening_image o.opening) (pending_of o.opening.queue) (state_of o.opening_image o.opening o.opening_beside) safe
+      (disk_of image now) (pending_of now.queue) (state_of image now o.beside) safe' (asked_by o.opening.kept.geometry trace) o.responses later

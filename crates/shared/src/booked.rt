@@ -1,21 +1,19 @@
 //! The volume under the lock, with the trace of what was called.
-ghost use Rattle.std.specs.Prelude.{◌≡◌, ◌≢◌, ◌↔◌, ◌⊎◌, ◌+◌, ◌<◌, ◌^◌, if◌then◌else◌, ℕ, List, [], length, Ok, Err, IfOk, IsErrOf, IsOk, IsOkUnless, OnErr, OnOk, vec_len};
+ghost use Rattle.std.specs.Prelude.{◌≡◌, ◌≢◌, ◌↔◌, ◌⊎◌, ◌+◌, ◌<◌, ◌^◌, if◌then◌else◌, ℕ, false, [], Err, IfOk, IsErrOf, IsOkUnless, Ok, vec_len};
 ghost use Rattle.std.specs.List.{count_by};
 ghost use Rattle.device.specs.Writes.{HasFailed};
-ghost use Rattle.machine.specs.Command.{Flush};
-ghost use Rattle.queue_model.specs.Blocks.{home_of};
-ghost use Rattle.queue_model.specs.Flush.{ready, taken};
 ghost use Rattle.softdep.specs.Queued.{pending_of};
-ghost use Rattle.snapshot.specs.Goes.{Applies};
+ghost use Rattle.shared.specs.Calls.{IsCall, IsOfSharing, IsRotation, no_calls};
 ghost use Rattle.shared.specs.Next.{IsNext};
-ghost use Rattle.snapshot.specs.Asked.{HasBytesOrNames, asked};
-ghost use Rattle.shared.specs.Noted.{AddsEntry, Notes};
+ghost use Rattle.snapshot.specs.Asked.{HasBytesOrNames};
+ghost use Rattle.shared.specs.Noted.{Notes};
 ghost use Rattle.shared.specs.Repairing.{is_repair, is_repair_entry, of_others, of_repairs};
-ghost use Rattle.shared.specs.Traces.{HasOpening};
+ghost use Rattle.shared.specs.Traces.{HasHistory};
 
 use crate::counts::Counts;
 use crate::entry::{Entry, note};
 use crate::seat::Seat;
+use crate::sharing::{Rotating, Sharing};
 use device::Device;
 use layout::Refusal;
 use outcomes::with;
@@ -24,11 +22,11 @@ use std::alloc::Global;
 use std::marker::Model;
 use std::sync::ledger::{Book, Ledger, Share};
 
-/// A volume, and the trace of what was called since it was put here, or since the trace was emptied for the last time.
-/// Where its device was honest so far, the commands of the trace led to the volume from one in balance, with replies of
-/// which the trace notes all but images.
+/// A volume, and the trace of what was called since it was put here, or since the trace was emptied for the last time. If its
+/// device was honest so far, the calls before the trace and the commands of the trace led to the volume from the one that was
+/// shared, with replies of which the trace notes all but images.
 #[derive(Drop)]
-pub struct Booked<D: Device, L: Ledger, M: Ledger> {
+pub struct Booked<D: Device, L: Sharing<D>, M: Ledger> {
     volume: Volume<D>,
     limit: usize,
     /// The calls before the trace.
@@ -40,12 +38,13 @@ pub struct Booked<D: Device, L: Ledger, M: Ledger> {
     others: Book<M>,
 }
 
-impl<D: Device, L: Ledger, M: Ledger> Model for Booked<D, L, M> {
-    ghost use Rattle.std.specs.Prelude.{◌≡◌, ◌+◌, ◌≤◌, vec_len, vec_capacity};
+impl<D: Device, L: Sharing<D>, M: Ledger> Model for Booked<D, L, M> {
+    ghost use Rattle.std.specs.Prelude.{◌≡◌, ◌+◌, ◌≤◌, false, vec_len, vec_capacity};
     ghost use Rattle.std.specs.List.{count_by};
+    ghost use Rattle.shared.specs.Calls.{no_calls};
     ghost use Rattle.shared.specs.Repairing.{is_repair_entry};
     ghost use Rattle.shared.specs.Shown.{Shown};
-    ghost use Rattle.shared.specs.Traces.{HasOpening};
+    ghost use Rattle.shared.specs.Traces.{HasHistory};
 
     ghost Value = { Shown D };
 
@@ -54,7 +53,8 @@ impl<D: Device, L: Ledger, M: Ledger> Model for Booked<D, L, M> {
     ghost invariant = { λ b. (vec_len b.trace ≤ b.limit) × (b.limit ≤ vec_capacity b.trace)
         × (b.inside.repairs ≡ count_by is_repair_entry b.trace.items) × (b.inside.repairs + b.inside.others ≡ vec_len b.trace)
         × (b.before.repairs + b.inside.repairs ≡ b.repairs.total) × (b.before.others + b.inside.others ≡ b.others.total)
-        × (D.honest b.volume.device → HasOpening (D.held b.volume.device) (D.image b.volume.device) b.trace.items b.volume) };
+        × (D.honest b.volume.device → HasHistory D.held D.image L.opens b.before b.trace.items b.volume)
+        × (b.limit ≡ L.limit) × (L.rotates ≡ false → b.before ≡ no_calls) };
 }
 
 /// What is left of a volume when no one calls it any more.
@@ -66,7 +66,7 @@ pub struct Closed<D: Device> {
     pub volume: Volume<D>,
 }
 
-impl<D: Device + Drop, L: Ledger, M: Ledger> Booked<D, L, M> {
+impl<D: Device + Drop, L: Sharing<D>, M: Ledger> Booked<D, L, M> {
     /// Puts a volume here, with an empty trace that has room for so many calls. Refused with `NoMemory`.
     pub fn new(
         alloc: Global,
@@ -76,7 +76,9 @@ impl<D: Device + Drop, L: Ledger, M: Ledger> Booked<D, L, M> {
         others: Book<M>,
     ) -> Result<Booked<D, L, M>, Refusal>
         requires unused { (repairs.total ≡ 0) × (others.total ≡ 0) }
-        ensures before { IfOk result (λ booked. booked.before ≡ record { repairs = 0; others = 0 }) }
+        requires limit { limit ≡ L.limit }
+        requires opens { L.opens volume }
+        ensures before { IfOk result (λ booked. booked.before ≡ no_calls) }
         ensures trace { IfOk result (λ booked. booked.trace ≡ []) }
         ensures limit { IfOk result (λ booked. booked.limit ≡ limit) }
         ensures volume { IfOk result (λ booked. booked.volume ≡ volume) }
@@ -95,9 +97,9 @@ impl<D: Device + Drop, L: Ledger, M: Ledger> Booked<D, L, M> {
         })
     }
 
-    /// The trace leads here from a volume in balance.
-    pub fn trace_is_a_run(&self)
-        ensures { D.honest self.now.volume.device → HasOpening (D.held self.now.volume.device) (D.image self.now.volume.device) self.now.trace self.now.volume }
+    /// The calls before the trace and those in it led here from the volume that was shared: a law.
+    pub fn has_history(&self)
+        ensures { IsOfSharing D.honest D.held D.image L.limit L.opens self.now }
     {
         let _ = &self.trace;
     }
@@ -105,20 +107,11 @@ impl<D: Device + Drop, L: Ledger, M: Ledger> Booked<D, L, M> {
     /// Carries out a command, and adds it to the trace with its reply. Refused with `TraceFull` where the trace has no room,
     /// and then nothing changes; else as the volume refuses it, and with `NoMemory` where bytes or names cannot be copied.
     pub fn call(&mut self, alloc: Global, seat: &mut Seat<L, M>, command: Command) -> Reply
-        ensures full { (result ≡ Err Refusal.TraceFull) ↔ (length self.old.trace ≡ self.old.limit) }
-        ensures unchanged { result ≡ Err Refusal.TraceFull → (self.new ≡ self.old) × (seat.new ≡ seat.old) }
-        ensures applied { result ≢ Err Refusal.TraceFull → D.honest self.new.volume.device
-            → Applies (D.held self.old.volume.device) (D.image self.old.volume.device) self.old.volume (asked self.old.volume.kept.geometry command) result
-            (D.held self.new.volume.device) (D.image self.new.volume.device) self.new.volume }
-        ensures entry { result ≢ Err Refusal.TraceFull → AddsEntry self.old.trace self.new.trace command result }
-        ensures untouched { OnErr result ((self.new.volume.kept ≡ self.old.volume.kept) × (self.new.volume.holdings ≡ self.old.volume.holdings)) }
-        // A flush counts the updates of its block that could go.
-        ensures flushed { (a : ℕ) → command ≡ Command.Flush a → D.honest self.new.volume.device
-            → IfOk result (λ answer. answer ≡ Answer.Number (taken (ready (home_of self.old.volume.kept.geometry) a (pending_of self.old.volume.queue)))) }
+        ensures known { IsOfSharing D.honest D.held D.image L.limit L.opens self.old }
+        ensures call { IsCall D.honest D.held D.image self.old command result self.new }
+        ensures unchanged { result ≡ Err Refusal.TraceFull → seat.new ≡ seat.old }
         ensures cause { IsErrOf result Refusal.Device → HasFailed (D.failures self.old.volume.device) (D.failures self.new.volume.device) }
         ensures honest { D.honest self.new.volume.device → D.honest self.old.volume.device }
-        ensures before { self.new.before ≡ self.old.before }
-        ensures limit { self.new.limit ≡ self.old.limit }
         ensures repairs { result ≢ Err Refusal.TraceFull → seat.new.repairs.amount ≡ seat.old.repairs.amount + of_repairs command }
         ensures others { result ≢ Err Refusal.TraceFull → seat.new.others.amount ≡ seat.old.others.amount + of_others command }
     {
@@ -147,47 +140,18 @@ impl<D: Device + Drop, L: Ledger, M: Ledger> Booked<D, L, M> {
     /// Flushes the least block with an update that may go to the device, or block 0 where nothing is pending. Refused as
     /// `call` is.
     pub fn flush_some(&mut self, alloc: Global, seat: &mut Seat<L, M>) -> Reply
-        ensures full { (result ≡ Err Refusal.TraceFull) ↔ (length self.old.trace ≡ self.old.limit) }
-        ensures unchanged { result ≡ Err Refusal.TraceFull → (self.new ≡ self.old) × (seat.new ≡ seat.old) }
-        ensures flushed { result ≢ Err Refusal.TraceFull → (a : ℕ) × IsNext self.old.volume.kept.geometry (pending_of self.old.volume.queue) a
-            × AddsEntry self.old.trace self.new.trace (Command.Flush a) result
-            × (D.honest self.new.volume.device
-            → Applies (D.held self.old.volume.device) (D.image self.old.volume.device) self.old.volume (Flush a) result
-            (D.held self.new.volume.device) (D.image self.new.volume.device) self.new.volume) }
+        ensures known { IsOfSharing D.honest D.held D.image L.limit L.opens self.old }
+        ensures call { (a : ℕ) × IsNext self.old.volume.kept.geometry (pending_of self.old.volume.queue) a × IsCall D.honest D.held D.image self.old (Command.Flush a) result self.new }
+        ensures unchanged { result ≡ Err Refusal.TraceFull → seat.new ≡ seat.old }
         // The answer counts the updates that were written: 0 exactly where none was pending.
         ensures wrote { D.honest self.new.volume.device → IfOk result (λ answer. (n : ℕ) × (answer ≡ Answer.Number n) × ((n ≡ 0) ↔ (pending_of self.old.volume.queue ≡ []))) }
-        ensures untouched { OnErr result ((self.new.volume.kept ≡ self.old.volume.kept) × (self.new.volume.holdings ≡ self.old.volume.holdings)) }
         ensures cause { IsErrOf result Refusal.Device → HasFailed (D.failures self.old.volume.device) (D.failures self.new.volume.device) }
         ensures honest { D.honest self.new.volume.device → D.honest self.old.volume.device }
-        ensures before { self.new.before ≡ self.old.before }
-        ensures limit { self.new.limit ≡ self.old.limit }
         ensures repairs { seat.new.repairs.amount ≡ seat.old.repairs.amount }
         ensures others { result ≢ Err Refusal.TraceFull → seat.new.others.amount ≡ seat.old.others.amount + 1 }
     {
         let address = next_block(&self.volume);
         self.call(alloc, seat, Command::Flush(address))
-    }
-
-    /// Empties the trace, and counts its calls among those before. Refused with `TraceFull` where a count would reach 2^64.
-    pub fn rotate(&mut self, _seat: &mut Seat<L, M>) -> Result<(), Refusal>
-        ensures repairs { OnOk result (self.new.before.repairs ≡ self.old.before.repairs + count_by is_repair_entry self.old.trace) }
-        ensures others { OnOk result (self.new.before.others + count_by is_repair_entry self.old.trace ≡ self.old.before.others + length self.old.trace) }
-        ensures trace { OnOk result (self.new.trace ≡ []) }
-        ensures volume { self.new.volume ≡ self.old.volume }
-        ensures limit { self.new.limit ≡ self.old.limit }
-        ensures seat { _seat.new ≡ _seat.old }
-        ensures full { IsOk result ↔ ((self.old.before.repairs + count_by is_repair_entry self.old.trace < 2 ^ 64)
-            × (self.old.before.others + length self.old.trace < 2 ^ 64 + count_by is_repair_entry self.old.trace)) }
-        ensures error { IsOkUnless result Refusal.TraceFull }
-        ensures unchanged { OnErr result (self.new ≡ self.old) }
-    {
-        self.before = self
-            .before
-            .checked_add(self.inside)
-            .ok_or(Refusal::TraceFull)?;
-        self.inside = Counts::NONE;
-        self.trace.clear();
-        Ok(())
     }
 
     /// The volume with its trace, where all calls were counted on these shares.
@@ -198,7 +162,8 @@ impl<D: Device + Drop, L: Ledger, M: Ledger> Booked<D, L, M> {
         ensures before { result.before ≡ self.before }
         ensures trace { result.trace.items ≡ self.trace }
         ensures volume { result.volume ≡ self.volume }
-        ensures run { D.honest result.volume.device → HasOpening (D.held result.volume.device) (D.image result.volume.device) result.trace.items result.volume }
+        ensures history { D.honest result.volume.device → HasHistory D.held D.image L.opens result.before result.trace.items result.volume }
+        ensures whole { L.rotates ≡ false → result.before ≡ no_calls }
     {
         let Booked {
             volume,
@@ -216,6 +181,24 @@ impl<D: Device + Drop, L: Ledger, M: Ledger> Booked<D, L, M> {
             trace,
             volume,
         }
+    }
+}
+
+impl<D: Device + Drop, L: Rotating<D>, M: Ledger> Booked<D, L, M> {
+    /// Empties the trace, and counts its calls among those before it. Refused with `TraceFull` if a count would reach 2^64.
+    pub fn rotate(&mut self, _seat: &mut Seat<L, M>) -> Result<(), Refusal>
+        ensures known { IsOfSharing D.honest D.held D.image L.limit L.opens self.old }
+        ensures rotation { IsRotation self.old result self.new }
+        ensures seat { _seat.new ≡ _seat.old }
+        ensures error { IsOkUnless result Refusal.TraceFull }
+    {
+        self.before = self
+            .before
+            .checked_add(self.inside)
+            .ok_or(Refusal::TraceFull)?;
+        self.inside = Counts::NONE;
+        self.trace.clear();
+        Ok(())
     }
 }
 

@@ -1,18 +1,23 @@
 //! What holds of a volume with its trace: laws, without code.
-ghost use Rattle.std.specs.Prelude.{◌≡◌, ℕ, Bool, List};
+ghost use Rattle.std.specs.List.{All};
+ghost use Rattle.std.specs.Prelude.{◌≡◌, ◌++◌, ℕ, Bool, false, List};
 ghost use Rattle.model.specs.View.{View};
 ghost use Rattle.machine.specs.Balance.{Balance, Exact, OwesNothing};
 ghost use Rattle.machine.specs.Command.{Reply as Response};
 ghost use Rattle.machine.specs.Step.{Run};
 ghost use Rattle.queue_model.specs.Files.{Written};
-ghost use Rattle.courses.specs.Serves.{IsBeginning, IsSafeService, Service};
+ghost use Rattle.courses.specs.Serves.{IsBeginning};
 ghost use Rattle.softdep.specs.Queued.{pending_of};
 ghost use Rattle.live_states.specs.Holdings.{Beside};
 ghost use Rattle.snapshot.specs.Alive.{Alive, disk_of, state_of};
-ghost use Rattle.snapshot.specs.Held.{HeldMore};
-ghost use Rattle.shared.specs.Traces.{AreNoted, HasOpening, asked_by};
+ghost use Rattle.snapshot.specs.Mounting.{IsMountable};
+ghost use Rattle.snapshot.specs.Cycles.{HasCycle};
+ghost use Rattle.snapshot.specs.Goes.{Goes};
+ghost use Rattle.shared.specs.Traces.{AreNoted, HasHistory, HasOpening, IsSafeTrace, asked_by};
+ghost use Rattle.shared.specs.declared.counts.Counts.{Counts};
 ghost use Rattle.shared.specs.declared.entry.Entry.{Entry};
 
+use crate::sharing::Sharing;
 use device::Device;
 
 /// A trace is a run of the machine from a state in balance, replies included, to the present one, which is in balance too.
@@ -28,16 +33,49 @@ pub fn traces_lead_to_balance<D: Device>()
     snapshot::volumes_are_in_balance::<D>();
 }
 
+/// The calls before a trace and those in it are what the volume went through from the one that was shared: as many repairs and
+/// other calls as are counted, with their replies. So each law about the calls of a volume holds of all that threads did with it.
+pub fn histories_are_calls<D: Device, L: Sharing<D>>()
+    ensures { (before : Counts) (trace : List Entry) (now : Alive D) → (h : HasHistory D.held D.image L.opens before trace now)
+        → Goes h.past.beside (D.held h.past.first.device) (D.image h.past.first.device) h.past.first (h.past.commands ++ asked_by h.opening.opening.kept.geometry trace)
+        (h.past.responses ++ h.opening.responses) h.opening.beside (D.held now.device) (D.image now.device) now }
+{
+    snapshot::calls_join::<D>();
+}
+
+/// Whatever the threads did and in whatever order: if the history has a snapshot, a check of it that is installed, and each of the
+/// check's repairs carried out, and no other snapshot from then on, the volume is exact. The maps mark exactly what is reachable,
+/// open or held, and each link count equals its entries.
+pub fn repairs_of_a_history_end_exact<D: Device, L: Sharing<D>>()
+    ensures { (before : Counts) (trace : List Entry) (now : Alive D) → (h : HasHistory D.held D.image L.opens before trace now)
+        → (cycle : HasCycle now.kept.geometry (h.past.commands ++ asked_by now.kept.geometry trace) (h.past.responses ++ h.opening.responses))
+        → OwesNothing now.kept.geometry (state_of (D.image now.device) now h.opening.beside) × Exact now.kept.geometry (state_of (D.image now.device) now h.opening.beside) }
+{
+    histories_are_calls::<D, L>();
+    snapshot::whole_cycles_end_exact::<D>();
+}
+
+/// Whatever the threads did and in whatever order, each image that the device held since the trace began is mountable: an image of
+/// this geometry that obeys the rules.
+pub fn each_image_of_a_trace_is_mountable<D: Device>()
+    ensures { (held : List (List (List ℕ))) (image : List (List ℕ)) (trace : List Entry) (now : Alive D) → (o : HasOpening held image trace now)
+        → (more : List (List (List ℕ))) × (held ≡ o.opening_held ++ more) × All (IsMountable o.opening.kept.geometry) more }
+{
+    snapshot::each_image_held_is_mountable::<D>();
+}
+
 /// Whatever the threads did and in whatever order, each image that the device held since the trace began is that of a closed
 /// cut of what was written, the cuts grow, each obeys the rules and holds in each block of a file what that very file wrote,
-/// or had at first; and a file that no stop was to lose, and of which no unlink took a name, is reachable in each.
+/// or had at first. And of a beginning that is known (`beginning`), a file that no stop was to lose, and of which no unlink among
+/// the calls of the trace took a name, is reachable in each.
 pub fn each_stop_of_a_trace_is_safe<D: Device>()
-    ensures { (held : List (List (List ℕ))) (image : List (List ℕ)) (trace : List Entry) (now : Alive D) → (o : HasOpening held image trace now)
+    ensures stops { (held : List (List (List ℕ))) (image : List (List ℕ)) (trace : List Entry) (now : Alive D) → (o : HasOpening held image trace now)
+        → (mount : View) × (h : List Written) × (cut : List Bool) × IsSafeTrace o mount h cut (λ f. false) }
+    ensures beginning { (held : List (List (List ℕ))) (image : List (List ℕ)) (trace : List Entry) (now : Alive D) → (o : HasOpening held image trace now)
         → (mount : View) (h : List Written) (cut : List Bool) (safe : ℕ → Bool)
         → IsBeginning o.opening.kept.geometry mount h cut (disk_of o.opening_image o.opening) (pending_of o.opening.queue) (state_of o.opening_image o.opening o.opening_beside) safe
-        → (later : List View) × HeldMore o.opening.kept.geometry o.opening_held held later × (safe' : ℕ → Bool)
-        × IsSafeService o.opening.kept.geometry mount h cut (disk_of o.opening_image o.opening) (pending_of o.opening.queue) (state_of o.opening_image o.opening o.opening_beside) safe
-        (disk_of image now) (pending_of now.queue) (state_of image now o.beside) safe' (asked_by o.opening.kept.geometry trace) o.responses later }
+        → IsSafeTrace o mount h cut safe }
 {
+    snapshot::volumes_begin::<D>();
     snapshot::each_stop_of_a_run_is_safe::<D>();
 }

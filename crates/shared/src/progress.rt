@@ -1,13 +1,13 @@
 //! Repairs, one after another.
-ghost use Rattle.std.specs.Prelude.{◌≡◌, ◌≢◌, ◌⊎◌, ◌+◌, ◌≤◌, Err, OnOk};
+ghost use Rattle.std.specs.Prelude.{◌≡◌, ◌≢◌, ◌⊎◌, ◌+◌, ◌≤◌, Err, IfErr, Ok, OnOk};
+ghost use Rattle.snapshot.specs.declared.answer.Answer.{Answer};
 ghost use Rattle.layout.specs.declared.refusal.Refusal.{Refusal};
-ghost use Rattle.machine.specs.Command.{RepairAt};
-ghost use Rattle.snapshot.specs.Alive.{Alive};
-ghost use Rattle.snapshot.specs.Goes.{Applies};
-ghost use Rattle.shared.specs.Repairing.{IsEnd, ended};
+ghost use Rattle.shared.specs.Calls.{IsRepairOf};
+ghost use Rattle.shared.specs.Repairing.{IsEnd, Repairs, ended};
 
 use crate::seat::Seat;
 use crate::shared::Shared;
+use crate::sharing::Sharing;
 use device::Device;
 use layout::Refusal;
 use snapshot::Command;
@@ -34,7 +34,7 @@ impl Progress {
     }
 }
 
-impl<D: Device + Drop, L: Ledger, M: Ledger> Shared<D, L, M> {
+impl<D: Device + Drop, L: Sharing<D>, M: Ledger> Shared<D, L, M> {
     /// Carries out the repairs of the check that is installed, from the next place on, by one call each, until there is none
     /// at a place, or no check is installed. One that is done already is passed over. Any other refusal ends it and is handed
     /// on, with the place that was refused as the next one.
@@ -45,19 +45,19 @@ impl<D: Device + Drop, L: Ledger, M: Ledger> Shared<D, L, M> {
         seat: &mut Seat<L, M>,
         progress: &mut Progress,
     ) -> Result<(), Refusal>
-        ensures forward { (progress.old.next ≤ progress.new.next) × (progress.old.done ≤ progress.new.done) }
-        ensures done { progress.new.done + progress.old.next ≤ progress.old.done + progress.new.next }
+        // Each place that was passed is one of a call that carried its repair out, which counts, or that found it done.
+        ensures passed { Repairs (IsRepairOf D.honest D.held D.image L.limit L.opens) progress.old.next progress.old.done progress.new.next progress.new.done }
         ensures others { seat.new.others.amount ≡ seat.old.others.amount }
         // A repair was called for each place that was passed, and for the place where it ended.
         ensures repairs { seat.new.repairs.amount + progress.old.next ≡ seat.old.repairs.amount + progress.new.next + ended result progress.new.next }
-        // Some volume had no repair at the place where it ended, or no check.
-        ensures ended { OnOk result ((4294967295 ≤ progress.new.next) ⊎ ((r : Refusal) × IsEnd r × (before : Alive D) × (after : Alive D) × (D.honest after.device
-            → Applies (D.held before.device) (D.image before.device) before (RepairAt progress.new.next) (Err r) (D.held after.device) (D.image after.device) after))) }
+        // It ended where the volume had no repair, or no check; any other refusal is the one of the next place.
+        ensures ended { OnOk result ((4294967295 ≤ progress.new.next) ⊎ ((r : Refusal) × IsEnd r × IsRepairOf D.honest D.held D.image L.limit L.opens progress.new.next (Err r))) }
+        ensures refused { IfErr result (λ r. IsRepairOf D.honest D.held D.image L.limit L.opens progress.new.next (Err r)) }
         ensures handed_on { (result ≢ Err Refusal.AlreadyDone) × (result ≢ Err Refusal.BadIndex) × (result ≢ Err Refusal.NoPlan) }
     {
         while progress.next < u32::MAX {
-            match self.call(rt, alloc, seat, Command::Repair(progress.next)) {
-                Ok(_) => {
+            match self.repair(rt, alloc, seat, progress.next) {
+                Ok(()) => {
                     progress.done += 1;
                     progress.next += 1;
                 }
@@ -66,6 +66,24 @@ impl<D: Device + Drop, L: Ledger, M: Ledger> Shared<D, L, M> {
                 Err(refusal) => return Err(refusal),
             }
         }
+        Ok(())
+    }
+
+    /// Calls the repair of a place.
+    fn repair<R: Wait>(
+        &self,
+        rt: &R,
+        alloc: Global,
+        seat: &mut Seat<L, M>,
+        place: u32,
+    ) -> Result<(), Refusal>
+        ensures carried_out { OnOk result ((answer : Answer) × IsRepairOf D.honest D.held D.image L.limit L.opens place (Ok answer)) }
+        ensures refused { IfErr result (λ r. IsRepairOf D.honest D.held D.image L.limit L.opens place (Err r)) }
+        ensures full { result ≡ Err Refusal.TraceFull → seat.new ≡ seat.old }
+        ensures repairs { result ≢ Err Refusal.TraceFull → seat.new.repairs.amount ≡ seat.old.repairs.amount + 1 }
+        ensures others { result ≢ Err Refusal.TraceFull → seat.new.others.amount ≡ seat.old.others.amount }
+    {
+        self.call(rt, alloc, seat, Command::Repair(place))?;
         Ok(())
     }
 }

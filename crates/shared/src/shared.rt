@@ -1,16 +1,15 @@
 //! The lock round the volume, how it is shared, and what is left when it is closed.
-ghost use Rattle.std.specs.Prelude.{◌≡◌, ◌≢◌, ◌↔◌, ◌+◌, ◌<◌, ℕ, List, All, Err, IfOk, IsErrOf, IsOkUnless, vec_len};
+ghost use Rattle.std.specs.Prelude.{◌≡◌, ◌≢◌, ◌↔◌, ◌+◌, ◌<◌, ◌≤◌, ℕ, List, All, Err, IfOk, IsErrOf, IsOkUnless, false, vec_len};
 ghost use Rattle.std.specs.List.{count_by, sum_by};
-ghost use Rattle.snapshot.specs.Alive.{Alive};
-ghost use Rattle.snapshot.specs.Asked.{asked};
-ghost use Rattle.snapshot.specs.Goes.{Applies};
+ghost use Rattle.shared.specs.Calls.{IsCallOf, IsFlushOf, IsRotationOf, no_calls};
 ghost use Rattle.shared.specs.Limits.{Within};
 ghost use Rattle.shared.specs.Repairing.{is_repair_entry, of_others, of_repairs};
-ghost use Rattle.shared.specs.Traces.{HasOpening};
+ghost use Rattle.shared.specs.Traces.{HasHistory};
 
 use crate::booked::{Booked, Closed};
 use crate::limits::are_within;
 use crate::seat::{Seat, seated, whole};
+use crate::sharing::{Rotating, Sharing};
 use device::Device;
 use layout::Refusal;
 use outcomes::with;
@@ -21,8 +20,9 @@ use std::sync::{Mutex, Wait};
 
 /// One volume for many threads, each with a seat.
 #[derive(Drop)]
-pub struct Shared<D: Device, L: Ledger, M: Ledger> {
+pub struct Shared<D: Device, L: Sharing<D>, M: Ledger> {
     booked: Mutex<Booked<D, L, M>>,
+    pub ghost room: { 1 ≤ L.limit },
 }
 
 /// The books in which calls are counted, and the seats whose calls they are.
@@ -64,8 +64,8 @@ fn open_books<L: Ledger, M: Ledger>(
     })
 }
 
-impl<D: Device + Drop, L: Ledger, M: Ledger> Shared<D, L, M> {
-    /// Shares a volume among so many seats, none of which was used. The trace is empty, and has room for `limit` calls.
+impl<D: Device + Drop, L: Sharing<D>, M: Ledger> Shared<D, L, M> {
+    /// Shares this volume among so many seats, none of which was used. The trace is empty, and has room for `limit` calls.
     /// Refused with `BadIndex` unless there is room for 1 to 1,000,000 calls and there are 1 to 64 seats, and with
     /// `NoMemory`.
     pub fn new(
@@ -79,6 +79,7 @@ impl<D: Device + Drop, L: Ledger, M: Ledger> Shared<D, L, M> {
         requires name { (repairs.name ≡ L.name) × (others.name ≡ M.name) }
         requires parts { (repairs.parts ≡ L.parts) × (others.parts ≡ M.parts) }
         requires seats { (repairs.parts ≡ seats) × (others.parts ≡ seats) }
+        requires sharing { (limit ≡ L.limit) × L.opens volume }
         ensures seats { IfOk result (λ made. (vec_len made.1 ≡ L.parts) × (vec_len made.1 ≡ M.parts)) }
         ensures unused { IfOk result (λ made. All (λ seat. (seat.repairs.amount ≡ 0) × (seat.others.amount ≡ 0)) made.1.items) }
         ensures bad_index { IsErrOf result Refusal.BadIndex ↔ (Within limit seats → ⊥) }
@@ -109,9 +110,8 @@ impl<D: Device + Drop, L: Ledger, M: Ledger> Shared<D, L, M> {
         ensures full { result ≡ Err Refusal.TraceFull → seat.new ≡ seat.old }
         ensures repairs { result ≢ Err Refusal.TraceFull → seat.new.repairs.amount ≡ seat.old.repairs.amount + of_repairs command }
         ensures others { result ≢ Err Refusal.TraceFull → seat.new.others.amount ≡ seat.old.others.amount + of_others command }
-        // The reply is one that some volume gives. That it is what was locked, no contract can say.
-        ensures possible { result ≢ Err Refusal.TraceFull → (before : Alive D) × (after : Alive D) × (D.honest after.device
-            → Applies (D.held before.device) (D.image before.device) before (asked before.kept.geometry command) result (D.held after.device) (D.image after.device) after) }
+        // It was called under the lock, of a volume of this sharing. No clause can name which one.
+        ensures called { IsCallOf D.honest D.held D.image L.limit L.opens command result }
     {
         self.booked.lock(rt).call(alloc, seat, command)
     }
@@ -121,29 +121,34 @@ impl<D: Device + Drop, L: Ledger, M: Ledger> Shared<D, L, M> {
         ensures full { result ≡ Err Refusal.TraceFull → seat.new ≡ seat.old }
         ensures repairs { seat.new.repairs.amount ≡ seat.old.repairs.amount }
         ensures others { result ≢ Err Refusal.TraceFull → seat.new.others.amount ≡ seat.old.others.amount + 1 }
+        ensures called { IsFlushOf D.honest D.held D.image L.limit L.opens result }
     {
         self.booked.lock(rt).flush_some(alloc, seat)
     }
 
-    /// Waits for the lock, and makes one call of `Booked::rotate` on what is locked.
-    pub fn rotate<R: Wait>(&self, rt: &R, seat: &mut Seat<L, M>) -> Result<(), Refusal>
-        ensures seat { seat.new ≡ seat.old }
-        ensures error { IsOkUnless result Refusal.TraceFull }
-    {
-        self.booked.lock(rt).rotate(seat)
-    }
-
     /// The volume with its trace, once all seats are given back: together they were used for the calls before the trace and
-    /// those in it.
+    /// those in it, which led to the volume from the one that was shared. If the trace was never to be emptied, it has them all.
     pub fn close(self, seats: Vec<Seat<L, M>>) -> Closed<D>
         requires all { (vec_len seats ≡ L.parts) × (vec_len seats ≡ M.parts) }
         requires some { 0 < L.parts }
-        ensures run { D.honest result.volume.device → HasOpening (D.held result.volume.device) (D.image result.volume.device) result.trace.items result.volume }
+        ensures history { D.honest result.volume.device → HasHistory D.held D.image L.opens result.before result.trace.items result.volume }
+        ensures whole { L.rotates ≡ false → result.before ≡ no_calls }
         ensures repairs { sum_by (λ seat. seat.repairs.amount) seats.items ≡ result.before.repairs + count_by is_repair_entry result.trace.items }
         ensures others { sum_by (λ seat. seat.others.amount) seats.items + count_by is_repair_entry result.trace.items ≡ result.before.others + vec_len result.trace }
     {
         let Shared { booked } = self;
         let (repairs, others) = whole(seats);
         booked.into_inner().close(repairs, others)
+    }
+}
+
+impl<D: Device + Drop, L: Rotating<D>, M: Ledger> Shared<D, L, M> {
+    /// Waits for the lock, and makes one call of `Booked::rotate` on what is locked.
+    pub fn rotate<R: Wait>(&self, rt: &R, seat: &mut Seat<L, M>) -> Result<(), Refusal>
+        ensures seat { seat.new ≡ seat.old }
+        ensures error { IsOkUnless result Refusal.TraceFull }
+        ensures called { IsRotationOf D.honest D.held D.image L.limit L.opens result }
+    {
+        self.booked.lock(rt).rotate(seat)
     }
 }

@@ -10,8 +10,8 @@ use findings::Finding;
 use images::{FILE_WITH_TWO_LINKS, FRESH, LOST_BLOCK, LOST_DIRECTORY};
 use layout::Refusal;
 use meeting::{Met, check_beside_a_user};
-use shared::{Counts, Entry, MOST_CALLS, MOST_SEATS, Shared};
-use snapshot::{Answer, Command, Reply};
+use shared::{Counts, Entry, MOST_CALLS, MOST_SEATS, Shared, Sharing};
+use snapshot::{Answer, Command, Reply, Volume};
 use stage::{Outcome, Step, carry_out};
 use std::alloc::Global;
 use std::marker::Brand;
@@ -392,8 +392,10 @@ fn users_go_on_while_two_workers_check(rt: HostRuntime) -> Result<(), Fail> {
 
 /// Whether a volume is shared by so many, with room for so many calls.
 fn may_share(alloc: Global, limit: u32, seats: u32) -> Result<bool, Refusal> {
+    let volume = mounted(alloc, 1, 16, FRESH)?;
     may_share_on::<Brand, Brand>(
         alloc,
+        volume,
         limit,
         seats,
         Blank::new(u64::from(seats)),
@@ -402,8 +404,9 @@ fn may_share(alloc: Global, limit: u32, seats: u32) -> Result<bool, Refusal> {
 }
 
 /// The same with the ledgers of these blanks.
-fn may_share_on<L: Ledger, M: Ledger>(
+fn may_share_on<L: Sharing<MemDevice>, M: Ledger>(
     alloc: Global,
+    volume: Volume<MemDevice>,
     limit: u32,
     seats: u32,
     repairs: Blank,
@@ -412,8 +415,8 @@ fn may_share_on<L: Ledger, M: Ledger>(
     requires name { (repairs.name ≡ L.name) × (others.name ≡ M.name) }
     requires parts { (repairs.parts ≡ L.parts) × (others.parts ≡ M.parts) }
     requires seats { (repairs.parts ≡ seats) × (others.parts ≡ seats) }
+    requires sharing { (L.limit ≡ limit) × L.opens volume }
 {
-    let volume = mounted(alloc, 1, 16, FRESH)?;
     match Shared::<MemDevice, L, M>::new(alloc, volume, limit, seats, repairs, others) {
         Ok((_shared, made)) => Ok(made.len() == seats as usize),
         Err(Refusal::BadIndex) => Ok(false),

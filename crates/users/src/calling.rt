@@ -2,7 +2,7 @@
 use crate::copies::copy_of;
 use device::Device;
 use layout::Refusal;
-use shared::{Seat, Shared};
+use shared::{Rotating, Seat, Shared};
 use snapshot::{Command, Reply};
 use std::alloc::Global;
 use std::sync::Wait;
@@ -10,7 +10,7 @@ use std::sync::ledger::Ledger;
 
 /// Makes a call. Where the trace is full it is emptied, and the call is made again, as often as that happens; where it
 /// cannot be emptied, that is the reply.
-pub fn call<D: Device + Drop, L: Ledger, M: Ledger, R: Wait>(
+pub fn call<D: Device + Drop, L: Rotating<D>, M: Ledger, R: Wait>(
     rt: &R,
     alloc: Global,
     shared: &Shared<D, L, M>,

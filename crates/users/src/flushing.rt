@@ -1,7 +1,7 @@
 //! The thread that flushes.
 use device::Device;
 use layout::Refusal;
-use shared::{Seat, Shared};
+use shared::{Rotating, Seat, Shared};
 use std::alloc::Global;
 use std::sync::Wait;
 use std::sync::atomic::{AtomicU64, Ordering};
@@ -9,7 +9,7 @@ use std::sync::ledger::Ledger;
 use std::thread::yield_now;
 
 /// Flushes what may go to the device, until so many others have ended.
-pub fn flush_until<D: Device + Drop, L: Ledger, M: Ledger, R: Wait>(
+pub fn flush_until<D: Device + Drop, L: Rotating<D>, M: Ledger, R: Wait>(
     rt: &R,
     alloc: Global,
     shared: &Shared<D, L, M>,

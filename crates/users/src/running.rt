@@ -7,7 +7,7 @@ use crate::lines::{Answered, carry_out};
 use device::Device;
 use layout::Refusal;
 use outcomes::with;
-use shared::{Seat, Shared};
+use shared::{Rotating, Seat, Shared};
 use snapshot::{Command, Volume};
 use std::alloc::{AllocError, Global};
 use std::collections::BTreeMap;
@@ -142,7 +142,7 @@ fn by_user(alloc: Global, script: Vec<UserLine>) -> Result<Vec<Vec<UserLine>>, A
 /// Runs all threads, with the ledgers of these blanks.
 fn run_on<
     D: Device + Drop + Send,
-    L: Ledger + Send + Sync,
+    L: Rotating<D> + Send + Sync,
     M: Ledger + Send + Sync,
     R: Threads + Wait + Sync,
 >(
@@ -158,6 +158,7 @@ fn run_on<
     requires name { (repairs.name ≡ L.name) × (others.name ≡ M.name) }
     requires parts { (repairs.parts ≡ L.parts) × (others.parts ≡ M.parts) }
     requires seats { (repairs.parts ≡ seats) × (others.parts ≡ seats) }
+    requires sharing { (L.limit ≡ 100000) × L.opens volume }
     requires users { vec_len users + 2 ≡ seats }
 {
     let (shared, seats) = Shared::<D, L, M>::new(
@@ -176,7 +177,7 @@ fn run_on<
 /// Runs all threads on a shared volume, and gives the seats back with what they tell.
 fn work_on<
     D: Device + Drop + Send,
-    L: Ledger + Send + Sync,
+    L: Rotating<D> + Send + Sync,
     M: Ledger + Send + Sync,
     R: Threads + Wait + Sync,
 >(
@@ -246,7 +247,7 @@ const OTHERS: u64 = 2;
 /// Runs the threads of the users, the one that checks and the one that flushes.
 fn work_all<
     D: Device + Drop + Send,
-    L: Ledger + Send + Sync,
+    L: Rotating<D> + Send + Sync,
     M: Ledger + Send + Sync,
     R: Threads + Wait + Sync,
 >(
@@ -292,7 +293,7 @@ fn work_all<
 /// Carries out the lines of each user in a thread of its own.
 fn carry_out_all<
     D: Device + Drop + Send,
-    L: Ledger + Send + Sync,
+    L: Rotating<D> + Send + Sync,
     M: Ledger + Send + Sync,
     R: Threads + Wait + Sync,
 >(

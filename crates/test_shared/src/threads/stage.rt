@@ -6,7 +6,7 @@ use findings::Finding;
 use fsck::{Checked, check_one};
 use layout::Refusal;
 use outcomes::with;
-use shared::{Closed, Progress, Seat, Shared};
+use shared::{Closed, Progress, Rotating, Seat, Shared, Sharing};
 use snapshot::{Answer, Command, Reply, Volume};
 use std::alloc::{AllocError, Global};
 use std::marker::Brand;
@@ -78,7 +78,11 @@ pub fn carry_out<R: Threads + Wait + Sync>(
 }
 
 /// The same with the ledgers of these blanks.
-fn carry_out_on<L: Ledger + Send + Sync, M: Ledger + Send + Sync, R: Threads + Wait + Sync>(
+fn carry_out_on<
+    L: Rotating<MemDevice> + Send + Sync,
+    M: Ledger + Send + Sync,
+    R: Threads + Wait + Sync,
+>(
     rt: &R,
     alloc: Global,
     volume: Volume<MemDevice>,
@@ -90,6 +94,7 @@ fn carry_out_on<L: Ledger + Send + Sync, M: Ledger + Send + Sync, R: Threads + W
     requires name { (repairs.name ≡ L.name) × (others.name ≡ M.name) }
     requires parts { (repairs.parts ≡ L.parts) × (others.parts ≡ M.parts) }
     requires two { (repairs.parts ≡ 2) × (others.parts ≡ 2) }
+    requires sharing { (L.limit ≡ limit) × L.opens volume }
 {
     let (shared, seats) = Shared::<MemDevice, L, M>::new(alloc, volume, limit, 2, repairs, others)?;
     let done = do_all(rt, alloc, &shared, seats, steps);
@@ -132,7 +137,7 @@ struct Done<L: Ledger, M: Ledger> {
 }
 
 /// Carries out the steps.
-fn do_all<L: Ledger + Send + Sync, M: Ledger + Send + Sync, R: Threads + Wait + Sync>(
+fn do_all<L: Rotating<MemDevice> + Send + Sync, M: Ledger + Send + Sync, R: Threads + Wait + Sync>(
     rt: &R,
     alloc: Global,
     shared: &Shared<MemDevice, L, M>,
@@ -154,7 +159,7 @@ fn do_all<L: Ledger + Send + Sync, M: Ledger + Send + Sync, R: Threads + Wait + 
 }
 
 /// Carries out the steps, and adds to what was answered.
-fn do_each<L: Ledger + Send + Sync, M: Ledger + Send + Sync, R: Threads + Wait + Sync>(
+fn do_each<L: Rotating<MemDevice> + Send + Sync, M: Ledger + Send + Sync, R: Threads + Wait + Sync>(
     rt: &R,
     alloc: Global,
     shared: &Shared<MemDevice, L, M>,
@@ -171,7 +176,7 @@ fn do_each<L: Ledger + Send + Sync, M: Ledger + Send + Sync, R: Threads + Wait +
 }
 
 /// Carries out a step, and adds to what was answered.
-fn do_step<L: Ledger + Send + Sync, M: Ledger + Send + Sync, R: Threads + Wait + Sync>(
+fn do_step<L: Rotating<MemDevice> + Send + Sync, M: Ledger + Send + Sync, R: Threads + Wait + Sync>(
     rt: &R,
     alloc: Global,
     shared: &Shared<MemDevice, L, M>,
@@ -202,7 +207,7 @@ fn found(told: &mut Told, checked: Result<(Vec<Finding>, Reply), Refusal>) -> Re
 }
 
 /// Empties the trace.
-fn rotate<L: Ledger, M: Ledger, R: Wait>(
+fn rotate<L: Rotating<MemDevice>, M: Ledger, R: Wait>(
     rt: &R,
     shared: &Shared<MemDevice, L, M>,
     seats: Seats<L, M>,
@@ -213,7 +218,7 @@ fn rotate<L: Ledger, M: Ledger, R: Wait>(
 }
 
 /// Makes a call in a thread of its own.
-fn ask<L: Ledger + Send + Sync, M: Ledger + Send + Sync, R: Threads + Wait + Sync>(
+fn ask<L: Sharing<MemDevice> + Send + Sync, M: Ledger + Send + Sync, R: Threads + Wait + Sync>(
     rt: &R,
     alloc: Global,
     shared: &Shared<MemDevice, L, M>,
@@ -233,7 +238,11 @@ fn noted(told: &mut Told, reply: Reply) -> Result<(), Refusal> {
 }
 
 /// Makes a call in a thread of its own.
-fn call_apart<L: Ledger + Send + Sync, M: Ledger + Send + Sync, R: Threads + Wait + Sync>(
+fn call_apart<
+    L: Sharing<MemDevice> + Send + Sync,
+    M: Ledger + Send + Sync,
+    R: Threads + Wait + Sync,
+>(
     rt: &R,
     alloc: Global,
     shared: &Shared<MemDevice, L, M>,
@@ -260,7 +269,7 @@ fn call_apart<L: Ledger + Send + Sync, M: Ledger + Send + Sync, R: Threads + Wai
 }
 
 /// Freezes the volume, checks the snapshot, and installs the check.
-fn check<L: Ledger + Send + Sync, M: Ledger + Send + Sync, R: Threads + Wait + Sync>(
+fn check<L: Sharing<MemDevice> + Send + Sync, M: Ledger + Send + Sync, R: Threads + Wait + Sync>(
     rt: &R,
     alloc: Global,
     shared: &Shared<MemDevice, L, M>,
@@ -293,7 +302,7 @@ fn checked<R: Threads + Sync>(
 }
 
 /// Two threads make these calls.
-fn at_once<L: Ledger + Send + Sync, M: Ledger + Send + Sync, R: Threads + Wait + Sync>(
+fn at_once<L: Sharing<MemDevice> + Send + Sync, M: Ledger + Send + Sync, R: Threads + Wait + Sync>(
     rt: &R,
     alloc: Global,
     shared: &Shared<MemDevice, L, M>,
@@ -324,7 +333,7 @@ fn all_noted(told: &mut Told, first: Vec<Reply>, second: Vec<Reply>) -> Result<(
 }
 
 /// Makes these calls from this seat, in order, and gives the replies.
-fn calls<L: Ledger, M: Ledger, R: Wait>(
+fn calls<L: Sharing<MemDevice>, M: Ledger, R: Wait>(
     rt: &R,
     alloc: Global,
     shared: &Shared<MemDevice, L, M>,
@@ -336,7 +345,7 @@ fn calls<L: Ledger, M: Ledger, R: Wait>(
 }
 
 /// Makes these calls from this seat, in order.
-fn replies_to<L: Ledger, M: Ledger, R: Wait>(
+fn replies_to<L: Sharing<MemDevice>, M: Ledger, R: Wait>(
     rt: &R,
     alloc: Global,
     shared: &Shared<MemDevice, L, M>,
@@ -352,7 +361,11 @@ fn replies_to<L: Ledger, M: Ledger, R: Wait>(
 }
 
 /// Two threads carry out all repairs.
-fn repair_at_once<L: Ledger + Send + Sync, M: Ledger + Send + Sync, R: Threads + Wait + Sync>(
+fn repair_at_once<
+    L: Sharing<MemDevice> + Send + Sync,
+    M: Ledger + Send + Sync,
+    R: Threads + Wait + Sync,
+>(
     rt: &R,
     alloc: Global,
     shared: &Shared<MemDevice, L, M>,
@@ -376,7 +389,7 @@ fn repair_at_once<L: Ledger + Send + Sync, M: Ledger + Send + Sync, R: Threads +
 }
 
 /// Carries out all repairs from this seat.
-fn repairs<L: Ledger, M: Ledger, R: Wait>(
+fn repairs<L: Sharing<MemDevice>, M: Ledger, R: Wait>(
     rt: &R,
     alloc: Global,
     shared: &Shared<MemDevice, L, M>,

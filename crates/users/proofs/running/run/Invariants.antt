@@ -1,3 +1,4 @@
+use Rattle.std.proofs.Common.{◌≡◌, refl, true}
 use Rattle.users.proofs.running.run.Given as goal
 
 abbrev pub ghosts-run_on-L-Ledger : goal.ghosts-run_on-L-Ledger
@@ -5,3 +6,9 @@ ghosts-run_on-L-Ledger g a = record { name = a.repairs.name; parts = a.repairs.p
 
 abbrev pub ghosts-run_on-M-Ledger : goal.ghosts-run_on-M-Ledger
 ghosts-run_on-M-Ledger g a = record { name = a.others.name; parts = a.others.parts }
+
+abbrev pub ghosts-run_on-L-Sharing : goal.ghosts-run_on-L-Sharing
+ghosts-run_on-L-Sharing g a = record { limit = 100000; rotates = true; opens = λ volume. volume ≡ a.volume }
+
+abbrev pub ghosts-run_on-L-Rotating : goal.ghosts-run_on-L-Rotating
+ghosts-run_on-L-Rotating g a = record { may = refl }

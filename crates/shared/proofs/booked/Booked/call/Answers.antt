@@ -1,10 +1,12 @@
-use Rattle.std.proofs.Common.{rules, ◌≡◌, ◌++◌, ◌∷◌, [], sym, ◌∙◌, ap, ◌+◌, cond}
+use Rattle.std.proofs.Common.{rules, subst, refl, ◌≡◌, ◌++◌, ◌∷◌, [], sym, ◌∙◌, ap, ◌+◌, cond}
 use Rattle.std.specs.List.{count_by}
 use Rattle.std.proofs.lemmas.List.Sums.{sum_by_push}
 use Rattle.snapshot.specs.Asked.{asked}
 use Rattle.shared.specs.declared.entry.Entry.{Entry}
+use Rattle.shared.specs.Calls.{IsOfSharing}
 use Rattle.shared.specs.Repairing.{is_repair_entry}
-use Rattle.shared.proofs.TraceLemmas.{answer_so, applied_so, caused_so, never_full, noted_on, untouched_so}
+use Rattle.shared.specs.Shown.{Shown}
+use Rattle.shared.proofs.TraceLemmas.{answer_so, applied_so, called, caused_so, never_full, untouched_so, writes_so}
 use Rattle.shared.proofs.booked.Booked.call.Goals as goal
 
 pub invariant_of-self : goal.invariant_of-self
@@ -24,36 +26,50 @@ invariant_of-self g c =
       search rules,
       search rules,
       search rules,
-      λ h. rw items (noted_on (held old.device) (held new.device) (image old.device) (image new.device) b.trace.items old new c.args.command c.with_note-reply.result.0 c.with_note-reply.result.1
+      λ h. rw items (called held image g.L.Sharing.opens b.before b.trace.items old new c.args.command c.with_note-reply.result.0 c.with_note-reply.result.1
           (c.self.invariant.6 (c.apply-reply.ensures.honest h))
           (applied_so (held old.device) (held new.device) (image old.device) (image new.device) old new (asked old.kept.geometry c.args.command) c.apply-reply.result c.with_note-reply.result.0 c.with_note-reply.ensures.same (c.apply-reply.ensures.applied h))
           c.with_note-reply.ensures.noted),
+      search rules,
+      search rules,
     )
 
-pub returns-clause-full : goal.returns-clause-full
-returns-clause-full g c =
-    (λ full. absurd (never_full c.apply-reply.result c.with_note-reply.result.0 c.apply-reply.ensures.no_trace c.with_note-reply.ensures.same full), λ full. absurd (search rules))
-
-pub returns-clause-unchanged : goal.returns-clause-unchanged
-returns-clause-unchanged g c = λ full. absurd (never_full c.apply-reply.result c.with_note-reply.result.0 c.apply-reply.ensures.no_trace c.with_note-reply.ensures.same full)
-
-pub returns-clause-applied : goal.returns-clause-applied
-returns-clause-applied g c =
+pub returns-clause-call : goal.returns-clause-call
+returns-clause-call g c =
+    let honest = g.D.Device.honest in
     let held = g.D.Device.held in
     let image = g.D.Device.image in
     let old = c.self.inside.volume in
     let new = c.apply-reply.new.self in
-    rw (← c.self.view_is) (λ _ h. applied_so (held old.device) (held new.device) (image old.device) (image new.device) old new (asked old.kept.geometry c.args.command) c.apply-reply.result c.with_note-reply.result.0
-    c.with_note-reply.ensures.same (c.apply-reply.ensures.applied h))
+    let reply = c.apply-reply.result in
+    let answer = c.with_note-reply.result.0 in
+    let same = c.with_note-reply.ensures.same in
+    let not_full = never_full reply answer c.apply-reply.ensures.no_trace same in
+    rw (← c.self.view_is) (record {
+      full = (λ full. absurd (not_full full), λ full. absurd (search rules));
+      unchanged = λ full. absurd (not_full full);
+      applied = λ _ h. applied_so (held old.device) (held new.device) (image old.device) (image new.device) old new (asked old.kept.geometry c.args.command) reply answer same (c.apply-reply.ensures.applied h);
+      writes = λ _. writes_so honest held image old new c.args.command reply answer same c.apply-reply.ensures.writes;
+      entry = search rules;
+      untouched = untouched_so reply answer c.apply-reply.ensures.untouched c.apply-reply.ensures.reading same;
+      flushed = λ a is h. answer_so _ reply answer (c.apply-reply.ensures.flushed a is h) same;
+      before = refl;
+      limit = refl;
+    })
 
-pub returns-clause-untouched : goal.returns-clause-untouched
-returns-clause-untouched g c =
-    rw (← c.self.view_is) (untouched_so c.apply-reply.result c.with_note-reply.result.0 c.apply-reply.ensures.untouched c.apply-reply.ensures.reading c.with_note-reply.ensures.same)
+pub returns-clause-unchanged : goal.returns-clause-unchanged
+returns-clause-unchanged g c = λ full. absurd (never_full c.apply-reply.result c.with_note-reply.result.0 c.apply-reply.ensures.no_trace c.with_note-reply.ensures.same full)
 
 pub returns-clause-cause : goal.returns-clause-cause
 returns-clause-cause g c =
     rw (← c.self.view_is) (caused_so c.apply-reply.result c.with_note-reply.result.0 c.apply-reply.ensures.cause c.with_note-reply.ensures.same)
 
-pub returns-clause-flushed : goal.returns-clause-flushed
-returns-clause-flushed g c =
-    rw (← c.self.view_is) (λ a is h. answer_so _ c.apply-reply.result c.with_note-reply.result.0 (c.apply-reply.ensures.flushed a is h) c.with_note-reply.ensures.same)
+pub returns-clause-known : goal.returns-clause-known
+returns-clause-known g c =
+    subst (λ (b : Shown _). IsOfSharing g.D.Device.honest g.D.Device.held g.D.Device.image g.L.Sharing.limit g.L.Sharing.opens b) c.self.view_is
+    (record { limit_is = c.self.invariant.7; short = search rules; history = c.self.invariant.6 })
+
+pub returns-then-len-self-clause-known : goal.returns-then-len-self-clause-known
+returns-then-len-self-clause-known g c =
+    subst (λ (b : Shown _). IsOfSharing g.D.Device.honest g.D.Device.held g.D.Device.image g.L.Sharing.limit g.L.Sharing.opens b) c.self.view_is
+    (record { limit_is = c.self.invariant.7; short = search rules; history = c.self.invariant.6 })

@@ -1,6 +1,6 @@
-use Rattle.std.proofs.Common.{◌≡◌, [], refl, rules}
+use Rattle.std.proofs.Common.{◌≡◌, [], refl, rules, subst, sym}
 use Rattle.std.proofs.lemmas.Result.{IfOk-at_ok, err_from_is_err_and}
-use Rattle.shared.proofs.TraceLemmas.{begins}
+use Rattle.shared.proofs.TraceLemmas.{opened}
 use Rattle.shared.proofs.booked.Booked.new.Goals as goal
 
 pub returns-in_err-trace-clause-error : goal.returns-in_err-trace-clause-error
@@ -11,6 +11,7 @@ returns-in_err-trace-clause-error g c =
 pub invariant_of-result : goal.invariant_of-result
 invariant_of-result g c =
     let volume = c.in_ok-trace.volume in
+    let same : volume ≡ c.args.volume = search rules in
     let items : c.in_ok-trace.trace.items ≡ [] = IfOk-at_ok (λ trace. trace.items ≡ []) c.in_ok-trace.ensures.ok.0 c.with_capacity.ensures.items in (
       search rules,
       search rules,
@@ -18,5 +19,7 @@ invariant_of-result g c =
       search rules,
       search rules,
       search rules,
-      λ h. rw items (begins (g.D.Device.held volume.device) (g.D.Device.image volume.device) volume (c.live.ensures.balance h)),
+      λ h. rw items (opened g.D.Device.held g.D.Device.image g.L.Sharing.opens volume (subst g.L.Sharing.opens (sym same) c.requires.opens) (c.live.ensures.balance h)),
+      search rules,
+      search rules,
     )

@@ -1,5 +1,7 @@
-use Rattle.std.proofs.Common.{rules}
-use Rattle.shared.proofs.TraceLemmas.{dropped}
+use Rattle.std.proofs.Common.{rules, ◌≡◌, ◌∙◌, subst, sym, true, false}
+use Rattle.shared.specs.Calls.{IsOfSharing}
+use Rattle.shared.specs.Shown.{Shown}
+use Rattle.shared.proofs.TraceLemmas.{rotated}
 use Rattle.shared.proofs.booked.Booked.rotate.Goals as goal
 
 pub invariant_of-self : goal.invariant_of-self
@@ -11,5 +13,17 @@ invariant_of-self g c =
       search rules,
       search rules,
       search rules,
-      λ h. rw c.clear.ensures.items (dropped (g.D.Device.held b.volume.device) (g.D.Device.image b.volume.device) b.trace.items b.volume (c.self.invariant.6 h)),
+      λ h. rw c.clear.ensures.items (rotated g.D.Device.held g.D.Device.image g.L.Sharing.opens b.before _ b.trace.items b.volume (c.self.invariant.6 h) (search rules) (search rules)),
+      search rules,
+      λ none. absurd (let bad : true ≡ false = sym g.met.L.Rotating.may ∙ none in cc),
     )
+
+pub returns-clause-known : goal.returns-clause-known
+returns-clause-known g c =
+    subst (λ (b : Shown _). IsOfSharing g.D.Device.honest g.D.Device.held g.D.Device.image g.L.Sharing.limit g.L.Sharing.opens b) c.self.view_is
+    (record { limit_is = c.self.invariant.7; short = search rules; history = c.self.invariant.6 })
+
+pub returns-in_err-self-inside-clause-known : goal.returns-in_err-self-inside-clause-known
+returns-in_err-self-inside-clause-known g c =
+    subst (λ (b : Shown _). IsOfSharing g.D.Device.honest g.D.Device.held g.D.Device.image g.L.Sharing.limit g.L.Sharing.opens b) c.self.view_is
+    (record { limit_is = c.self.invariant.7; short = search rules; history = c.self.invariant.6 })

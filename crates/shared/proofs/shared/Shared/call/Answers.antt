@@ -1,4 +1,10 @@
 use Rattle.shared.proofs.shared.Shared.call.Goals as goal
 
-pub returns-clause-possible : goal.returns-clause-possible
-returns-clause-possible g c = λ e. (c.deref_mut.result.now.volume, c.call.new.self.volume, c.call.ensures.applied e)
+pub returns-clause-called : goal.returns-clause-called
+returns-clause-called g c = record {
+  some = c.args.self.now.room;
+  old = c.deref_mut.result.now;
+  new = c.call.new.self;
+  shared = c.call.ensures.known;
+  call = c.call.ensures.call;
+}

@@ -1,10 +1,12 @@
 use Rattle.std.proofs.Common.{◌-◌, ◌≡◌, ◌+◌, ◌≤◌}
+use Rattle.shared.specs.Calls.{IsRepairOf}
+use Rattle.shared.specs.Repairing.{Repairs}
 use Rattle.shared.proofs.shared.Shared.repair_all.Given as goal
 
 abbrev pub invariant-loop-progress : goal.invariant-loop-progress
 invariant-loop-progress g l =
-    (l.fn.progress.next ≤ l.progress.next) × (l.fn.progress.done ≤ l.progress.done)
-    × (l.progress.done + l.fn.progress.next ≤ l.fn.progress.done + l.progress.next)
+    Repairs (IsRepairOf g.D.Device.honest g.D.Device.held g.D.Device.image g.L.Sharing.limit g.L.Sharing.opens) l.fn.progress.next l.fn.progress.done l.progress.next l.progress.done
+    × (l.fn.progress.next ≤ l.progress.next)
     × (l.seat.others.amount ≡ l.fn.seat.others.amount)
     × (l.seat.repairs.amount + l.fn.progress.next ≡ l.fn.seat.repairs.amount + l.progress.next)
 
