@@ -1,0 +1,57 @@
+//! The three promises.
+ghost use Rattle.std.specs.Prelude.{◌≡◌, ◌++◌, ℕ, List};
+ghost use Rattle.std.specs.List.{All};
+ghost use Rattle.findings.specs.Findings.{AreFindings};
+ghost use Rattle.findings.specs.Report.{repairs_of, report_of};
+ghost use Rattle.findings.specs.declared.finding.Finding.{Finding};
+ghost use Rattle.fsck.specs.Checked.{CheckedImage, IsChecked};
+ghost use Rattle.machine.specs.Balance.{Exact, OwesNothing};
+ghost use Rattle.machine.specs.Command.{Command, Reply};
+ghost use Rattle.model.specs.Layout.{Geometry};
+ghost use Rattle.model.specs.View.{View};
+ghost use Rattle.live_states.specs.Holdings.{Beside};
+ghost use Rattle.snapshot.specs.Alive.{Alive, state_of};
+ghost use Rattle.snapshot.specs.Cycles.{HasCycle};
+ghost use Rattle.snapshot.specs.Goes.{Goes, IsBeside};
+ghost use Rattle.shared.specs.Traces.{HasHistory, asked_by};
+ghost use Rattle.shared.specs.declared.counts.Counts.{Counts};
+ghost use Rattle.shared.specs.declared.entry.Entry.{Entry};
+ghost use Rattle.promises.specs.Leaky.{IsOnlyLeaky};
+
+use device::Device;
+use shared::Sharing;
+
+/// The check is right: what a checked image found is the one list of findings that the definition gives for the image, whatever
+/// workers looked for it, and its report and its repairs are those of this list.
+pub fn the_check_is_right()
+    ensures { (geo : Geometry) (view : View) (checked : CheckedImage) (findings : List Finding) → IsChecked geo view checked → AreFindings geo view findings
+        → (checked.findings ≡ findings) × (checked.report ≡ report_of findings) × (checked.repairs ≡ repairs_of findings) }
+{
+    findings::findings_are_unique();
+}
+
+/// Every image that the device held is only leaky, whatever calls were made and wherever they stopped: it can be mounted, a
+/// check finds only what repairs give back, and they leave an exact volume.
+pub fn every_stop_is_only_leaky<D: Device>()
+    ensures { (beside beside' : Beside) (held held' : List (List (List ℕ))) (image image' : List (List ℕ)) (old new : Alive D) (commands : List Command) (replies : List Reply)
+        → IsBeside image old beside → Goes beside held image old commands replies beside' held' image' new
+        → (more : List (List (List ℕ))) × (held' ≡ held ++ more) × All (IsOnlyLeaky old.kept.geometry) more }
+{
+    snapshot::each_image_held_is_mountable::<D>();
+    findings::rules_hold_where_findings_are_soft();
+    machine::checks_carried_out_end_exact();
+}
+
+/// Repairs that are carried out leave an exact volume, under one thread (`alone`) and under many (`shared`), whatever else was
+/// done: the maps mark exactly what is reachable, open or held for a snapshot, and each link count equals its entries.
+pub fn repairs_end_exact<D: Device, L: Sharing<D>>()
+    ensures alone { (beside beside' : Beside) (held held' : List (List (List ℕ))) (image image' : List (List ℕ)) (old new : Alive D) (commands : List Command) (replies : List Reply)
+        → IsBeside image old beside → Goes beside held image old commands replies beside' held' image' new → HasCycle old.kept.geometry commands replies
+        → OwesNothing old.kept.geometry (state_of image' new beside') × Exact old.kept.geometry (state_of image' new beside') }
+    ensures shared { (before : Counts) (trace : List Entry) (now : Alive D) → (h : HasHistory D.held D.image L.opens before trace now)
+        → HasCycle now.kept.geometry (h.past.commands ++ asked_by now.kept.geometry trace) (h.past.responses ++ h.opening.responses)
+        → OwesNothing now.kept.geometry (state_of (D.image now.device) now h.opening.beside) × Exact now.kept.geometry (state_of (D.image now.device) now h.opening.beside) }
+{
+    snapshot::whole_cycles_end_exact::<D>();
+    shared::repairs_of_a_history_end_exact::<D, L>();
+}
