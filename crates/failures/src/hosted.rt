@@ -76,7 +76,7 @@ impl Reason {
             io::ErrorKind::ReadOnlyFilesystem => Reason::ReadOnly,
             io::ErrorKind::StorageFull | io::ErrorKind::QuotaExceeded => Reason::NoSpace,
             io::ErrorKind::InvalidFilename => Reason::LongName,
-            io::ErrorKind::FilesystemLoop => Reason::ManyLinks,
+            io::ErrorKind::FilesystemLoop => Reason::LinkLoop,
             io::ErrorKind::InvalidInput => Reason::BadArgument,
             io::ErrorKind::ResourceBusy | io::ErrorKind::ExecutableFileBusy => Reason::Busy,
             _ => Reason::HostRefused,
