@@ -37,7 +37,7 @@ impl Used {
 }
 
 /// Carries out so many rounds of the user of this number, whose file is its own.
-pub fn use_volume<L: Rotating<MemDevice>, M: Ledger, R: Wait + Clock>(
+pub fn use_volume<L: Rotating, M: Ledger, R: Wait + Clock>(
     rt: &R,
     alloc: Global,
     shared: &Shared<MemDevice, L, M>,
@@ -59,7 +59,7 @@ fn path_of(alloc: Global, user: u32) -> Result<Vec<u8>, AllocError> {
 }
 
 /// A file is made, opened, written, read, closed and taken away.
-fn use_file<L: Rotating<MemDevice>, M: Ledger, R: Wait + Clock>(
+fn use_file<L: Rotating, M: Ledger, R: Wait + Clock>(
     rt: &R,
     alloc: Global,
     shared: &Shared<MemDevice, L, M>,
@@ -78,7 +78,7 @@ fn use_file<L: Rotating<MemDevice>, M: Ledger, R: Wait + Clock>(
 }
 
 /// A file is written, read and closed.
-fn use_handle<L: Rotating<MemDevice>, M: Ledger, R: Wait + Clock>(
+fn use_handle<L: Rotating, M: Ledger, R: Wait + Clock>(
     rt: &R,
     alloc: Global,
     shared: &Shared<MemDevice, L, M>,
@@ -109,7 +109,7 @@ fn handle_of(opened: &Answer) -> Result<u32, Refusal> {
 }
 
 /// Carries out a command, and notes how long it took. A clock that fails is refused as a device that does.
-fn timed<L: Rotating<MemDevice>, M: Ledger, R: Wait + Clock>(
+fn timed<L: Rotating, M: Ledger, R: Wait + Clock>(
     rt: &R,
     alloc: Global,
     shared: &Shared<MemDevice, L, M>,

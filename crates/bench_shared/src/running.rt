@@ -1,5 +1,6 @@
 //! All threads, timed.
 ghost use Rattle.std.specs.Prelude.{◌≡◌, ◌+◌, vec_len};
+ghost use Rattle.shared.specs.Opened.{Opened};
 
 use crate::job::Load;
 use crate::rounds::{Used, use_volume};
@@ -49,11 +50,7 @@ pub fn run<R: Threads + Wait + Clock + Sync>(
 }
 
 /// The same with the ledgers of these blanks.
-fn run_on<
-    L: Rotating<MemDevice> + Send + Sync,
-    M: Ledger + Send + Sync,
-    R: Threads + Wait + Clock + Sync,
->(
+fn run_on<L: Rotating + Send + Sync, M: Ledger + Send + Sync, R: Threads + Wait + Clock + Sync>(
     rt: &R,
     alloc: Global,
     volume: Volume<MemDevice>,
@@ -66,7 +63,7 @@ fn run_on<
     requires parts { (repairs.parts ≡ L.parts) × (others.parts ≡ M.parts) }
     requires seats { (repairs.parts ≡ seats) × (others.parts ≡ seats) }
     requires users { load.now.users + 2 ≡ seats }
-    requires sharing { (L.limit ≡ 10000) × L.opens volume }
+    requires sharing { (L.limit ≡ 10000) × ((opened : Opened) → L.opens opened) }
 {
     let (shared, seats) = Shared::<MemDevice, L, M>::new(
         alloc,
@@ -80,11 +77,7 @@ fn run_on<
 }
 
 /// Runs this load on a shared volume.
-fn measure<
-    L: Rotating<MemDevice> + Send + Sync,
-    M: Ledger + Send + Sync,
-    R: Threads + Wait + Clock + Sync,
->(
+fn measure<L: Rotating + Send + Sync, M: Ledger + Send + Sync, R: Threads + Wait + Clock + Sync>(
     rt: &R,
     alloc: Global,
     shared: &Shared<MemDevice, L, M>,
@@ -148,11 +141,7 @@ fn posted<L: Ledger, M: Ledger>(
 }
 
 /// Lets all users carry out so many rounds, each in a thread of its own. Gives what they did, and the nanoseconds of all.
-fn use_all<
-    L: Rotating<MemDevice> + Send + Sync,
-    M: Ledger + Send + Sync,
-    R: Threads + Wait + Clock + Sync,
->(
+fn use_all<L: Rotating + Send + Sync, M: Ledger + Send + Sync, R: Threads + Wait + Clock + Sync>(
     rt: &R,
     alloc: Global,
     shared: &Shared<MemDevice, L, M>,
@@ -176,7 +165,7 @@ fn use_all<
 
 /// Checks and mends the volume again and again until all users have ended, if the load has that. Counts the checks.
 fn check_until<
-    L: Rotating<MemDevice> + Send + Sync,
+    L: Rotating + Send + Sync,
     M: Ledger + Send + Sync,
     R: Threads + Wait + Clock + Sync,
 >(

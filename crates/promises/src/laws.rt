@@ -44,7 +44,7 @@ pub fn every_stop_is_only_leaky<D: Device>()
 
 /// Repairs that are carried out leave an exact volume, under one thread (`alone`) and under many (`shared`), whatever else was
 /// done: the maps mark exactly what is reachable, open or held for a snapshot, and each link count equals its entries.
-pub fn repairs_end_exact<D: Device, L: Sharing<D>>()
+pub fn repairs_end_exact<D: Device, L: Sharing>()
     ensures alone { (beside beside' : Beside) (held held' : List (List (List ℕ))) (image image' : List (List ℕ)) (old new : Alive D) (commands : List Command) (replies : List Reply)
         → IsBeside image old beside → Goes beside held image old commands replies beside' held' image' new → HasCycle old.kept.geometry commands replies
         → OwesNothing old.kept.geometry (state_of image' new beside') × Exact old.kept.geometry (state_of image' new beside') }

@@ -29,6 +29,7 @@ use Rattle.shared.specs.Next.{IsNext}
 use Rattle.shared.specs.declared.counts.Counts.{Counts}
 use Rattle.shared.specs.Calls.{no_calls}
 use Rattle.shared.specs.Noted.{IsNoted, Notes}
+use Rattle.shared.specs.Opened.{Opened, opened_of}
 use Rattle.shared.specs.Repairing.{asks_repair, is_repair, is_repair_entry}
 use Rattle.shared.specs.Traces.{HasHistory, HasOpening, asked_by}
 
@@ -202,9 +203,9 @@ repairs_asked geo (e ∷ es) =
     ∙ ap₂ (λ m n. m + n) (ap (λ b. cond b 1 0) (asks_so geo e.command)) (repairs_asked geo es)
     ∙ sym (sum_by-cons (λ (e : Entry). cond (is_repair_entry e) 1 0) e es)
 
-module _ {D : Type 0} (held_of : D → List (List (List ℕ))) (image_of : D → List (List ℕ)) (opens : Alive D → Type 0) where
+module _ {D : Type 0} (held_of : D → List (List (List ℕ))) (image_of : D → List (List ℕ)) (opens : Opened → Type 0) where
   -- a volume that is shared has no calls before it
-  pub opened : (now : Alive D) → opens now → HasBeside (image_of now.device) now → HasHistory held_of image_of opens no_calls [] now
+  pub opened : (now : Alive D) → opens (opened_of held_of image_of now) → HasBeside (image_of now.device) now → HasHistory held_of image_of opens no_calls [] now
   unfolding begins
   opened now known has = record {
     opening = begins (held_of now.device) (image_of now.device) now has;

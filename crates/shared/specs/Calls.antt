@@ -6,7 +6,6 @@ use Rattle.layout.specs.declared.refusal.Refusal.TheVariants.{TraceFull}
 use Rattle.queue_model.specs.Blocks.{home_of}
 use Rattle.queue_model.specs.Flush.{ready, taken}
 use Rattle.softdep.specs.Queued.{pending_of}
-use Rattle.snapshot.specs.Alive.{Alive}
 use Rattle.snapshot.specs.Asked.{asked}
 use Rattle.snapshot.specs.Goes.{Applies}
 use Rattle.snapshot.specs.Writes.{Writes}
@@ -17,6 +16,7 @@ use Rattle.snapshot.specs.declared.command.Command.TheVariants.{Flush, Repair}
 use Rattle.shared.specs.declared.counts.Counts.{Counts}
 use Rattle.shared.specs.Next.{IsNext}
 use Rattle.shared.specs.Noted.{AddsEntry}
+use Rattle.shared.specs.Opened.{Opened}
 use Rattle.shared.specs.Repairing.{is_repair_entry}
 use Rattle.shared.specs.Shown.{Shown}
 use Rattle.shared.specs.Traces.{HasHistory}
@@ -55,13 +55,13 @@ pub record IsRotation {D : Type 0} (old : Shown D) (result : Result (Unit {0}) R
 -- ---- under a lock, which hides the volume: calls of some volume of one sharing
 
 -- A volume with its trace is of a sharing: the trace has this limit, and its calls and those before it led to the volume from one that was opened so.
-pub record IsOfSharing {D : Type 0} (honest : D → Type 0) (held_of : D → List (List (List ℕ))) (image_of : D → List (List ℕ)) (limit : ℕ) (opens : Alive D → Type 0) (b : Shown D) : Type 0 where
+pub record IsOfSharing {D : Type 0} (honest : D → Type 0) (held_of : D → List (List (List ℕ))) (image_of : D → List (List ℕ)) (limit : ℕ) (opens : Opened → Type 0) (b : Shown D) : Type 0 where
   pub limit_is : b.limit ≡ limit
   pub short : length b.trace ≤ limit
   pub history : honest b.volume.device → HasHistory held_of image_of opens b.before b.trace b.volume
 
 -- a command got this reply
-pub record IsCallOf {D : Type 0} (honest : D → Type 0) (held_of : D → List (List (List ℕ))) (image_of : D → List (List ℕ)) (limit : ℕ) (opens : Alive D → Type 0) (command : Command) (reply : Result Answer Refusal) : Type 0 where
+pub record IsCallOf {D : Type 0} (honest : D → Type 0) (held_of : D → List (List (List ℕ))) (image_of : D → List (List ℕ)) (limit : ℕ) (opens : Opened → Type 0) (command : Command) (reply : Result Answer Refusal) : Type 0 where
   pub some : 1 ≤ limit
   pub old : Shown D
   pub new : Shown D
@@ -69,7 +69,7 @@ pub record IsCallOf {D : Type 0} (honest : D → Type 0) (held_of : D → List (
   pub call : IsCall honest held_of image_of old command reply new
 
 -- a flush of the next block did
-pub record IsFlushOf {D : Type 0} (honest : D → Type 0) (held_of : D → List (List (List ℕ))) (image_of : D → List (List ℕ)) (limit : ℕ) (opens : Alive D → Type 0) (reply : Result Answer Refusal) : Type 0 where
+pub record IsFlushOf {D : Type 0} (honest : D → Type 0) (held_of : D → List (List (List ℕ))) (image_of : D → List (List ℕ)) (limit : ℕ) (opens : Opened → Type 0) (reply : Result Answer Refusal) : Type 0 where
   pub some : 1 ≤ limit
   pub old : Shown D
   pub new : Shown D
@@ -79,7 +79,7 @@ pub record IsFlushOf {D : Type 0} (honest : D → Type 0) (held_of : D → List 
   pub call : IsCall honest held_of image_of old (Flush address) reply new
 
 -- the trace was emptied, or not
-pub record IsRotationOf {D : Type 0} (honest : D → Type 0) (held_of : D → List (List (List ℕ))) (image_of : D → List (List ℕ)) (limit : ℕ) (opens : Alive D → Type 0) (result : Result (Unit {0}) Refusal) : Type 0 where
+pub record IsRotationOf {D : Type 0} (honest : D → Type 0) (held_of : D → List (List (List ℕ))) (image_of : D → List (List ℕ)) (limit : ℕ) (opens : Opened → Type 0) (result : Result (Unit {0}) Refusal) : Type 0 where
   pub some : 1 ≤ limit
   pub old : Shown D
   pub new : Shown D
@@ -87,5 +87,5 @@ pub record IsRotationOf {D : Type 0} (honest : D → Type 0) (held_of : D → Li
   pub rotation : IsRotation old result new
 
 -- the repair of a place got this reply
-abbrev pub IsRepairOf : {D : Type 0} → (D → Type 0) → (D → List (List (List ℕ))) → (D → List (List ℕ)) → ℕ → (Alive D → Type 0) → ℕ → Result Answer Refusal → Type 0
+abbrev pub IsRepairOf : {D : Type 0} → (D → Type 0) → (D → List (List (List ℕ))) → (D → List (List ℕ)) → ℕ → (Opened → Type 0) → ℕ → Result Answer Refusal → Type 0
 IsRepairOf honest held_of image_of limit opens place reply = IsCallOf honest held_of image_of limit opens (Repair place) reply

@@ -13,6 +13,7 @@ use Rattle.snapshot.specs.Held.{HeldMore}
 use Rattle.snapshot.specs.Asked.{asked}
 use Rattle.snapshot.specs.Goes.{Goes, IsBeside}
 use Rattle.shared.specs.Noted.{IsNoted}
+use Rattle.shared.specs.Opened.{Opened, opened_of}
 use Rattle.shared.specs.Repairing.{asks_repair}
 use Rattle.shared.specs.declared.counts.Counts.{Counts}
 use Rattle.shared.specs.declared.entry.Entry.{Entry}
@@ -39,10 +40,10 @@ pub record HasOpening {D : Type 0} (held : List (List (List ℕ))) (image : List
   pub goes : Goes opening_beside opening_held opening_image opening (asked_by opening.kept.geometry trace) responses beside held image now
 
 -- Before a trace, so many repairs and other calls led to its opening from a volume of which this was known.
-pub record HasPast {D : Type 0} (held_of : D → List (List (List ℕ))) (image_of : D → List (List ℕ)) (opens : Alive D → Type 0) (before : Counts)
+pub record HasPast {D : Type 0} (held_of : D → List (List (List ℕ))) (image_of : D → List (List ℕ)) (opens : Opened → Type 0) (before : Counts)
     {held : List (List (List ℕ))} {image : List (List ℕ)} {trace : List Entry} {now : Alive D} (o : HasOpening held image trace now) : Type 0 where
   pub first : Alive D
-  pub known : opens first
+  pub known : opens (opened_of held_of image_of first)
   pub beside : Beside
   pub stands : IsBeside (image_of first.device) first beside
   pub commands : List Command
@@ -52,7 +53,7 @@ pub record HasPast {D : Type 0} (held_of : D → List (List (List ℕ))) (image_
   pub goes : Goes beside (held_of first.device) (image_of first.device) first commands responses o.opening_beside o.opening_held o.opening_image o.opening
 
 -- A volume with its trace has a history: the calls before the trace and those in it led here, one after another, from a volume of which this was known.
-pub record HasHistory {D : Type 0} (held_of : D → List (List (List ℕ))) (image_of : D → List (List ℕ)) (opens : Alive D → Type 0) (before : Counts) (trace : List Entry) (now : Alive D) : Type 0 where
+pub record HasHistory {D : Type 0} (held_of : D → List (List (List ℕ))) (image_of : D → List (List ℕ)) (opens : Opened → Type 0) (before : Counts) (trace : List Entry) (now : Alive D) : Type 0 where
   pub opening : HasOpening (held_of now.device) (image_of now.device) trace now
   pub past : HasPast held_of image_of opens before opening
 

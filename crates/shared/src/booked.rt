@@ -1,5 +1,5 @@
 //! The volume under the lock, with the trace of what was called.
-ghost use Rattle.std.specs.Prelude.{◌≡◌, ◌≢◌, ◌↔◌, ◌⊎◌, ◌+◌, ◌<◌, ◌^◌, if◌then◌else◌, ℕ, false, [], Err, IfOk, IsErrOf, IsOkUnless, Ok, vec_len};
+ghost use Rattle.std.specs.Prelude.{◌≡◌, ◌≢◌, ◌↔◌, ◌⊎◌, ◌+◌, ◌<◌, ◌^◌, if◌then◌else◌, ℕ, [], Err, IfOk, IsErrOf, IsOkUnless, Ok, vec_len};
 ghost use Rattle.std.specs.List.{count_by};
 ghost use Rattle.device.specs.Writes.{HasFailed};
 ghost use Rattle.softdep.specs.Queued.{pending_of};
@@ -7,6 +7,7 @@ ghost use Rattle.shared.specs.Calls.{IsCall, IsOfSharing, IsRotation, no_calls};
 ghost use Rattle.shared.specs.Next.{IsNext};
 ghost use Rattle.snapshot.specs.Asked.{HasBytesOrNames};
 ghost use Rattle.shared.specs.Noted.{Notes};
+ghost use Rattle.shared.specs.Opened.{opened_of};
 ghost use Rattle.shared.specs.Repairing.{is_repair, is_repair_entry, of_others, of_repairs};
 ghost use Rattle.shared.specs.Traces.{HasHistory};
 
@@ -26,7 +27,7 @@ use std::sync::ledger::{Book, Ledger, Share};
 /// device was honest so far, the calls before the trace and the commands of the trace led to the volume from the one that was
 /// shared, with replies of which the trace notes all but images.
 #[derive(Drop)]
-pub struct Booked<D: Device, L: Sharing<D>, M: Ledger> {
+pub struct Booked<D: Device, L: Sharing, M: Ledger> {
     volume: Volume<D>,
     limit: usize,
     /// The calls before the trace.
@@ -38,10 +39,9 @@ pub struct Booked<D: Device, L: Sharing<D>, M: Ledger> {
     others: Book<M>,
 }
 
-impl<D: Device, L: Sharing<D>, M: Ledger> Model for Booked<D, L, M> {
-    ghost use Rattle.std.specs.Prelude.{◌≡◌, ◌+◌, ◌≤◌, false, vec_len, vec_capacity};
+impl<D: Device, L: Sharing, M: Ledger> Model for Booked<D, L, M> {
+    ghost use Rattle.std.specs.Prelude.{◌≡◌, ◌+◌, ◌≤◌, vec_len, vec_capacity};
     ghost use Rattle.std.specs.List.{count_by};
-    ghost use Rattle.shared.specs.Calls.{no_calls};
     ghost use Rattle.shared.specs.Repairing.{is_repair_entry};
     ghost use Rattle.shared.specs.Shown.{Shown};
     ghost use Rattle.shared.specs.Traces.{HasHistory};
@@ -54,7 +54,7 @@ impl<D: Device, L: Sharing<D>, M: Ledger> Model for Booked<D, L, M> {
         × (b.inside.repairs ≡ count_by is_repair_entry b.trace.items) × (b.inside.repairs + b.inside.others ≡ vec_len b.trace)
         × (b.before.repairs + b.inside.repairs ≡ b.repairs.total) × (b.before.others + b.inside.others ≡ b.others.total)
         × (D.honest b.volume.device → HasHistory D.held D.image L.opens b.before b.trace.items b.volume)
-        × (b.limit ≡ L.limit) × (L.rotates ≡ false → b.before ≡ no_calls) };
+        × (b.limit ≡ L.limit) };
 }
 
 /// What is left of a volume when no one calls it any more.
@@ -66,7 +66,7 @@ pub struct Closed<D: Device> {
     pub volume: Volume<D>,
 }
 
-impl<D: Device + Drop, L: Sharing<D>, M: Ledger> Booked<D, L, M> {
+impl<D: Device + Drop, L: Sharing, M: Ledger> Booked<D, L, M> {
     /// Puts a volume here, with an empty trace that has room for so many calls. Refused with `NoMemory`.
     pub fn new(
         alloc: Global,
@@ -77,7 +77,7 @@ impl<D: Device + Drop, L: Sharing<D>, M: Ledger> Booked<D, L, M> {
     ) -> Result<Booked<D, L, M>, Refusal>
         requires unused { (repairs.total ≡ 0) × (others.total ≡ 0) }
         requires limit { limit ≡ L.limit }
-        requires opens { L.opens volume }
+        requires opens { L.opens (opened_of D.held D.image volume) }
         ensures before { IfOk result (λ booked. booked.before ≡ no_calls) }
         ensures trace { IfOk result (λ booked. booked.trace ≡ []) }
         ensures limit { IfOk result (λ booked. booked.limit ≡ limit) }
@@ -163,7 +163,6 @@ impl<D: Device + Drop, L: Sharing<D>, M: Ledger> Booked<D, L, M> {
         ensures trace { result.trace.items ≡ self.trace }
         ensures volume { result.volume ≡ self.volume }
         ensures history { D.honest result.volume.device → HasHistory D.held D.image L.opens result.before result.trace.items result.volume }
-        ensures whole { L.rotates ≡ false → result.before ≡ no_calls }
     {
         let Booked {
             volume,
@@ -184,7 +183,7 @@ impl<D: Device + Drop, L: Sharing<D>, M: Ledger> Booked<D, L, M> {
     }
 }
 
-impl<D: Device + Drop, L: Rotating<D>, M: Ledger> Booked<D, L, M> {
+impl<D: Device + Drop, L: Rotating, M: Ledger> Booked<D, L, M> {
     /// Empties the trace, and counts its calls among those before it. Refused with `TraceFull` if a count would reach 2^64.
     pub fn rotate(&mut self, _seat: &mut Seat<L, M>) -> Result<(), Refusal>
         ensures known { IsOfSharing D.honest D.held D.image L.limit L.opens self.old }

@@ -35,7 +35,7 @@ pub fn traces_lead_to_balance<D: Device>()
 
 /// The calls before a trace and those in it are what the volume went through from the one that was shared: as many repairs and
 /// other calls as are counted, with their replies. So each law about the calls of a volume holds of all that threads did with it.
-pub fn histories_are_calls<D: Device, L: Sharing<D>>()
+pub fn histories_are_calls<D: Device, L: Sharing>()
     ensures { (before : Counts) (trace : List Entry) (now : Alive D) → (h : HasHistory D.held D.image L.opens before trace now)
         → Goes h.past.beside (D.held h.past.first.device) (D.image h.past.first.device) h.past.first (h.past.commands ++ asked_by h.opening.opening.kept.geometry trace)
         (h.past.responses ++ h.opening.responses) h.opening.beside (D.held now.device) (D.image now.device) now }
@@ -46,7 +46,7 @@ pub fn histories_are_calls<D: Device, L: Sharing<D>>()
 /// Whatever the threads did and in whatever order: if the history has a snapshot, a check of it that is installed, and each of the
 /// check's repairs carried out, and no other snapshot from then on, the volume is exact. The maps mark exactly what is reachable,
 /// open or held, and each link count equals its entries.
-pub fn repairs_of_a_history_end_exact<D: Device, L: Sharing<D>>()
+pub fn repairs_of_a_history_end_exact<D: Device, L: Sharing>()
     ensures { (before : Counts) (trace : List Entry) (now : Alive D) → (h : HasHistory D.held D.image L.opens before trace now)
         → (cycle : HasCycle now.kept.geometry (h.past.commands ++ asked_by now.kept.geometry trace) (h.past.responses ++ h.opening.responses))
         → OwesNothing now.kept.geometry (state_of (D.image now.device) now h.opening.beside) × Exact now.kept.geometry (state_of (D.image now.device) now h.opening.beside) }

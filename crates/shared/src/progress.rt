@@ -34,7 +34,7 @@ impl Progress {
     }
 }
 
-impl<D: Device + Drop, L: Sharing<D>, M: Ledger> Shared<D, L, M> {
+impl<D: Device + Drop, L: Sharing, M: Ledger> Shared<D, L, M> {
     /// Carries out the repairs of the check that is installed, from the next place on, by one call each, until there is none
     /// at a place, or no check is installed. One that is done already is passed over. Any other refusal ends it and is handed
     /// on, with the place that was refused as the next one.

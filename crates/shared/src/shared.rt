@@ -1,8 +1,9 @@
 //! The lock round the volume, how it is shared, and what is left when it is closed.
-ghost use Rattle.std.specs.Prelude.{◌≡◌, ◌≢◌, ◌↔◌, ◌+◌, ◌<◌, ◌≤◌, ℕ, List, All, Err, IfOk, IsErrOf, IsOkUnless, false, vec_len};
+ghost use Rattle.std.specs.Prelude.{◌≡◌, ◌≢◌, ◌↔◌, ◌+◌, ◌<◌, ◌≤◌, ℕ, List, All, Err, IfOk, IsErrOf, IsOkUnless, vec_len};
 ghost use Rattle.std.specs.List.{count_by, sum_by};
-ghost use Rattle.shared.specs.Calls.{IsCallOf, IsFlushOf, IsRotationOf, no_calls};
+ghost use Rattle.shared.specs.Calls.{IsCallOf, IsFlushOf, IsRotationOf};
 ghost use Rattle.shared.specs.Limits.{Within};
+ghost use Rattle.shared.specs.Opened.{opened_of};
 ghost use Rattle.shared.specs.Repairing.{is_repair_entry, of_others, of_repairs};
 ghost use Rattle.shared.specs.Traces.{HasHistory};
 
@@ -20,7 +21,7 @@ use std::sync::{Mutex, Wait};
 
 /// One volume for many threads, each with a seat.
 #[derive(Drop)]
-pub struct Shared<D: Device, L: Sharing<D>, M: Ledger> {
+pub struct Shared<D: Device, L: Sharing, M: Ledger> {
     booked: Mutex<Booked<D, L, M>>,
     pub ghost room: { 1 ≤ L.limit },
 }
@@ -64,7 +65,7 @@ fn open_books<L: Ledger, M: Ledger>(
     })
 }
 
-impl<D: Device + Drop, L: Sharing<D>, M: Ledger> Shared<D, L, M> {
+impl<D: Device + Drop, L: Sharing, M: Ledger> Shared<D, L, M> {
     /// Shares this volume among so many seats, none of which was used. The trace is empty, and has room for `limit` calls.
     /// Refused with `BadIndex` unless there is room for 1 to 1,000,000 calls and there are 1 to 64 seats, and with
     /// `NoMemory`.
@@ -79,7 +80,7 @@ impl<D: Device + Drop, L: Sharing<D>, M: Ledger> Shared<D, L, M> {
         requires name { (repairs.name ≡ L.name) × (others.name ≡ M.name) }
         requires parts { (repairs.parts ≡ L.parts) × (others.parts ≡ M.parts) }
         requires seats { (repairs.parts ≡ seats) × (others.parts ≡ seats) }
-        requires sharing { (limit ≡ L.limit) × L.opens volume }
+        requires sharing { (limit ≡ L.limit) × L.opens (opened_of D.held D.image volume) }
         ensures seats { IfOk result (λ made. (vec_len made.1 ≡ L.parts) × (vec_len made.1 ≡ M.parts)) }
         ensures unused { IfOk result (λ made. All (λ seat. (seat.repairs.amount ≡ 0) × (seat.others.amount ≡ 0)) made.1.items) }
         ensures bad_index { IsErrOf result Refusal.BadIndex ↔ (Within limit seats → ⊥) }
@@ -127,12 +128,11 @@ impl<D: Device + Drop, L: Sharing<D>, M: Ledger> Shared<D, L, M> {
     }
 
     /// The volume with its trace, once all seats are given back: together they were used for the calls before the trace and
-    /// those in it, which led to the volume from the one that was shared. If the trace was never to be emptied, it has them all.
+    /// those in it, which led to the volume from the one that was shared.
     pub fn close(self, seats: Vec<Seat<L, M>>) -> Closed<D>
         requires all { (vec_len seats ≡ L.parts) × (vec_len seats ≡ M.parts) }
         requires some { 0 < L.parts }
         ensures history { D.honest result.volume.device → HasHistory D.held D.image L.opens result.before result.trace.items result.volume }
-        ensures whole { L.rotates ≡ false → result.before ≡ no_calls }
         ensures repairs { sum_by (λ seat. seat.repairs.amount) seats.items ≡ result.before.repairs + count_by is_repair_entry result.trace.items }
         ensures others { sum_by (λ seat. seat.others.amount) seats.items + count_by is_repair_entry result.trace.items ≡ result.before.others + vec_len result.trace }
     {
@@ -142,7 +142,7 @@ impl<D: Device + Drop, L: Sharing<D>, M: Ledger> Shared<D, L, M> {
     }
 }
 
-impl<D: Device + Drop, L: Rotating<D>, M: Ledger> Shared<D, L, M> {
+impl<D: Device + Drop, L: Rotating, M: Ledger> Shared<D, L, M> {
     /// Waits for the lock, and makes one call of `Booked::rotate` on what is locked.
     pub fn rotate<R: Wait>(&self, rt: &R, seat: &mut Seat<L, M>) -> Result<(), Refusal>
         ensures seat { seat.new ≡ seat.old }

@@ -1,4 +1,5 @@
 ghost use Rattle.std.specs.Prelude.{◌≡◌};
+ghost use Rattle.shared.specs.Opened.{Opened};
 
 mod images;
 mod meeting;
@@ -404,7 +405,7 @@ fn may_share(alloc: Global, limit: u32, seats: u32) -> Result<bool, Refusal> {
 }
 
 /// The same with the ledgers of these blanks.
-fn may_share_on<L: Sharing<MemDevice>, M: Ledger>(
+fn may_share_on<L: Sharing, M: Ledger>(
     alloc: Global,
     volume: Volume<MemDevice>,
     limit: u32,
@@ -415,7 +416,7 @@ fn may_share_on<L: Sharing<MemDevice>, M: Ledger>(
     requires name { (repairs.name ≡ L.name) × (others.name ≡ M.name) }
     requires parts { (repairs.parts ≡ L.parts) × (others.parts ≡ M.parts) }
     requires seats { (repairs.parts ≡ seats) × (others.parts ≡ seats) }
-    requires sharing { (L.limit ≡ limit) × L.opens volume }
+    requires sharing { (L.limit ≡ limit) × ((opened : Opened) → L.opens opened) }
 {
     match Shared::<MemDevice, L, M>::new(alloc, volume, limit, seats, repairs, others) {
         Ok((_shared, made)) => Ok(made.len() == seats as usize),

@@ -10,7 +10,7 @@ use std::sync::ledger::Ledger;
 
 /// Makes a call. Where the trace is full it is emptied, and the call is made again, as often as that happens; where it
 /// cannot be emptied, that is the reply.
-pub fn call<D: Device + Drop, L: Rotating<D>, M: Ledger, R: Wait>(
+pub fn call<D: Device + Drop, L: Rotating, M: Ledger, R: Wait>(
     rt: &R,
     alloc: Global,
     shared: &Shared<D, L, M>,

@@ -21,7 +21,7 @@ pub struct Mended {
 
 /// Freezes the volume, checks the snapshot with so many workers, installs the check, carries out each of its repairs, and
 /// ends the snapshot.
-pub fn mend<D: Device + Drop, L: Rotating<D>, M: Ledger, R: Threads + Wait + Sync>(
+pub fn mend<D: Device + Drop, L: Rotating, M: Ledger, R: Threads + Wait + Sync>(
     rt: &R,
     alloc: Global,
     shared: &Shared<D, L, M>,
@@ -37,7 +37,7 @@ pub fn mend<D: Device + Drop, L: Rotating<D>, M: Ledger, R: Threads + Wait + Syn
 }
 
 /// Freezes the volume.
-fn freeze<D: Device + Drop, L: Rotating<D>, M: Ledger, R: Wait>(
+fn freeze<D: Device + Drop, L: Rotating, M: Ledger, R: Wait>(
     rt: &R,
     alloc: Global,
     shared: &Shared<D, L, M>,
@@ -51,7 +51,7 @@ fn freeze<D: Device + Drop, L: Rotating<D>, M: Ledger, R: Wait>(
 }
 
 /// Installs a check.
-fn install<D: Device + Drop, L: Rotating<D>, M: Ledger, R: Wait>(
+fn install<D: Device + Drop, L: Rotating, M: Ledger, R: Wait>(
     rt: &R,
     alloc: Global,
     shared: &Shared<D, L, M>,
@@ -64,7 +64,7 @@ fn install<D: Device + Drop, L: Rotating<D>, M: Ledger, R: Wait>(
 }
 
 /// Ends the snapshot.
-fn release<D: Device + Drop, L: Rotating<D>, M: Ledger, R: Wait>(
+fn release<D: Device + Drop, L: Rotating, M: Ledger, R: Wait>(
     rt: &R,
     alloc: Global,
     shared: &Shared<D, L, M>,
@@ -75,7 +75,7 @@ fn release<D: Device + Drop, L: Rotating<D>, M: Ledger, R: Wait>(
 }
 
 /// Carries out all repairs, and counts them. Where the trace is full it is emptied, and the repairs go on.
-fn repair_all<D: Device + Drop, L: Rotating<D>, M: Ledger, R: Wait>(
+fn repair_all<D: Device + Drop, L: Rotating, M: Ledger, R: Wait>(
     rt: &R,
     alloc: Global,
     shared: &Shared<D, L, M>,

@@ -9,7 +9,7 @@ use std::sync::ledger::Ledger;
 use std::thread::yield_now;
 
 /// Flushes what may go to the device, until so many others have ended.
-pub fn flush_until<D: Device + Drop, L: Rotating<D>, M: Ledger, R: Wait>(
+pub fn flush_until<D: Device + Drop, L: Rotating, M: Ledger, R: Wait>(
     rt: &R,
     alloc: Global,
     shared: &Shared<D, L, M>,

@@ -18,7 +18,7 @@ pub struct Answered {
 }
 
 /// Carries out the lines of a user in order, and gives them with their replies. Room for these is made first.
-pub(crate) fn carry_out<D: Device + Drop, L: Rotating<D>, M: Ledger, R: Wait>(
+pub(crate) fn carry_out<D: Device + Drop, L: Rotating, M: Ledger, R: Wait>(
     rt: &R,
     alloc: Global,
     shared: &Shared<D, L, M>,
@@ -41,7 +41,7 @@ pub(crate) fn carry_out<D: Device + Drop, L: Rotating<D>, M: Ledger, R: Wait>(
 
 /// The reply to a command of a user, whose handles are the user's. One of a handle that the user has not open is refused
 /// without a call.
-fn reply_to<D: Device + Drop, L: Rotating<D>, M: Ledger, R: Wait>(
+fn reply_to<D: Device + Drop, L: Rotating, M: Ledger, R: Wait>(
     rt: &R,
     alloc: Global,
     shared: &Shared<D, L, M>,

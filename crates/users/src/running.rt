@@ -1,5 +1,6 @@
 //! All threads of a script.
 ghost use Rattle.std.specs.Prelude.{◌≡◌, ◌+◌, IfOk, IfSome, vec_len};
+ghost use Rattle.shared.specs.Opened.{opened_of};
 
 use crate::checking::{Mended, mend};
 use crate::flushing::flush_until;
@@ -142,7 +143,7 @@ fn by_user(alloc: Global, script: Vec<UserLine>) -> Result<Vec<Vec<UserLine>>, A
 /// Runs all threads, with the ledgers of these blanks.
 fn run_on<
     D: Device + Drop + Send,
-    L: Rotating<D> + Send + Sync,
+    L: Rotating + Send + Sync,
     M: Ledger + Send + Sync,
     R: Threads + Wait + Sync,
 >(
@@ -158,7 +159,7 @@ fn run_on<
     requires name { (repairs.name ≡ L.name) × (others.name ≡ M.name) }
     requires parts { (repairs.parts ≡ L.parts) × (others.parts ≡ M.parts) }
     requires seats { (repairs.parts ≡ seats) × (others.parts ≡ seats) }
-    requires sharing { (L.limit ≡ 100000) × L.opens volume }
+    requires sharing { (L.limit ≡ 100000) × L.opens (opened_of D.held D.image volume) }
     requires users { vec_len users + 2 ≡ seats }
 {
     let (shared, seats) = Shared::<D, L, M>::new(
@@ -177,7 +178,7 @@ fn run_on<
 /// Runs all threads on a shared volume, and gives the seats back with what they tell.
 fn work_on<
     D: Device + Drop + Send,
-    L: Rotating<D> + Send + Sync,
+    L: Rotating + Send + Sync,
     M: Ledger + Send + Sync,
     R: Threads + Wait + Sync,
 >(
@@ -247,7 +248,7 @@ const OTHERS: u64 = 2;
 /// Runs the threads of the users, the one that checks and the one that flushes.
 fn work_all<
     D: Device + Drop + Send,
-    L: Rotating<D> + Send + Sync,
+    L: Rotating + Send + Sync,
     M: Ledger + Send + Sync,
     R: Threads + Wait + Sync,
 >(
@@ -293,7 +294,7 @@ fn work_all<
 /// Carries out the lines of each user in a thread of its own.
 fn carry_out_all<
     D: Device + Drop + Send,
-    L: Rotating<D> + Send + Sync,
+    L: Rotating + Send + Sync,
     M: Ledger + Send + Sync,
     R: Threads + Wait + Sync,
 >(

@@ -1,5 +1,6 @@
 //! A check by two workers of a snapshot, while a user goes on.
 ghost use Rattle.std.specs.Prelude.{◌≡◌, vec_len};
+ghost use Rattle.shared.specs.Opened.{Opened};
 
 use super::images::FRESH;
 use device::MemDevice;
@@ -100,7 +101,7 @@ pub fn check_beside_a_user<R: Threads + Wait + Clock + Sync>(
 
 /// The same with the ledgers of these blanks.
 fn check_beside_on<
-    L: Sharing<MemDevice> + Send + Sync,
+    L: Sharing + Send + Sync,
     M: Ledger + Send + Sync,
     R: Threads + Wait + Clock + Sync,
 >(
@@ -113,7 +114,7 @@ fn check_beside_on<
     requires name { (repairs.name ≡ L.name) × (others.name ≡ M.name) }
     requires parts { (repairs.parts ≡ L.parts) × (others.parts ≡ M.parts) }
     requires two { (repairs.parts ≡ 2) × (others.parts ≡ 2) }
-    requires sharing { (L.limit ≡ 100) × L.opens volume }
+    requires sharing { (L.limit ≡ 100) × ((opened : Opened) → L.opens opened) }
 {
     let (shared, mut seats) = Shared::<MemDevice, L, M>::new(
         alloc, volume, 100, 2, repairs, others,
@@ -124,7 +125,7 @@ fn check_beside_on<
 
 /// One seat freezes the volume, and what is frozen is checked while the other one is at work.
 fn check_beside<
-    L: Sharing<MemDevice> + Send + Sync,
+    L: Sharing + Send + Sync,
     M: Ledger + Send + Sync,
     R: Threads + Wait + Clock + Sync,
 >(
@@ -153,11 +154,7 @@ fn image_of(reply: Reply) -> Result<Arc<Frozen>, Refusal> {
 }
 
 /// What is frozen is checked by two workers, who meet at these places, while a user goes on.
-fn check_at<
-    L: Sharing<MemDevice> + Send + Sync,
-    M: Ledger + Send + Sync,
-    R: Threads + Wait + Clock + Sync,
->(
+fn check_at<L: Sharing + Send + Sync, M: Ledger + Send + Sync, R: Threads + Wait + Clock + Sync>(
     rt: &R,
     alloc: Global,
     shared: &Shared<MemDevice, L, M>,
@@ -191,7 +188,7 @@ fn met_at(alloc: Global, places: &[Place]) -> Result<Vec<u64>, AllocError> {
 const MADE_AND_TAKEN_AWAY: [Asked; 2] = [Asked::Create(b"/u"), Asked::Unlink(b"/u")];
 
 /// Makes a file and takes it away, and counts each answer.
-fn make_and_take_away<L: Sharing<MemDevice>, M: Ledger, R: Wait>(
+fn make_and_take_away<L: Sharing, M: Ledger, R: Wait>(
     rt: &R,
     alloc: Global,
     shared: &Shared<MemDevice, L, M>,

@@ -1,5 +1,6 @@
 //! Steps on a volume that two threads share.
 ghost use Rattle.std.specs.Prelude.{◌≡◌, ◌∷◌, [], IfOk, vec_len};
+ghost use Rattle.shared.specs.Opened.{Opened};
 
 use device::MemDevice;
 use findings::Finding;
@@ -78,11 +79,7 @@ pub fn carry_out<R: Threads + Wait + Sync>(
 }
 
 /// The same with the ledgers of these blanks.
-fn carry_out_on<
-    L: Rotating<MemDevice> + Send + Sync,
-    M: Ledger + Send + Sync,
-    R: Threads + Wait + Sync,
->(
+fn carry_out_on<L: Rotating + Send + Sync, M: Ledger + Send + Sync, R: Threads + Wait + Sync>(
     rt: &R,
     alloc: Global,
     volume: Volume<MemDevice>,
@@ -94,7 +91,7 @@ fn carry_out_on<
     requires name { (repairs.name ≡ L.name) × (others.name ≡ M.name) }
     requires parts { (repairs.parts ≡ L.parts) × (others.parts ≡ M.parts) }
     requires two { (repairs.parts ≡ 2) × (others.parts ≡ 2) }
-    requires sharing { (L.limit ≡ limit) × L.opens volume }
+    requires sharing { (L.limit ≡ limit) × ((opened : Opened) → L.opens opened) }
 {
     let (shared, seats) = Shared::<MemDevice, L, M>::new(alloc, volume, limit, 2, repairs, others)?;
     let done = do_all(rt, alloc, &shared, seats, steps);
@@ -137,7 +134,7 @@ struct Done<L: Ledger, M: Ledger> {
 }
 
 /// Carries out the steps.
-fn do_all<L: Rotating<MemDevice> + Send + Sync, M: Ledger + Send + Sync, R: Threads + Wait + Sync>(
+fn do_all<L: Rotating + Send + Sync, M: Ledger + Send + Sync, R: Threads + Wait + Sync>(
     rt: &R,
     alloc: Global,
     shared: &Shared<MemDevice, L, M>,
@@ -159,7 +156,7 @@ fn do_all<L: Rotating<MemDevice> + Send + Sync, M: Ledger + Send + Sync, R: Thre
 }
 
 /// Carries out the steps, and adds to what was answered.
-fn do_each<L: Rotating<MemDevice> + Send + Sync, M: Ledger + Send + Sync, R: Threads + Wait + Sync>(
+fn do_each<L: Rotating + Send + Sync, M: Ledger + Send + Sync, R: Threads + Wait + Sync>(
     rt: &R,
     alloc: Global,
     shared: &Shared<MemDevice, L, M>,
@@ -176,7 +173,7 @@ fn do_each<L: Rotating<MemDevice> + Send + Sync, M: Ledger + Send + Sync, R: Thr
 }
 
 /// Carries out a step, and adds to what was answered.
-fn do_step<L: Rotating<MemDevice> + Send + Sync, M: Ledger + Send + Sync, R: Threads + Wait + Sync>(
+fn do_step<L: Rotating + Send + Sync, M: Ledger + Send + Sync, R: Threads + Wait + Sync>(
     rt: &R,
     alloc: Global,
     shared: &Shared<MemDevice, L, M>,
@@ -207,7 +204,7 @@ fn found(told: &mut Told, checked: Result<(Vec<Finding>, Reply), Refusal>) -> Re
 }
 
 /// Empties the trace.
-fn rotate<L: Rotating<MemDevice>, M: Ledger, R: Wait>(
+fn rotate<L: Rotating, M: Ledger, R: Wait>(
     rt: &R,
     shared: &Shared<MemDevice, L, M>,
     seats: Seats<L, M>,
@@ -218,7 +215,7 @@ fn rotate<L: Rotating<MemDevice>, M: Ledger, R: Wait>(
 }
 
 /// Makes a call in a thread of its own.
-fn ask<L: Sharing<MemDevice> + Send + Sync, M: Ledger + Send + Sync, R: Threads + Wait + Sync>(
+fn ask<L: Sharing + Send + Sync, M: Ledger + Send + Sync, R: Threads + Wait + Sync>(
     rt: &R,
     alloc: Global,
     shared: &Shared<MemDevice, L, M>,
@@ -238,11 +235,7 @@ fn noted(told: &mut Told, reply: Reply) -> Result<(), Refusal> {
 }
 
 /// Makes a call in a thread of its own.
-fn call_apart<
-    L: Sharing<MemDevice> + Send + Sync,
-    M: Ledger + Send + Sync,
-    R: Threads + Wait + Sync,
->(
+fn call_apart<L: Sharing + Send + Sync, M: Ledger + Send + Sync, R: Threads + Wait + Sync>(
     rt: &R,
     alloc: Global,
     shared: &Shared<MemDevice, L, M>,
@@ -269,7 +262,7 @@ fn call_apart<
 }
 
 /// Freezes the volume, checks the snapshot, and installs the check.
-fn check<L: Sharing<MemDevice> + Send + Sync, M: Ledger + Send + Sync, R: Threads + Wait + Sync>(
+fn check<L: Sharing + Send + Sync, M: Ledger + Send + Sync, R: Threads + Wait + Sync>(
     rt: &R,
     alloc: Global,
     shared: &Shared<MemDevice, L, M>,
@@ -302,7 +295,7 @@ fn checked<R: Threads + Sync>(
 }
 
 /// Two threads make these calls.
-fn at_once<L: Sharing<MemDevice> + Send + Sync, M: Ledger + Send + Sync, R: Threads + Wait + Sync>(
+fn at_once<L: Sharing + Send + Sync, M: Ledger + Send + Sync, R: Threads + Wait + Sync>(
     rt: &R,
     alloc: Global,
     shared: &Shared<MemDevice, L, M>,
@@ -333,7 +326,7 @@ fn all_noted(told: &mut Told, first: Vec<Reply>, second: Vec<Reply>) -> Result<(
 }
 
 /// Makes these calls from this seat, in order, and gives the replies.
-fn calls<L: Sharing<MemDevice>, M: Ledger, R: Wait>(
+fn calls<L: Sharing, M: Ledger, R: Wait>(
     rt: &R,
     alloc: Global,
     shared: &Shared<MemDevice, L, M>,
@@ -345,7 +338,7 @@ fn calls<L: Sharing<MemDevice>, M: Ledger, R: Wait>(
 }
 
 /// Makes these calls from this seat, in order.
-fn replies_to<L: Sharing<MemDevice>, M: Ledger, R: Wait>(
+fn replies_to<L: Sharing, M: Ledger, R: Wait>(
     rt: &R,
     alloc: Global,
     shared: &Shared<MemDevice, L, M>,
@@ -361,11 +354,7 @@ fn replies_to<L: Sharing<MemDevice>, M: Ledger, R: Wait>(
 }
 
 /// Two threads carry out all repairs.
-fn repair_at_once<
-    L: Sharing<MemDevice> + Send + Sync,
-    M: Ledger + Send + Sync,
-    R: Threads + Wait + Sync,
->(
+fn repair_at_once<L: Sharing + Send + Sync, M: Ledger + Send + Sync, R: Threads + Wait + Sync>(
     rt: &R,
     alloc: Global,
     shared: &Shared<MemDevice, L, M>,
@@ -389,7 +378,7 @@ fn repair_at_once<
 }
 
 /// Carries out all repairs from this seat.
-fn repairs<L: Sharing<MemDevice>, M: Ledger, R: Wait>(
+fn repairs<L: Sharing, M: Ledger, R: Wait>(
     rt: &R,
     alloc: Global,
     shared: &Shared<MemDevice, L, M>,

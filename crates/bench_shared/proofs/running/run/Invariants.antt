@@ -1,4 +1,3 @@
-use Rattle.std.proofs.Common.{◌≡◌, refl, true}
 use Rattle.bench_shared.proofs.running.run.Given as goal
 
 abbrev pub ghosts-run_on-L-Ledger : goal.ghosts-run_on-L-Ledger
@@ -8,7 +7,4 @@ abbrev pub ghosts-run_on-M-Ledger : goal.ghosts-run_on-M-Ledger
 ghosts-run_on-M-Ledger g a = record { name = a.others.name; parts = a.others.parts }
 
 abbrev pub ghosts-run_on-L-Sharing : goal.ghosts-run_on-L-Sharing
-ghosts-run_on-L-Sharing g a = record { limit = 10000; rotates = true; opens = λ volume. volume ≡ a.volume }
-
-abbrev pub ghosts-run_on-L-Rotating : goal.ghosts-run_on-L-Rotating
-ghosts-run_on-L-Rotating g a = record { may = refl }
+ghosts-run_on-L-Sharing g a = record { limit = 10000; opens = λ opened. Unit {0} }

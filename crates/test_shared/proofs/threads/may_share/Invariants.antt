@@ -1,4 +1,3 @@
-use Rattle.std.proofs.Common.{◌≡◌, false}
 use Rattle.test_shared.proofs.threads.may_share.Given as goal
 
 abbrev pub ghosts-may_share_on-L-Ledger : goal.ghosts-may_share_on-L-Ledger
@@ -8,4 +7,4 @@ abbrev pub ghosts-may_share_on-M-Ledger : goal.ghosts-may_share_on-M-Ledger
 ghosts-may_share_on-M-Ledger a = record { name = a.others.name; parts = a.others.parts }
 
 abbrev pub ghosts-may_share_on-L-Sharing : goal.ghosts-may_share_on-L-Sharing
-ghosts-may_share_on-L-Sharing a = record { limit = a.limit; rotates = false; opens = λ volume. volume ≡ a.volume }
+ghosts-may_share_on-L-Sharing a = record { limit = a.limit; opens = λ opened. Unit {0} }

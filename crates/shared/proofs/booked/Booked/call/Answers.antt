@@ -31,7 +31,6 @@ invariant_of-self g c =
           (applied_so (held old.device) (held new.device) (image old.device) (image new.device) old new (asked old.kept.geometry c.args.command) c.apply-reply.result c.with_note-reply.result.0 c.with_note-reply.ensures.same (c.apply-reply.ensures.applied h))
           c.with_note-reply.ensures.noted),
       search rules,
-      search rules,
     )
 
 pub returns-clause-call : goal.returns-clause-call

@@ -1,5 +1,7 @@
 use Rattle.std.proofs.Common.{◌≡◌, [], refl, rules, subst, sym}
 use Rattle.std.proofs.lemmas.Result.{IfOk-at_ok, err_from_is_err_and}
+use Rattle.snapshot.specs.Alive.{Alive}
+use Rattle.shared.specs.Opened.{opened_of}
 use Rattle.shared.proofs.TraceLemmas.{opened}
 use Rattle.shared.proofs.booked.Booked.new.Goals as goal
 
@@ -19,7 +21,6 @@ invariant_of-result g c =
       search rules,
       search rules,
       search rules,
-      λ h. rw items (opened g.D.Device.held g.D.Device.image g.L.Sharing.opens volume (subst g.L.Sharing.opens (sym same) c.requires.opens) (c.live.ensures.balance h)),
-      search rules,
+      λ h. rw items (opened g.D.Device.held g.D.Device.image g.L.Sharing.opens volume (subst (λ (v : Alive _). g.L.Sharing.opens (opened_of g.D.Device.held g.D.Device.image v)) (sym same) c.requires.opens) (c.live.ensures.balance h)),
       search rules,
     )

@@ -1,4 +1,4 @@
-use Rattle.std.proofs.Common.{rules, ◌≡◌, ◌∙◌, subst, sym, true, false}
+use Rattle.std.proofs.Common.{rules, subst}
 use Rattle.shared.specs.Calls.{IsOfSharing}
 use Rattle.shared.specs.Shown.{Shown}
 use Rattle.shared.proofs.TraceLemmas.{rotated}
@@ -15,7 +15,6 @@ invariant_of-self g c =
       search rules,
       λ h. rw c.clear.ensures.items (rotated g.D.Device.held g.D.Device.image g.L.Sharing.opens b.before _ b.trace.items b.volume (c.self.invariant.6 h) (search rules) (search rules)),
       search rules,
-      λ none. absurd (let bad : true ≡ false = sym g.met.L.Rotating.may ∙ none in cc),
     )
 
 pub returns-clause-known : goal.returns-clause-known

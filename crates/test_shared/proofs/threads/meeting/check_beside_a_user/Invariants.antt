@@ -1,4 +1,3 @@
-use Rattle.std.proofs.Common.{◌≡◌, false}
 use Rattle.test_shared.proofs.threads.meeting.check_beside_a_user.Given as goal
 
 abbrev pub ghosts-check_beside_on-L-Ledger : goal.ghosts-check_beside_on-L-Ledger
@@ -8,4 +7,4 @@ abbrev pub ghosts-check_beside_on-M-Ledger : goal.ghosts-check_beside_on-M-Ledge
 ghosts-check_beside_on-M-Ledger g a = record { name = a.others.name; parts = a.others.parts }
 
 abbrev pub ghosts-check_beside_on-L-Sharing : goal.ghosts-check_beside_on-L-Sharing
-ghosts-check_beside_on-L-Sharing g a = record { limit = 100; rotates = false; opens = λ volume. volume ≡ a.volume }
+ghosts-check_beside_on-L-Sharing g a = record { limit = 100; opens = λ opened. Unit {0} }

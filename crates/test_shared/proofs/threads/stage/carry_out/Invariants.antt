@@ -1,4 +1,3 @@
-use Rattle.std.proofs.Common.{◌≡◌, refl, true}
 use Rattle.test_shared.proofs.threads.stage.carry_out.Given as goal
 
 abbrev pub ghosts-carry_out_on-L-Ledger : goal.ghosts-carry_out_on-L-Ledger
@@ -8,7 +7,4 @@ abbrev pub ghosts-carry_out_on-M-Ledger : goal.ghosts-carry_out_on-M-Ledger
 ghosts-carry_out_on-M-Ledger g a = record { name = a.others.name; parts = a.others.parts }
 
 abbrev pub ghosts-carry_out_on-L-Sharing : goal.ghosts-carry_out_on-L-Sharing
-ghosts-carry_out_on-L-Sharing g a = record { limit = a.limit; rotates = true; opens = λ volume. volume ≡ a.volume }
-
-abbrev pub ghosts-carry_out_on-L-Rotating : goal.ghosts-carry_out_on-L-Rotating
-ghosts-carry_out_on-L-Rotating g a = record { may = refl }
+ghosts-carry_out_on-L-Sharing g a = record { limit = a.limit; opens = λ opened. Unit {0} }
