@@ -24,7 +24,7 @@ pub struct Issued {
 
 impl Issued {
     /// Nothing.
-    fn new(alloc: Global, geometry: Geometry) -> Result<Issued, Refusal> {
+    pub fn new(alloc: Global, geometry: Geometry) -> Result<Issued, Refusal> {
         Ok(Issued {
             geometry,
             updates: 0,
@@ -76,13 +76,25 @@ pub fn issue(
         if issued.updates >= updates {
             break;
         }
-        let commands = lives.next(alloc)?;
-        issued.count_all(commands.as_slice());
-        let start = Instant::now(clock)?;
-        issue_all(queue, commands)?;
-        issued.time = issued.time.saturating_add(start.elapsed(clock)?);
+        issue_life(clock, alloc, queue, &mut lives, &mut issued)?;
     }
     Ok(issued)
+}
+
+/// Issues the updates of the next file's life.
+pub fn issue_life(
+    clock: &impl Clock,
+    alloc: Global,
+    queue: &mut Queue,
+    lives: &mut Lives,
+    issued: &mut Issued,
+) -> Result<()> {
+    let commands = lives.next(alloc)?;
+    issued.count_all(commands.as_slice());
+    let start = Instant::now(clock)?;
+    issue_all(queue, commands)?;
+    issued.time = issued.time.saturating_add(start.elapsed(clock)?);
+    Ok(())
 }
 
 /// Issues these commands.

@@ -19,6 +19,8 @@ pub enum Mode {
     Again,
     /// The blocks that a sync writes are written once each, in the order of the addresses.
     Once,
+    /// The updates are issued, and blocks are flushed all along, so that there is always something pending.
+    Steady,
 }
 
 /// What a line asks for.
@@ -52,6 +54,7 @@ fn mode_of(name: &str) -> Option<Mode> {
         "downward" => Some(Mode::Downward),
         "again" => Some(Mode::Again),
         "once" => Some(Mode::Once),
+        "steady" => Some(Mode::Steady),
         _ => None,
     }
 }

@@ -17,6 +17,7 @@ mod files;
 mod issuing;
 mod line;
 mod lists;
+mod steady;
 mod writing;
 
 use anyhow::Result;
@@ -27,6 +28,7 @@ use spares::Spares;
 use std::alloc::Global;
 use std::env;
 use std::time::Clock;
+use steady::issue_steadily;
 use writing::{Order, Written, flush_in_passes, sync, write_again, write_once};
 
 fn main(rt: HostRuntime) -> Result<()> {
@@ -66,6 +68,9 @@ fn measure_queue(
     queue: &mut Queue,
     line: &Line,
 ) -> Result<(Issued, Written)> {
+    if line.mode == Mode::Steady {
+        return issue_steadily(clock, alloc, queue, line.spread, line.updates);
+    }
     let issued = issue(clock, alloc, queue, line.spread, line.updates)?;
     let written = bring(clock, alloc, queue, line.mode, issued.homes.as_slice())?;
     Ok((issued, written))
@@ -81,7 +86,7 @@ fn bring(
 ) -> Result<Written> {
     let mut spares = Spares::new(alloc)?;
     match mode {
-        Mode::Issue | Mode::Hold => Ok(Written::NOTHING),
+        Mode::Issue | Mode::Hold | Mode::Steady => Ok(Written::NOTHING),
         Mode::Sync => sync(clock, alloc, queue, &mut spares),
         Mode::Upward => flush_in_passes(clock, alloc, queue, &mut spares, Order::Upward),
         Mode::Downward => flush_in_passes(clock, alloc, queue, &mut spares, Order::Downward),

@@ -24,6 +24,15 @@ impl Written {
         writes: 0,
         time: Duration::ZERO,
     };
+
+    /// This, and then that.
+    pub fn and(self, later: Written) -> Written {
+        Written {
+            passes: self.passes.saturating_add(later.passes),
+            writes: self.writes.saturating_add(later.writes),
+            time: self.time.saturating_add(later.time),
+        }
+    }
 }
 
 /// In which order the addresses are gone through.
@@ -121,6 +130,44 @@ fn flush_each(
         let address = match order {
             Order::Upward => k,
             Order::Downward => blocks - 1 - k,
+        };
+        flush_to(queue, device, address, spares)?;
+    }
+    Ok(())
+}
+
+/// Flushes the least block with an update that may go to a new device, until no more than so many updates are pending.
+pub fn flush_until(
+    clock: &impl Clock,
+    alloc: Global,
+    queue: &mut Queue,
+    spares: &mut Spares,
+    pending: usize,
+) -> Result<Written> {
+    let mut device = fresh_device(alloc, &queue.geometry())?;
+    let start = Instant::now(clock)?;
+    flush_least(queue, &mut device, spares, pending)?;
+    let time = start.elapsed(clock)?;
+    Ok(Written {
+        passes: 1,
+        writes: device.writes(),
+        time,
+    })
+}
+
+/// Flushes the least block with an update that may go, until no more than so many updates are pending.
+fn flush_least(
+    queue: &mut Queue,
+    device: &mut MemDevice,
+    spares: &mut Spares,
+    pending: usize,
+) -> Result<(), Refusal> {
+    for _ in 0..u64::MAX {
+        if queue.pending() <= pending {
+            break;
+        }
+        let Some(address) = queue.least_ready() else {
+            break;
         };
         flush_to(queue, device, address, spares)?;
     }

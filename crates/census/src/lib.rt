@@ -8,6 +8,7 @@ mod runs;
 
 ghost use Rattle.std.specs.Prelude.{◌≡◌, IfErr, IfOk, IsErrOf};
 ghost use Rattle.census.specs.Census.{IsCensus};
+ghost use Rattle.device.specs.Reading.{ReadsOnly};
 ghost use Rattle.device.specs.Writes.{HasFailed};
 ghost use Rattle.frozen.specs.Kept.{frozen_view};
 ghost use Rattle.frozen.specs.Loading.{LoadRefuses};
@@ -50,8 +51,7 @@ pub fn census_of<D: Device>(alloc: Global, device: &mut D) -> Result<Census, Ref
     ensures refused { IfErr result (λ refusal. LoadRefuses (D.honest device.new) (D.image device.old) refusal) }
     ensures cause { IsErrOf result Refusal.Device → HasFailed (D.failures device.old) (D.failures device.new) }
 
-    ensures same { D.image device.new ≡ D.image device.old }
-    ensures held { D.held device.new ≡ D.held device.old }
+    ensures reads { ReadsOnly D.honest D.image D.held device.old device.new }
 {
     let frozen = load(alloc, device)?;
     Ok(take_census(&frozen))

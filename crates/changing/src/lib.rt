@@ -1,7 +1,8 @@
 //! Commands that are carried out on a mounted volume, one after another, until one is refused; then all is written.
 #![tactic(auto)]
 
-ghost use Rattle.std.specs.Prelude.{◌≡◌, IfOk, IsOkUnless, OnErr, OnOk, length, map, take};
+ghost use Rattle.std.specs.Prelude.{◌≡◌, IfErr, IfOk, IsOkUnless, OnErr, OnOk, length, map, take};
+ghost use Rattle.frozen.specs.Loading.{GivesOut};
 ghost use Rattle.changing.specs.Changes.{Changes, Writes};
 ghost use Rattle.changing.specs.Stops.{StopsAtRefusal};
 ghost use Rattle.snapshot.specs.Asked.{asked};
@@ -28,6 +29,7 @@ pub fn change<D: Device>(
         (take (length replies.items) commands.now) replies.items (D.held volume.new.device) (D.image volume.new.device) volume.new) }
     // Each was carried out, or each but the last, which was refused.
     ensures stopped { IfOk result (λ replies. StopsAtRefusal (length commands.now) replies.items) }
+    ensures error { IfErr result (λ r. D.honest volume.new.device → GivesOut r) }
     ensures honest { D.honest volume.new.device → D.honest volume.old.device }
 {
     let replies = carry_out(alloc, volume, commands)?;
@@ -67,8 +69,10 @@ pub fn carry_out<D: Device>(
 pub fn write_all<D: Device>(alloc: Global, volume: &mut Volume<D>) -> Result<(), Refusal>
     ensures written { OnOk result (D.honest volume.new.device
         → Writes (D.held volume.old.device) (D.image volume.old.device) volume.old (D.held volume.new.device) (D.image volume.new.device) volume.new) }
+    ensures error { IfErr result (λ r. D.honest volume.new.device → GivesOut r) }
     ensures honest { D.honest volume.new.device → D.honest volume.old.device }
 {
+    volume.live(); // for the proof: its clause `balance`
     volume.apply(alloc, &Command::Sync)?;
     Ok(())
 }

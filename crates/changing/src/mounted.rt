@@ -1,5 +1,5 @@
 ghost use Rattle.std.specs.Prelude.{◌≡◌, [], IfErr, IfOk, length, take};
-ghost use Rattle.changing.specs.Changes.{ChangesMounted};
+ghost use Rattle.changing.specs.Changes.{ChangesMounted, IsNotChanged};
 ghost use Rattle.changing.specs.Stops.{StopsAtRefusal};
 ghost use Rattle.snapshot.specs.Mounting.{IsMountable, IsNotMounted};
 ghost use Rattle.live_states.specs.Holdings.{IsIdle};
@@ -19,7 +19,7 @@ pub struct Changed<D: Device> {
 }
 
 /// Mounts the volume of a device, carries out commands up to the first one that is refused, and writes all. A volume that cannot
-/// be mounted is not written: one whose image breaks a rule is refused with `Damaged`.
+/// be mounted is not written: one whose image breaks a rule is refused with `Damaged`. Refused as `mount` and `change`.
 pub fn change_device<D: Device + Drop>(
     alloc: Global,
     device: D,
@@ -29,6 +29,7 @@ pub fn change_device<D: Device + Drop>(
     ensures changed { IfOk result (λ changed. D.honest changed.volume.device → ChangesMounted (D.image device)
         (take (length changed.replies.items) commands.now) changed.replies.items (D.held changed.volume.device) (D.image changed.volume.device) changed.volume) }
     ensures stopped { IfOk result (λ changed. StopsAtRefusal (length commands.now) changed.replies.items) }
+    ensures refused { IfErr result (IsNotChanged D.honest (D.image device)) }
 {
     let mut volume = mount(alloc, device)?;
     let replies = change(alloc, &mut volume, commands)?;

@@ -109,7 +109,8 @@ impl Claims {
     /// told so is told so again.
     pub fn draw(&self, seat: &mut Seat) -> Option<u32>
         requires own { seat.old.of ≡ self.now.id }
-        ensures unit { IfSome result (λ unit. (seat.new ≡ after_unit seat.old unit) × (unit < seat.old.units) × ((before : ℕ) → 0 < times before seat.old.drawn → before < unit)) }
+        ensures unit { IfSome result (λ unit. (seat.new ≡ after_unit seat.old unit) × (unit < seat.old.units)
+            × ((before : ℕ) → 0 < times before seat.old.drawn → before < unit)) }
         ensures end { IfNone result (seat.new ≡ after_none seat.old) }
     {
         if seat.ended {

@@ -18,7 +18,8 @@ use std::collections::BTreeSet;
 /// The walk goes in rounds, from the root on: each round follows the entries of the directories that the one before
 /// reached first. So each directory is followed once, and the work is that of the entries, whatever they name.
 pub fn walk(alloc: Global, frozen: &Frozen, whole: &Part) -> Result<BTreeSet<u32>, Refusal>
-    ensures reached { IfOk result (λ reached. (units : Units) → IsNamed frozen.now.geometry (frozen_view frozen.now) 2 units whole.now → IsEveryGroup frozen.now.geometry units
+    ensures reached { IfOk result (λ reached. (units : Units) → IsNamed frozen.now.geometry (frozen_view frozen.now) 2 units whole.now
+        → IsEveryGroup frozen.now.geometry units
         → AreReached frozen.now.geometry (frozen_view frozen.now) reached.keys) }
     ensures error { IsOkUnless result Refusal.NoMemory }
 {

@@ -59,7 +59,8 @@ pub(crate) fn hired<'a>(
     requires inodes { claims.now.inodes ≡ inode_count frozen.now.geometry }
     requires directories { All (λ d. IsTrue (is_directory_at frozen.now.geometry (frozen_view frozen.now) d)) round.now }
     ensures seats { IfOk result (λ walkers. map (λ walker. walker.seat) walkers.items ≡ seats.items) }
-    ensures alike { IfOk result (λ walkers. All (λ walker. (walker.claims.now ≡ claims.now) × (walker.frozen.now ≡ frozen.now) × (walker.round.now ≡ round.now) × (walker.found.items ≡ [])) walkers.items) }
+    ensures alike { IfOk result (λ walkers. All (λ walker. (walker.claims.now ≡ claims.now) × (walker.frozen.now ≡ frozen.now)
+        × (walker.round.now ≡ round.now) × (walker.found.items ≡ [])) walkers.items) }
 {
     let mut walkers = Vec::new(alloc);
     for seat in seats {

@@ -28,12 +28,15 @@ pub use services::{
 
 /// A chain of updates that each name their file is a course, which writes these updates.
 pub fn a_chain_is_a_course()
-    ensures { (geo : Geometry) (mounted : View) (h : List Written) (cut : List Bool) (ghost : Ghost) (disk : View) (q : List Pending) (file : ℕ) (h' : List Written) (p : List Pending) (ghost' : Ghost) → IsMoment geo mounted h cut ghost disk q
+    ensures { (geo : Geometry) (mounted : View) (h : List Written) (cut : List Bool) (ghost : Ghost) (disk : View) (q : List Pending) (file : ℕ)
+        (h' : List Written) (p : List Pending) (ghost' : Ghost) → IsMoment geo mounted h cut ghost disk q
         → Issues geo disk q ghost p ghost' → Named geo mounted file h q h' p → (l : Leads geo mounted h cut ghost disk q file p ghost') × (l.h' ≡ h') }
 {}
 
 /// Each plan leads by a course from a good moment at rest to a good moment at rest.
 pub fn each_plan_is_a_course()
-    ensures { (geo : Geometry) (mounted : View) (h : List Written) (cut : List Bool) (disk : View) (q : List Pending) (old : State) (safe : ℕ → Bool) → IsMoment geo mounted h cut (at_rest old.held safe) disk q
-        → (file : ℕ) (p : List Pending) (held' safe' : ℕ → Bool) → IsPlan geo disk q old safe file p held' safe' → Leads geo mounted h cut (at_rest old.held safe) disk q file p (at_rest held' safe') }
+    ensures { (geo : Geometry) (mounted : View) (h : List Written) (cut : List Bool) (disk : View) (q : List Pending) (old : State) (safe : ℕ → Bool)
+        → IsMoment geo mounted h cut (at_rest old.held safe) disk q
+        → (file : ℕ) (p : List Pending) (held' safe' : ℕ → Bool) → IsPlan geo disk q old safe file p held' safe'
+        → Leads geo mounted h cut (at_rest old.held safe) disk q file p (at_rest held' safe') }
 {}

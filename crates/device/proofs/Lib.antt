@@ -1,3 +1,4 @@
 pub mod WriteLemmas
 pub mod MemoryLemmas
 pub mod FormatLemmas
+pub mod ReadingLemmas

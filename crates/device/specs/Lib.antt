@@ -2,3 +2,4 @@ pub mod Writes
 pub mod Memory
 pub mod Zeroes
 pub mod Fused
+pub mod Reading

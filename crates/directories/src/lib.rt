@@ -25,7 +25,8 @@ pub fn tables_are_told_by_their_units()
 
 /// A table of every group has at each sound directory what its slots name, and at any other number nothing.
 pub fn whole_tables_have_every_directory()
-    ensures directory { (geo : Geometry) (view : View) (first : ℕ) (units : Units) (table : List (ℕ × List ℕ)) → IsNamed geo view first units table → IsEveryGroup geo units
+    ensures directory { (geo : Geometry) (view : View) (first : ℕ) (units : Units) (table : List (ℕ × List ℕ))
+        → IsNamed geo view first units table → IsEveryGroup geo units
         → (d : ℕ) → IsTrue (is_directory_at geo view d) → numbers_in table d ≡ named_from geo view first d }
     ensures other { (geo : Geometry) (view : View) (first : ℕ) (units : Units) (table : List (ℕ × List ℕ)) → IsNamed geo view first units table
         → (d : ℕ) → IsFalse (is_directory_at geo view d) → numbers_in table d ≡ [] }

@@ -319,8 +319,7 @@ impl<F: OpenFile, S: Start> FileDevice<F, S> {
         }
     }
 
-    /// Makes a file of this many blocks, all zero, for writing alone: each read is a fault. A file that was there is
-    /// replaced.
+    /// Makes a file of this many blocks, all zero, for reading and writing. A file that was there is replaced.
     pub fn create<R: Files<File = F>>(
         rt: &R,
         path: &str,
@@ -338,7 +337,12 @@ impl<F: OpenFile, S: Start> FileDevice<F, S> {
 
 /// A file of this many blocks, all zero.
 fn created<R: Files>(rt: &R, path: &str, blocks: u32) -> io::Result<R::File> {
-    let file = fs::create(rt, path)?;
+    let file = OpenOptions::new()
+        .read(true)
+        .write(true)
+        .create(true)
+        .truncate(true)
+        .open(rt, path)?;
     file.set_len(offset(blocks))?;
     Ok(file)
 }

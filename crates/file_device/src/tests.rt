@@ -47,11 +47,11 @@ pub(crate) fn format_groups<D: Device>(device: &mut D, groups: u32) -> Result<()
     format(device, &geometry, Before::Anything)
 }
 
-/// Whether each is opened for one use: what was made for writing alone, and what was opened for reading alone.
-fn have_one_use(made: &mut FileDevice<File, Brand>, opened: &mut FileDevice<File, Brand>) -> bool {
+/// Whether both have so many blocks of zeroes: what was made, and what was opened for reading alone.
+fn have_zeroes(made: &mut FileDevice<File, Brand>, opened: &mut FileDevice<File, Brand>) -> bool {
     made.blocks() == 17
         && opened.blocks() == 17
-        && read_block(made, 0).is_none()
+        && read_block(made, 0) == Some([0; BLOCK_BYTES])
         && read_block(opened, 16) == Some([0; BLOCK_BYTES])
 }
 
@@ -71,7 +71,7 @@ fn shows_a_format(
 fn is_made_and_opened(rt: &HostRuntime) -> Result<bool, Refusal> {
     let mut made: FileDevice<File, Brand> = FileDevice::create(rt, IMAGE_PATH, 17)?;
     let mut opened: FileDevice<File, Brand> = FileDevice::open(rt, IMAGE_PATH)?;
-    Ok(have_one_use(&mut made, &mut opened) && shows_a_format(&mut made, &mut opened)?)
+    Ok(have_zeroes(&mut made, &mut opened) && shows_a_format(&mut made, &mut opened)?)
 }
 
 /// Why a file is not opened to be read.

@@ -65,14 +65,16 @@ impl FreeSpace {
 
     /// The least inode number that may be given out; `None` where each is marked.
     pub fn least_number(&self) -> Option<u32>
-        ensures { (geo : Numbers) (view : View) → IsFreeOf geo view self.now → MatchOption result (IsFalse (has_number geo view)) (λ number. IsTrue (has_number geo view) × IsLeastNumber geo view number) }
+        ensures { (geo : Numbers) (view : View) → IsFreeOf geo view self.now
+            → MatchOption result (IsFalse (has_number geo view)) (λ number. IsTrue (has_number geo view) × IsLeastNumber geo view number) }
     {
         self.numbers.least()
     }
 
     /// The least data block from this address on that may be given out; `None` where there is none.
     pub fn next_block(&self, from: u32) -> Option<u32>
-        ensures { (geo : Numbers) (view : View) → IsFreeOf geo view self.now → MatchOption result ((a : ℕ) → from ≤ a → IsFreeBlock geo view a → ⊥) (IsNextBlock geo view from) }
+        ensures { (geo : Numbers) (view : View) → IsFreeOf geo view self.now
+            → MatchOption result ((a : ℕ) → from ≤ a → IsFreeBlock geo view a → ⊥) (IsNextBlock geo view from) }
     {
         self.blocks.next(from)
     }
@@ -80,7 +82,8 @@ impl FreeSpace {
     /// Notes that a number is marked now, or is not any more.
     pub fn set_number(&mut self, number: u32, marked: bool)
         requires { number < length self.old.numbers }
-        ensures { (geo : Numbers) (view : View) → IsTrue (is_number geo number) → IsFreeOf geo view self.old → IsFreeOf geo (updated view (SetNumber number marked)) self.new }
+        ensures { (geo : Numbers) (view : View) → IsTrue (is_number geo number) → IsFreeOf geo view self.old
+            → IsFreeOf geo (updated view (SetNumber number marked)) self.new }
     {
         if marked {
             self.numbers.unmark(number);
@@ -92,7 +95,8 @@ impl FreeSpace {
     /// Notes that a data block is marked now, or is not any more.
     pub fn set_block(&mut self, address: u32, marked: bool)
         requires { address < length self.old.blocks }
-        ensures { (geo : Numbers) (view : View) → IsTrue (is_data_address geo address) → IsFreeOf geo view self.old → IsFreeOf geo (updated view (SetBlock address marked)) self.new }
+        ensures { (geo : Numbers) (view : View) → IsTrue (is_data_address geo address) → IsFreeOf geo view self.old
+            → IsFreeOf geo (updated view (SetBlock address marked)) self.new }
     {
         let was_free = self.blocks.is_marked(address);
         if marked {

@@ -5,6 +5,7 @@ ghost use Rattle.model.specs.Layout.{block_count, group_block};
 ghost use Rattle.model.specs.Image.{IsBlock, IsSuper, IsGroupBlock, block_at};
 ghost use Rattle.frozen.specs.Kept.{KeepsFrame, KeepsClaim, KeepsIndirect, KeepsDirectory, KeepsMetadata, KeepsMore, IsKeptOf};
 ghost use Rattle.frozen.specs.Shared.{shared_blocks};
+ghost use Rattle.device.specs.Reading.{ReadsOnly};
 ghost use Rattle.device.specs.Writes.{HasFailed};
 ghost use Rattle.frozen.specs.Loading.{LoadRefuses, GivesOut, FrameRefuses, BlockRefuses, MapsRefuse, IsKeptBlock, AreBlocksOf};
 
@@ -29,9 +30,7 @@ pub fn load<D: Device>(alloc: Global, device: &mut D) -> Result<Frozen, Refusal>
     ensures refused { IfErr result (λ refusal. LoadRefuses (D.honest device.new) (D.image device.old) refusal) }
     ensures cause { IsErrOf result Refusal.Device → HasFailed (D.failures device.old) (D.failures device.new) }
 
-    ensures same { D.image device.new ≡ D.image device.old }
-    ensures held { D.held device.new ≡ D.held device.old }
-    ensures honest { D.honest device.new → D.honest device.old }
+    ensures reads { ReadsOnly D.honest D.image D.held device.old device.new }
 {
     let count = device.blocks();
     if count == 0 {
@@ -63,9 +62,7 @@ fn read_indirect<D: Device>(alloc: Global, device: &mut D, held: &mut Held) -> R
     ensures cause { IsErrOf result Refusal.Device → HasFailed (D.failures device.old) (D.failures device.new) }
     ensures failures { OnOk result (D.failures device.new ≡ D.failures device.old) }
 
-    ensures same { D.image device.new ≡ D.image device.old }
-    ensures held { D.held device.new ≡ D.held device.old }
-    ensures honest { D.honest device.new → D.honest device.old }
+    ensures reads { ReadsOnly D.honest D.image D.held device.old device.new }
 {
     for number in 0..held.geometry().inodes() {
         keep_claimed(alloc, device, held, number, INDIRECT_POSITION)?;
@@ -89,9 +86,7 @@ fn read_directories<D: Device>(
     ensures refused { IfErr result GivesOut }
     ensures cause { IsErrOf result Refusal.Device → HasFailed (D.failures device.old) (D.failures device.new) }
 
-    ensures same { D.image device.new ≡ D.image device.old }
-    ensures held { D.held device.new ≡ D.held device.old }
-    ensures honest { D.honest device.new → D.honest device.old }
+    ensures reads { ReadsOnly D.honest D.image D.held device.old device.new }
 {
     for number in 0..held.geometry().inodes() {
         read_directory(alloc, device, held, number)?;
@@ -119,9 +114,7 @@ fn read_directory<D: Device>(
     ensures cause { IsErrOf result Refusal.Device → HasFailed (D.failures device.old) (D.failures device.new) }
     ensures failures { OnOk result (D.failures device.new ≡ D.failures device.old) }
 
-    ensures same { D.image device.new ≡ D.image device.old }
-    ensures held { D.held device.new ≡ D.held device.old }
-    ensures honest { D.honest device.new → D.honest device.old }
+    ensures reads { ReadsOnly D.honest D.image D.held device.old device.new }
 {
     if !held.is_directory_at(number) {
         return Ok(());
@@ -152,9 +145,7 @@ fn keep_claimed<D: Device>(
     ensures cause { IsErrOf result Refusal.Device → HasFailed (D.failures device.old) (D.failures device.new) }
     ensures failures { OnOk result (D.failures device.new ≡ D.failures device.old) }
 
-    ensures same { D.image device.new ≡ D.image device.old }
-    ensures held { D.held device.new ≡ D.held device.old }
-    ensures honest { D.honest device.new → D.honest device.old }
+    ensures reads { ReadsOnly D.honest D.image D.held device.old device.new }
 {
     match held.claim_at(number, position) {
         Some(address) if held.block(address).is_none() => {
@@ -184,9 +175,7 @@ fn read_frame<D: Device>(
     ensures cause { IsErrOf result Refusal.Device → HasFailed (D.failures device.old) (D.failures device.new) }
     ensures failures { OnOk result (D.failures device.new ≡ D.failures device.old) }
 
-    ensures same { D.image device.new ≡ D.image device.old }
-    ensures held { D.held device.new ≡ D.held device.old }
-    ensures honest { D.honest device.new → D.honest device.old }
+    ensures reads { ReadsOnly D.honest D.image D.held device.old device.new }
 {
     let mut blocks = Vec::with_capacity(alloc, geometry.blocks() as usize)?;
     blocks.push(Some(Arc::new(alloc, *first)?))?;
@@ -215,9 +204,7 @@ fn keep_block<D: Device>(
     ensures cause { IsErrOf result Refusal.Device → HasFailed (D.failures device.old) (D.failures device.new) }
     ensures failures { OnOk result (D.failures device.new ≡ D.failures device.old) }
 
-    ensures same { D.image device.new ≡ D.image device.old }
-    ensures held { D.held device.new ≡ D.held device.old }
-    ensures honest { D.honest device.new → D.honest device.old }
+    ensures reads { ReadsOnly D.honest D.image D.held device.old device.new }
 {
     if geometry.place_of(address).is_some() {
         return Ok(None);

@@ -96,12 +96,12 @@ where
     Ok(Answer::nothing(rt.alloc()))
 }
 
-/// Makes a file with a fresh image, in place of what was there. A failure tells the file.
+/// Makes a file with a fresh image, in place of what was there, and gives it as it was opened. A failure tells the file.
 fn make_image<R: Files + AllocGlobal>(
     rt: &R,
     image: &str,
     geometry: &Geometry,
-) -> Result<(), Failure>
+) -> Result<FileDevice<R::File, Brand>, Failure>
 where
     R::File: FileExt,
 {
@@ -113,12 +113,15 @@ fn make_file<R: Files + AllocGlobal>(
     rt: &R,
     image: &str,
     geometry: &Geometry,
-) -> Result<(), Failure>
+) -> Result<FileDevice<R::File, Brand>, Failure>
 where
     R::File: FileExt,
 {
     let mut device: FileDevice<R::File, Brand> = FileDevice::create(rt, image, geometry.blocks())?;
-    Ok(make(&mut device, geometry, Before::Zeroes)?)
+    match make(&mut device, geometry, Before::Zeroes) {
+        Ok(()) => Ok(device),
+        Err(refusal) => Err(Failure::from(refusal)),
+    }
 }
 
 /// Makes a file with an image of what a folder of the host holds. All names in the folder are looked at before the file is made.
@@ -138,7 +141,7 @@ where
     make_of_items(rt, image, geometry, items.as_slice(), watcher)
 }
 
-/// Makes a file with an image that has these items.
+/// Makes a file with an image that has these items. The file is opened once.
 fn make_of_items<R: Files + AllocGlobal>(
     rt: &R,
     image: &str,
@@ -151,8 +154,8 @@ where
     ensures status { IfOk result (λ answer. answer.status ≡ 0) }
     ensures silent { IfOk result (λ answer. answer.text.items ≡ []) }
 {
-    make_image(rt, image, geometry)?;
-    silent(rt.alloc(), put_items(rt, image, items, watcher))
+    let device = make_image(rt, image, geometry)?.gathering();
+    silent(rt.alloc(), put_items(rt, image, device, items, watcher))
 }
 
 /// The items of a folder of the host, or of an archive on standard input.

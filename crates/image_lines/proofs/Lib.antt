@@ -1,3 +1,4 @@
 pub mod NumberLemmas
 mod CheckLemmas
 mod RepairLemmas
+mod MountLemmas

@@ -5,7 +5,9 @@ use Rattle.findings.specs.declared.verdicts.Verdict.{Verdict}
 use Rattle.findings.specs.declared.verdicts.Verdict.TheVariants.{Clean, Soft, Damaged}
 use Rattle.findings.specs.Findings.{AreFindings}
 use Rattle.findings.specs.Report.{verdict_of}
+use Rattle.frozen.specs.Loading.{GivesOut, LoadRefuses}
 use Rattle.fsck.specs.Checked.{CheckedImage, IsChecked}
+use Rattle.layout.specs.declared.refusal.Refusal.{Refusal}
 use Rattle.model.specs.Image.{IsImage, image_view}
 use Rattle.model.specs.Layout.{Geometry}
 use Rattle.model.specs.Rules.{ObeysRules}
@@ -60,3 +62,8 @@ mended_well old new image0 image image' text status given checked damaged same m
       with_status = with_status ∙ ap (λ (x : CheckedImage). status_of_verdict x.verdict) is;
       after = (framed, clean, λ bad. (damaged old.kept.geometry (disk_of image0 old) checked.findings is_checked.findings).0 (sym is_checked.verdict ∙ bad) mountable.obeys);
     })
+
+-- want of memory and a fault refuse to load an image too
+pub given_out : (honest : Type 0) (image : List (List ℕ)) (r : Refusal) → GivesOut r → LoadRefuses honest image r
+given_out honest image r (inl memory) = subst (LoadRefuses honest image) (sym memory) tt
+given_out honest image r (inr device) = subst (LoadRefuses honest image) (sym device) tt

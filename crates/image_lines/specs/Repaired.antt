@@ -7,7 +7,9 @@ use Rattle.findings.specs.Report.{line, repair_text}
 use Rattle.findings.specs.declared.repair.Repair.{Repair}
 use Rattle.findings.specs.declared.verdicts.Verdict.{Verdict}
 use Rattle.findings.specs.declared.verdicts.Verdict.TheVariants as verdict
+use Rattle.frozen.specs.Loading.{LoadRefuses}
 use Rattle.fsck.specs.Checked.{CheckedImage, IsChecked}
+use Rattle.layout.specs.declared.refusal.Refusal.{Refusal}
 use Rattle.snapshot.specs.Alive.{disk_of}
 use Rattle.model.specs.Image.{IsImage, image_view}
 use Rattle.model.specs.Layout.{Geometry}
@@ -46,3 +48,8 @@ pub record IsRepaired {D : Type 0} (image : List (List ℕ)) (text : List ℕ) (
   pub told : text ≡ repair_text_of checked.verdict checked
   pub with_status : status ≡ status_of_verdict checked.verdict
   pub after : IsAfter image checked.verdict outcome image'
+
+-- A device that held this image was let go whose image was not repaired, and it was refused so: where the device was honest, as one whose image cannot be loaded, for want of memory, or for a fault.
+pub record IsNotRepaired {D : Type 0} (honest_of : D → Type 0) (image : List (List ℕ)) (r : Refusal) : Type 0 where
+  pub after : D
+  pub refuses : honest_of after → LoadRefuses (honest_of after) image r

@@ -5,6 +5,7 @@ ghost use Rattle.model.specs.Layout.{Geometry as Numbers};
 ghost use Rattle.model.specs.Image.{IsImage, image_view};
 ghost use Rattle.findings.specs.Findings.{AreFindingsOf, is_of_numbers};
 ghost use Rattle.findings.specs.Report.{verdict_of};
+ghost use Rattle.device.specs.Reading.{ReadsOnly};
 ghost use Rattle.device.specs.Writes.{HasFailed};
 ghost use Rattle.frozen.specs.Loading.{LoadRefuses};
 ghost use Rattle.image_lines.specs.Status.{status_of_verdict};
@@ -81,8 +82,7 @@ pub fn check_numbers<D: Device>(alloc: Global, device: &mut D) -> Result<Vec<Fin
     ensures refused { IfErr result (λ refusal. LoadRefuses (D.honest device.new) (D.image device.old) refusal) }
     ensures cause { IsErrOf result Refusal.Device → HasFailed (D.failures device.old) (D.failures device.new) }
 
-    ensures same { D.image device.new ≡ D.image device.old }
-    ensures held { D.held device.new ≡ D.held device.old }
+    ensures reads { ReadsOnly D.honest D.image D.held device.old device.new }
 {
     let frozen = load(alloc, device)?;
     number_findings(alloc, &frozen)

@@ -1,8 +1,11 @@
 //! The line `check`: the report of an image.
-ghost use Rattle.std.specs.Prelude.{◌≡◌, ◌<◌, ◌↔◌, Err, IfOk, IfErr, IsFalse, IsTrue, OkIff, IsErrOf, IsOkUnless};
+ghost use Rattle.std.specs.Prelude.{◌≡◌, ◌<◌, ◌↔◌, Err, IfOk, IfErr, IsFalse, IsTrue, OkIff, IsErrOf, IsOkUnless, length};
 ghost use Rattle.layout.specs.declared.refusal.Refusal.TheVariants.{BadWorkers};
 ghost use Rattle.model.specs.Layout.{Geometry as Numbers};
+ghost use Rattle.frozen.specs.Kept.{IsKeptOf};
+ghost use Rattle.model.specs.Layout.{block_count};
 ghost use Rattle.model.specs.Image.{IsImage, image_view};
+ghost use Rattle.device.specs.Reading.{ReadsOnly};
 ghost use Rattle.device.specs.Writes.{HasFailed};
 ghost use Rattle.failures.specs.Status.{plain};
 ghost use Rattle.frozen.specs.Loading.{LoadRefuses};
@@ -129,12 +132,14 @@ pub fn check<D: Device, G: Gate>(
     // repairs are those of this image.
     ensures checked { IfOk result (λ checked. D.honest device.new → (geo : Numbers) × IsImage geo (D.image device.old)
         × IsChecked geo (image_view geo (D.image device.old)) checked) }
+    // The metadata that were checked are those of the image; the device has as many blocks as its volume, honest or not.
+    ensures loaded { IfOk result (λ checked. D.honest device.new → IsKeptOf checked.frozen (D.image device.old)) }
+    ensures count { IfOk result (λ checked. length (D.image device.old) ≡ block_count checked.frozen.geometry) }
     ensures workers { IsErrOf result Refusal.BadWorkers ↔ IsFalse (may_work workers) }
     ensures refused { IsTrue (may_work workers) → IfErr result (λ refusal. LoadRefuses (D.honest device.new) (D.image device.old) refusal) }
     ensures cause { IsErrOf result Refusal.Device → HasFailed (D.failures device.old) (D.failures device.new) }
 
-    ensures same { D.image device.new ≡ D.image device.old }
-    ensures held { D.held device.new ≡ D.held device.old }
+    ensures reads { ReadsOnly D.honest D.image D.held device.old device.new }
 {
     allow_workers(workers)?;
     let frozen = Arc::new(alloc, load(alloc, device)?)?;

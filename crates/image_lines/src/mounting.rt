@@ -1,23 +1,68 @@
-//! The volume of a device.
-ghost use Rattle.std.specs.Prelude.{◌≡◌, [], IfErr, IfOk};
+//! The volume of a device whose image was checked.
+ghost use Rattle.std.specs.Prelude.{◌≡◌, [], IfErr, IfOk, IsTrue, length};
+ghost use Rattle.findings.specs.declared.verdicts.Verdict.TheVariants.{Damaged};
+ghost use Rattle.frozen.specs.Kept.{IsKeptOf};
+ghost use Rattle.layout.specs.declared.refusal.Refusal.TheVariants.{NoMemory};
 ghost use Rattle.live_states.specs.Holdings.{IsIdle};
+ghost use Rattle.model.specs.Layout.{block_count};
 ghost use Rattle.snapshot.specs.Mounting.{IsMountable, IsNotMounted};
 ghost use Rattle.softdep.specs.Queued.{pending_of};
+ghost use Rattle.workers.specs.Workers.{may_work};
 
+use crate::check::check;
 use device::Device;
+use findings::Verdict;
+use fsck::Checked;
 use layout::Refusal;
-use snapshot::{Live, NotMounted};
+use snapshot::{Live, NotMounted, tells_its_image};
 use std::alloc::Global;
+use std::thread::Threads;
+use workers::Gate;
 
-/// Mounts the volume of a device, which is let go if it cannot be mounted. Refused as `Live::mount` is.
-pub fn mount<D: Device + Drop>(alloc: Global, device: D) -> Result<Live<D>, Refusal>
+/// Mounts the volume of a device once its image is checked with this many workers, which pass the gate as in `fsck::check`.
+/// Refused as `Live::mount` is; then the device is let go.
+pub fn mount<D: Device + Drop, G: Gate>(
+    rt: &(impl Threads + Sync),
+    alloc: Global,
+    mut device: D,
+    workers: u32,
+    gate: &G,
+) -> Result<Live<D>, Refusal>
+    requires workers { IsTrue (may_work workers) }
     ensures image { IfOk result (λ live. D.image live.device ≡ D.image device) }
     ensures pending { IfOk result (λ live. pending_of live.queue ≡ []) }
     ensures idle { IfOk result (λ live. IsIdle live.holdings) }
     ensures mounted { IfOk result (λ live. D.honest live.device → IsMountable live.kept.geometry (D.image device)) }
     ensures refused { IfErr result (IsNotMounted D.honest D.image D.held D.failures device) }
 {
-    match Live::mount(alloc, device) {
+    let checked = check(rt, alloc, &mut device, workers, gate)?;
+    match checked.verdict() {
+        Verdict::Damaged => Err(Refusal::Damaged),
+        Verdict::Clean | Verdict::Soft => mount_checked(alloc, device, &checked),
+    }
+}
+
+/// Mounts the volume of a device whose image was checked, and is not damaged: nothing is read again. Refused with `NoMemory`
+/// alone; then the device is let go.
+pub fn mount_checked<D: Device + Drop>(
+    alloc: Global,
+    device: D,
+    checked: &Checked,
+) -> Result<Live<D>, Refusal>
+    requires loaded { D.honest device → IsKeptOf checked.now.frozen (D.image device) }
+    requires count { length (D.image device) ≡ block_count checked.now.frozen.geometry }
+    requires sound { checked.now.verdict ≡ Damaged → ⊥ }
+    ensures device { IfOk result (λ live. live.device ≡ device) }
+    ensures kept { IfOk result (λ live. live.kept ≡ checked.now.frozen) }
+    ensures pending { IfOk result (λ live. pending_of live.queue ≡ []) }
+    ensures idle { IfOk result (λ live. IsIdle live.holdings) }
+    ensures mounted { IfOk result (λ live. D.honest device → IsMountable live.kept.geometry (D.image device)) }
+    ensures error { IfErr result (λ r. r ≡ NoMemory) }
+{
+    findings::rules_hold_where_findings_are_soft();
+    tells_its_image(checked);
+    let frozen = checked.frozen().copy(alloc)?;
+    match Live::mount_loaded(alloc, device, frozen) {
         Ok(live) => Ok(live),
         Err(NotMounted { device: _, cause }) => Err(cause),
     }

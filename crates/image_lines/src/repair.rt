@@ -1,28 +1,32 @@
 //! The line `repair`: the report of an image, and what is mended of it.
-ghost use Rattle.std.specs.Prelude.{◌≡◌, ◌++◌, ◌<◌, [], Err, IfOk, IsFalse, IsOkUnless, IsTrue, OnOk};
+ghost use Rattle.std.specs.Prelude.{◌≡◌, ◌++◌, ◌<◌, [], Err, IfErr, IfOk, IsFalse, IsOkUnless, IsTrue, OnOk, length};
 ghost use Rattle.std.specs.String.{string_bytes};
 ghost use Rattle.failures.specs.Status.{plain};
+ghost use Rattle.findings.specs.declared.verdicts.Verdict.TheVariants.{Soft};
+ghost use Rattle.frozen.specs.Kept.{IsKeptOf};
+ghost use Rattle.frozen.specs.Loading.{GivesOut};
 ghost use Rattle.layout.specs.declared.refusal.Refusal.TheVariants.{BadWorkers};
 ghost use Rattle.live_states.specs.Holdings.{IsIdle};
+ghost use Rattle.model.specs.Layout.{block_count};
 ghost use Rattle.snapshot.specs.Mounting.{IsMountable};
 ghost use Rattle.softdep.specs.Queued.{pending_of};
 ghost use Rattle.workers.specs.Workers.{may_work};
 ghost use Rattle.image_lines.specs.Status.{status_of_verdict};
 ghost use Rattle.image_lines.specs.declared.repair.Outcome.TheVariants.{Mended};
-ghost use Rattle.image_lines.specs.Repaired.{IsRepaired, device_of, done_text, repair_lines, repair_text_of};
+ghost use Rattle.image_lines.specs.Repaired.{IsNotRepaired, IsRepaired, device_of, done_text, repair_lines, repair_text_of};
 
 use crate::check::{allow_workers, by_workers, check, check_file, told};
-use crate::mounting::mount;
+use crate::mounting::mount_checked;
 use clap::{ArgMatches, Command};
 use command_line::{Answer, Failure, SOFT, Watched};
 use device::Device;
-use file_device::FileDevice;
+use file_device::{FileDevice, OpenError};
 use findings::{Repair, Verdict};
 use fsck::Checked;
 use layout::Refusal;
-use mending::mend;
+use mending::mend_checked;
 use progress::Watcher;
-use snapshot::Volume;
+use snapshot::{Volume, tells_its_image};
 use std::alloc::{AllocError, Global};
 use std::marker::Brand;
 use std::os::unix::fs::FileExt;
@@ -74,7 +78,8 @@ where
     )
 }
 
-/// Checks a file's image, and mends it where it is soft: only then is the file opened to be written.
+/// Checks a file's image, and mends it where it is soft. A file that may not be written is checked too: only where its image
+/// is soft, it is refused.
 fn repair_file<R: Files + AllocGlobal + Threads + Sync, G: Gate>(
     rt: &R,
     image: &str,
@@ -85,27 +90,32 @@ where
     R::File: FileExt,
     ensures { IfOk result (λ answer. answer.status < 3) }
 {
-    let answer = check_file(rt, image, workers, gate)?;
-    if answer.status != SOFT {
-        return Ok(answer);
+    let opened: Result<FileDevice<R::File, Brand>, OpenError> = FileDevice::open_to_write(
+        rt, image,
+    );
+    match opened {
+        Ok(device) => Ok(repair(rt, rt.alloc(), device, workers, gate)?.answer),
+        Err(refused) => check_unwritable(rt, image, workers, gate, refused),
     }
-    mend_file(rt, image, workers, gate)
 }
 
-/// Opens a file to be written, and mends its image.
-fn mend_file<R: Files + AllocGlobal + Threads + Sync, G: Gate>(
+/// Checks the image of a file that was refused to be written, and refuses it so where there is something to be mended.
+fn check_unwritable<R: Files + AllocGlobal + Threads + Sync, G: Gate>(
     rt: &R,
     image: &str,
     workers: u32,
     gate: &G,
+    refused: OpenError,
 ) -> Result<Answer, Failure>
 where
     R::File: FileExt,
     ensures { IfOk result (λ answer. answer.status < 3) }
 {
-    let device: FileDevice<R::File, Brand> = FileDevice::open_to_write(rt, image)?;
-    let repaired = repair(rt, rt.alloc(), device, workers, gate)?;
-    Ok(repaired.answer)
+    let answer = check_file(rt, image, workers, gate)?;
+    if answer.status == SOFT {
+        return Err(Failure::from(refused));
+    }
+    Ok(answer)
 }
 
 /// What came of a device whose image was to be mended.
@@ -125,7 +135,8 @@ pub struct Repaired<D: Device> {
 }
 
 /// Checks a device's image with this many workers, which pass the gate as in `fsck::check`. Where it is soft, the volume is
-/// mounted and mended.
+/// mounted and mended by this check: the image is read once, and checked once. Refused with `BadWorkers`, as an image that
+/// cannot be loaded, with `NoMemory` and with `Device`.
 pub fn repair<D: Device + Drop, G: Gate>(
     rt: &(impl Threads + Sync),
     alloc: Global,
@@ -139,11 +150,12 @@ pub fn repair<D: Device + Drop, G: Gate>(
         → IsRepaired (D.image device) repaired.answer.text.items repaired.answer.status repaired.outcome (D.image (device_of repaired.outcome))) }
     ensures status { IfOk result (λ repaired. repaired.answer.status < 3) }
     ensures workers { IsFalse (may_work workers) → result ≡ Err BadWorkers }
+    ensures refused { IsTrue (may_work workers) → IfErr result (IsNotRepaired D.honest (D.image device)) }
 {
     allow_workers(workers)?;
     let checked = check(rt, alloc, &mut device, workers, gate)?;
     match checked.verdict() {
-        Verdict::Soft => mend_device(rt, alloc, device, workers, gate),
+        Verdict::Soft => mend_device(alloc, device, &checked),
         Verdict::Clean | Verdict::Damaged => Ok(Repaired {
             answer: told(alloc, &checked)?,
             outcome: Outcome::Left(device),
@@ -151,46 +163,49 @@ pub fn repair<D: Device + Drop, G: Gate>(
     }
 }
 
-/// Mounts the volume of a device, and mends it.
-fn mend_device<D: Device + Drop, G: Gate>(
-    rt: &(impl Threads + Sync),
+/// Mounts the volume of a device whose image was checked and is soft, and mends it by that check.
+fn mend_device<D: Device + Drop>(
     alloc: Global,
     device: D,
-    workers: u32,
-    gate: &G,
+    checked: &Checked,
 ) -> Result<Repaired<D>, Refusal>
-    requires { IsTrue (may_work workers) }
+    requires loaded { D.honest device → IsKeptOf checked.now.frozen (D.image device) }
+    requires count { length (D.image device) ≡ block_count checked.now.frozen.geometry }
+    requires soft { checked.now.verdict ≡ Soft }
     ensures repaired { IfOk result (λ repaired. D.honest (device_of repaired.outcome)
         → IsRepaired (D.image device) repaired.answer.text.items repaired.answer.status repaired.outcome (D.image (device_of repaired.outcome))) }
     ensures status { IfOk result (λ repaired. repaired.answer.status < 3) }
+    ensures refused { IfErr result (IsNotRepaired D.honest (D.image device)) }
 {
-    let mut volume = Volume::new(mount(alloc, device)?);
-    let answer = mend_volume(rt, alloc, &mut volume, workers, gate)?;
+    let mut volume = Volume::new(mount_checked(alloc, device, checked)?);
+    let answer = mend_volume(alloc, &mut volume, checked)?;
     Ok(Repaired {
         answer,
         outcome: Outcome::Mended(volume),
     })
 }
 
-/// Mends a volume that was just mounted, and tells what was mended.
-fn mend_volume<D: Device, G: Gate>(
-    rt: &(impl Threads + Sync),
+/// Mends a volume that was just mounted by the check of its image, and tells what was mended.
+fn mend_volume<D: Device>(
     alloc: Global,
     volume: &mut Volume<D>,
-    workers: u32,
-    gate: &G,
+    checked: &Checked,
 ) -> Result<Answer, Refusal>
     requires pending { pending_of volume.old.queue ≡ [] }
     requires idle { IsIdle volume.old.holdings }
     requires mounted { D.honest volume.old.device → IsMountable volume.old.kept.geometry (D.image volume.old.device) }
-    requires workers { IsTrue (may_work workers) }
+    requires geometry { checked.now.frozen.geometry ≡ volume.old.kept.geometry }
+    requires loaded { D.honest volume.old.device → IsKeptOf checked.now.frozen (D.image volume.old.device) }
     ensures repaired { IfOk result (λ answer. D.honest volume.new.device
         → IsRepaired (D.image volume.old.device) answer.text.items answer.status (Mended volume.new) (D.image volume.new.device)) }
     ensures status { IfOk result (λ answer. answer.status < 3) }
+    ensures error { IfErr result (λ r. D.honest volume.new.device → GivesOut r) }
 {
     fsck::damaged_where_a_rule_is_broken();
-    let checked = mend(rt, alloc, volume, workers, gate)?;
-    told_of_repairs(alloc, &checked)
+    fsck::a_checked_image_is_the_images();
+    tells_its_image(checked);
+    mend_checked(alloc, volume, checked)?;
+    told_of_repairs(alloc, checked)
 }
 
 /// What is printed of an image that was mended by this check, where it was soft.

@@ -146,7 +146,8 @@ fn write_direct(pointers: &[u32; DIRECT_POINTERS], bytes: &mut [u8; RECORD_BYTES
 /// A record's bytes say the same in their block as alone, also where the block is seen as its chunks.
 pub fn a_record_is_read_from_its_bytes()
     ensures bytes { (block : List ℕ) (byte : ℕ) → byte + 128 ≤ length block → inode_at (take 128 (drop byte block)) 0 ≡ inode_at block byte }
-    ensures chunks { (block : List ℕ) (count j : ℕ) (d : List ℕ) → j < count → inode_at (slice_index_or (first_chunks 128 count block) j d) 0 ≡ inode_at block (128 * j) }
+    ensures chunks { (block : List ℕ) (count j : ℕ) (d : List ℕ) → j < count
+        → inode_at (slice_index_or (first_chunks 128 count block) j d) 0 ≡ inode_at block (128 * j) }
 {}
 
 /// A record's bytes that are put into its block say there what they say alone, and no other record and no other byte

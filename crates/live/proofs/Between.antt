@@ -1,5 +1,5 @@
 -- A volume that is as it was, but for its device, which holds what it held.
-use Rattle.std.proofs.Common.{◌≡◌, List, ℕ, Result, Ok, Err, IfOk, sym, subst}
+use Rattle.std.proofs.Common.{◌≡◌, List, ℕ, sym, subst}
 use Rattle.ordering.specs.Cuts.{Pending, users_view}
 use Rattle.model.specs.Image.{image_view}
 use Rattle.model.specs.View.{View}
@@ -9,10 +9,6 @@ use Rattle.softdep.specs.Queued.{Queued, pending_of}
 use Rattle.live_states.specs.Holdings.{Beside, Holdings, IsImageOf}
 use Rattle.live_states.specs.Planned.{AreSeen, Seen}
 use Rattle.live.specs.Alive.{Alive, Answers, AnswersBeside, disk_of}
-
-pub if_ok : {T E : Type 0} (P Q : T → Type 0) → ((x : T) → P x → Q x) → (r : Result T E) → IfOk r P → IfOk r Q
-if_ok P Q f (Ok x) p = f x p
-if_ok P Q f (Err e) p = p
 
 module _ {D : Type 0} (image image' : List (List ℕ)) (old mid : Alive D) (same : image' ≡ image) (queue : mid.queue ≡ old.queue) (kept : mid.kept ≡ old.kept) (holdings : mid.holdings ≡ old.holdings) where
   -- users see the same bytes

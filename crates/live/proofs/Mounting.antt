@@ -1,5 +1,5 @@
 -- What was loaded becomes a mounted volume, or its image breaks a rule.
-use Rattle.std.proofs.Common.{◌≡◌, ◌≤◌, ℕ, zero, suc, true, false, List, length, Option, Some, None, is_some, MatchOption, refl, sym, subst, arith}
+use Rattle.std.proofs.Common.{◌≡◌, ◌≤◌, ℕ, zero, suc, true, false, List, length, Option, Some, None, is_some, MatchOption, Result, Ok, Err, IfOk, refl, sym, subst, arith}
 use Rattle.model.specs.Image.{image_view}
 use Rattle.model.specs.Layout.{Geometry, block_count}
 use Rattle.model.specs.Rules.{IsLeastBroken, ObeysRules, Rule}
@@ -13,6 +13,11 @@ use Rattle.live_states.proofs.Standing.{loaded}
 use Rattle.live_states.specs.Snapshots.{AreRepairsOf}
 use Rattle.live.specs.Alive.{IsLive, IsSnapshotOf}
 use Rattle.live.specs.Mounting.{BreaksRule, IsFresh, IsMountable}
+
+-- what follows from two clauses on a result
+pub with_both : {T E : Type 0} (r : Result T E) (P Q R : T → Type 0) → IfOk r P → IfOk r Q → ((t : T) → P t → Q t → R t) → IfOk r R
+with_both (Ok t) P Q R p q f = f t p q
+with_both (Err e) P Q R p q f = tt
 
 -- what is told by the least rule that is broken
 pub obeyed : (geo : Geometry) (view : View) (least : Option ℕ) → MatchOption least (ObeysRules geo view) (IsLeastBroken geo view) → is_some least ≡ false → ObeysRules geo view

@@ -4,3 +4,4 @@ pub mod Held
 pub mod Issued
 pub mod Mounting
 pub mod Runs
+pub mod Seen

@@ -20,7 +20,8 @@ pub(crate) fn read_seen<D: Device>(
 ) -> Result<(), Refusal>
     requires address { IsTrue (is_data_address queue.now.geometry address) }
     requires count { length (D.image device.old) ≡ block_count queue.now.geometry }
-    ensures bytes { OnOk result (D.honest device.new → (users_view (image_view queue.now.geometry (D.image device.old)) (pending_of queue.now)).bytes address ≡ block.new) }
+    ensures bytes { OnOk result (D.honest device.new
+        → (users_view (image_view queue.now.geometry (D.image device.old)) (pending_of queue.now)).bytes address ≡ block.new) }
     ensures image { D.image device.new ≡ D.image device.old }
     ensures held { D.held device.new ≡ D.held device.old }
     ensures honest { D.honest device.new → D.honest device.old }

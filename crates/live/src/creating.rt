@@ -1,7 +1,8 @@
-ghost use Rattle.std.specs.Prelude.{◌≡◌, [], IfErr, IfOk, OnErr, OnOk};
+ghost use Rattle.std.specs.Prelude.{◌≡◌, IfErr, IfOk, OnErr, OnOk};
 ghost use Rattle.machine.specs.Command.{Create, Done, Link, Mkdir, Number};
 ghost use Rattle.live_states.specs.Planned.{IsRefused};
-ghost use Rattle.live.specs.Alive.{Answers, MayRefuse};
+ghost use Rattle.live.specs.Alive.{MayRefuse};
+ghost use Rattle.live.specs.Seen.{Answered};
 
 use crate::Live;
 use crate::ending::Ending;
@@ -15,7 +16,7 @@ impl<D: Device> Live<D> {
     /// number is marked, with `TooBig` where the directory is full, and with `NoBlock` where it needs more blocks than are
     /// unmarked.
     pub fn create(&mut self, alloc: Global, path: &[u8]) -> Result<u32, Refusal>
-        ensures done { IfOk result (λ number. D.honest self.old.device → Answers (D.image self.old.device) self.old (Create path.now) (Number number) (D.image self.new.device) self.new []) }
+        ensures done { IfOk result (λ number. D.honest self.old.device → Answered D.image self.old (Create path.now) (Number number) self.new) }
         ensures refused { IfErr result (λ r. D.honest self.old.device → MayRefuse (D.image self.old.device) self.old (Create path.now) r) }
         ensures cause { IfErr result (IsRefused self.old.kept (Create path.now)) }
         ensures untouched { OnErr result (self.new ≡ self.old) }
@@ -30,7 +31,7 @@ impl<D: Device> Live<D> {
     /// Makes an empty directory, and gives its number. Refused as `create`, and, after `Exists`, with `TooManyLinks` where
     /// its parent has 32,767 links; it needs a block for its dots too.
     pub fn mkdir(&mut self, alloc: Global, path: &[u8]) -> Result<u32, Refusal>
-        ensures done { IfOk result (λ number. D.honest self.old.device → Answers (D.image self.old.device) self.old (Mkdir path.now) (Number number) (D.image self.new.device) self.new []) }
+        ensures done { IfOk result (λ number. D.honest self.old.device → Answered D.image self.old (Mkdir path.now) (Number number) self.new) }
         ensures refused { IfErr result (λ r. D.honest self.old.device → MayRefuse (D.image self.old.device) self.old (Mkdir path.now) r) }
         ensures cause { IfErr result (IsRefused self.old.kept (Mkdir path.now)) }
         ensures untouched { OnErr result (self.new ≡ self.old) }
@@ -47,7 +48,7 @@ impl<D: Device> Live<D> {
     /// where it leads to a directory, with `NotFound` or `NotDirectory` where the walk to the other name's directory ends
     /// before, with `Exists`, with `TooManyLinks` where the file has 32,767 links, with `TooBig`, and with `NoBlock`.
     pub fn link(&mut self, alloc: Global, path: &[u8], other: &[u8]) -> Result<(), Refusal>
-        ensures done { OnOk result (D.honest self.old.device → Answers (D.image self.old.device) self.old (Link path.now other.now) Done (D.image self.new.device) self.new []) }
+        ensures done { OnOk result (D.honest self.old.device → Answered D.image self.old (Link path.now other.now) Done self.new) }
         ensures refused { IfErr result (λ r. D.honest self.old.device → MayRefuse (D.image self.old.device) self.old (Link path.now other.now) r) }
         ensures cause { IfErr result (IsRefused self.old.kept (Link path.now other.now)) }
         ensures untouched { OnErr result (self.new ≡ self.old) }

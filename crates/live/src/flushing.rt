@@ -1,18 +1,12 @@
-ghost use Rattle.std.specs.Prelude.{◌≡◌, ℕ, ◌<◌, ◌≤◌, [], ◌⊎◌, IfErr, IfOk, IsErrOf, IsOkUnless, List, MatchOption, OnErr, OnOk};
+ghost use Rattle.std.specs.Prelude.{◌≡◌, [], ◌<◌, ◌≤◌, ◌⊎◌, IfErr, IfOk, IsErrOf, IsOkUnless, OnErr, OnOk};
 ghost use Rattle.layout.specs.declared.refusal.Refusal.TheVariants.{BadIndex, Device as DeviceRefusal};
 ghost use Rattle.device.specs.Writes.{HasFailed};
 ghost use Rattle.machine.specs.Command.{Done, Flush, Number, Sync};
 ghost use Rattle.machine.specs.Room.{unmarked_blocks};
 ghost use Rattle.model.specs.Layout.{block_count};
-ghost use Rattle.model.specs.View.{View};
-ghost use Rattle.ordering.specs.Cuts.{users_view};
-ghost use Rattle.queue_model.specs.Blocks.{home_of};
-ghost use Rattle.queue_model.specs.Sync.{IsLeastReady};
 ghost use Rattle.softdep.specs.Queued.{pending_of};
-ghost use Rattle.softdep.specs.Syncing.{AreFlushes};
-ghost use Rattle.softdep_queue.specs.Next.{IsNextReady, NothingReadyFrom};
-ghost use Rattle.live.specs.Alive.{Answers, MayRefuse, disk_of};
-ghost use Rattle.live.specs.Held.{HeldMore, WritesBlock};
+ghost use Rattle.live.specs.Alive.{MayRefuse};
+ghost use Rattle.live.specs.Seen.{seen_of, AnsweredByWrites, Flushed, WroteBlock, IsLeastReadyOf, IsNextReadyOf};
 
 use crate::Live;
 use device::Device;
@@ -21,21 +15,21 @@ use layout::Refusal;
 impl<D: Device> Live<D> {
     /// How many data blocks are not marked.
     pub fn unmarked_blocks(&self) -> u32
-        ensures { D.honest self.now.device → result ≡ unmarked_blocks self.now.kept.geometry (users_view (disk_of (D.image self.now.device) self.now) (pending_of self.now.queue)) }
+        ensures { D.honest self.now.device → result ≡ unmarked_blocks self.now.kept.geometry (seen_of D.image self.now) }
     {
         self.metadata.unmarked_blocks()
     }
 
     /// The least block with an update that may go to the device; `None` where nothing is pending.
     pub fn least_ready(&self) -> Option<u32>
-        ensures { MatchOption result (pending_of self.now.queue ≡ []) (λ address. IsLeastReady (home_of self.now.kept.geometry) (pending_of self.now.queue) address) }
+        ensures { IsLeastReadyOf self.now result }
     {
         self.queue.least_ready()
     }
 
     /// The least block with an update that may go to the device, of this one and those above it; `None` where there is none.
     pub fn next_ready(&self, from: u32) -> Option<u32>
-        ensures { MatchOption result (NothingReadyFrom (home_of self.now.kept.geometry) (pending_of self.now.queue) from) (λ address. IsNextReady (home_of self.now.kept.geometry) (pending_of self.now.queue) from address) }
+        ensures { IsNextReadyOf self.now from result }
     {
         self.queue.next_ready(from)
     }
@@ -44,12 +38,12 @@ impl<D: Device> Live<D> {
     /// not touched. Refused with `BadIndex` if the volume has no such block, and with `Device`; then nothing is written.
     pub fn flush(&mut self, address: u32) -> Result<usize, Refusal>
         // What the device held after it is what the flush wrote.
-        ensures done { IfOk result (λ count. D.honest self.new.device → (later : List View) × HeldMore self.old.kept.geometry (D.held self.old.device) (D.held self.new.device) later
-            × Answers (D.image self.old.device) self.old (Flush address) (Number count) (D.image self.new.device) self.new later) }
+        ensures done { IfOk result (λ count. D.honest self.new.device → AnsweredByWrites D.held D.image self.old (Flush address) (Number count) self.new) }
         ensures refused { IfErr result (λ r. D.honest self.new.device → MayRefuse (D.image self.old.device) self.old (Flush address) r) }
-        ensures untouched { OnErr result ((self.new.queue ≡ self.old.queue) × (D.image self.new.device ≡ D.image self.old.device) × (D.held self.new.device ≡ D.held self.old.device)) }
+        ensures untouched { OnErr result ((self.new.queue ≡ self.old.queue) × (D.image self.new.device ≡ D.image self.old.device)
+            × (D.held self.new.device ≡ D.held self.old.device)) }
         ensures idle { IfOk result (λ count. count ≡ 0 → self.new.device ≡ self.old.device) }
-        ensures written { IfOk result (λ count. 0 < count → WritesBlock address (D.image self.old.device) (D.held self.old.device) (D.image self.new.device) (D.held self.new.device)) }
+        ensures written { IfOk result (λ count. 0 < count → WroteBlock D.held D.image address self.old self.new) }
         ensures metadata { self.new.kept ≡ self.old.kept }
         ensures holdings { self.new.holdings ≡ self.old.holdings }
         ensures error { IfErr result (λ r. (r ≡ DeviceRefusal) ⊎ ((r ≡ BadIndex) × (block_count self.old.kept.geometry ≤ address))) }
@@ -68,14 +62,13 @@ impl<D: Device> Live<D> {
     /// Flushes the least block with an update that may go, until nothing is pending, and waits for the medium. A fault of
     /// the device ends it; what was written before stays written.
     pub fn sync(&mut self) -> Result<(), Refusal>
-        ensures done { OnOk result (D.honest self.new.device → (later : List View) × HeldMore self.old.kept.geometry (D.held self.old.device) (D.held self.new.device) later
-            × Answers (D.image self.old.device) self.old Sync Done (D.image self.new.device) self.new later) }
+        ensures done { OnOk result (D.honest self.new.device → AnsweredByWrites D.held D.image self.old Sync Done self.new) }
         ensures refused { IfErr result (λ r. D.honest self.new.device → MayRefuse (D.image self.old.device) self.old Sync r) }
         ensures pending { OnOk result (pending_of self.new.queue ≡ []) }
         ensures metadata { self.new.kept ≡ self.old.kept }
         ensures holdings { self.new.holdings ≡ self.old.holdings }
         // Refused or not, what the device held since is what flushes of the least ready block left.
-        ensures flushes { D.honest self.new.device → AreFlushes self.old.kept.geometry (D.image self.old.device) (D.held self.old.device) (pending_of self.old.queue) (D.image self.new.device) (D.held self.new.device) (pending_of self.new.queue) }
+        ensures flushes { D.honest self.new.device → Flushed D.held D.image self.old self.new }
         ensures error { IsOkUnless result Refusal.Device }
         ensures cause { IsErrOf result Refusal.Device → HasFailed (D.failures self.old.device) (D.failures self.new.device) }
         ensures honest { D.honest self.new.device → D.honest self.old.device }

@@ -1,15 +1,14 @@
-ghost use Rattle.std.specs.Prelude.{◌≡◌, ◌⊎◌, ◌<◌, ℕ, [], None, Some, IfErr, IfOk, IfSome, IsErrOf, IsFalse, IsOkUnless, IsTrue, OnErr, OnOk};
+ghost use Rattle.std.specs.Prelude.{◌≡◌, ◌⊎◌, ◌<◌, ℕ, None, Some, IfErr, IfOk, IfSome, IsErrOf, IsFalse, IsOkUnless, IsTrue, OnErr, OnOk};
 ghost use Rattle.device.specs.Writes.{HasFailed};
 ghost use Rattle.layout.specs.declared.refusal.Refusal.TheVariants.{Device as DeviceRefusal};
 ghost use Rattle.machine.specs.Command.{Bytes, Close, Done, Number, Open, Read, Truncate, Write};
 ghost use Rattle.frozen.specs.Kept.{frozen_view, kept_at};
 ghost use Rattle.model.specs.Layout.{is_data_address};
 ghost use Rattle.model.specs.Uses.{claim_at, indirect_position, is_directory_at};
-ghost use Rattle.ordering.specs.Cuts.{users_view};
-ghost use Rattle.softdep.specs.Queued.{pending_of};
 ghost use Rattle.live_states.specs.Planned.{AreSeen, IsRefusedWith};
 ghost use Rattle.live_writes.specs.Aimed.{seen_at, seen_before};
-ghost use Rattle.live.specs.Alive.{Answers, MayRefuse, disk_of};
+ghost use Rattle.live.specs.Alive.{MayRefuse};
+ghost use Rattle.live.specs.Seen.{seen_of, Answered};
 
 use crate::Live;
 use crate::bytes::{first_bytes, read_seen};
@@ -26,7 +25,7 @@ impl<D: Device> Live<D> {
     /// with `NotFound` or `NotDirectory` where it leads nowhere, with `IsDirectory` where it leads to a directory, and
     /// with `TooManyOpen` where 1,024 handles are open.
     pub fn open(&mut self, path: &[u8]) -> Result<u32, Refusal>
-        ensures done { IfOk result (λ handle. D.honest self.old.device → Answers (D.image self.old.device) self.old (Open path.now) (Number handle) (D.image self.new.device) self.new []) }
+        ensures done { IfOk result (λ handle. D.honest self.old.device → Answered D.image self.old (Open path.now) (Number handle) self.new) }
         ensures refused { IfErr result (λ r. D.honest self.old.device → MayRefuse (D.image self.old.device) self.old (Open path.now) r) }
         ensures cause { IfErr result (IsRefusedWith self.old.kept self.old.holdings (Open path.now)) }
         ensures untouched { OnErr result (self.new ≡ self.old) }
@@ -41,7 +40,7 @@ impl<D: Device> Live<D> {
     /// whether they are on the device or pending. Refused with `BadHandle` where the handle is not open, and with
     /// `BadIndex` where the file ends before the block.
     pub fn read(&mut self, alloc: Global, handle: u32, index: u32) -> Result<Vec<u8>, Refusal>
-        ensures done { IfOk result (λ bytes. D.honest self.new.device → Answers (D.image self.old.device) self.old (Read handle index) (Bytes bytes.items) (D.image self.new.device) self.new []) }
+        ensures done { IfOk result (λ bytes. D.honest self.new.device → Answered D.image self.old (Read handle index) (Bytes bytes.items) self.new) }
         ensures refused { IfErr result (λ r. D.honest self.new.device → MayRefuse (D.image self.old.device) self.old (Read handle index) r) }
         ensures error { IfErr result (λ r. (r ≡ DeviceRefusal) ⊎ IsRefusedWith self.old.kept self.old.holdings (Read handle index) r) }
         ensures cause { IsErrOf result Refusal.Device → HasFailed (D.failures self.old.device) (D.failures self.new.device) }
@@ -67,7 +66,7 @@ impl<D: Device> Live<D> {
         index: u32,
         piece: &[u8],
     ) -> Result<(), Refusal>
-        ensures done { OnOk result (D.honest self.new.device → Answers (D.image self.old.device) self.old (Write handle index piece.now) Done (D.image self.new.device) self.new []) }
+        ensures done { OnOk result (D.honest self.new.device → Answered D.image self.old (Write handle index piece.now) Done self.new) }
         ensures refused { IfErr result (λ r. D.honest self.new.device → MayRefuse (D.image self.old.device) self.old (Write handle index piece.now) r) }
         ensures error { IfErr result (λ r. (r ≡ DeviceRefusal) ⊎ IsRefusedWith self.old.kept self.old.holdings (Write handle index piece.now) r) }
         ensures cause { IsErrOf result Refusal.Device → HasFailed (D.failures self.old.device) (D.failures self.new.device) }
@@ -116,7 +115,7 @@ impl<D: Device> Live<D> {
     fn read_under(&mut self, target: &Target, block: &mut Block) -> Result<(), Refusal>
         requires { IfSome (seen_at target.now.place) (λ a. IsTrue (is_data_address self.old.kept.geometry a)) }
         ensures seen { OnOk result (D.honest self.new.device
-            → AreSeen (seen_before target.now block.new) (users_view (disk_of (D.image self.old.device) self.old) (pending_of self.old.queue))) }
+            → AreSeen (seen_before target.now block.new) (seen_of D.image self.old)) }
         ensures image { D.image self.new.device ≡ D.image self.old.device }
         ensures held { D.held self.new.device ≡ D.held self.old.device }
         ensures honest { D.honest self.new.device → D.honest self.old.device }
@@ -133,7 +132,7 @@ impl<D: Device> Live<D> {
     /// Gives an open file a size that is no larger than its own; blocks behind it are free. Refused with `BadHandle` where
     /// the handle is not open, and with `BadIndex` where the size is larger.
     pub fn truncate(&mut self, alloc: Global, handle: u32, size: u32) -> Result<(), Refusal>
-        ensures done { OnOk result (D.honest self.old.device → Answers (D.image self.old.device) self.old (Truncate handle size) Done (D.image self.new.device) self.new []) }
+        ensures done { OnOk result (D.honest self.old.device → Answered D.image self.old (Truncate handle size) Done self.new) }
         ensures refused { IfErr result (λ r. D.honest self.old.device → MayRefuse (D.image self.old.device) self.old (Truncate handle size) r) }
         ensures cause { IfErr result (IsRefusedWith self.old.kept self.old.holdings (Truncate handle size)) }
         ensures untouched { OnErr result (self.new ≡ self.old) }
@@ -147,7 +146,7 @@ impl<D: Device> Live<D> {
     /// Closes a handle; with its last one a file goes that has no names, and its blocks are free. Refused with `BadHandle`
     /// where the handle is not open.
     pub fn close(&mut self, alloc: Global, handle: u32) -> Result<(), Refusal>
-        ensures done { OnOk result (D.honest self.old.device → Answers (D.image self.old.device) self.old (Close handle) Done (D.image self.new.device) self.new []) }
+        ensures done { OnOk result (D.honest self.old.device → Answered D.image self.old (Close handle) Done self.new) }
         ensures refused { IfErr result (λ r. D.honest self.old.device → MayRefuse (D.image self.old.device) self.old (Close handle) r) }
         ensures cause { IfErr result (IsRefusedWith self.old.kept self.old.holdings (Close handle)) }
         ensures untouched { OnErr result (self.new ≡ self.old) }

@@ -1,8 +1,9 @@
-ghost use Rattle.std.specs.Prelude.{◌≡◌, ◌<◌, ℕ, Bool, [], IfErr, IfOk, IsErrOf, IsOkUnless, List, OnErr, OnOk, length};
+ghost use Rattle.std.specs.Prelude.{◌≡◌, [], ◌<◌, Bool, IfErr, IfOk, IsErrOf, IsOkUnless, List, OnErr, OnOk, length};
 ghost use Rattle.std.specs.List.{All};
+ghost use Rattle.device.specs.Reading.{ReadsOnly};
 ghost use Rattle.device.specs.Writes.{HasFailed};
 ghost use Rattle.layout.specs.declared.refusal.Refusal.TheVariants.{NoMemory};
-ghost use Rattle.ordering.specs.Cuts.{IsClosed, seen, users_view};
+ghost use Rattle.ordering.specs.Cuts.{IsClosed, seen};
 ghost use Rattle.frozen.specs.Kept.{IsKeptOf, KeepsMetadata, frozen_view};
 ghost use Rattle.metadata.specs.declared.staged.Staged.{Staged};
 ghost use Rattle.metadata.specs.Staged.{IsStaged, after, changes};
@@ -12,10 +13,11 @@ ghost use Rattle.machine.specs.Command.{Answer, Command};
 ghost use Rattle.softdep.specs.Queued.{fresh_queue, pending_of};
 ghost use Rattle.live_states.specs.Holdings.{IsIdle, with_held};
 ghost use Rattle.live_states.specs.Planned.{AreSeen, IsPlannedFor, IsPlannedWith, Seen};
-ghost use Rattle.live.specs.Alive.{Answers, IsLive, StandsSo, disk_of};
+ghost use Rattle.live.specs.Alive.{IsLive, StandsSo, disk_of};
 ghost use Rattle.live.specs.Ended.{ended};
 ghost use Rattle.live.specs.Issued.{IsIssued};
 ghost use Rattle.live.specs.Mounting.{IsFresh, IsMountable, MountRefuses};
+ghost use Rattle.live.specs.Seen.{seen_of, Answered};
 
 use crate::ending::{Ending, end};
 use device::Device;
@@ -80,7 +82,28 @@ impl<D: Device> Live<D> {
         ensures refused { IfErr result (λ refused. MountRefuses (D.honest refused.device) (D.image device) refused.cause) }
         ensures cause { IfErr result (λ refused. refused.cause ≡ Refusal.Device → HasFailed (D.failures device) (D.failures refused.device)) }
     {
-        match read_volume(alloc, &mut device) {
+        match load_sound(alloc, &mut device) {
+            Ok(frozen) => Live::mount_loaded(alloc, device, frozen),
+            Err(cause) => Err(NotMounted { device, cause }),
+        }
+    }
+
+    /// Mounts the volume of a device whose metadata were loaded from it and are known to obey the rules, as those do that a
+    /// check does not call damaged: nothing is read again, and nothing is written. It is refused with `NoMemory` alone.
+    /// Then the device is given back.
+    pub fn mount_loaded(alloc: Global, device: D, frozen: Frozen) -> Result<Live<D>, NotMounted<D>>
+        requires loaded { D.honest device → IsKeptOf frozen (D.image device) }
+        requires count { length (D.image device) ≡ block_count frozen.geometry }
+        requires obeys { ObeysRules frozen.geometry (frozen_view frozen) }
+        ensures device { IfOk result (λ live. live.device ≡ device) }
+        ensures kept { IfOk result (λ live. live.kept ≡ frozen) }
+        ensures pending { IfOk result (λ live. pending_of live.queue ≡ []) }
+        ensures idle { IfOk result (λ live. IsIdle live.holdings) }
+        ensures mounted { IfOk result (λ live. D.honest device → IsMountable live.kept.geometry (D.image device)) }
+        ensures untouched { IfErr result (λ refused. refused.device ≡ device) }
+        ensures error { IfErr result (λ refused. refused.cause ≡ NoMemory) }
+    {
+        match volume_of(alloc, frozen) {
             Ok(
                 Volume {
                     queue,
@@ -100,25 +123,9 @@ impl<D: Device> Live<D> {
     }
 }
 
-/// Reads what a volume has in memory from its device.
-fn read_volume<D: Device>(alloc: Global, device: &mut D) -> Result<Volume, Refusal>
-    ensures image { D.image device.new ≡ D.image device.old }
-    ensures held { D.held device.new ≡ D.held device.old }
-    ensures pending { IfOk result (λ volume. pending_of volume.queue ≡ []) }
-    ensures idle { IfOk result (λ volume. IsIdle volume.holdings) }
-    ensures live { IfOk result (λ volume. IsLive (D.honest device.new) (D.image device.old) volume.queue volume.metadata volume.holdings) }
-    ensures mounted { IfOk result (λ volume. D.honest device.new → IsMountable volume.metadata.geometry (D.image device.old)) }
-    ensures refused { IfErr result (MountRefuses (D.honest device.new) (D.image device.old)) }
-    ensures cause { IsErrOf result Refusal.Device → HasFailed (D.failures device.old) (D.failures device.new) }
-{
-    let frozen = load_sound(alloc, device)?;
-    volume_of(alloc, frozen)
-}
-
 /// Loads a device's metadata, and refuses those that break a rule.
 fn load_sound<D: Device>(alloc: Global, device: &mut D) -> Result<Frozen, Refusal>
-    ensures image { D.image device.new ≡ D.image device.old }
-    ensures held { D.held device.new ≡ D.held device.old }
+    ensures reads { ReadsOnly D.honest D.image D.held device.old device.new }
     ensures ok { IfOk result (λ frozen. D.honest device.new → IsKeptOf frozen (D.image device.old)) }
     ensures count { IfOk result (λ frozen. length (D.image device.old) ≡ block_count frozen.geometry) }
     ensures obeys { IfOk result (λ frozen. ObeysRules frozen.geometry (frozen_view frozen)) }
@@ -183,11 +190,13 @@ impl<D: Device> Live<D> {
         planned: Planned,
         ending: Ending,
     ) -> Result<(), Refusal>
-        requires planned { (command : Command) × (answer : Answer) × IsPlannedWith self.old.kept self.old.holdings [] command answer planned.plan (with_held (ended self.old.holdings ending) planned.holds.items) }
+        requires planned { (command : Command) × (answer : Answer)
+            × IsPlannedWith self.old.kept self.old.holdings [] command answer planned.plan (with_held (ended self.old.holdings ending) planned.holds.items) }
         requires holds { All (λ a. a < block_count self.old.kept.geometry) planned.holds.items }
         ensures done { OnOk result ((seen : List Seen) (command : Command) (answer : Answer)
-            → IsPlannedFor self.old.kept self.old.holdings seen command answer planned.plan (with_held (ended self.old.holdings ending) planned.holds.items) → D.honest self.old.device
-            → AreSeen seen (users_view (disk_of (D.image self.old.device) self.old) (pending_of self.old.queue)) → Answers (D.image self.old.device) self.old command answer (D.image self.new.device) self.new []) }
+            → IsPlannedFor self.old.kept self.old.holdings seen command answer planned.plan (with_held (ended self.old.holdings ending) planned.holds.items)
+            → D.honest self.old.device
+            → AreSeen seen (seen_of D.image self.old) → Answered D.image self.old command answer self.new) }
         ensures device { self.new.device ≡ self.old.device }
         ensures untouched { OnErr result (self.new ≡ self.old) }
         ensures error { IsOkUnless result Refusal.NoMemory }

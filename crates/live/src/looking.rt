@@ -1,10 +1,9 @@
-ghost use Rattle.std.specs.Prelude.{◌≡◌, IfErr, IfOk, Ok, map};
+ghost use Rattle.std.specs.Prelude.{IfErr, IfOk, Ok, map};
 ghost use Rattle.live_paths.specs.Listed.{name_of};
 ghost use Rattle.machine.specs.Command.{ListNames, Listed, Stat, Status as StatusOf};
-ghost use Rattle.machine.specs.Step.{Step};
-ghost use Rattle.live_states.specs.Holdings.{Beside};
 ghost use Rattle.live_states.specs.Planned.{IsRefused};
-ghost use Rattle.live.specs.Alive.{IsFirstCause, MayRefuse, state_of};
+ghost use Rattle.live.specs.Alive.{IsFirstCause, MayRefuse};
+ghost use Rattle.live.specs.Seen.{Tells};
 
 use crate::Live;
 use device::Device;
@@ -29,8 +28,7 @@ impl<D: Device> Live<D> {
     /// The names in a directory, but for its dots, in the order of its slots. Refused with `BadName` where this is no path,
     /// with `NotFound` or `NotDirectory` where it leads nowhere, and with `NotDirectory` where it leads to no directory.
     pub fn list(&self, alloc: Global, path: &[u8]) -> Result<Vec<Named>, Refusal>
-        ensures listed { IfOk result (λ names. D.honest self.now.device → (beside : Beside) → Step self.now.kept.geometry (state_of (D.image self.now.device) self.now beside) (ListNames path.now)
-            (Ok (Listed (map name_of names.items))) (state_of (D.image self.now.device) self.now beside)) }
+        ensures listed { IfOk result (λ names. D.honest self.now.device → Tells D.image self.now (ListNames path.now) (Listed (map name_of names.items))) }
         ensures refused { IfErr result (λ r. D.honest self.now.device → MayRefuse (D.image self.now.device) self.now (ListNames path.now) r) }
         ensures cause { IfErr result (IsRefused self.now.kept (ListNames path.now)) }
     {
@@ -46,8 +44,8 @@ impl<D: Device> Live<D> {
     /// What a path leads to. Refused with `BadName` where this is no path, and with `NotFound` or `NotDirectory` where it
     /// leads nowhere.
     pub fn stat(&self, path: &[u8]) -> Result<Status, Refusal>
-        ensures status { IfOk result (λ status. D.honest self.now.device → (beside : Beside) → Step self.now.kept.geometry (state_of (D.image self.now.device) self.now beside) (Stat path.now)
-            (Ok (StatusOf status.number status.mode status.links status.size)) (state_of (D.image self.now.device) self.now beside)) }
+        ensures status { IfOk result (λ status. D.honest self.now.device
+            → Tells D.image self.now (Stat path.now) (StatusOf status.number status.mode status.links status.size)) }
         ensures refused { IfErr result (λ r. D.honest self.now.device → MayRefuse (D.image self.now.device) self.now (Stat path.now) r) }
         ensures cause { IfErr result (IsFirstCause self.now.kept (Stat path.now)) }
     {

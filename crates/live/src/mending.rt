@@ -1,7 +1,8 @@
-ghost use Rattle.std.specs.Prelude.{◌≡◌, [], IfErr, OnErr, OnOk};
+ghost use Rattle.std.specs.Prelude.{◌≡◌, IfErr, OnErr, OnOk};
 ghost use Rattle.machine.specs.Command.{Done, RepairAt};
 ghost use Rattle.live_states.specs.Planned.{IsRefusedWith};
-ghost use Rattle.live.specs.Alive.{Answers, MayRefuse};
+ghost use Rattle.live.specs.Alive.{MayRefuse};
+ghost use Rattle.live.specs.Seen.{Answered};
 
 use crate::Live;
 use crate::ending::Ending;
@@ -15,7 +16,7 @@ impl<D: Device> Live<D> {
     /// number that nothing uses is unmarked. Refused with `NoPlan` where no check is installed, with `BadIndex` where it
     /// has no such repair, and with `AlreadyDone`.
     pub fn repair(&mut self, alloc: Global, place: u32) -> Result<(), Refusal>
-        ensures done { OnOk result (D.honest self.old.device → Answers (D.image self.old.device) self.old (RepairAt place) Done (D.image self.new.device) self.new []) }
+        ensures done { OnOk result (D.honest self.old.device → Answered D.image self.old (RepairAt place) Done self.new) }
         ensures refused { IfErr result (λ r. D.honest self.old.device → MayRefuse (D.image self.old.device) self.old (RepairAt place) r) }
         ensures cause { IfErr result (IsRefusedWith self.old.kept self.old.holdings (RepairAt place)) }
         ensures untouched { OnErr result (self.new ≡ self.old) }

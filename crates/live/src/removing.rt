@@ -1,7 +1,8 @@
-ghost use Rattle.std.specs.Prelude.{◌≡◌, [], IfErr, OnErr, OnOk};
+ghost use Rattle.std.specs.Prelude.{◌≡◌, IfErr, OnErr, OnOk};
 ghost use Rattle.machine.specs.Command.{Done, Rmdir, Unlink};
 ghost use Rattle.live_states.specs.Planned.{IsRefused};
-ghost use Rattle.live.specs.Alive.{Answers, MayRefuse};
+ghost use Rattle.live.specs.Alive.{MayRefuse};
+ghost use Rattle.live.specs.Seen.{Answered};
 
 use crate::Live;
 use crate::ending::Ending;
@@ -14,7 +15,7 @@ impl<D: Device> Live<D> {
     /// `BadName` where this is no path, with `IsRoot`, with `NotFound` or `NotDirectory` where it leads nowhere, and with
     /// `IsDirectory` where it leads to a directory.
     pub fn unlink(&mut self, alloc: Global, path: &[u8]) -> Result<(), Refusal>
-        ensures done { OnOk result (D.honest self.old.device → Answers (D.image self.old.device) self.old (Unlink path.now) Done (D.image self.new.device) self.new []) }
+        ensures done { OnOk result (D.honest self.old.device → Answered D.image self.old (Unlink path.now) Done self.new) }
         ensures refused { IfErr result (λ r. D.honest self.old.device → MayRefuse (D.image self.old.device) self.old (Unlink path.now) r) }
         ensures cause { IfErr result (IsRefused self.old.kept (Unlink path.now)) }
         ensures untouched { OnErr result (self.new ≡ self.old) }
@@ -28,7 +29,7 @@ impl<D: Device> Live<D> {
     /// Removes a directory that has no names. Refused with `BadName` where this is no path, with `IsRoot`, with `NotFound`
     /// or `NotDirectory` where it leads nowhere, with `NotDirectory` where it leads to a file, and with `NotEmpty`.
     pub fn rmdir(&mut self, alloc: Global, path: &[u8]) -> Result<(), Refusal>
-        ensures done { OnOk result (D.honest self.old.device → Answers (D.image self.old.device) self.old (Rmdir path.now) Done (D.image self.new.device) self.new []) }
+        ensures done { OnOk result (D.honest self.old.device → Answered D.image self.old (Rmdir path.now) Done self.new) }
         ensures refused { IfErr result (λ r. D.honest self.old.device → MayRefuse (D.image self.old.device) self.old (Rmdir path.now) r) }
         ensures cause { IfErr result (IsRefused self.old.kept (Rmdir path.now)) }
         ensures untouched { OnErr result (self.new ≡ self.old) }

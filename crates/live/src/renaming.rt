@@ -1,7 +1,8 @@
-ghost use Rattle.std.specs.Prelude.{◌≡◌, [], IfErr, OnErr, OnOk};
+ghost use Rattle.std.specs.Prelude.{◌≡◌, IfErr, OnErr, OnOk};
 ghost use Rattle.machine.specs.Command.{Done, Rename};
 ghost use Rattle.live_states.specs.Planned.{IsRefused};
-ghost use Rattle.live.specs.Alive.{Answers, MayRefuse};
+ghost use Rattle.live.specs.Alive.{MayRefuse};
+ghost use Rattle.live.specs.Seen.{Answered};
 
 use crate::Live;
 use crate::ending::Ending;
@@ -16,7 +17,7 @@ impl<D: Device> Live<D> {
     /// would go to another one, and with `Exists`; and where the two directories differ with `TooManyLinks`, `TooBig` and
     /// `NoBlock` as `link`.
     pub fn rename(&mut self, alloc: Global, path: &[u8], other: &[u8]) -> Result<(), Refusal>
-        ensures done { OnOk result (D.honest self.old.device → Answers (D.image self.old.device) self.old (Rename path.now other.now) Done (D.image self.new.device) self.new []) }
+        ensures done { OnOk result (D.honest self.old.device → Answered D.image self.old (Rename path.now other.now) Done self.new) }
         ensures refused { IfErr result (λ r. D.honest self.old.device → MayRefuse (D.image self.old.device) self.old (Rename path.now other.now) r) }
         ensures cause { IfErr result (IsRefused self.old.kept (Rename path.now other.now)) }
         ensures untouched { OnErr result (self.new ≡ self.old) }

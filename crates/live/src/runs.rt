@@ -41,7 +41,8 @@ pub fn each_stop_of_a_run_is_safe<D: Device>()
         → (mount : View) (h : List Written) (cut : List Bool) (safe0 : ℕ → Bool)
         → IsBeginning live0.kept.geometry mount h cut (disk_of image0 live0) (pending_of live0.queue) (state_of image0 live0 beside) (λ f. false)
         → IsBeginning live0.kept.geometry mount h cut (disk_of image0 live0) (pending_of live0.queue) (state_of image0 live0 beside) safe0
-        → (image : List (List ℕ)) (live : Alive D) (commands : List Command) (replies : List Reply) (images : List View) → Lives beside image0 live0 image live commands replies images
+        → (image : List (List ℕ)) (live : Alive D) (commands : List Command) (replies : List Reply) (images : List View)
+        → Lives beside image0 live0 image live commands replies images
         → (safe : ℕ → Bool)
         × Service live0.kept.geometry (disk_of image0 live0) (pending_of live0.queue) (state_of image0 live0 beside) safe0
         (image_view live0.kept.geometry image) (pending_of live.queue) (state_over (image_view live0.kept.geometry image) (pending_of live.queue) live.holdings beside) safe commands replies images

@@ -1,4 +1,4 @@
-ghost use Rattle.std.specs.Prelude.{◌≡◌, ◌⊎◌, ◌≤◌, [], IfErr, IfOk, IsErrOf, IsOkUnless, IsSome, IsTrue, None, OnErr, OnOk, Some, length};
+ghost use Rattle.std.specs.Prelude.{◌≡◌, [], ◌⊎◌, ◌≤◌, IfErr, IfOk, IsErrOf, IsOkUnless, IsSome, IsTrue, None, OnErr, OnOk, Some, length};
 ghost use Rattle.std.specs.Arc.{arc_value};
 ghost use Rattle.std.specs.List.{All};
 ghost use Rattle.std.specs.Option.{option_copied, option_map};
@@ -10,14 +10,14 @@ ghost use Rattle.machine.specs.Snapshot.{frozen, released, settled};
 ghost use Rattle.metadata.specs.Shown.{Shows};
 ghost use Rattle.model.specs.Image.{block_at};
 ghost use Rattle.model.specs.Layout.{block_count, is_data_address};
-ghost use Rattle.ordering.specs.Cuts.{users_view};
 ghost use Rattle.plans_data.specs.Release.{releasing};
 ghost use Rattle.softdep.specs.Queued.{pending_of};
 ghost use Rattle.live_states.specs.Drafts.{over};
 ghost use Rattle.live_states.specs.Holdings.{Beside, IsImageOf, Repairs};
 ghost use Rattle.live_states.specs.Planned.{IsQuietlyDone};
 ghost use Rattle.live_states.specs.Snapshots.{AreRepairsOf, IsSettled, held_blocks, installing, keeping, let_go};
-ghost use Rattle.live.specs.Alive.{Answers, IsSnapshotOf, disk_of, state_of};
+ghost use Rattle.live.specs.Alive.{IsSnapshotOf, state_of};
+ghost use Rattle.live.specs.Seen.{seen_of, Answered};
 
 use crate::Live;
 use crate::bytes::read_seen;
@@ -43,15 +43,16 @@ impl<D: Device> Live<D> {
     }
 
     /// The metadata of the image that a check is to see: that of users, without the open files that have no name. The
-    /// blocks that do not differ are shared.
-    pub fn view(&self, alloc: Global) -> Result<Frozen, AllocError>
+    /// blocks that do not differ are shared. Refused with `NoMemory` alone.
+    pub fn view(&self, alloc: Global) -> Result<Frozen, Refusal>
         ensures settled { IfOk result (IsSettled self.now.kept self.now.holdings) }
         ensures shown { IfOk result (λ view. D.honest self.now.device → (beside : Beside) → IsImageOf self.now.holdings.snapshot beside.frozen
             → Shows view (settled self.now.kept.geometry (state_of (D.image self.now.device) self.now beside))) }
         ensures metadata { IfOk result KeepsMetadata }
         ensures geometry { IfOk result (λ view. view.geometry ≡ self.now.kept.geometry) }
+        ensures error { IsOkUnless result Refusal.NoMemory }
     {
-        live_snapshots::settled(alloc, &self.metadata, &self.holdings)
+        Ok(live_snapshots::settled(alloc, &self.metadata, &self.holdings)?)
     }
 
     /// The metadata of the snapshot that is kept, where one is.
@@ -72,7 +73,7 @@ impl<D: Device> Live<D> {
     /// The bytes of a data block as users see them, whether they are on the device or pending.
     pub fn data_block(&mut self, address: u32) -> Result<Block, Refusal>
         requires { IsTrue (is_data_address self.old.kept.geometry address) }
-        ensures bytes { IfOk result (λ bytes. D.honest self.new.device → (users_view (disk_of (D.image self.old.device) self.old) (pending_of self.old.queue)).bytes address ≡ bytes) }
+        ensures bytes { IfOk result (λ bytes. D.honest self.new.device → (seen_of D.image self.old).bytes address ≡ bytes) }
         ensures error { IsOkUnless result Refusal.Device }
         ensures cause { IsErrOf result Refusal.Device → HasFailed (D.failures self.old.device) (D.failures self.new.device) }
         ensures image { D.image self.new.device ≡ D.image self.old.device }
@@ -104,7 +105,7 @@ impl<D: Device> Live<D> {
         requires check { (check : Check) × IsQuietlyDone self.old.kept self.old.holdings [] (Install check) Done (installing self.old.holdings repairs.items) }
         requires repairs { AreRepairsOf self.old.kept.geometry (installing self.old.holdings repairs.items).repairs }
         ensures done { OnOk result ((check : Check) → IsQuietlyDone self.old.kept self.old.holdings [] (Install check) Done (installing self.old.holdings repairs.items)
-            → D.honest self.old.device → Answers (D.image self.old.device) self.old (Install check) Done (D.image self.new.device) self.new []) }
+            → D.honest self.old.device → Answered D.image self.old (Install check) Done self.new) }
         ensures installed { OnOk result (self.new ≡ record self.old { holdings = installing self.old.holdings repairs.items }) }
         ensures untouched { OnErr result (self.new ≡ self.old) }
         ensures error { IsOkUnless result Refusal.NoMemory }

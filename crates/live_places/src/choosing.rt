@@ -61,9 +61,11 @@ pub fn choose(metadata: &Metadata, directory: u32, own: bool) -> Result<Places, 
 /// Where an entry goes for which there is this room, with the least free blocks from an address on.
 fn place_in(metadata: &Metadata, room: Room, from: u32) -> Result<Place, Refusal>
     ensures placed { (d : ℕ) → IsRoomOf metadata.now.geometry (frozen_view metadata.now) d room
-        → IfOk result (λ place. IsPlace metadata.now.geometry (frozen_view metadata.now) d place × AreLeastFrom metadata.now.geometry (frozen_view metadata.now) from place) }
+        → IfOk result (λ place. IsPlace metadata.now.geometry (frozen_view metadata.now) d place
+        × AreLeastFrom metadata.now.geometry (frozen_view metadata.now) from place) }
     ensures enough { IfOk result (λ place. free_below metadata.now.geometry (frozen_view metadata.now) from + blocks_for room ≤ unmarked_blocks metadata.now.geometry (frozen_view metadata.now)) }
-    ensures too_few { IfErr result (λ r. (r ≡ NoBlock) × (unmarked_blocks metadata.now.geometry (frozen_view metadata.now) < free_below metadata.now.geometry (frozen_view metadata.now) from + blocks_for room)) }
+    ensures too_few { IfErr result (λ r. (r ≡ NoBlock)
+        × (unmarked_blocks metadata.now.geometry (frozen_view metadata.now) < free_below metadata.now.geometry (frozen_view metadata.now) from + blocks_for room)) }
 {
     match room {
         Room::Slot { slot, block } => Ok(Place::Slot { slot, block }),

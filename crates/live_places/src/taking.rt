@@ -10,7 +10,8 @@ use metadata::Metadata;
 /// The least data block from an address on that may be given out; `NoBlock` where there is none.
 pub fn take(metadata: &Metadata, from: u32) -> Result<u32, Refusal>
     ensures taken { IfOk result (IsTaken metadata.now.geometry (frozen_view metadata.now) from) }
-    ensures none { IfErr result (λ r. (r ≡ NoBlock) × (unmarked_blocks metadata.now.geometry (frozen_view metadata.now) ≤ free_below metadata.now.geometry (frozen_view metadata.now) from)) }
+    ensures none { IfErr result (λ r. (r ≡ NoBlock)
+        × (unmarked_blocks metadata.now.geometry (frozen_view metadata.now) ≤ free_below metadata.now.geometry (frozen_view metadata.now) from)) }
 {
     let blocks = metadata.frozen().geometry().blocks();
     match metadata.next_block(from) {

@@ -89,7 +89,8 @@ fn point(
     requires room { IsFalse (is_full metadata.now.geometry (frozen_view metadata.now) directory) }
     requires past { direct_positions ≤ blocks_of parent.now.size }
     ensures geometry { OnOk result (plan.new.geometry ≡ plan.old.geometry) }
-    ensures points { IfOk result (λ indirect. (view : View) → Shows metadata.now view → PointsTo metadata.now.geometry view directory parent.now block table indirect plan.old plan.new) }
+    ensures points { IfOk result (λ indirect. (view : View) → Shows metadata.now view
+        → PointsTo metadata.now.geometry view directory parent.now block table indirect plan.old plan.new) }
     ensures address { IfOk result (λ indirect. IsTrue (is_data_address metadata.now.geometry indirect)) }
 {
     match table {

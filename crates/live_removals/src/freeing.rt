@@ -66,7 +66,8 @@ pub(crate) fn lose_links(
     requires geometry { plan.old.geometry ≡ metadata.now.geometry }
     requires number { IsTrue (is_number metadata.now.geometry number) }
     requires block { IsTrue (is_data_address metadata.now.geometry block) }
-    ensures { IfOk result (λ holds. (view : View) → Shows metadata.now view → LosesLinks metadata.now.geometry view holdings.now number fewer block plan.old plan.new holds.items) }
+    ensures { IfOk result (λ holds. (view : View) → Shows metadata.now view
+        → LosesLinks metadata.now.geometry view holdings.now number fewer block plan.old plan.new holds.items) }
 {
     let record = metadata.frozen().record(number);
     if record.links > fewer {

@@ -72,7 +72,8 @@ pub(crate) fn removed(
 ) -> Result<Planned, AllocError>
     requires entry { IsEntry metadata.now.geometry (frozen_view metadata.now) found.now }
     requires parent { 1 ≤ ((frozen_view metadata.now).inode found.now.directory).links }
-    ensures { IfOk result (λ planned. (view : View) → Shows metadata.now view → Removed metadata.now.geometry view holdings.now found.now planned.plan planned.holds.items) }
+    ensures { IfOk result (λ planned. (view : View) → Shows metadata.now view
+        → Removed metadata.now.geometry view holdings.now found.now planned.plan planned.holds.items) }
 {
     let frozen = metadata.frozen();
     let mut plan = Plan::new(alloc, frozen.geometry(), found.number);

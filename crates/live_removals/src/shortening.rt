@@ -75,7 +75,8 @@ pub(crate) fn let_go(
     number: u32,
 ) -> Result<Planned, AllocError>
     requires { IsTrue (is_number metadata.now.geometry number) }
-    ensures { IfOk result (λ planned. (view : View) → Shows metadata.now view → LetsGo metadata.now.geometry view holdings.now handle number planned.plan planned.holds.items) }
+    ensures { IfOk result (λ planned. (view : View) → Shows metadata.now view
+        → LetsGo metadata.now.geometry view holdings.now handle number planned.plan planned.holds.items) }
 {
     let frozen = metadata.frozen();
     let mut plan = Plan::new(alloc, frozen.geometry(), number);
@@ -96,7 +97,8 @@ pub(crate) fn shortened(
     size: u32,
 ) -> Result<Planned, AllocError>
     requires { IsTrue (is_number metadata.now.geometry number) }
-    ensures { IfOk result (λ planned. (view : View) → Shows metadata.now view → Shortens metadata.now.geometry view holdings.now number size planned.plan planned.holds.items) }
+    ensures { IfOk result (λ planned. (view : View) → Shows metadata.now view
+        → Shortens metadata.now.geometry view holdings.now number size planned.plan planned.holds.items) }
 {
     let frozen = metadata.frozen();
     let mut plan = Plan::new(alloc, frozen.geometry(), number);

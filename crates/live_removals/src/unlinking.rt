@@ -70,7 +70,8 @@ pub(crate) fn unlinked(
     found: &Found,
 ) -> Result<Planned, AllocError>
     requires { IsEntry metadata.now.geometry (frozen_view metadata.now) found.now }
-    ensures { IfOk result (λ planned. (view : View) → Shows metadata.now view → Unlinked metadata.now.geometry view holdings.now found.now planned.plan planned.holds.items) }
+    ensures { IfOk result (λ planned. (view : View) → Shows metadata.now view
+        → Unlinked metadata.now.geometry view holdings.now found.now planned.plan planned.holds.items) }
 {
     let mut plan = Plan::new(alloc, metadata.frozen().geometry(), found.number);
     let after = Vec::new(alloc);

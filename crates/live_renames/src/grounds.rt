@@ -56,7 +56,8 @@ fn add_name(
     requires part { IsTrue (is_part name.now) }
     ensures names { IfOk result (λ i. lookup frozen.now.geometry (frozen_view frozen.now) directory name.now ≡ Some i) }
     ensures gathers { OnOk result (Gathers frozen.now.geometry (map cell cells.old.items) (map cell cells.new.items)) }
-    ensures grounds { IfOk result (λ i. (first : List OrderedCell) → IsGrounded frozen.now.geometry (frozen_view frozen.now) directory first (map cell cells.old.items)
+    ensures grounds { IfOk result (λ i. (first : List OrderedCell)
+        → IsGrounded frozen.now.geometry (frozen_view frozen.now) directory first (map cell cells.old.items)
         → IsGrounded frozen.now.geometry (frozen_view frozen.now) i first (map cell cells.new.items)) }
 {
     let Some(entry) = find(frozen, directory, name) else {
@@ -75,7 +76,8 @@ fn add_directory(frozen: &Frozen, directory: u32, cells: &mut Vec<Cell>) -> Resu
     requires { IsTrue (is_directory_at frozen.now.geometry (frozen_view frozen.now) directory) }
     ensures gathers { OnOk result (Gathers frozen.now.geometry (map cell cells.old.items) (map cell cells.new.items)) }
     ensures directory { OnOk result (HasDirectory frozen.now.geometry (frozen_view frozen.now) directory (map cell cells.new.items)) }
-    ensures only { OnOk result (All (λ c. Contains (map cell cells.old.items) c ⊎ IsOfDirectory frozen.now.geometry (frozen_view frozen.now) directory c) (map cell cells.new.items)) }
+    ensures only { OnOk result (All (λ c. Contains (map cell cells.old.items) c
+        ⊎ IsOfDirectory frozen.now.geometry (frozen_view frozen.now) directory c) (map cell cells.new.items)) }
 {
     cells.push(Cell::Record(directory))?;
     if let Some(table) = frozen.claim_at(directory, INDIRECT_POSITION) {

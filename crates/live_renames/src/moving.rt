@@ -44,8 +44,10 @@ pub(crate) fn permit(
 ) -> Result<Place, Refusal>
     requires number { IsTrue (is_number metadata.now.geometry number) }
     requires directory { machine_walk metadata.now.geometry (frozen_view metadata.now) root to.now ≡ Ok directory }
-    ensures refused { IfErr result (λ r. (view : View) → IsShownBy metadata.now view → first_of (late metadata.now.geometry view to.now number directory true) ≡ Some r) }
-    ensures permitted { IfOk result (λ place. (view : View) → IsShownBy metadata.now view → first_of (late metadata.now.geometry view to.now number directory true) ≡ None) }
+    ensures refused { IfErr result (λ r. (view : View) → IsShownBy metadata.now view
+        → first_of (late metadata.now.geometry view to.now number directory true) ≡ Some r) }
+    ensures permitted { IfOk result (λ place. (view : View) → IsShownBy metadata.now view
+        → first_of (late metadata.now.geometry view to.now number directory true) ≡ None) }
     ensures place { IfOk result (MayEnter metadata.now number directory) }
 {
     let frozen = metadata.frozen();

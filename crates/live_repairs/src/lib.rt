@@ -56,7 +56,8 @@ pub(crate) fn repaired(
     repair: Repair,
 ) -> Result<Planned, AllocError>
     requires { IsRepairOf metadata.now.geometry repair }
-    ensures { IfOk result (λ planned. (view : View) → Shows metadata.now view → IsRepaired metadata.now.geometry view holdings.now repair planned.plan planned.holds.items) }
+    ensures { IfOk result (λ planned. (view : View) → Shows metadata.now view
+        → IsRepaired metadata.now.geometry view holdings.now repair planned.plan planned.holds.items) }
 {
     match repair {
         Repair::DropInode(number) => drop_inode(alloc, metadata, holdings, number),

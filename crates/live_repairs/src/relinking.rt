@@ -19,7 +19,8 @@ pub fn drop_inode(
     number: u32,
 ) -> Result<Planned, AllocError>
     requires { IsTrue (is_number metadata.now.geometry number) }
-    ensures { IfOk result (λ planned. (view : View) → Shows metadata.now view → Relinks metadata.now.geometry view holdings.now number 0 planned.plan planned.holds.items) }
+    ensures { IfOk result (λ planned. (view : View) → Shows metadata.now view
+        → Relinks metadata.now.geometry view holdings.now number 0 planned.plan planned.holds.items) }
 {
     relink(alloc, metadata, holdings, number, 0)
 }
@@ -33,7 +34,8 @@ pub fn lower_count(
     fewer: u32,
 ) -> Result<Planned, AllocError>
     requires { IsTrue (is_number metadata.now.geometry number) }
-    ensures { IfOk result (λ planned. (view : View) → Shows metadata.now view → Relinks metadata.now.geometry view holdings.now number ((view.inode number).links - fewer) planned.plan planned.holds.items) }
+    ensures { IfOk result (λ planned. (view : View) → Shows metadata.now view
+        → Relinks metadata.now.geometry view holdings.now number ((view.inode number).links - fewer) planned.plan planned.holds.items) }
 {
     let record = metadata.frozen().record(number);
     let links = u32::from(record.links).saturating_sub(fewer);
@@ -50,7 +52,8 @@ fn relink(
     links: u16,
 ) -> Result<Planned, AllocError>
     requires { IsTrue (is_number metadata.now.geometry number) }
-    ensures { IfOk result (λ planned. (view : View) → Shows metadata.now view → Relinks metadata.now.geometry view holdings.now number links planned.plan planned.holds.items) }
+    ensures { IfOk result (λ planned. (view : View) → Shows metadata.now view
+        → Relinks metadata.now.geometry view holdings.now number links planned.plan planned.holds.items) }
 {
     let frozen = metadata.frozen();
     let mut plan = Plan::new(alloc, frozen.geometry(), number);

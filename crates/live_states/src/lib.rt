@@ -29,7 +29,8 @@ ghost use Rattle.live_states.specs.Volume.{IsVolume, state_over};
 
 /// The metadata of an image that obeys the rules is that of a volume over it, with nothing open, held or pending.
 pub fn loaded_images_are_volumes()
-    ensures { (kept : Kept) (image : List (List ℕ)) (holdings : Holdings) → KeepsMetadata kept → IsKeptOf kept image → ObeysRules kept.geometry (frozen_view kept) → IsIdle holdings
+    ensures { (kept : Kept) (image : List (List ℕ)) (holdings : Holdings) → KeepsMetadata kept → IsKeptOf kept image
+        → ObeysRules kept.geometry (frozen_view kept) → IsIdle holdings
         → ObeysRules kept.geometry (image_view kept.geometry image) × IsVolume kept holdings [] (image_view kept.geometry image) }
 {}
 
@@ -40,19 +41,22 @@ pub fn what_is_kept_is_of_an_image()
 
 /// What is planned for a volume is planned on the metadata of a volume that stands.
 pub fn volumes_stand()
-    ensures { (kept : Kept) (holdings : Holdings) (q : List Pending) (disk : View) → IsVolume kept holdings q disk → IsOfVolume kept × IsOfVolumeWith kept holdings }
+    ensures { (kept : Kept) (holdings : Holdings) (q : List Pending) (disk : View) → IsVolume kept holdings q disk
+        → IsOfVolume kept × IsOfVolumeWith kept holdings }
 {}
 
 /// A plan that leaves alone what is open and held is one where this is.
 pub fn plans_that_leave_holdings_alone()
-    ensures { (kept : Kept) (command : Command) (answer : Answer) (draft : Draft) → IsPlanned kept command answer draft → (holdings : Holdings) → IsPlannedWith kept holdings [] command answer draft holdings }
+    ensures { (kept : Kept) (command : Command) (answer : Answer) (draft : Draft) → IsPlanned kept command answer draft → (holdings : Holdings)
+        → IsPlannedWith kept holdings [] command answer draft holdings }
 {}
 
 /// The updates by which a command is planned to be carried out lead from a volume to a volume, whose metadata they are
 /// made from as they are staged.
 pub fn planned_commands_keep_volumes()
     ensures { (kept : Kept) (holdings : Holdings) (q : List Pending) (disk : View) → KeepsMetadata kept → IsVolume kept holdings q disk
-        → (seen : List Seen) (command : Command) (answer : Answer) (draft : Draft) (holdings' : Holdings) → IsPlannedWith kept holdings seen command answer draft holdings' → AreSeen seen (users_view disk q)
+        → (seen : List Seen) (command : Command) (answer : Answer) (draft : Draft) (holdings' : Holdings)
+        → IsPlannedWith kept holdings seen command answer draft holdings' → AreSeen seen (users_view disk q)
         → (staged : Staged) → IsStaged kept (changes draft.updates) staged
         → IsVolume (after kept staged) holdings' (over q draft.updates) disk × KeepsMetadata (after kept staged) }
 {}
@@ -62,7 +66,8 @@ pub fn planned_commands_keep_volumes()
 /// behind its piece.
 pub fn planned_commands_are_steps()
     ensures { (kept : Kept) (holdings : Holdings) (q : List Pending) (disk : View) → IsVolume kept holdings q disk
-        → (seen : List Seen) (command : Command) (answer : Answer) (draft : Draft) (holdings' : Holdings) → IsPlannedFor kept holdings seen command answer draft holdings' → AreSeen seen (users_view disk q)
+        → (seen : List Seen) (command : Command) (answer : Answer) (draft : Draft) (holdings' : Holdings)
+        → IsPlannedFor kept holdings seen command answer draft holdings' → AreSeen seen (users_view disk q)
         → (beside : Beside) → IsImageOf holdings.snapshot beside.frozen
         → (Stands kept.geometry disk q (state_over disk q holdings beside) (λ f. false)
         → Step kept.geometry (state_over disk q holdings beside) command (Ok answer) (state_over disk (over q draft.updates) holdings' beside))
@@ -93,14 +98,16 @@ pub fn each_stop_of_a_volume_is_safe()
 /// A command that leaves the image and what is held alone leads from a volume to a volume.
 pub fn quiet_commands_keep_volumes()
     ensures { (kept : Kept) (holdings : Holdings) (q : List Pending) (disk : View) → IsVolume kept holdings q disk
-        → (seen : List Seen) (command : Command) (answer : Answer) (holdings' : Holdings) → IsQuietlyDone kept holdings seen command answer holdings' → AreSeen seen (users_view disk q)
+        → (seen : List Seen) (command : Command) (answer : Answer) (holdings' : Holdings)
+        → IsQuietlyDone kept holdings seen command answer holdings' → AreSeen seen (users_view disk q)
         → IsVolume kept holdings' q disk }
 {}
 
 /// It is a step of the machine, whatever stands beside the volume, and served without a plan.
 pub fn quiet_commands_are_steps()
     ensures { (kept : Kept) (holdings : Holdings) (q : List Pending) (disk : View) → IsVolume kept holdings q disk
-        → (seen : List Seen) (command : Command) (answer : Answer) (holdings' : Holdings) → IsQuietlyDone kept holdings seen command answer holdings' → AreSeen seen (users_view disk q)
+        → (seen : List Seen) (command : Command) (answer : Answer) (holdings' : Holdings)
+        → IsQuietlyDone kept holdings seen command answer holdings' → AreSeen seen (users_view disk q)
         → (beside : Beside) → IsImageOf holdings.snapshot beside.frozen
         → Step kept.geometry (state_over disk q holdings beside) command (Ok answer) (state_over disk q holdings' beside)
         × ((safe : ℕ → Bool) → Serves kept.geometry disk q (state_over disk q holdings beside) safe command answer disk q (state_over disk q holdings' beside)

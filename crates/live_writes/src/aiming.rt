@@ -68,7 +68,8 @@ pub fn aim(
     requires volume { IsOfVolumeWith metadata.now holdings.now }
     ensures aimed { IfOk result (λ target. IsAimed metadata.now holdings.now handle index piece.now target) }
     ensures seen { IfOk result (λ target. IfSome (seen_at target.place) (λ a. IsTrue (is_data_address metadata.now.geometry a))) }
-    ensures refused { IfErr result (λ r. (old : State) → Shows metadata.now old.view → Has holdings.now old → FirstRefusal metadata.now.geometry old (Write handle index piece.now) r) }
+    ensures refused { IfErr result (λ r. (old : State) → Shows metadata.now old.view → Has holdings.now old
+        → FirstRefusal metadata.now.geometry old (Write handle index piece.now) r) }
     ensures error { IsErrOf result Refusal.Device → ⊥ }
 {
     let Some(file) = holdings.file_of(handle) else {
@@ -104,7 +105,8 @@ fn place_over(
     requires claimed { (a : ℕ) × (claim_at metadata.now.geometry (frozen_view metadata.now) file index ≡ Some a) }
     ensures placed { IfOk result (λ place. IsPlaced metadata.now holdings.now file index place) }
     ensures enough { IfOk result (λ place. blocks_needed metadata.now holdings.now file index ≤ unmarked_blocks metadata.now.geometry (frozen_view metadata.now)) }
-    ensures refused { IfErr result (λ r. (r ≡ NoBlock) × (unmarked_blocks metadata.now.geometry (frozen_view metadata.now) < blocks_needed metadata.now holdings.now file index)) }
+    ensures refused { IfErr result (λ r. (r ≡ NoBlock)
+        × (unmarked_blocks metadata.now.geometry (frozen_view metadata.now) < blocks_needed metadata.now holdings.now file index)) }
 {
     let Some(old) = metadata.frozen().claim_at(file, index) else {
         unreachable!()
@@ -119,7 +121,8 @@ fn place_over(
 /// Where the bytes of a block go that a file does not have yet: into the least free block, with the next one for the
 /// pointers where it is the first that the record has no place for. Refused with `NoBlock`.
 pub(crate) fn place_behind(metadata: &Metadata, index: u32) -> Result<Place, Refusal>
-    ensures placed { IfOk result (λ place. (holdings : Held) (file : ℕ) → index ≡ blocks_of ((frozen_view metadata.now).inode file).size → IsPlaced metadata.now holdings file index place) }
+    ensures placed { IfOk result (λ place. (holdings : Held) (file : ℕ) → index ≡ blocks_of ((frozen_view metadata.now).inode file).size
+        → IsPlaced metadata.now holdings file index place) }
     ensures enough { IfOk result (λ place. blocks_behind index ≤ unmarked_blocks metadata.now.geometry (frozen_view metadata.now)) }
     ensures refused { IfErr result (λ r. (r ≡ NoBlock) × (unmarked_blocks metadata.now.geometry (frozen_view metadata.now) < blocks_behind index)) }
 {

@@ -87,9 +87,11 @@ pub fn clean_volumes_stay_exact()
 
 /// A repair of the plan was owed, and is not any more; and a plan of which all is done leaves nothing owed.
 pub fn repairs_pay_the_debt()
-    ensures each { (geo : Geometry) (old new : State) (k : ℕ) (plan : Plan) (r : Repair) → Balance geo old → old.plan ≡ Some plan → slice_get plan.repairs k ≡ Some r
+    ensures each { (geo : Geometry) (old new : State) (k : ℕ) (plan : Plan) (r : Repair) → Balance geo old → old.plan ≡ Some plan
+        → slice_get plan.repairs k ≡ Some r
         → Step geo old (RepairAt k) (Ok Done) new → Owes geo old r × (Owes geo new r → ⊥) }
-    ensures all { (geo : Geometry) (state : State) (plan : Plan) → state.plan ≡ Some plan → ((k : ℕ) (r : Repair) → slice_get plan.repairs k ≡ Some r → IsTrue (plan.done k))
+    ensures all { (geo : Geometry) (state : State) (plan : Plan) → state.plan ≡ Some plan
+        → ((k : ℕ) (r : Repair) → slice_get plan.repairs k ≡ Some r → IsTrue (plan.done k))
         → OwesNothing geo state }
 {}
 
@@ -109,18 +111,21 @@ pub fn whole_cycles_end_exact()
 /// and any commands among which each repair of its findings is carried out, whatever else is done in it but another
 /// freeze. It is so from any state in balance, from whatever a mounted image that obeys the rules comes to, and as one run.
 pub fn checks_carried_out_end_exact()
-    ensures cycle { (geo : Geometry) → IsGeometry geo → (old frozen ready planned new : State) (image : View) (check : Check) (findings : List Finding) (first second : List Command) (replies answers : List Reply)
+    ensures cycle { (geo : Geometry) → IsGeometry geo
+        → (old frozen ready planned new : State) (image : View) (check : Check) (findings : List Finding) (first second : List Command) (replies answers : List Reply)
         → Balance geo old → Step geo old Freeze (Ok (Image image)) frozen → Run geo frozen first replies ready → (IsTaken Freeze first replies → ⊥)
         → Step geo ready (Install check) (Ok Done) planned → Run geo planned second answers new → (IsTaken Freeze second answers → ⊥)
         → AreFindings geo image findings → ((k : ℕ) (r : Repair) → slice_get (repairs_of findings) k ≡ Some r → IsTaken (RepairAt k) second answers)
         → OwesNothing geo new × Exact geo new }
-    ensures mounted { (geo : Geometry) (volume : List (List ℕ)) (old frozen ready planned new : State) (image : View) (check : Check) (findings : List Finding) (before first second : List Command) (earlier replies answers : List Reply)
+    ensures mounted { (geo : Geometry) (volume : List (List ℕ)) (old frozen ready planned new : State) (image : View) (check : Check)
+        (findings : List Finding) (before first second : List Command) (earlier replies answers : List Reply)
         → IsImage geo volume → ObeysRules geo (image_view geo volume) → Run geo (mounted (image_view geo volume)) before earlier old
         → Step geo old Freeze (Ok (Image image)) frozen → Run geo frozen first replies ready → (IsTaken Freeze first replies → ⊥)
         → Step geo ready (Install check) (Ok Done) planned → Run geo planned second answers new → (IsTaken Freeze second answers → ⊥)
         → AreFindings geo image findings → ((k : ℕ) (r : Repair) → slice_get (repairs_of findings) k ≡ Some r → IsTaken (RepairAt k) second answers)
         → OwesNothing geo new × Exact geo new }
-    ensures in_one_run { (geo : Geometry) (volume : List (List ℕ)) (new : State) (image : View) (check : Check) (findings : List Finding) (before first second : List Command) (earlier replies answers : List Reply)
+    ensures in_one_run { (geo : Geometry) (volume : List (List ℕ)) (new : State) (image : View) (check : Check) (findings : List Finding)
+        (before first second : List Command) (earlier replies answers : List Reply)
         → IsImage geo volume → ObeysRules geo (image_view geo volume) → length earlier ≡ length before → length replies ≡ length first
         → Run geo (mounted (image_view geo volume)) (before ++ (Freeze ∷ (first ++ (Install check ∷ second)))) (earlier ++ (Ok (Image image) ∷ (replies ++ (Ok Done ∷ answers)))) new
         → (IsTaken Freeze first replies → ⊥) → (IsTaken Freeze second answers → ⊥)
@@ -163,9 +168,11 @@ pub fn reads_give_what_the_file_has()
 /// A write changes what is seen of its own file alone, and of that only its own block, where the piece is seen, and
 /// behind it what was seen there before.
 pub fn writes_change_their_own_block()
-    ensures others { (geo : Geometry) → IsGeometry geo → (old new : State) (h k : ℕ) (piece : List ℕ) → Balance geo old → Step geo old (Write h k piece) (Ok Done) new
+    ensures others { (geo : Geometry) → IsGeometry geo → (old new : State) (h k : ℕ) (piece : List ℕ) → Balance geo old
+        → Step geo old (Write h k piece) (Ok Done) new
         → (j q : ℕ) → (j ≡ file_of old h → ⊥) → seen geo new.view j q ≡ seen geo old.view j q }
-    ensures elsewhere { (geo : Geometry) → IsGeometry geo → (old new : State) (h k : ℕ) (piece : List ℕ) → Balance geo old → Step geo old (Write h k piece) (Ok Done) new
+    ensures elsewhere { (geo : Geometry) → IsGeometry geo → (old new : State) (h k : ℕ) (piece : List ℕ) → Balance geo old
+        → Step geo old (Write h k piece) (Ok Done) new
         → (q : ℕ) → (q ≡ k → ⊥) → seen geo new.view (file_of old h) q ≡ seen geo old.view (file_of old h) q }
     ensures here { (geo : Geometry) → IsGeometry geo → (old new : State) (h k : ℕ) (piece : List ℕ) → Balance geo old → Step geo old (Write h k piece) (Ok Done) new
         → seen geo new.view (file_of old h) k ≡ piece ++ drop (length piece) (seen geo old.view (file_of old h) k) }
@@ -176,10 +183,12 @@ pub fn writes_change_their_own_block()
 /// still reachable or open. So does a run in which the file stays reachable or open, as it does where one of its handles
 /// is not closed. A truncation leaves what stood below the new size.
 pub fn files_are_changed_by_their_own_writes()
-    ensures kept { (geo : Geometry) → IsGeometry geo → (old new : State) (command : Command) (reply : Reply) (i : ℕ) → Balance geo old → Step geo old command reply new
+    ensures kept { (geo : Geometry) → IsGeometry geo → (old new : State) (command : Command) (reply : Reply) (i : ℕ) → Balance geo old
+        → Step geo old command reply new
         → IsFile geo old.view i → (IsWritten old i command reply → ⊥) → ((new.view.inode i).mode ≡ 0 → ⊥)
         → ((new.view.inode i).size ≡ (old.view.inode i).size) × ((k : ℕ) → seen geo new.view i k ≡ seen geo old.view i k) }
-    ensures freed { (geo : Geometry) → IsGeometry geo → (old new : State) (command : Command) (reply : Reply) (i : ℕ) → Balance geo old → Step geo old command reply new
+    ensures freed { (geo : Geometry) → IsGeometry geo → (old new : State) (command : Command) (reply : Reply) (i : ℕ) → Balance geo old
+        → Step geo old command reply new
         → IsFile geo old.view i → (new.view.inode i).mode ≡ 0 → IsLive geo new i → ⊥ }
     ensures truncated { (geo : Geometry) → IsGeometry geo → (old new : State) (h n : ℕ) → Balance geo old → Step geo old (Truncate h n) (Ok Done) new
         → ((new.view.inode (file_of old h)).size ≡ n) × ((k : ℕ) → seen geo new.view (file_of old h) k ≡ take (n - 1024 * k) (seen geo old.view (file_of old h) k)) }

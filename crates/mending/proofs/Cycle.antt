@@ -15,15 +15,8 @@ use Rattle.machine.specs.Command.{Answer, Check, Command, Done, Freeze, Image, I
 use Rattle.machine.specs.Runs.{IsTaken}
 use Rattle.machine.specs.State.{State}
 use Rattle.machine.specs.Step.{Run, Step}
-use Rattle.mending.specs.Repairs.{all_done, repairs_below}
+use Rattle.mending.specs.Repairs.{all_done, repairs_below, then_asked, then_replied}
 use Rattle.mending.proofs.Upkeep.{all_repairs, as_many, each_taken, is_no_freeze, is_upkeep, last_step, none_taken, run_opened}
-
--- the commands after the check is installed, and their replies
-abbrev pub then_asked : ℕ → List Command
-then_asked n = (repairs_below n ++ Release ∷ []) ++ Sync ∷ []
-
-abbrev pub then_replied : ℕ → Answer → List Reply
-then_replied n answer = (all_done n ++ Ok Done ∷ []) ++ Ok answer ∷ []
 
 passed : (p : Command → Bool) → ((k : ℕ) → p (RepairAt k) ≡ true) → p Release ≡ true → p Sync ≡ true → (n : ℕ) → list_all p (then_asked n) ≡ true
 passed p each release sync n =

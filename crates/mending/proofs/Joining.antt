@@ -12,7 +12,8 @@ use Rattle.snapshot.specs.Alive.{Alive, state_of}
 use Rattle.snapshot.specs.declared.answer.Answer.{Answer as Given}
 use Rattle.snapshot.specs.Asked.{IsReply}
 use Rattle.snapshot.specs.Goes.{Applies, Freezes, Goes, IsBeside, Releases, Replies}
-use Rattle.mending.specs.Repairs.{Repairs, all_done, repairs_below}
+use Rattle.snapshot.specs.Stages.{LeadsTo, Stage}
+use Rattle.mending.specs.Repairs.{Mends, Repairs, all_done, repairs_below, then_asked, then_replied}
 
 -- no call at all
 pub starts : {D : Type 0} (beside : Beside) (held : List (List (List ℕ))) (image : List (List ℕ)) (old : Alive D) → IsBeside image old beside → Goes beside held image old [] [] beside held image old
@@ -34,6 +35,11 @@ Joins D = (beside beside' beside'' : Beside) (held held' held'' : List (List (Li
     → Goes beside held image old commands replies beside' held' image' mid → Goes beside' held' image' mid more others beside'' held'' image'' new
     → Goes beside held image old (commands ++ more) (replies ++ others) beside'' held'' image'' new
 
+-- the law of snapshot that says so
+pub joins_of : {D : Type 0} → ((s t u : Stage D) (commands more : List Command) (replies others : List Reply) → LeadsTo s commands replies t → LeadsTo t more others u → LeadsTo s (commands ++ more) (replies ++ others) u) → Joins D
+joins_of join beside beside' beside'' held held' held'' image image' image'' old mid new =
+    join (record { volume = old; beside = beside; held = held; image = image }) (record { volume = mid; beside = beside'; held = held'; image = image' }) (record { volume = new; beside = beside''; held = held''; image = image'' })
+
 pub one_more : {D : Type 0} → Joins D → (held held' held'' : List (List (List ℕ))) (image image' image'' : List (List ℕ)) (old mid new : Alive D) (n : ℕ)
     → Repairs held image old n held' image' mid → Replies held' image' mid (RepairAt n) (Ok Done) held'' image'' new → Repairs held image old (suc n) held'' image'' new
 one_more joins held held' held'' image image' image'' old mid new n before last = λ beside is.
@@ -50,29 +56,36 @@ pub record Cycle {D : Type 0} (held : List (List (List ℕ))) (image : List (Lis
   pub beside : Beside
   pub answer : Answer
   pub goes : Goes nothing_beside held image old
-      (Freeze ∷ Install check ∷ ((repairs_below n ++ Release ∷ []) ++ Sync ∷ []))
-      (Ok (Image (settled old.kept.geometry (state_of image old nothing_beside))) ∷ Ok Done ∷ ((all_done n ++ Ok Done ∷ []) ++ Ok answer ∷ [])) beside held' image' new
+      (Freeze ∷ Install check ∷ then_asked n) (Ok (Image (settled old.kept.geometry (state_of image old nothing_beside))) ∷ Ok Done ∷ then_replied n answer) beside held' image' new
 
-module _ {D : Type 0} (joins : Joins D) (held0 held1 held2 held3 held4 held5 : List (List (List ℕ))) (image0 image1 image2 image3 image4 image5 : List (List ℕ)) (v0 v1 v2 v3 v4 v5 : Alive D) where
-  pub whole_cycle : (snapshot : Kept) (check : Check) (n : ℕ) (given : Given) → IsBeside image0 v0 nothing_beside → Freezes held0 image0 v0 snapshot held1 image1 v1 → Replies held1 image1 v1 (Install check) (Ok Done) held2 image2 v2
-      → Repairs held2 image2 v2 n held3 image3 v3 → Releases held3 image3 v3 held4 image4 v4 → Applies held4 image4 v4 Sync (Ok given) held5 image5 v5 → Cycle held0 image0 v0 check n held5 image5 v5
-  whole_cycle snapshot check n given is freezes installs repairs releases syncs =
-      let view = settled v0.kept.geometry (state_of image0 v0 nothing_beside) in
-      let b : Beside = record { frozen = Some view } in
-      let one = (freezes nothing_beside is).1 in
-      let two = installs b one.is in
+module _ {D : Type 0} (joins : Joins D) (held1 held2 held3 held4 held5 : List (List (List ℕ))) (image1 image2 image3 image4 image5 : List (List ℕ)) (v1 v2 v3 v4 v5 : Alive D) where
+  pub then_mends : (beside : Beside) (check : Check) (n : ℕ) (given : Given) → IsBeside image1 v1 beside → Replies held1 image1 v1 (Install check) (Ok Done) held2 image2 v2
+      → Repairs held2 image2 v2 n held3 image3 v3 → Releases held3 image3 v3 held4 image4 v4 → Applies held4 image4 v4 Sync (Ok given) held5 image5 v5 → Mends beside held1 image1 v1 check n held5 image5 v5
+  then_mends b check n given is installs repairs releases syncs =
+      let two = installs b is in
       let three = repairs b two.is in
       let four = releases b three.is in
       let five = syncs nothing_beside four.is in
       let said = answered given five.1 five.2 in
       let last : Goes nothing_beside held4 image4 v4 (Sync ∷ []) (Ok said.0 ∷ []) five.0 held5 image5 v5 = subst (λ r. Goes nothing_beside held4 image4 v4 (Sync ∷ []) (r ∷ []) five.0 held5 image5 v5) said.1 five.3 in
-      let to_install = joins nothing_beside b b held0 held1 held2 image0 image1 image2 v0 v1 v2 (Freeze ∷ []) (Install check ∷ []) (Ok (Image view) ∷ []) (Ok Done ∷ []) one two in
-      let to_repairs = joins nothing_beside b b held0 held2 held3 image0 image2 image3 v0 v2 v3 (Freeze ∷ Install check ∷ []) (repairs_below n) (Ok (Image view) ∷ Ok Done ∷ []) (all_done n) to_install three in
-      let to_release = joins nothing_beside b nothing_beside held0 held3 held4 image0 image3 image4 v0 v3 v4
-      (Freeze ∷ Install check ∷ repairs_below n) (Release ∷ []) (Ok (Image view) ∷ Ok Done ∷ all_done n) (Ok Done ∷ []) to_repairs four in
+      let to_repairs = joins b b b held1 held2 held3 image1 image2 image3 v1 v2 v3 (Install check ∷ []) (repairs_below n) (Ok Done ∷ []) (all_done n) two three in
+      let to_release = joins b b nothing_beside held1 held3 held4 image1 image3 image4 v1 v3 v4 (Install check ∷ repairs_below n) (Release ∷ []) (Ok Done ∷ all_done n) (Ok Done ∷ []) to_repairs four in
       record {
-        beside = five.0;
+        beside' = five.0;
         answer = said.0;
-        goes = joins nothing_beside nothing_beside five.0 held0 held4 held5 image0 image4 image5 v0 v4 v5
-            (Freeze ∷ Install check ∷ (repairs_below n ++ Release ∷ [])) (Sync ∷ []) (Ok (Image view) ∷ Ok Done ∷ (all_done n ++ Ok Done ∷ [])) (Ok said.0 ∷ []) to_release last;
+        goes = joins b nothing_beside five.0 held1 held4 held5 image1 image4 image5 v1 v4 v5
+            (Install check ∷ (repairs_below n ++ Release ∷ [])) (Sync ∷ []) (Ok Done ∷ (all_done n ++ Ok Done ∷ [])) (Ok said.0 ∷ []) to_release last;
+      }
+
+module _ {D : Type 0} (joins : Joins D) (held0 held1 held2 : List (List (List ℕ))) (image0 image1 image2 : List (List ℕ)) (v0 v1 v2 : Alive D) where
+  pub whole_cycle : (snapshot : Kept) (check : Check) (n : ℕ) → IsBeside image0 v0 nothing_beside → Freezes held0 image0 v0 snapshot held1 image1 v1
+      → Mends (record { frozen = Some (settled v0.kept.geometry (state_of image0 v0 nothing_beside)) }) held1 image1 v1 check n held2 image2 v2 → Cycle held0 image0 v0 check n held2 image2 v2
+  whole_cycle snapshot check n is freezes mends =
+      let view = settled v0.kept.geometry (state_of image0 v0 nothing_beside) in
+      let b : Beside = record { frozen = Some view } in
+      record {
+        beside = mends.beside';
+        answer = mends.answer;
+        goes = joins nothing_beside b mends.beside' held0 held1 held2 image0 image1 image2 v0 v1 v2 (Freeze ∷ []) (Install check ∷ then_asked n) (Ok (Image view) ∷ []) (Ok Done ∷ then_replied n mends.answer)
+            (freezes nothing_beside is).1 mends.goes;
       }

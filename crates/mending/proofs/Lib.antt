@@ -4,3 +4,5 @@ mod Cycle
 mod Joining
 mod Seen
 mod Ended
+mod Planned
+pub mod MayMend

@@ -59,7 +59,7 @@ settled_disk image live none idle =
 
 -- ---- a check of the snapshot is one of its image
 
-other_view : (geo : Geometry) (v w : View) (checked : CheckedImage) → SameMetadata geo v w → IsChecked geo v checked → IsChecked geo w checked
+pub other_view : (geo : Geometry) (v w : View) (checked : CheckedImage) → SameMetadata geo v w → IsChecked geo v checked → IsChecked geo w checked
 other_view geo v w checked same is = record {
   findings = record {
     in_order = is.findings.in_order;

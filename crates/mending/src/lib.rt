@@ -2,9 +2,11 @@
 //! volume is written; then a check of its device finds nothing.
 #![tactic(auto)]
 
-ghost use Rattle.std.specs.Prelude.{◌≡◌, [], IfOk, IsTrue, OnOk};
+ghost use Rattle.std.specs.Prelude.{◌≡◌, [], IfErr, IfOk, IsOkUnless, IsSome, IsTrue, OnOk};
 ghost use Rattle.std.specs.Arc.{arc_value};
 ghost use Rattle.findings.specs.Findings.{AreFindings};
+ghost use Rattle.frozen.specs.Kept.{IsKeptOf};
+ghost use Rattle.frozen.specs.Loading.{GivesOut};
 ghost use Rattle.fsck.specs.Checked.{IsChecked};
 ghost use Rattle.live_states.specs.Holdings.{IsIdle};
 ghost use Rattle.model.specs.Image.{IsImage};
@@ -12,7 +14,7 @@ ghost use Rattle.snapshot.specs.Mounting.{IsMountable};
 ghost use Rattle.snapshot.specs.Alive.{disk_of};
 ghost use Rattle.softdep.specs.Queued.{pending_of};
 ghost use Rattle.workers.specs.Workers.{may_work};
-ghost use Rattle.mending.specs.Repairs.{IsSnapshotChecked, Repairs};
+ghost use Rattle.mending.specs.Repairs.{HasPlan, IsSnapshotChecked, MayMend, MendsFrozen, Repaired};
 
 mod laws;
 
@@ -50,18 +52,48 @@ pub fn mend<D: Device, G: Gate>(
     ensures checked { IfOk result (λ checked. D.honest volume.new.device
         → IsChecked volume.old.kept.geometry (disk_of (D.image volume.old.device) volume.old) (arc_value checked)) }
     ensures geometry { IfOk result (λ checked. D.honest volume.new.device → volume.new.kept.geometry ≡ volume.old.kept.geometry) }
+    ensures error { IfErr result (λ r. D.honest volume.new.device → GivesOut r) }
     ensures honest { D.honest volume.new.device → D.honest volume.old.device }
 {
     snapshot::calls_join::<D>();
     mended_images_are_clean::<D>();
+    fsck::damaged_where_a_rule_is_broken();
     volume.live();
     volume.freeze(alloc)?;
     let checked = Arc::new(alloc, check_snapshot(rt, alloc, volume, workers, gate)?)?;
-    volume.install(alloc, &checked)?;
-    repair_all(alloc, volume, checked.repairs().len())?;
-    volume.release(alloc)?;
-    volume.apply(alloc, &Command::Sync)?;
+    mend_frozen(alloc, volume, &checked)?;
     Ok(checked)
+}
+
+/// Mends a volume that was just mounted as `mend` does, by a check of its image that was made before: that is not checked
+/// again. Refused as `mend`.
+pub fn mend_checked<D: Device>(
+    alloc: Global,
+    volume: &mut Volume<D>,
+    checked: &Checked,
+) -> Result<(), Refusal>
+    requires pending { pending_of volume.old.queue ≡ [] }
+    requires idle { IsIdle volume.old.holdings }
+    requires mounted { D.honest volume.old.device → IsMountable volume.old.kept.geometry (D.image volume.old.device) }
+    requires geometry { checked.now.frozen.geometry ≡ volume.old.kept.geometry }
+    requires loaded { D.honest volume.old.device → IsKeptOf checked.now.frozen (D.image volume.old.device) }
+    // Where the device was honest, a check finds nothing on the image that it now holds.
+    ensures clean { OnOk result (D.honest volume.new.device
+        → AreFindings volume.new.kept.geometry (disk_of (D.image volume.new.device) volume.new) []) }
+    // What the device then holds is an image of the volume, which can be loaded.
+    ensures framed { OnOk result (D.honest volume.new.device → IsImage volume.new.kept.geometry (D.image volume.new.device)) }
+    ensures geometry { OnOk result (D.honest volume.new.device → volume.new.kept.geometry ≡ volume.old.kept.geometry) }
+    ensures error { IfErr result (λ r. D.honest volume.new.device → GivesOut r) }
+    ensures honest { D.honest volume.new.device → D.honest volume.old.device }
+{
+    snapshot::calls_join::<D>();
+    mended_images_are_clean::<D>();
+    fsck::damaged_where_a_rule_is_broken();
+    snapshot::tells_its_image(checked);
+    volume.live();
+    volume.freeze(alloc)?;
+    mend_frozen(alloc, volume, checked)?;
+    Ok(())
 }
 
 /// Checks the snapshot that stands.
@@ -72,7 +104,9 @@ fn check_snapshot<D: Device, G: Gate>(
     workers: u32,
     gate: &G,
 ) -> Result<Checked, Refusal>
-    ensures { IfOk result (IsSnapshotChecked volume.now) }
+    requires { IsTrue (may_work workers) }
+    ensures checked { IfOk result (IsSnapshotChecked volume.now) }
+    ensures error { IsSome volume.now.holdings.snapshot → IsOkUnless result Refusal.NoMemory }
 {
     let Some(snapshot) = volume.live().snapshot() else {
         return Err(Refusal::NoSnapshot);
@@ -80,15 +114,36 @@ fn check_snapshot<D: Device, G: Gate>(
     fsck::check(rt, alloc, snapshot, workers, gate)
 }
 
+/// Mends a volume of which a snapshot stands, by a check of it: carries out each of its repairs, releases the snapshot, and
+/// writes all.
+fn mend_frozen<D: Device>(
+    alloc: Global,
+    volume: &mut Volume<D>,
+    checked: &Checked,
+) -> Result<(), Refusal>
+    ensures mends { OnOk result (D.honest volume.new.device → MendsFrozen D.held D.image volume.old checked.now volume.new) }
+    ensures error { IfErr result (λ r. D.honest volume.new.device → MayMend D.image volume.old checked.now → GivesOut r) }
+    ensures honest { D.honest volume.new.device → D.honest volume.old.device }
+{
+    snapshot::calls_join::<D>();
+    findings::findings_are_unique();
+    volume.install(alloc, checked)?;
+    repair_all(alloc, volume, checked.repairs().len())?;
+    volume.release(alloc)?;
+    volume.apply(alloc, &Command::Sync)?;
+    Ok(())
+}
+
 /// Carries out so many repairs of the check that is installed, from the first one on.
 fn repair_all<D: Device>(alloc: Global, volume: &mut Volume<D>, count: usize) -> Result<(), Refusal>
-    ensures repaired { OnOk result (D.honest volume.new.device → Repairs (D.held volume.old.device) (D.image volume.old.device) volume.old count (D.held volume.new.device) (D.image volume.new.device) volume.new) }
+    ensures repaired { OnOk result (D.honest volume.new.device → Repaired D.held D.image volume.old count volume.new) }
+    ensures error { IfErr result (λ r. D.honest volume.new.device → HasPlan D.image volume.old count → GivesOut r) }
     ensures device { volume.new.device ≡ volume.old.device }
 {
     snapshot::calls_join::<D>();
     let Ok(count) = u32::try_from(count) else {
-        // No list has more places.
-        return Err(Refusal::BadIndex);
+        // No list has more places; one that had would be refused as one that finds no memory.
+        return Err(Refusal::NoMemory);
     };
     for place in 0..count {
         volume.repair(alloc, place)?;

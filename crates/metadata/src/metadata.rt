@@ -80,7 +80,8 @@ impl Metadata {
 
     /// The least data block from this address on that may be given out; `None` where there is none.
     pub fn next_block(&self, from: u32) -> Option<u32>
-        ensures { MatchOption result ((a : ℕ) → from ≤ a → IsFreeBlock self.now.geometry (frozen_view self.now) a → ⊥) (IsNextBlock self.now.geometry (frozen_view self.now) from) }
+        ensures { MatchOption result ((a : ℕ) → from ≤ a → IsFreeBlock self.now.geometry (frozen_view self.now) a
+            → ⊥) (IsNextBlock self.now.geometry (frozen_view self.now) from) }
     {
         self.free.next_block(from)
     }
@@ -214,7 +215,8 @@ impl Metadata {
 /// Notes these new values of bits, the first first.
 fn note_all(free: &mut FreeSpace, bits: &[Bit])
     requires { AreBitsOf free.old bits.now }
-    ensures { (geo : Numbers) (view : View) → All (IsBitOf geo) bits.now → IsFreeOf geo view free.old → IsFreeOf geo (updated_all view (map bit bits.now)) free.new }
+    ensures { (geo : Numbers) (view : View) → All (IsBitOf geo) bits.now → IsFreeOf geo view free.old
+        → IsFreeOf geo (updated_all view (map bit bits.now)) free.new }
 {
     for bit in bits {
         note(free, *bit);

@@ -27,112 +27,147 @@ ghost use Rattle.ordering.specs.Remove.{removal, MayRemoveName};
 
 /// A block's bit is set.
 pub fn set_block_bit()
-    ensures { (geo : Geometry) (disk : View) (q : List Pending) (ghost : Ghost) (after : List Cell) (b : ℕ) → IsFalse ((users_view disk q).block_marked b) → Keeps geo disk q ghost (record { change = SetBlock b true; after = after }) ghost }
+    ensures { (geo : Geometry) (disk : View) (q : List Pending) (ghost : Ghost) (after : List Cell) (b : ℕ)
+        → IsFalse ((users_view disk q).block_marked b) → Keeps geo disk q ghost (record { change = SetBlock b true; after = after }) ghost }
 {}
 
 /// A number's bit is set.
 pub fn set_number_bit()
-    ensures { (geo : Geometry) (disk : View) (q : List Pending) (ghost : Ghost) (after : List Cell) (n : ℕ) → IsTrue (is_number geo n) → IsFalse ((users_view disk q).number_marked n) → Keeps geo disk q ghost (record { change = SetNumber n true; after = after }) ghost }
+    ensures { (geo : Geometry) (disk : View) (q : List Pending) (ghost : Ghost) (after : List Cell) (n : ℕ) → IsTrue (is_number geo n)
+        → IsFalse ((users_view disk q).number_marked n) → Keeps geo disk q ghost (record { change = SetNumber n true; after = after }) ghost }
 {}
 
 /// A number's bit is cleared.
 pub fn clear_number_bit()
-    ensures { (geo : Geometry) (disk : View) (q : List Pending) (ghost : Ghost) (after : List Cell) (n : ℕ) → MayClearNumber (users_view disk q) ghost after n → Keeps geo disk q ghost (record { change = SetNumber n false; after = after }) (number_cleared n ghost) }
+    ensures { (geo : Geometry) (disk : View) (q : List Pending) (ghost : Ghost) (after : List Cell) (n : ℕ)
+        → MayClearNumber (users_view disk q) ghost after n
+        → Keeps geo disk q ghost (record { change = SetNumber n false; after = after }) (number_cleared n ghost) }
 {}
 
 /// A block's bit is cleared.
 pub fn clear_block_bit()
-    ensures { (geo : Geometry) (disk : View) (q : List Pending) (ghost : Ghost) (after : List Cell) (b : ℕ) → MayClearBlock geo (users_view disk q) ghost after b → Keeps geo disk q ghost (record { change = SetBlock b false; after = after }) (block_cleared b ghost) }
+    ensures { (geo : Geometry) (disk : View) (q : List Pending) (ghost : Ghost) (after : List Cell) (b : ℕ)
+        → MayClearBlock geo (users_view disk q) ghost after b
+        → Keeps geo disk q ghost (record { change = SetBlock b false; after = after }) (block_cleared b ghost) }
 {}
 
 /// A free block is filled.
 pub fn fill()
-    ensures { (geo : Geometry) (disk : View) (q : List Pending) (ghost : Ghost) (after : List Cell) (b : ℕ) (bytes : List ℕ) → MayFill geo (users_view disk q) ghost after b → Keeps geo disk q ghost (record { change = SetBytes b bytes; after = after }) ghost }
+    ensures { (geo : Geometry) (disk : View) (q : List Pending) (ghost : Ghost) (after : List Cell) (b : ℕ) (bytes : List ℕ)
+        → MayFill geo (users_view disk q) ghost after b → Keeps geo disk q ghost (record { change = SetBytes b bytes; after = after }) ghost }
 {}
 
 /// A block of a file is written in place.
 pub fn write()
-    ensures { (geo : Geometry) (disk : View) (q : List Pending) (ghost : Ghost) (after : List Cell) (n p b : ℕ) (bytes : List ℕ) → MayWrite geo (users_view disk q) n p b → Keeps geo disk q ghost (record { change = SetBytes b bytes; after = after }) ghost }
+    ensures { (geo : Geometry) (disk : View) (q : List Pending) (ghost : Ghost) (after : List Cell) (n p b : ℕ) (bytes : List ℕ)
+        → MayWrite geo (users_view disk q) n p b → Keeps geo disk q ghost (record { change = SetBytes b bytes; after = after }) ghost }
 {}
 
 /// A record gets no fewer links, or another size over the same blocks.
 pub fn raise()
-    ensures { (geo : Geometry) (disk : View) (q : List Pending) (ghost : Ghost) (after : List Cell) (n : ℕ) (inode : Inode) → MayRaise (users_view disk q) n inode → Keeps geo disk q ghost (record { change = SetInode n inode; after = after }) ghost }
+    ensures { (geo : Geometry) (disk : View) (q : List Pending) (ghost : Ghost) (after : List Cell) (n : ℕ) (inode : Inode)
+        → MayRaise (users_view disk q) n inode → Keeps geo disk q ghost (record { change = SetInode n inode; after = after }) ghost }
 {}
 
 /// A record gets fewer links.
 pub fn lower()
-    ensures { (geo : Geometry) (disk : View) (q : List Pending) (ghost : Ghost) (after : List Cell) (n : ℕ) (inode : Inode) → MayLower geo (users_view disk q) ghost after n inode → Keeps geo disk q ghost (record { change = SetInode n inode; after = after }) (settled n ghost) }
+    ensures { (geo : Geometry) (disk : View) (q : List Pending) (ghost : Ghost) (after : List Cell) (n : ℕ) (inode : Inode)
+        → MayLower geo (users_view disk q) ghost after n inode
+        → Keeps geo disk q ghost (record { change = SetInode n inode; after = after }) (settled n ghost) }
 {}
 
 /// A file grows, shrinks, or moves a block.
 pub fn rewrite_file()
-    ensures { (geo : Geometry) (disk : View) (q : List Pending) (ghost : Ghost) (held : ℕ → Bool) (given_up : ℕ → ℕ → ℕ → Bool) (after : List Cell) (n : ℕ) (inode : Inode) → MayRewriteFile geo disk q ghost (moved held given_up ghost) after n inode → Keeps geo disk q ghost (record { change = SetInode n inode; after = after }) (moved held given_up ghost) }
+    ensures { (geo : Geometry) (disk : View) (q : List Pending) (ghost : Ghost) (held : ℕ → Bool) (given_up : ℕ → ℕ → ℕ → Bool)
+        (after : List Cell) (n : ℕ) (inode : Inode) → MayRewriteFile geo disk q ghost (moved held given_up ghost) after n inode
+        → Keeps geo disk q ghost (record { change = SetInode n inode; after = after }) (moved held given_up ghost) }
 {}
 
 /// A number gets its first record, a file's.
 pub fn create_file()
-    ensures { (geo : Geometry) (disk : View) (q : List Pending) (ghost : Ghost) (after : List Cell) (n : ℕ) (inode : Inode) → MayCreate geo disk q ghost after n inode → Keeps geo disk q ghost (record { change = SetInode n inode; after = after }) ghost }
+    ensures { (geo : Geometry) (disk : View) (q : List Pending) (ghost : Ghost) (after : List Cell) (n : ℕ) (inode : Inode)
+        → MayCreate geo disk q ghost after n inode → Keeps geo disk q ghost (record { change = SetInode n inode; after = after }) ghost }
 {}
 
 /// A number gets its first record, a directory's that is yet to be entered.
 pub fn create_directory()
-    ensures { (geo : Geometry) (disk : View) (q : List Pending) (ghost : Ghost) (after : List Cell) (n : ℕ) (inode : Inode) → MayCreate geo disk q ghost after n inode → Keeps geo disk q ghost (record { change = SetInode n inode; after = after }) (entered n ghost) }
+    ensures { (geo : Geometry) (disk : View) (q : List Pending) (ghost : Ghost) (after : List Cell) (n : ℕ) (inode : Inode)
+        → MayCreate geo disk q ghost after n inode
+        → Keeps geo disk q ghost (record { change = SetInode n inode; after = after }) (entered n ghost) }
 {}
 
 /// A record is freed.
 pub fn free()
-    ensures { (geo : Geometry) (disk : View) (q : List Pending) (ghost : Ghost) (held : ℕ → Bool) (given_up : ℕ → ℕ → ℕ → Bool) (after : List Cell) (n : ℕ) (inode : Inode) → MayFree geo disk q ghost (freed held given_up n ghost) after n inode → Keeps geo disk q ghost (record { change = SetInode n inode; after = after }) (freed held given_up n ghost) }
+    ensures { (geo : Geometry) (disk : View) (q : List Pending) (ghost : Ghost) (held : ℕ → Bool) (given_up : ℕ → ℕ → ℕ → Bool)
+        (after : List Cell) (n : ℕ) (inode : Inode) → MayFree geo disk q ghost (freed held given_up n ghost) after n inode
+        → Keeps geo disk q ghost (record { change = SetInode n inode; after = after }) (freed held given_up n ghost) }
 {}
 
 /// A directory gets empty blocks.
 pub fn grow_directory()
-    ensures { (geo : Geometry) (disk : View) (q : List Pending) (ghost : Ghost) (after : List Cell) (n : ℕ) (inode : Inode) → MayGrowDirectory geo disk q ghost after n inode → Keeps geo disk q ghost (record { change = SetInode n inode; after = after }) ghost }
+    ensures { (geo : Geometry) (disk : View) (q : List Pending) (ghost : Ghost) (after : List Cell) (n : ℕ) (inode : Inode)
+        → MayGrowDirectory geo disk q ghost after n inode → Keeps geo disk q ghost (record { change = SetInode n inode; after = after }) ghost }
 {}
 
 /// An indirect block gets a pointer that is not in use.
 pub fn append_slot()
-    ensures { (geo : Geometry) (disk : View) (q : List Pending) (ghost : Ghost) (after : List Cell) (n x : ℕ) (bytes : List ℕ) → MayAppendSlot geo (users_view disk q) after n x bytes → Keeps geo disk q ghost (record { change = SetBytes x bytes; after = after }) ghost }
+    ensures { (geo : Geometry) (disk : View) (q : List Pending) (ghost : Ghost) (after : List Cell) (n x : ℕ) (bytes : List ℕ)
+        → MayAppendSlot geo (users_view disk q) after n x bytes
+        → Keeps geo disk q ghost (record { change = SetBytes x bytes; after = after }) ghost }
 {}
 
 /// A file's block moves, in its indirect block.
 pub fn move_slot()
-    ensures { (geo : Geometry) (disk : View) (q : List Pending) (ghost : Ghost) (held : ℕ → Bool) (given_up : ℕ → ℕ → ℕ → Bool) (after : List Cell) (n x p : ℕ) (bytes : List ℕ) → MayMoveSlot geo disk q ghost (moved held given_up ghost) after n x p bytes → Keeps geo disk q ghost (record { change = SetBytes x bytes; after = after }) (moved held given_up ghost) }
+    ensures { (geo : Geometry) (disk : View) (q : List Pending) (ghost : Ghost) (held : ℕ → Bool) (given_up : ℕ → ℕ → ℕ → Bool)
+        (after : List Cell) (n x p : ℕ) (bytes : List ℕ) → MayMoveSlot geo disk q ghost (moved held given_up ghost) after n x p bytes
+        → Keeps geo disk q ghost (record { change = SetBytes x bytes; after = after }) (moved held given_up ghost) }
 {}
 
 /// A name of a file goes.
 pub fn remove_name()
-    ensures { (geo : Geometry) (disk : View) (q : List Pending) (ghost : Ghost) (after : List Cell) (block : ℕ) (bytes : List ℕ) (d s i : ℕ) (name : List ℕ) (safe : ℕ → Bool) → MayRemove geo (users_view disk q) ghost safe after block bytes d s i name → Keeps geo disk q ghost (record { change = SetBytes block bytes; after = after }) (removed i d s block safe ghost) }
+    ensures { (geo : Geometry) (disk : View) (q : List Pending) (ghost : Ghost) (after : List Cell) (block : ℕ) (bytes : List ℕ) (d s i : ℕ)
+        (name : List ℕ) (safe : ℕ → Bool) → MayRemove geo (users_view disk q) ghost safe after block bytes d s i name
+        → Keeps geo disk q ghost (record { change = SetBytes block bytes; after = after }) (removed i d s block safe ghost) }
 {}
 
 /// A name of a file comes.
 pub fn enter_name()
-    ensures { (geo : Geometry) (disk : View) (q : List Pending) (ghost : Ghost) (after : List Cell) (block : ℕ) (bytes : List ℕ) (d s i : ℕ) (name : List ℕ) → MayEnter geo (users_view disk q) ghost after block bytes d s i name → Keeps geo disk q ghost (record { change = SetBytes block bytes; after = after }) ghost }
+    ensures { (geo : Geometry) (disk : View) (q : List Pending) (ghost : Ghost) (after : List Cell) (block : ℕ) (bytes : List ℕ) (d s i : ℕ) (name : List ℕ)
+        → MayEnter geo (users_view disk q) ghost after block bytes d s i name
+        → Keeps geo disk q ghost (record { change = SetBytes block bytes; after = after }) ghost }
 {}
 
 /// An entry gets another name.
 pub fn rename()
-    ensures { (geo : Geometry) (disk : View) (q : List Pending) (ghost : Ghost) (after : List Cell) (block : ℕ) (bytes : List ℕ) (d s i : ℕ) (old new : List ℕ) → MayRename geo (users_view disk q) after block bytes d s i old new → Keeps geo disk q ghost (record { change = SetBytes block bytes; after = after }) ghost }
+    ensures { (geo : Geometry) (disk : View) (q : List Pending) (ghost : Ghost) (after : List Cell) (block : ℕ) (bytes : List ℕ) (d s i : ℕ) (old new : List ℕ)
+        → MayRename geo (users_view disk q) after block bytes d s i old new
+        → Keeps geo disk q ghost (record { change = SetBytes block bytes; after = after }) ghost }
 {}
 
 /// The entry of an empty directory goes.
 pub fn remove_directory()
-    ensures { (geo : Geometry) (disk : View) (q : List Pending) (ghost : Ghost) (after : List Cell) (block : ℕ) (bytes : List ℕ) (d s i b : ℕ) (name : List ℕ) → MayRemoveDirectory geo (users_view disk q) ghost after block bytes d s i b name → Keeps geo disk q ghost (record { change = SetBytes block bytes; after = after }) (removed_directory i d s block b ghost) }
+    ensures { (geo : Geometry) (disk : View) (q : List Pending) (ghost : Ghost) (after : List Cell) (block : ℕ) (bytes : List ℕ) (d s i b : ℕ) (name : List ℕ)
+        → MayRemoveDirectory geo (users_view disk q) ghost after block bytes d s i b name
+        → Keeps geo disk q ghost (record { change = SetBytes block bytes; after = after }) (removed_directory i d s block b ghost) }
 {}
 
 /// The entry of a directory comes that had none.
 pub fn enter_directory()
-    ensures { (geo : Geometry) (disk : View) (q : List Pending) (ghost : Ghost) (after : List Cell) (block : ℕ) (bytes : List ℕ) (d s i b : ℕ) (name : List ℕ) → MayEnterDirectory geo disk q ghost after block bytes d s i b name → Keeps geo disk q ghost (record { change = SetBytes block bytes; after = after }) (now_entered i ghost) }
+    ensures { (geo : Geometry) (disk : View) (q : List Pending) (ghost : Ghost) (after : List Cell) (block : ℕ) (bytes : List ℕ) (d s i b : ℕ) (name : List ℕ)
+        → MayEnterDirectory geo disk q ghost after block bytes d s i b name
+        → Keeps geo disk q ghost (record { change = SetBytes block bytes; after = after }) (now_entered i ghost) }
 {}
 
 /// The invariant holds with nothing pending.
 pub fn with_nothing_pending()
-    ensures { (geo : Geometry) (disk : View) (held safe : ℕ → Bool) → ObeysRules geo disk → ((f : ℕ) → IsTrue (safe f) → IsReachable geo disk f) → AllAgree geo disk [] (at_rest held safe) }
+    ensures { (geo : Geometry) (disk : View) (held safe : ℕ → Bool) → ObeysRules geo disk → ((f : ℕ) → IsTrue (safe f) → IsReachable geo disk f)
+        → AllAgree geo disk [] (at_rest held safe) }
 {}
 
 /// A flush of a closed cut keeps the invariant.
 pub fn flush()
-    ensures { (geo : Geometry) (disk : View) (q : List Pending) (ghost : Ghost) (cut : List Bool) → IsClosed q cut → AllAgree geo disk q ghost → AllAgree geo (seen disk q cut) (rest q cut) ghost }
+    ensures { (geo : Geometry) (disk : View) (q : List Pending) (ghost : Ghost) (cut : List Bool) → IsClosed q cut → AllAgree geo disk q ghost
+        → AllAgree geo (seen disk q cut) (rest q cut) ghost }
 {}
 
 /// A flush changes nothing that users see.
@@ -157,17 +192,21 @@ pub fn after_stays()
 
 /// Each kind of update keeps the invariant.
 pub fn each_step_keeps_the_invariant()
-    ensures { (geo : Geometry) (disk : View) (q : List Pending) (ghost : Ghost) (u : Pending) (ghost' : Ghost) → Step geo disk q ghost u ghost' → Keeps geo disk q ghost u ghost' }
+    ensures { (geo : Geometry) (disk : View) (q : List Pending) (ghost : Ghost) (u : Pending) (ghost' : Ghost) → Step geo disk q ghost u ghost'
+        → Keeps geo disk q ghost u ghost' }
 {}
 
 /// Whatever a volume comes to, each closed cut obeys the rules and has the safe files.
 pub fn each_cut_is_safe()
-    ensures { (geo : Geometry) (disk : View) (q : List Pending) (ghost : Ghost) → Comes_to geo disk q ghost → (cut : List Bool) → IsClosed q cut → IsSafeCut geo (seen disk q cut) ghost }
+    ensures { (geo : Geometry) (disk : View) (q : List Pending) (ghost : Ghost) → Comes_to geo disk q ghost → (cut : List Bool) → IsClosed q cut
+        → IsSafeCut geo (seen disk q cut) ghost }
 {}
 
 /// A file is created by three updates.
 pub fn create_command()
-    ensures { (geo : Geometry) (disk : View) (q : List Pending) (held safe : ℕ → Bool) (n block : ℕ) (bytes : List ℕ) (d s : ℕ) (name : List ℕ) (after : List Cell) → MayCreateFile geo (users_view disk q) n block bytes d s name after → AllAgree geo disk q (at_rest held safe) → AllAgree geo disk (creation n block bytes after q) (at_rest held safe) }
+    ensures { (geo : Geometry) (disk : View) (q : List Pending) (held safe : ℕ → Bool) (n block : ℕ) (bytes : List ℕ) (d s : ℕ) (name : List ℕ) (after : List Cell)
+        → MayCreateFile geo (users_view disk q) n block bytes d s name after → AllAgree geo disk q (at_rest held safe)
+        → AllAgree geo disk (creation n block bytes after q) (at_rest held safe) }
 {}
 
 /// A cut is closed exactly where it takes with each update the earlier ones that it stands on.
@@ -177,10 +216,16 @@ pub fn closed_cuts_are_closed_sets()
 
 /// After a directory grew, a cut with the contents of the new block claims it only with the new record.
 pub fn growth_gives_credit()
-    ensures { (geo : Geometry) (disk : View) (q : List Pending) (ghost : Ghost) (after : List Cell) (n : ℕ) (inode : Inode) (k b : ℕ) → Comes geo disk q ghost after inode k b → AllAgree geo disk q ghost → EachCut disk (record { change = SetInode n inode; after = after } ∷ q) (λ set view. IsTrue (set (Block b)) → (m j : ℕ) → IsClaim geo view m j b → IsTrue (set (Record n))) }
+    ensures { (geo : Geometry) (disk : View) (q : List Pending) (ghost : Ghost) (after : List Cell) (n : ℕ) (inode : Inode) (k b : ℕ)
+        → Comes geo disk q ghost after inode k b → AllAgree geo disk q ghost
+        → EachCut disk (record { change = SetInode n inode; after = after } ∷ q) (λ set view. IsTrue (set (Block b)) → (m j : ℕ)
+        → IsClaim geo view m j b → IsTrue (set (Record n))) }
 {}
 
 /// A name of a file is removed by two updates, where a link is left.
 pub fn remove_command()
-    ensures { (geo : Geometry) (disk : View) (q : List Pending) (ghost : Ghost) (safe : ℕ → Bool) (block : ℕ) (bytes : List ℕ) (d s i : ℕ) (name : List ℕ) (fewer : Inode) → ((g : Gone) → IsFalse (ghost.gone g)) → MayRemoveName geo (users_view disk q) ghost safe block bytes d s i name fewer → AllAgree geo disk q ghost → AllAgree geo disk (removal i fewer block bytes q) (settled i (removed i d s block safe ghost)) }
+    ensures { (geo : Geometry) (disk : View) (q : List Pending) (ghost : Ghost) (safe : ℕ → Bool) (block : ℕ) (bytes : List ℕ) (d s i : ℕ)
+        (name : List ℕ) (fewer : Inode) → ((g : Gone) → IsFalse (ghost.gone g))
+        → MayRemoveName geo (users_view disk q) ghost safe block bytes d s i name fewer → AllAgree geo disk q ghost
+        → AllAgree geo disk (removal i fewer block bytes q) (settled i (removed i d s block safe ghost)) }
 {}

@@ -98,7 +98,8 @@ impl Filling {
     /// Meets the claims of a part. They are in order, so those of the table's group stand together.
     fn meet_part(&mut self, part: &Part) -> Result<(), AllocError>
         ensures of { (self.new.geometry ≡ self.old.geometry) × (self.new.group ≡ self.old.group) }
-        ensures met { OnOk result (IsStrictlySortedBy claim_cmp part.now.claims → (seen : List Claim) → HoldsOf seen self.old → HoldsOf (seen ++ part.now.claims) self.new) }
+        ensures met { OnOk result (IsStrictlySortedBy claim_cmp part.now.claims → (seen : List Claim) → HoldsOf seen self.old
+            → HoldsOf (seen ++ part.now.claims) self.new) }
     {
         let first = self.geometry.group_block(self.group);
         let past = first + self.geometry.blocks_a_group();
@@ -115,7 +116,8 @@ pub(crate) fn filled(
 ) -> Result<Filling, AllocError>
     requires { group < geometry.groups }
     ensures of { IfOk result (λ table. (table.geometry ≡ geometry) × (table.group ≡ group)) }
-    ensures filled { IfOk result (λ table. All (λ part. IsStrictlySortedBy claim_cmp part.claims) parts.now → HoldsOf (flat_map (λ part. part.claims) parts.now) table) }
+    ensures filled { IfOk result (λ table. All (λ part. IsStrictlySortedBy claim_cmp part.claims) parts.now
+        → HoldsOf (flat_map (λ part. part.claims) parts.now) table) }
 {
     let mut table = Filling::new(alloc, geometry, group)?;
     for part in parts {

@@ -112,7 +112,8 @@ impl<'a> Walk<'a> {
         block: &'a Block,
     ) -> Result<(), Refusal>
         requires position { position < indirect_position }
-        requires block { (s : ℕ) → s / 16 ≡ position → model.slot frozen.now.geometry (frozen_view frozen.now) directory s ≡ model.slot_in frozen.now.geometry block.now s }
+        requires block { (s : ℕ) → s / 16 ≡ position
+            → model.slot frozen.now.geometry (frozen_view frozen.now) directory s ≡ model.slot_in frozen.now.geometry block.now s }
         ensures walked { OnOk result (IsWalked frozen.now.geometry (frozen_view frozen.now) directory (16 * position) self.old
             → IsWalked frozen.now.geometry (frozen_view frozen.now) directory (16 * (position + 1)) self.new) }
         ensures error { IsOkUnless result Refusal.NoMemory }
@@ -209,7 +210,8 @@ fn add_name<'a>(
     repeated: Finding,
 ) -> Result<(), Refusal>
     ensures named { OnOk result (Adds (λ x. keyed name.now ≡ x) (map (λ n. (n.digest, n.bytes.now)) names.old.keys) (map (λ n. (n.digest, n.bytes.now)) names.new.keys)) }
-    ensures found { OnOk result (Adds (λ f. Contains (map (λ n. (n.digest, n.bytes.now)) names.old.keys) (keyed name.now) × (repeated ≡ f)) findings.old.keys findings.new.keys) }
+    ensures found { OnOk result (Adds (λ f. Contains (map (λ n. (n.digest, n.bytes.now)) names.old.keys) (keyed name.now)
+        × (repeated ≡ f)) findings.old.keys findings.new.keys) }
     ensures ordered { OnOk result (IsStrictlySortedBy finding_cmp findings.old.keys → IsStrictlySortedBy finding_cmp findings.new.keys) }
     ensures error { IsOkUnless result Refusal.NoMemory }
 {
@@ -227,7 +229,8 @@ fn add_to_unsound(
     slot: u32,
     number: u32,
 ) -> Result<(), Refusal>
-    ensures found { OnOk result (Adds (λ f. IsFalse (is_sound_at frozen.now.geometry (frozen_view frozen.now) number) × (ToUnsound directory slot ≡ f)) findings.old.keys findings.new.keys) }
+    ensures found { OnOk result (Adds (λ f. IsFalse (is_sound_at frozen.now.geometry (frozen_view frozen.now) number)
+        × (ToUnsound directory slot ≡ f)) findings.old.keys findings.new.keys) }
     ensures ordered { OnOk result (IsStrictlySortedBy finding_cmp findings.old.keys → IsStrictlySortedBy finding_cmp findings.new.keys) }
     ensures error { IsOkUnless result Refusal.NoMemory }
 {

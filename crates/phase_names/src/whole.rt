@@ -24,7 +24,8 @@ pub fn finish(
     whole: &Part,
     reached: &BTreeSet<u32>,
 ) -> Result<Vec<Finding>, Refusal>
-    ensures found { IfOk result (λ found. (units : Units) → IsPart frozen.now.geometry (frozen_view frozen.now) units whole.now → IsEveryGroup frozen.now.geometry units
+    ensures found { IfOk result (λ found. (units : Units) → IsPart frozen.now.geometry (frozen_view frozen.now) units whole.now
+        → IsEveryGroup frozen.now.geometry units
         → AreReached frozen.now.geometry (frozen_view frozen.now) reached.now.keys
         → AreFindingsOf is_of_names frozen.now.geometry (frozen_view frozen.now) found.items) }
     ensures error { IsOkUnless result Refusal.NoMemory }

@@ -9,6 +9,7 @@ mod scale;
 mod uses;
 
 ghost use Rattle.std.specs.Prelude.{◌≡◌, ◌↔◌, ℕ, IfErr, IfOk, IsErrOf};
+ghost use Rattle.device.specs.Reading.{ReadsOnly};
 ghost use Rattle.device.specs.Writes.{HasFailed};
 ghost use Rattle.frozen.specs.Kept.{frozen_view};
 ghost use Rattle.frozen.specs.Loading.{LoadRefuses};
@@ -35,8 +36,7 @@ pub fn look<D: Device>(alloc: Global, device: &mut D) -> Result<Picture, Refusal
     ensures refused { IfErr result (λ refusal. LoadRefuses (D.honest device.new) (D.image device.old) refusal) }
     ensures cause { IsErrOf result Refusal.Device → HasFailed (D.failures device.old) (D.failures device.new) }
 
-    ensures same { D.image device.new ≡ D.image device.old }
-    ensures held { D.held device.new ≡ D.held device.old }
+    ensures reads { ReadsOnly D.honest D.image D.held device.old device.new }
 {
     let frozen = load(alloc, device)?;
     Ok(take_picture(alloc, &frozen)?)

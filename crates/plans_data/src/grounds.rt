@@ -29,12 +29,16 @@ ghost use Rattle.plans_data.specs.Lists.{given_up_with, held_below};
 pub fn accepted_commands_find_their_grounds()
     ensures held { (geo : Geometry) (old : State) → Balance geo old → HeldAreMarked old × HeldAreUnclaimed geo old }
     ensures whole { (geo : Geometry) (old : State) → IsGeometry geo → Balance geo old → IsWhole geo old.view }
-    ensures write { (geo : Geometry) (old : State) → Balance geo old → (h k : ℕ) (piece : List ℕ) → Accepts geo old (Write h k piece) → IsWritable geo old.view (file_of old h) k piece }
-    ensures truncate { (geo : Geometry) (old : State) → Balance geo old → (h n : ℕ) → Accepts geo old (Truncate h n) → IsFile geo old.view (file_of old h) × (n ≤ (old.view.inode (file_of old h)).size) }
+    ensures write { (geo : Geometry) (old : State) → Balance geo old → (h k : ℕ) (piece : List ℕ) → Accepts geo old (Write h k piece)
+        → IsWritable geo old.view (file_of old h) k piece }
+    ensures truncate { (geo : Geometry) (old : State) → Balance geo old → (h n : ℕ) → Accepts geo old (Truncate h n)
+        → IsFile geo old.view (file_of old h) × (n ≤ (old.view.inode (file_of old h)).size) }
     ensures close { (geo : Geometry) (old : State) → Balance geo old → (h : ℕ) → Accepts geo old (Close h) → IsFile geo old.view (file_of old h) }
     ensures drop { (geo : Geometry) (old : State) → Balance geo old → (n : ℕ) → Owes geo old (DropInode n) → HasFew geo old.view n 0 }
-    ensures lower { (geo : Geometry) (old : State) → Balance geo old → (n x : ℕ) → Owes geo old (LowerCount n x) → HasFew geo old.view n ((old.view.inode n).links - x) }
-    ensures block { (geo : Geometry) (old : State) → Balance geo old → (a : ℕ) → Owes geo old (FreeBlock a) → (IsClaimed geo old.view a → ⊥) × IsFalse (old.held a) }
+    ensures lower { (geo : Geometry) (old : State) → Balance geo old → (n x : ℕ) → Owes geo old (LowerCount n x)
+        → HasFew geo old.view n ((old.view.inode n).links - x) }
+    ensures block { (geo : Geometry) (old : State) → Balance geo old → (a : ℕ) → Owes geo old (FreeBlock a)
+        → (IsClaimed geo old.view a → ⊥) × IsFalse (old.held a) }
     ensures number { (geo : Geometry) (old : State) → Balance geo old → (n : ℕ) → Owes geo old (FreeNumber n) → (old.view.inode n).mode ≡ 0 }
 {}
 
@@ -42,7 +46,8 @@ pub fn accepted_commands_find_their_grounds()
 pub fn accepted_commands_have_plans()
     ensures in_place { (geo : Geometry) → IsGeometry geo → (old : State) → Balance geo old → (h k : ℕ) (piece : List ℕ) → Accepts geo old (Write h k piece)
         → (bytes : List ℕ) → IsOverwritten piece (seen geo old.view (file_of old h) k) bytes
-        → k < blocks_of (old.view.inode (file_of old h)).size → IsFalse (is_kept old (block_of geo old.view (file_of old h) k)) → MayWriteInPlace geo old (file_of old h) k piece bytes }
+        → k < blocks_of (old.view.inode (file_of old h)).size → IsFalse (is_kept old (block_of geo old.view (file_of old h) k))
+        → MayWriteInPlace geo old (file_of old h) k piece bytes }
     ensures extended { (geo : Geometry) → IsGeometry geo → (old : State) → Balance geo old → (h k : ℕ) (piece : List ℕ) → Accepts geo old (Write h k piece)
         → (bytes : List ℕ) → IsOverwritten piece (seen geo old.view (file_of old h) k) bytes
         → (b x : ℕ) (table : List ℕ) → IsChoice geo old.view k b x table
@@ -55,23 +60,34 @@ pub fn accepted_commands_have_plans()
         → MayWriteMoved geo old (file_of old h) k b piece bytes (holder_in_use k (old.view.bytes (old.view.inode (file_of old h)).indirect)) }
     ensures truncated { (geo : Geometry) → IsGeometry geo → (old : State) → Balance geo old → (h size : ℕ) → Accepts geo old (Truncate h size)
         → MayTruncate geo old (file_of old h) size (given_up_with geo old (file_of old h) (sized (old.view.inode (file_of old h)) size)) }
-    ensures closed { (geo : Geometry) → IsGeometry geo → (old : State) → Balance geo old → (h : ℕ) → Accepts geo old (Close h) → MayClose geo old h (file_of old h) (given_up_with geo old (file_of old h) free_inode) }
-    ensures dropped { (geo : Geometry) → IsGeometry geo → (old : State) → Balance geo old → (n : ℕ) → Owes geo old (DropInode n) → MayRepair geo old (DropInode n) (given_up_with geo old n free_inode) }
-    ensures lowered { (geo : Geometry) → IsGeometry geo → (old : State) → Balance geo old → (n x : ℕ) → Owes geo old (LowerCount n x) → MayRepair geo old (LowerCount n x) (given_up_with geo old n free_inode) }
-    ensures block { (geo : Geometry) → IsGeometry geo → (old : State) → Balance geo old → (a : ℕ) (blocks : List ℕ) → Owes geo old (FreeBlock a) → MayRepair geo old (FreeBlock a) blocks }
-    ensures number { (geo : Geometry) → IsGeometry geo → (old : State) → Balance geo old → (n : ℕ) (blocks : List ℕ) → Owes geo old (FreeNumber n) → MayRepair geo old (FreeNumber n) blocks }
-    ensures released { (geo : Geometry) → IsGeometry geo → (old : State) → Balance geo old → (n : ℕ) → ((a : ℕ) → IsTrue (old.held a) → a < n) → MayRelease geo old (held_below old n) }
+    ensures closed { (geo : Geometry) → IsGeometry geo → (old : State) → Balance geo old → (h : ℕ) → Accepts geo old (Close h)
+        → MayClose geo old h (file_of old h) (given_up_with geo old (file_of old h) free_inode) }
+    ensures dropped { (geo : Geometry) → IsGeometry geo → (old : State) → Balance geo old → (n : ℕ) → Owes geo old (DropInode n)
+        → MayRepair geo old (DropInode n) (given_up_with geo old n free_inode) }
+    ensures lowered { (geo : Geometry) → IsGeometry geo → (old : State) → Balance geo old → (n x : ℕ) → Owes geo old (LowerCount n x)
+        → MayRepair geo old (LowerCount n x) (given_up_with geo old n free_inode) }
+    ensures block { (geo : Geometry) → IsGeometry geo → (old : State) → Balance geo old → (a : ℕ) (blocks : List ℕ) → Owes geo old (FreeBlock a)
+        → MayRepair geo old (FreeBlock a) blocks }
+    ensures number { (geo : Geometry) → IsGeometry geo → (old : State) → Balance geo old → (n : ℕ) (blocks : List ℕ)
+        → Owes geo old (FreeNumber n) → MayRepair geo old (FreeNumber n) blocks }
+    ensures released { (geo : Geometry) → IsGeometry geo → (old : State) → Balance geo old → (n : ℕ) → ((a : ℕ) → IsTrue (old.held a) → a < n)
+        → MayRelease geo old (held_below old n) }
 {}
 
 /// A write that no cause refuses finds the unmarked blocks that it needs, and zeroes with the pointer will do as its new
 /// indirect block.
 pub fn accepted_writes_have_room()
-    ensures moved { (geo : Geometry) (old : State) (h k : ℕ) (piece : List ℕ) → Accepts geo old (Write h k piece) → k < blocks_of (old.view.inode (file_of old h)).size
+    ensures moved { (geo : Geometry) (old : State) (h k : ℕ) (piece : List ℕ) → Accepts geo old (Write h k piece)
+        → k < blocks_of (old.view.inode (file_of old h)).size
         → IsTrue (is_kept old (block_of geo old.view (file_of old h) k)) → (b : ℕ) × IsFreeBlock geo old.view b }
-    ensures extended { (geo : Geometry) (old : State) (h k : ℕ) (piece : List ℕ) → Accepts geo old (Write h k piece) → blocks_of (old.view.inode (file_of old h)).size ≤ k → (b : ℕ) × IsFreeBlock geo old.view b }
-    ensures table { (geo : Geometry) (old : State) (h k : ℕ) (piece : List ℕ) → Accepts geo old (Write h k piece) → blocks_of (old.view.inode (file_of old h)).size ≤ k
-        → blocks_of (old.view.inode (file_of old h)).size ≡ direct_positions → (b : ℕ) × (x : ℕ) × IsFreeBlock geo old.view b × IsFreeBlock geo old.view x × (x ≡ b → ⊥) }
-    ensures zeroes { (geo : Geometry) → IsGeometry geo → (view : View) (b x : ℕ) → IsFreeBlock geo view b → IsFreeBlock geo view x → (x ≡ b → ⊥) → IsNewTable geo view b x (with_pointer (replicate 1024 0) 0 b) }
+    ensures extended { (geo : Geometry) (old : State) (h k : ℕ) (piece : List ℕ) → Accepts geo old (Write h k piece)
+        → blocks_of (old.view.inode (file_of old h)).size ≤ k → (b : ℕ) × IsFreeBlock geo old.view b }
+    ensures table { (geo : Geometry) (old : State) (h k : ℕ) (piece : List ℕ) → Accepts geo old (Write h k piece)
+        → blocks_of (old.view.inode (file_of old h)).size ≤ k
+        → blocks_of (old.view.inode (file_of old h)).size ≡ direct_positions
+        → (b : ℕ) × (x : ℕ) × IsFreeBlock geo old.view b × IsFreeBlock geo old.view x × (x ≡ b → ⊥) }
+    ensures zeroes { (geo : Geometry) → IsGeometry geo → (view : View) (b x : ℕ) → IsFreeBlock geo view b → IsFreeBlock geo view x → (x ≡ b → ⊥)
+        → IsNewTable geo view b x (with_pointer (replicate 1024 0) 0 b) }
 {}
 
 /// The blocks that an inode gives up are found by a loop over its positions, and the held ones by a loop over addresses.

@@ -45,9 +45,12 @@ pub use standing::{a_chain_carries_out_its_command, a_volume_stands, safe_files_
 
 /// Updates that are issued one after the other keep the invariant, and are what a volume may come to.
 pub fn chains_are_histories()
-    ensures agree { (geo : Geometry) (disk : View) (q : List Pending) (ghost : Ghost) (p : List Pending) (g : Ghost) → Issues geo disk q ghost p g → AllAgree geo disk q ghost → AllAgree geo disk p g }
-    ensures come { (geo : Geometry) (disk : View) (q : List Pending) (ghost : Ghost) (p : List Pending) (g : Ghost) → Issues geo disk q ghost p g → Comes_to geo disk q ghost → Comes_to geo disk p g }
-    ensures join { (geo : Geometry) (disk : View) (q : List Pending) (ghost : Ghost) (p : List Pending) (g : Ghost) (r : List Pending) (h : Ghost) → Issues geo disk q ghost p g → Issues geo disk p g r h → Issues geo disk q ghost r h }
+    ensures agree { (geo : Geometry) (disk : View) (q : List Pending) (ghost : Ghost) (p : List Pending) (g : Ghost)
+        → Issues geo disk q ghost p g → AllAgree geo disk q ghost → AllAgree geo disk p g }
+    ensures come { (geo : Geometry) (disk : View) (q : List Pending) (ghost : Ghost) (p : List Pending) (g : Ghost)
+        → Issues geo disk q ghost p g → Comes_to geo disk q ghost → Comes_to geo disk p g }
+    ensures join { (geo : Geometry) (disk : View) (q : List Pending) (ghost : Ghost) (p : List Pending) (g : Ghost) (r : List Pending) (h : Ghost)
+        → Issues geo disk q ghost p g → Issues geo disk p g r h → Issues geo disk q ghost r h }
 {}
 
 /// Between commands fewer files may be called safe.
@@ -58,50 +61,64 @@ pub fn fewer_files_may_be_safe()
 
 /// An inode gets one more block, as the machine says, by updates of their kinds, within any command.
 pub fn a_block_is_appended()
-    ensures places { (geo : Geometry) (disk : View) (q : List Pending) (ghost : Ghost) (n k b : ℕ) (bytes : List ℕ) (size : ℕ) (holder : Holder) → MayAppend geo (users_view disk q) ghost n k b bytes size holder
+    ensures places { (geo : Geometry) (disk : View) (q : List Pending) (ghost : Ghost) (n k b : ℕ) (bytes : List ℕ) (size : ℕ) (holder : Holder)
+        → MayAppend geo (users_view disk q) ghost n k b bytes size holder
         → Places geo (users_view disk q) n k bytes size (users_view disk (appended n ((users_view disk q).inode n) k b bytes size holder q)) }
-    ensures issues { (geo : Geometry) (disk : View) (q : List Pending) (ghost : Ghost) (n k b : ℕ) (bytes : List ℕ) (size : ℕ) (holder : Holder) → MayAppend geo (users_view disk q) ghost n k b bytes size holder
+    ensures issues { (geo : Geometry) (disk : View) (q : List Pending) (ghost : Ghost) (n k b : ℕ) (bytes : List ℕ) (size : ℕ) (holder : Holder)
+        → MayAppend geo (users_view disk q) ghost n k b bytes size holder
         → AllAgree geo disk q ghost → Issues geo disk q ghost (appended n ((users_view disk q).inode n) k b bytes size holder q) ghost }
-    ensures held { (geo : Geometry) (disk : View) (q : List Pending) (ghost : Ghost) (n k b : ℕ) (bytes : List ℕ) (size : ℕ) (holder : Holder) → MayAppend geo (users_view disk q) ghost n k b bytes size holder
-        → AllAgree geo disk q ghost → (old : State) → HeldAreRight geo (becomes disk q ghost.held old) → HeldAreRight geo (becomes disk (appended n ((users_view disk q).inode n) k b bytes size holder q) ghost.held old) }
+    ensures held { (geo : Geometry) (disk : View) (q : List Pending) (ghost : Ghost) (n k b : ℕ) (bytes : List ℕ) (size : ℕ) (holder : Holder)
+        → MayAppend geo (users_view disk q) ghost n k b bytes size holder
+        → AllAgree geo disk q ghost → (old : State) → HeldAreRight geo (becomes disk q ghost.held old)
+        → HeldAreRight geo (becomes disk (appended n ((users_view disk q).inode n) k b bytes size holder q) ghost.held old) }
 {}
 
 /// Once a block was appended, a cut with its contents claims it only with the new record.
 pub fn an_appended_block_gives_credit()
-    ensures { (geo : Geometry) (disk : View) (q : List Pending) (ghost : Ghost) (n k b : ℕ) (bytes : List ℕ) (size : ℕ) (holder : Holder) → MayAppend geo (users_view disk q) ghost n k b bytes size holder
+    ensures { (geo : Geometry) (disk : View) (q : List Pending) (ghost : Ghost) (n k b : ℕ) (bytes : List ℕ) (size : ℕ) (holder : Holder)
+        → MayAppend geo (users_view disk q) ghost n k b bytes size holder
         → AllAgree geo disk q ghost
-        → EachCut disk (appended n ((users_view disk q).inode n) k b bytes size holder q) (λ set view. IsTrue (set (Block b)) → (m j : ℕ) → IsClaim geo view m j b → IsTrue (set (Record n))) }
+        → EachCut disk (appended n ((users_view disk q).inode n) k b bytes size holder q) (λ set view. IsTrue (set (Block b)) → (m j : ℕ)
+        → IsClaim geo view m j b → IsTrue (set (Record n))) }
 {}
 
 /// A number is freed with its blocks, as the machine says, by updates of their kinds; what the snapshot keeps is held.
 pub fn a_number_is_freed()
-    ensures issues { (geo : Geometry) (disk : View) (q : List Pending) (old : State) (gone : Gone → Bool) (safe : ℕ → Bool) (n : ℕ) (blocks : List ℕ) (after : List Cell)
+    ensures issues { (geo : Geometry) (disk : View) (q : List Pending) (old : State) (gone : Gone → Bool) (safe : ℕ → Bool) (n : ℕ)
+        (blocks : List ℕ) (after : List Cell)
         → MayFreeing geo (now disk q old) gone n blocks after → AllAgree geo disk q (within old.held gone safe)
         → Issues geo disk q (within old.held gone safe) (freeing n blocks after q) (within (held_with geo (now disk q old) n free_inode) (but_of n gone) safe) }
-    ensures lets_go { (geo : Geometry) (disk : View) (q : List Pending) (old : State) (gone : Gone → Bool) (safe : ℕ → Bool) (n : ℕ) (blocks : List ℕ) (after : List Cell)
+    ensures lets_go { (geo : Geometry) (disk : View) (q : List Pending) (old : State) (gone : Gone → Bool) (safe : ℕ → Bool) (n : ℕ)
+        (blocks : List ℕ) (after : List Cell)
         → MayFreeing geo (now disk q old) gone n blocks after → AllAgree geo disk q (within old.held gone safe)
         → becomes disk (freeing n blocks after q) (held_with geo (now disk q old) n free_inode) old ≡ lets_go geo (now disk q old) n (updated_all (users_view disk q) (SetInode n free_inode ∷ SetNumber n false ∷ [])) }
-    ensures relinked { (geo : Geometry) (disk : View) (q : List Pending) (old : State) (gone : Gone → Bool) (safe : ℕ → Bool) (n : ℕ) (blocks : List ℕ) (after : List Cell)
+    ensures relinked { (geo : Geometry) (disk : View) (q : List Pending) (old : State) (gone : Gone → Bool) (safe : ℕ → Bool) (n : ℕ)
+        (blocks : List ℕ) (after : List Cell)
         → MayFreeing geo (now disk q old) gone n blocks after → AllAgree geo disk q (within old.held gone safe) → IsFalse (is_open old n)
         → becomes disk (freeing n blocks after q) (held_with geo (now disk q old) n free_inode) old ≡ relinked geo (now disk q old) n 0 }
-    ensures held { (geo : Geometry) (disk : View) (q : List Pending) (old : State) → ObeysRules geo (users_view disk q) → HeldAreRight geo (now disk q old) → (n : ℕ) (blocks : List ℕ) (after : List Cell) → AreGivenUp geo (now disk q old) n free_inode blocks
+    ensures held { (geo : Geometry) (disk : View) (q : List Pending) (old : State) → ObeysRules geo (users_view disk q)
+        → HeldAreRight geo (now disk q old) → (n : ℕ) (blocks : List ℕ) (after : List Cell) → AreGivenUp geo (now disk q old) n free_inode blocks
         → HeldAreRight geo (becomes disk (freeing n blocks after q) (held_with geo (now disk q old) n free_inode) old) }
 {}
 
 /// A block of a file is written in place, as the machine says, by updates of their kinds.
 pub fn a_block_is_written_in_place()
-    ensures writes { (geo : Geometry) (disk : View) (q : List Pending) (old : State) (safe : ℕ → Bool) (n k : ℕ) (piece bytes : List ℕ) → MayWriteInPlace geo (now disk q old) n k piece bytes
+    ensures writes { (geo : Geometry) (disk : View) (q : List Pending) (old : State) (safe : ℕ → Bool) (n k : ℕ) (piece bytes : List ℕ)
+        → MayWriteInPlace geo (now disk q old) n k piece bytes
         → Writes geo (now disk q old) n k piece (becomes disk (written n ((users_view disk q).inode n) (block_of geo (users_view disk q) n k) bytes (size_after (users_view disk q) n k piece) q) old.held old) }
-    ensures issues { (geo : Geometry) (disk : View) (q : List Pending) (old : State) (safe : ℕ → Bool) (n k : ℕ) (piece bytes : List ℕ) → MayWriteInPlace geo (now disk q old) n k piece bytes
+    ensures issues { (geo : Geometry) (disk : View) (q : List Pending) (old : State) (safe : ℕ → Bool) (n k : ℕ) (piece bytes : List ℕ)
+        → MayWriteInPlace geo (now disk q old) n k piece bytes
         → AllAgree geo disk q (at_rest old.held safe)
         → Issues geo disk q (at_rest old.held safe) (written n ((users_view disk q).inode n) (block_of geo (users_view disk q) n k) bytes (size_after (users_view disk q) n k piece) q) (at_rest old.held safe) }
 {}
 
 /// A file gets one more block, as the machine says, by updates of their kinds.
 pub fn a_file_is_extended()
-    ensures writes { (geo : Geometry) (disk : View) (q : List Pending) (old : State) (safe : ℕ → Bool) (n k b : ℕ) (piece bytes : List ℕ) (holder : Holder) → MayWriteAppended geo (now disk q old) n k b piece bytes holder
+    ensures writes { (geo : Geometry) (disk : View) (q : List Pending) (old : State) (safe : ℕ → Bool) (n k b : ℕ) (piece bytes : List ℕ) (holder : Holder)
+        → MayWriteAppended geo (now disk q old) n k b piece bytes holder
         → Writes geo (now disk q old) n k piece (becomes disk (appended n ((users_view disk q).inode n) k b bytes (size_after (users_view disk q) n k piece) holder q) old.held old) }
-    ensures issues { (geo : Geometry) (disk : View) (q : List Pending) (old : State) (safe : ℕ → Bool) (n k b : ℕ) (piece bytes : List ℕ) (holder : Holder) → MayWriteAppended geo (now disk q old) n k b piece bytes holder
+    ensures issues { (geo : Geometry) (disk : View) (q : List Pending) (old : State) (safe : ℕ → Bool) (n k b : ℕ) (piece bytes : List ℕ) (holder : Holder)
+        → MayWriteAppended geo (now disk q old) n k b piece bytes holder
         → AllAgree geo disk q (at_rest old.held safe)
         → Issues geo disk q (at_rest old.held safe) (appended n ((users_view disk q).inode n) k b bytes (size_after (users_view disk q) n k piece) holder q) (at_rest old.held safe) }
 {}
@@ -109,43 +126,53 @@ pub fn a_file_is_extended()
 /// A block of a file that the snapshot keeps is written elsewhere, as the machine says, by updates of their kinds; the
 /// old block is held.
 pub fn a_kept_block_moves()
-    ensures writes { (geo : Geometry) (disk : View) (q : List Pending) (old : State) (safe : ℕ → Bool) (n k b : ℕ) (piece bytes : List ℕ) → AllAgree geo disk q (at_rest old.held safe)
+    ensures writes { (geo : Geometry) (disk : View) (q : List Pending) (old : State) (safe : ℕ → Bool) (n k b : ℕ) (piece bytes : List ℕ)
+        → AllAgree geo disk q (at_rest old.held safe)
         → (holder : Holder) → MayWriteMoved geo (now disk q old) n k b piece bytes holder
         → Writes geo (now disk q old) n k piece (becomes disk (relocated n ((users_view disk q).inode n) k b bytes (size_after (users_view disk q) n k piece) holder q) (held_besides geo (now disk q old) n k) old) }
-    ensures issues { (geo : Geometry) (disk : View) (q : List Pending) (old : State) (safe : ℕ → Bool) (n k b : ℕ) (piece bytes : List ℕ) → AllAgree geo disk q (at_rest old.held safe)
+    ensures issues { (geo : Geometry) (disk : View) (q : List Pending) (old : State) (safe : ℕ → Bool) (n k b : ℕ) (piece bytes : List ℕ)
+        → AllAgree geo disk q (at_rest old.held safe)
         → (holder : Holder) → MayWriteMoved geo (now disk q old) n k b piece bytes holder
         → Issues geo disk q (at_rest old.held safe) (relocated n ((users_view disk q).inode n) k b bytes (size_after (users_view disk q) n k piece) holder q) (at_rest (held_besides geo (now disk q old) n k) safe) }
 {}
 
 /// A file is truncated, as the machine says, by updates of their kinds; what the snapshot keeps is held.
 pub fn a_file_is_truncated()
-    ensures truncates { (geo : Geometry) (disk : View) (q : List Pending) (old : State) (safe : ℕ → Bool) (n size : ℕ) (blocks : List ℕ) → MayTruncate geo (now disk q old) n size blocks → AllAgree geo disk q (at_rest old.held safe)
+    ensures truncates { (geo : Geometry) (disk : View) (q : List Pending) (old : State) (safe : ℕ → Bool) (n size : ℕ) (blocks : List ℕ)
+        → MayTruncate geo (now disk q old) n size blocks → AllAgree geo disk q (at_rest old.held safe)
         → becomes disk (truncation n ((users_view disk q).inode n) size blocks q) (held_with geo (now disk q old) n (sized ((users_view disk q).inode n) size)) old ≡ truncated geo (now disk q old) n size }
-    ensures issues { (geo : Geometry) (disk : View) (q : List Pending) (old : State) (safe : ℕ → Bool) (n size : ℕ) (blocks : List ℕ) → MayTruncate geo (now disk q old) n size blocks → AllAgree geo disk q (at_rest old.held safe)
+    ensures issues { (geo : Geometry) (disk : View) (q : List Pending) (old : State) (safe : ℕ → Bool) (n size : ℕ) (blocks : List ℕ)
+        → MayTruncate geo (now disk q old) n size blocks → AllAgree geo disk q (at_rest old.held safe)
         → Issues geo disk q (at_rest old.held safe) (truncation n ((users_view disk q).inode n) size blocks q) (at_rest (held_with geo (now disk q old) n (sized ((users_view disk q).inode n) size)) safe) }
 {}
 
 /// An inode gets another number of links, or goes, as the machine says, by updates of their kinds.
 pub fn an_inode_is_relinked()
-    ensures relinks { (geo : Geometry) (disk : View) (q : List Pending) (old : State) (safe : ℕ → Bool) (n : ℕ) (blocks : List ℕ) → AllAgree geo disk q (at_rest old.held safe) → (links : ℕ) → MayRelink geo (now disk q old) n links blocks
+    ensures relinks { (geo : Geometry) (disk : View) (q : List Pending) (old : State) (safe : ℕ → Bool) (n : ℕ) (blocks : List ℕ)
+        → AllAgree geo disk q (at_rest old.held safe) → (links : ℕ) → MayRelink geo (now disk q old) n links blocks
         → becomes disk (relinking n ((users_view disk q).inode n) links (is_open old n) blocks q) (held_if (goes_away links (is_open old n)) geo (now disk q old) n) old ≡ relinked geo (now disk q old) n links }
-    ensures issues { (geo : Geometry) (disk : View) (q : List Pending) (old : State) (safe : ℕ → Bool) (n : ℕ) (blocks : List ℕ) → AllAgree geo disk q (at_rest old.held safe) → (links : ℕ) → MayRelink geo (now disk q old) n links blocks
+    ensures issues { (geo : Geometry) (disk : View) (q : List Pending) (old : State) (safe : ℕ → Bool) (n : ℕ) (blocks : List ℕ)
+        → AllAgree geo disk q (at_rest old.held safe) → (links : ℕ) → MayRelink geo (now disk q old) n links blocks
         → Issues geo disk q (at_rest old.held safe) (relinking n ((users_view disk q).inode n) links (is_open old n) blocks q) (at_rest (held_if (goes_away links (is_open old n)) geo (now disk q old) n) safe) }
 {}
 
 /// A handle is closed, and a file without links goes with its last one, as the machine says, by updates of their kinds.
 pub fn a_handle_is_closed()
-    ensures closes { (geo : Geometry) (disk : View) (q : List Pending) (old : State) (safe : ℕ → Bool) (n : ℕ) (blocks : List ℕ) → AllAgree geo disk q (at_rest old.held safe) → (h : ℕ) → MayClose geo (now disk q old) h n blocks → n ≡ file_of old h
+    ensures closes { (geo : Geometry) (disk : View) (q : List Pending) (old : State) (safe : ℕ → Bool) (n : ℕ) (blocks : List ℕ)
+        → AllAgree geo disk q (at_rest old.held safe) → (h : ℕ) → MayClose geo (now disk q old) h n blocks → n ≡ file_of old h
         → becomes disk (closing n ((users_view disk q).inode n) (is_open (without_handle h old) n) blocks q) (held_if (goes_away ((users_view disk q).inode n).links (is_open (without_handle h old) n)) geo (now disk q old) n) (without_handle h old) ≡ closed geo (now disk q old) h }
-    ensures issues { (geo : Geometry) (disk : View) (q : List Pending) (old : State) (safe : ℕ → Bool) (n : ℕ) (blocks : List ℕ) → AllAgree geo disk q (at_rest old.held safe) → (h : ℕ) → MayClose geo (now disk q old) h n blocks
+    ensures issues { (geo : Geometry) (disk : View) (q : List Pending) (old : State) (safe : ℕ → Bool) (n : ℕ) (blocks : List ℕ)
+        → AllAgree geo disk q (at_rest old.held safe) → (h : ℕ) → MayClose geo (now disk q old) h n blocks
         → Issues geo disk q (at_rest old.held safe) (closing n ((users_view disk q).inode n) (is_open (without_handle h old) n) blocks q) (at_rest (held_if (goes_away ((users_view disk q).inode n).links (is_open (without_handle h old) n)) geo (now disk q old) n) safe) }
 {}
 
 /// A repair is carried out, as the machine says, by updates of their kinds.
 pub fn a_repair_is_made()
-    ensures repairs { (geo : Geometry) (disk : View) (q : List Pending) (old : State) (safe : ℕ → Bool) (blocks : List ℕ) → AllAgree geo disk q (at_rest old.held safe) → (r : Repair) → MayRepair geo (now disk q old) r blocks
+    ensures repairs { (geo : Geometry) (disk : View) (q : List Pending) (old : State) (safe : ℕ → Bool) (blocks : List ℕ)
+        → AllAgree geo disk q (at_rest old.held safe) → (r : Repair) → MayRepair geo (now disk q old) r blocks
         → becomes disk (repairing r (inode_of (users_view disk q) r) (open_of old r) blocks q) (held_after geo (now disk q old) r) old ≡ repaired geo (now disk q old) r }
-    ensures issues { (geo : Geometry) (disk : View) (q : List Pending) (old : State) (safe : ℕ → Bool) (blocks : List ℕ) → AllAgree geo disk q (at_rest old.held safe) → (r : Repair) → MayRepair geo (now disk q old) r blocks
+    ensures issues { (geo : Geometry) (disk : View) (q : List Pending) (old : State) (safe : ℕ → Bool) (blocks : List ℕ)
+        → AllAgree geo disk q (at_rest old.held safe) → (r : Repair) → MayRepair geo (now disk q old) r blocks
         → Issues geo disk q (at_rest old.held safe) (repairing r (inode_of (users_view disk q) r) (open_of old r) blocks q) (at_rest (held_after geo (now disk q old) r) safe) }
 {}
 
@@ -165,25 +192,32 @@ pub fn the_snapshot_ends()
 /// Each of these lists leaves what is held right, as it was: claimed by nobody, and marked. (At the end of a snapshot
 /// nothing is held.)
 pub fn held_blocks_stay_right()
-    ensures in_place { (geo : Geometry) (disk : View) (q : List Pending) (old : State) (safe : ℕ → Bool) → AllAgree geo disk q (at_rest old.held safe) → HeldAreRight geo (now disk q old)
+    ensures in_place { (geo : Geometry) (disk : View) (q : List Pending) (old : State) (safe : ℕ → Bool)
+        → AllAgree geo disk q (at_rest old.held safe) → HeldAreRight geo (now disk q old)
         → (n k : ℕ) (piece bytes : List ℕ) → MayWriteInPlace geo (now disk q old) n k piece bytes
         → HeldAreRight geo (becomes disk (written n ((users_view disk q).inode n) (block_of geo (users_view disk q) n k) bytes (size_after (users_view disk q) n k piece) q) old.held old) }
-    ensures extended { (geo : Geometry) (disk : View) (q : List Pending) (old : State) (safe : ℕ → Bool) → AllAgree geo disk q (at_rest old.held safe) → HeldAreRight geo (now disk q old)
+    ensures extended { (geo : Geometry) (disk : View) (q : List Pending) (old : State) (safe : ℕ → Bool)
+        → AllAgree geo disk q (at_rest old.held safe) → HeldAreRight geo (now disk q old)
         → (n k b : ℕ) (piece bytes : List ℕ) (holder : Holder) → MayWriteAppended geo (now disk q old) n k b piece bytes holder
         → HeldAreRight geo (becomes disk (appended n ((users_view disk q).inode n) k b bytes (size_after (users_view disk q) n k piece) holder q) old.held old) }
-    ensures moved { (geo : Geometry) (disk : View) (q : List Pending) (old : State) (safe : ℕ → Bool) → AllAgree geo disk q (at_rest old.held safe) → HeldAreRight geo (now disk q old)
+    ensures moved { (geo : Geometry) (disk : View) (q : List Pending) (old : State) (safe : ℕ → Bool)
+        → AllAgree geo disk q (at_rest old.held safe) → HeldAreRight geo (now disk q old)
         → (n k b : ℕ) (piece bytes : List ℕ) (holder : Holder) → MayWriteMoved geo (now disk q old) n k b piece bytes holder
         → HeldAreRight geo (becomes disk (relocated n ((users_view disk q).inode n) k b bytes (size_after (users_view disk q) n k piece) holder q) (held_besides geo (now disk q old) n k) old) }
-    ensures truncated { (geo : Geometry) (disk : View) (q : List Pending) (old : State) (safe : ℕ → Bool) → AllAgree geo disk q (at_rest old.held safe) → HeldAreRight geo (now disk q old)
+    ensures truncated { (geo : Geometry) (disk : View) (q : List Pending) (old : State) (safe : ℕ → Bool)
+        → AllAgree geo disk q (at_rest old.held safe) → HeldAreRight geo (now disk q old)
         → (n size : ℕ) (blocks : List ℕ) → MayTruncate geo (now disk q old) n size blocks
         → HeldAreRight geo (becomes disk (truncation n ((users_view disk q).inode n) size blocks q) (held_with geo (now disk q old) n (sized ((users_view disk q).inode n) size)) old) }
-    ensures relinked { (geo : Geometry) (disk : View) (q : List Pending) (old : State) (safe : ℕ → Bool) → AllAgree geo disk q (at_rest old.held safe) → HeldAreRight geo (now disk q old)
+    ensures relinked { (geo : Geometry) (disk : View) (q : List Pending) (old : State) (safe : ℕ → Bool)
+        → AllAgree geo disk q (at_rest old.held safe) → HeldAreRight geo (now disk q old)
         → (n links : ℕ) (blocks : List ℕ) → MayRelink geo (now disk q old) n links blocks
         → HeldAreRight geo (becomes disk (relinking n ((users_view disk q).inode n) links (is_open old n) blocks q) (held_if (goes_away links (is_open old n)) geo (now disk q old) n) old) }
-    ensures closed { (geo : Geometry) (disk : View) (q : List Pending) (old : State) (safe : ℕ → Bool) → AllAgree geo disk q (at_rest old.held safe) → HeldAreRight geo (now disk q old)
+    ensures closed { (geo : Geometry) (disk : View) (q : List Pending) (old : State) (safe : ℕ → Bool)
+        → AllAgree geo disk q (at_rest old.held safe) → HeldAreRight geo (now disk q old)
         → (h n : ℕ) (blocks : List ℕ) → MayClose geo (now disk q old) h n blocks
         → HeldAreRight geo (becomes disk (closing n ((users_view disk q).inode n) (is_open (without_handle h old) n) blocks q) (held_if (goes_away ((users_view disk q).inode n).links (is_open (without_handle h old) n)) geo (now disk q old) n) (without_handle h old)) }
-    ensures repaired { (geo : Geometry) (disk : View) (q : List Pending) (old : State) (safe : ℕ → Bool) → AllAgree geo disk q (at_rest old.held safe) → HeldAreRight geo (now disk q old)
+    ensures repaired { (geo : Geometry) (disk : View) (q : List Pending) (old : State) (safe : ℕ → Bool)
+        → AllAgree geo disk q (at_rest old.held safe) → HeldAreRight geo (now disk q old)
         → (r : Repair) (blocks : List ℕ) → MayRepair geo (now disk q old) r blocks
         → HeldAreRight geo (becomes disk (repairing r (inode_of (users_view disk q) r) (open_of old r) blocks q) (held_after geo (now disk q old) r) old) }
 {}

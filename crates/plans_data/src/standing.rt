@@ -45,6 +45,7 @@ pub fn a_volume_stands()
 /// A command is carried out by any chain of updates after which users see its new state.
 pub fn a_chain_carries_out_its_command()
     ensures { (geo : Geometry) (disk : View) (q : List Pending) (old : State) (safe : ℕ → Bool) → Stands geo disk q old safe
-        → (command : Command) (answer : Answer) (plan : List Pending) (new : State) (safe' : ℕ → Bool) → Step geo old command (Ok answer) new → users_view disk plan ≡ new.view
+        → (command : Command) (answer : Answer) (plan : List Pending) (new : State) (safe' : ℕ → Bool) → Step geo old command (Ok answer) new
+        → users_view disk plan ≡ new.view
         → Issues geo disk q (at_rest old.held safe) plan (at_rest new.held safe') → IsCarriedOut geo disk q old command answer plan new safe safe' }
 {}

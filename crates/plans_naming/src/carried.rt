@@ -38,7 +38,8 @@ pub fn creations_are_carried_out()
     ensures in_a_new_block { (geo : Geometry) (disk : View) (q : List Pending) (old : State) (safe : ℕ → Bool)
         → Stands geo disk q old safe → (p : List ℕ) → Accepts geo old (Create p) → (n b : ℕ) (kept : Holder) (s : ℕ) (entry : List ℕ) (after : List Cell)
         → IsFreeNumber geo old.view n → IsFalse (has_room geo old.view (holder geo old.view p)) → IsFreeBlock geo old.view b
-        → IsKeptIn geo old.view (holder geo old.view p) (blocks_of (old.view.inode (holder geo old.view p)).size) b kept → s / 16 ≡ blocks_of (old.view.inode (holder geo old.view p)).size
+        → IsKeptIn geo old.view (holder geo old.view p) (blocks_of (old.view.inode (holder geo old.view p)).size) b kept
+        → s / 16 ≡ blocks_of (old.view.inode (holder geo old.view p)).size
         → IsEntryFor n (name_in p) entry → Contains after (Record n) → HasBlocks geo old.view (holder geo old.view p) after
         → IsCarriedOut geo disk q old (Create p) (Number n)
         (create_plan_grown geo old.view p n b kept s entry after q)
@@ -55,10 +56,12 @@ pub fn new_directories_are_carried_out()
         (make_plan geo old.view p i a dots s entry after q)
         (now disk (make_plan geo old.view p i a dots s entry after q) old) safe safe }
     ensures in_a_new_block { (geo : Geometry) (disk : View) (q : List Pending) (old : State) (safe : ℕ → Bool)
-        → Stands geo disk q old safe → (p : List ℕ) → Accepts geo old (Mkdir p) → (i a : ℕ) (dots : List ℕ) (b : ℕ) (kept : Holder) (s : ℕ) (entry : List ℕ) (after : List Cell)
+        → Stands geo disk q old safe → (p : List ℕ) → Accepts geo old (Mkdir p)
+        → (i a : ℕ) (dots : List ℕ) (b : ℕ) (kept : Holder) (s : ℕ) (entry : List ℕ) (after : List Cell)
         → IsFreeNumber geo old.view i → IsFreeBlock geo old.view a → AreDots i (holder geo old.view p) dots
         → IsFalse (has_room geo old.view (holder geo old.view p)) → IsFreeBlock geo old.view b → AreOther a b kept
-        → IsKeptIn geo old.view (holder geo old.view p) (blocks_of (old.view.inode (holder geo old.view p)).size) b kept → s / 16 ≡ blocks_of (old.view.inode (holder geo old.view p)).size
+        → IsKeptIn geo old.view (holder geo old.view p) (blocks_of (old.view.inode (holder geo old.view p)).size) b kept
+        → s / 16 ≡ blocks_of (old.view.inode (holder geo old.view p)).size
         → IsEntryFor i (name_in p) entry → Contains after (Record i) → HasBlocks geo old.view (holder geo old.view p) after
         → IsCarriedOut geo disk q old (Mkdir p) (Number i)
         (make_plan_grown geo old.view p i a dots b kept s entry after q)
@@ -77,8 +80,10 @@ pub fn links_are_carried_out()
     ensures in_a_new_block { (geo : Geometry) (disk : View) (q : List Pending) (old : State) (safe : ℕ → Bool)
         → Stands geo disk q old safe → (p r : List ℕ) → Accepts geo old (Link p r) → (b : ℕ) (kept : Holder) (s : ℕ) (entry : List ℕ) (after : List Cell)
         → IsFalse (has_room geo old.view (holder geo old.view r)) → IsFreeBlock geo old.view b
-        → IsKeptIn geo old.view (holder geo old.view r) (blocks_of (old.view.inode (holder geo old.view r)).size) b kept → s / 16 ≡ blocks_of (old.view.inode (holder geo old.view r)).size
-        → IsEntryFor (number_at geo old.view p) (name_in r) entry → Contains after (Record (number_at geo old.view p)) → HasBlocks geo old.view (holder geo old.view r) after
+        → IsKeptIn geo old.view (holder geo old.view r) (blocks_of (old.view.inode (holder geo old.view r)).size) b kept
+        → s / 16 ≡ blocks_of (old.view.inode (holder geo old.view r)).size
+        → IsEntryFor (number_at geo old.view p) (name_in r) entry → Contains after (Record (number_at geo old.view p))
+        → HasBlocks geo old.view (holder geo old.view r) after
         → IsCarriedOut geo disk q old (Link p r) Done
         (link_plan_grown geo old.view p r b kept s entry after q)
         (now disk (link_plan_grown geo old.view p r b kept s entry after q) old) safe safe }
@@ -87,14 +92,16 @@ pub fn links_are_carried_out()
 /// An entry gets another name in its directory, or its file gets one in another directory, in the same two ways.
 pub fn renames_are_carried_out()
     ensures within { (geo : Geometry) (disk : View) (q : List Pending) (old : State) (safe : ℕ → Bool)
-        → Stands geo disk q old safe → (p r : List ℕ) → Accepts geo old (Rename p r) → holder geo old.view p ≡ holder geo old.view r → (entry : List ℕ) (after : List Cell)
+        → Stands geo disk q old safe → (p r : List ℕ) → Accepts geo old (Rename p r) → holder geo old.view p ≡ holder geo old.view r
+        → (entry : List ℕ) (after : List Cell)
         → IsEntryFor (number_at geo old.view p) (name_in r) entry → HasOtherBlocks geo old.view (holder geo old.view p) (entry_block geo old.view p) after
         → IsCarriedOut geo disk q old (Rename p r) Done
         (rename_plan geo old.view p entry after q)
         (now disk (rename_plan geo old.view p entry after q) old) safe safe }
     ensures to_a_slot { (geo : Geometry) (disk : View) (q : List Pending) (old : State) (safe : ℕ → Bool)
         → Stands geo disk q old safe → (p r : List ℕ) → Accepts geo old (Rename p r) → (holder geo old.view p ≡ holder geo old.view r → ⊥)
-        → (s : ℕ) (entry : List ℕ) (after' after : List Cell) → slot geo old.view (holder geo old.view r) s ≡ Empty → IsEntryFor (number_at geo old.view p) (name_in r) entry
+        → (s : ℕ) (entry : List ℕ) (after' after : List Cell) → slot geo old.view (holder geo old.view r) s ≡ Empty
+        → IsEntryFor (number_at geo old.view p) (name_in r) entry
         → Contains after' (Record (number_at geo old.view p)) → HasOtherBlocks geo old.view (holder geo old.view r) (slot_block geo old.view r s) after'
         → Contains after (Block (slot_block geo old.view r s)) → HasGrounds geo old.view (holder geo old.view r) (entry_block geo old.view p) after
         → IsCarriedOut geo disk q old (Rename p r) Done
@@ -104,8 +111,10 @@ pub fn renames_are_carried_out()
         → Stands geo disk q old safe → (p r : List ℕ) → Accepts geo old (Rename p r) → (holder geo old.view p ≡ holder geo old.view r → ⊥)
         → (b : ℕ) (kept : Holder) (s : ℕ) (entry : List ℕ) (after' after : List Cell)
         → IsFalse (has_room geo old.view (holder geo old.view r)) → IsFreeBlock geo old.view b
-        → IsKeptIn geo old.view (holder geo old.view r) (blocks_of (old.view.inode (holder geo old.view r)).size) b kept → s / 16 ≡ blocks_of (old.view.inode (holder geo old.view r)).size
-        → IsEntryFor (number_at geo old.view p) (name_in r) entry → Contains after' (Record (number_at geo old.view p)) → HasBlocks geo old.view (holder geo old.view r) after'
+        → IsKeptIn geo old.view (holder geo old.view r) (blocks_of (old.view.inode (holder geo old.view r)).size) b kept
+        → s / 16 ≡ blocks_of (old.view.inode (holder geo old.view r)).size
+        → IsEntryFor (number_at geo old.view p) (name_in r) entry → Contains after' (Record (number_at geo old.view p))
+        → HasBlocks geo old.view (holder geo old.view r) after'
         → Contains after (Block b) → HasGrounds geo old.view (holder geo old.view r) (entry_block geo old.view p) after
         → (direct_positions ≤ blocks_of (old.view.inode (holder geo old.view r)).size
         → IsKnown after (entry_block geo old.view p) (Block (pointed (old.view.inode (holder geo old.view r)) (blocks_of (old.view.inode (holder geo old.view r)).size) b kept).indirect))
@@ -117,12 +126,14 @@ pub fn renames_are_carried_out()
 /// A name of a file goes, and the file stays, or goes with its blocks.
 pub fn unlinks_are_carried_out()
     ensures stays { (geo : Geometry) (disk : View) (q : List Pending) (old : State) (safe : ℕ → Bool)
-        → Stands geo disk q old safe → (p : List ℕ) → Accepts geo old (Unlink p) → StaysWith old (number_at geo old.view p) ((old.view.inode (number_at geo old.view p)).links - 1)
+        → Stands geo disk q old safe → (p : List ℕ) → Accepts geo old (Unlink p)
+        → StaysWith old (number_at geo old.view p) ((old.view.inode (number_at geo old.view p)).links - 1)
         → IsCarriedOut geo disk q old (Unlink p) Done
         (unlink_plan geo old.view p q)
         (now disk (unlink_plan geo old.view p q) old) safe (safe_but (number_at geo old.view p) safe) }
     ensures goes { (geo : Geometry) (disk : View) (q : List Pending) (old : State) (safe : ℕ → Bool)
-        → Stands geo disk q old safe → (p : List ℕ) → Accepts geo old (Unlink p) → (old.view.inode (number_at geo old.view p)).links ≡ 1 → IsFalse (is_open old (number_at geo old.view p))
+        → Stands geo disk q old safe → (p : List ℕ) → Accepts geo old (Unlink p) → (old.view.inode (number_at geo old.view p)).links ≡ 1
+        → IsFalse (is_open old (number_at geo old.view p))
         → (blocks : List ℕ) → AreGivenUp geo old (number_at geo old.view p) free_inode blocks
         → IsCarriedOut geo disk q old (Unlink p) Done
         (unlink_plan_last geo old.view p blocks q)

@@ -33,7 +33,8 @@ pub fn rename_in_its_slot()
 /// To an empty slot of another directory: users see what the command is to do, and its updates may be issued in their
 /// order, from rest to rest, and no stop loses the file.
 pub fn rename_to_a_slot_of_another_directory()
-    ensures seen { (geo : Geometry) (old : State) (path other : List ℕ) (s' block' : ℕ) (entry : List ℕ) (after' : List Cell) (block : ℕ) (name : List ℕ) (after : List Cell)
+    ensures seen { (geo : Geometry) (old : State) (path other : List ℕ) (s' block' : ℕ) (entry : List ℕ) (after' : List Cell) (block : ℕ)
+        (name : List ℕ) (after : List Cell)
         → ObeysRules geo old.view
         → CanMove geo old.view (number_at geo old.view path) (holder geo old.view other) s' block' (name_in other) entry after'
         (holder geo old.view path) (slot_at geo old.view path) block name after
@@ -53,7 +54,8 @@ pub fn rename_to_a_slot_of_another_directory()
 
 /// To another directory that has no empty slot and gets a block for the entry: the same.
 pub fn rename_to_a_new_block_of_another_directory()
-    ensures seen { (geo : Geometry) (old : State) (path other : List ℕ) (b : ℕ) (kept : Holder) (s' : ℕ) (entry : List ℕ) (after' : List Cell) (block : ℕ) (name : List ℕ) (after : List Cell)
+    ensures seen { (geo : Geometry) (old : State) (path other : List ℕ) (b : ℕ) (kept : Holder) (s' : ℕ) (entry : List ℕ) (after' : List Cell)
+        (block : ℕ) (name : List ℕ) (after : List Cell)
         → CanMoveGrown geo old.view (number_at geo old.view path) (holder geo old.view other) b kept s' (name_in other) entry after'
         (holder geo old.view path) (slot_at geo old.view path) block name after
         → (disk : View) (q : List Pending) → users_view disk q ≡ old.view
@@ -77,7 +79,8 @@ pub fn rename_to_a_new_block_of_another_directory()
 /// further directory adds the block that names it, its record and its pointers.
 pub fn grounds_are_gathered_from_the_root()
     ensures root_has { (geo : Geometry) (users : View) (block : ℕ) (after : List Cell)
-        → IsTrue (is_directory_at geo users root) → IsKnown after block (Record root) → ArePointersKnown geo users after block root → HasGrounds geo users root block after }
+        → IsTrue (is_directory_at geo users root) → IsKnown after block (Record root) → ArePointersKnown geo users after block root
+        → HasGrounds geo users root block after }
     ensures next_has { (geo : Geometry) (users : View) (block : ℕ) (after : List Cell) (d s e : ℕ)
         → HasGrounds geo users d block after → 2 ≤ s → Names geo users d s e → IsTrue (is_directory_at geo users e)
         → IsKnown after block (Record e) → ArePointersKnown geo users after block e → ((b : ℕ) → IsClaim geo users d (s / 16) b → IsKnown after block (Block b))

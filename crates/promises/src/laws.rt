@@ -9,11 +9,10 @@ ghost use Rattle.machine.specs.Balance.{Exact, OwesNothing};
 ghost use Rattle.machine.specs.Command.{Command, Reply};
 ghost use Rattle.model.specs.Layout.{Geometry};
 ghost use Rattle.model.specs.View.{View};
-ghost use Rattle.live_states.specs.Holdings.{Beside};
-ghost use Rattle.snapshot.specs.Alive.{Alive, state_of};
+ghost use Rattle.snapshot.specs.Alive.{Alive};
 ghost use Rattle.snapshot.specs.Cycles.{HasCycle};
-ghost use Rattle.snapshot.specs.Goes.{Goes, IsBeside};
-ghost use Rattle.shared.specs.Traces.{HasHistory, asked_by};
+ghost use Rattle.snapshot.specs.Stages.{LeadsTo, Stage, StandsAt, geometry_at, state_at};
+ghost use Rattle.shared.specs.Traces.{HasHistory, asked_by, now_at};
 ghost use Rattle.shared.specs.declared.counts.Counts.{Counts};
 ghost use Rattle.shared.specs.declared.entry.Entry.{Entry};
 ghost use Rattle.promises.specs.Leaky.{IsOnlyLeaky};
@@ -33,9 +32,8 @@ pub fn the_check_is_right()
 /// Every image that the device held is only leaky, whatever calls were made and wherever they stopped: it can be mounted, a
 /// check finds only what repairs give back, and they leave an exact volume.
 pub fn every_stop_is_only_leaky<D: Device>()
-    ensures { (beside beside' : Beside) (held held' : List (List (List ℕ))) (image image' : List (List ℕ)) (old new : Alive D) (commands : List Command) (replies : List Reply)
-        → IsBeside image old beside → Goes beside held image old commands replies beside' held' image' new
-        → (more : List (List (List ℕ))) × (held' ≡ held ++ more) × All (IsOnlyLeaky old.kept.geometry) more }
+    ensures { (s t : Stage D) (commands : List Command) (replies : List Reply) → StandsAt s → LeadsTo s commands replies t
+        → (more : List (List (List ℕ))) × (t.held ≡ s.held ++ more) × All (IsOnlyLeaky (geometry_at s)) more }
 {
     snapshot::each_image_held_is_mountable::<D>();
     findings::rules_hold_where_findings_are_soft();
@@ -45,12 +43,12 @@ pub fn every_stop_is_only_leaky<D: Device>()
 /// Repairs that are carried out leave an exact volume, under one thread (`alone`) and under many (`shared`), whatever else was
 /// done: the maps mark exactly what is reachable, open or held for a snapshot, and each link count equals its entries.
 pub fn repairs_end_exact<D: Device, L: Sharing>()
-    ensures alone { (beside beside' : Beside) (held held' : List (List (List ℕ))) (image image' : List (List ℕ)) (old new : Alive D) (commands : List Command) (replies : List Reply)
-        → IsBeside image old beside → Goes beside held image old commands replies beside' held' image' new → HasCycle old.kept.geometry commands replies
-        → OwesNothing old.kept.geometry (state_of image' new beside') × Exact old.kept.geometry (state_of image' new beside') }
+    ensures alone { (s t : Stage D) (commands : List Command) (replies : List Reply)
+        → StandsAt s → LeadsTo s commands replies t → HasCycle (geometry_at s) commands replies
+        → OwesNothing (geometry_at s) (state_at t) × Exact (geometry_at s) (state_at t) }
     ensures shared { (before : Counts) (trace : List Entry) (now : Alive D) → (h : HasHistory D.held D.image L.opens before trace now)
         → HasCycle now.kept.geometry (h.past.commands ++ asked_by now.kept.geometry trace) (h.past.responses ++ h.opening.responses)
-        → OwesNothing now.kept.geometry (state_of (D.image now.device) now h.opening.beside) × Exact now.kept.geometry (state_of (D.image now.device) now h.opening.beside) }
+        → OwesNothing now.kept.geometry (state_at (now_at h.opening)) × Exact now.kept.geometry (state_at (now_at h.opening)) }
 {
     snapshot::whole_cycles_end_exact::<D>();
     shared::repairs_of_a_history_end_exact::<D, L>();

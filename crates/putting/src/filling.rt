@@ -127,8 +127,10 @@ fn put_item<R: Files + AllocGlobal, D: Device>(
     room: Vec<u8>,
     readings: &mut Readings,
 ) -> Result<Vec<u8>, Failure>
-    ensures item { IfOk result (λ _. (bytes : Read) × (readings.new.items.items ≡ readings.old.items.items ++ (item.now, bytes) ∷ []) × IsTrueTo item.now.source bytes.items
-        × (D.honest volume.new.device → AddsItems ((item.now, bytes) ∷ []) (D.held volume.old.device) (D.image volume.old.device) volume.old (D.held volume.new.device) (D.image volume.new.device) volume.new)) }
+    ensures item { IfOk result (λ _. (bytes : Read) × (readings.new.items.items ≡ readings.old.items.items ++ (item.now, bytes) ∷ [])
+        × IsTrueTo item.now.source bytes.items
+        × (D.honest volume.new.device
+        → AddsItems ((item.now, bytes) ∷ []) (D.held volume.old.device) (D.image volume.old.device) volume.old (D.held volume.new.device) (D.image volume.new.device) volume.new)) }
     ensures honest { D.honest volume.new.device → D.honest volume.old.device }
 {
     let bytes = bytes_of(rt, item, room, readings)?;

@@ -74,35 +74,18 @@ pub fn items_of_folder<R: Files + AllocGlobal + Clone + Drop>(
     items_of(rt, host, b"/")
 }
 
-/// Puts items into the volume of a file's image. Where one is refused, what went before it is written.
-pub fn put_items<R: Files + AllocGlobal>(
+/// Puts items into the volume of a device, which is the image of this file. Where one is refused, what went before it is written.
+pub fn put_items<R: Files + AllocGlobal, D: Device + Drop>(
     rt: &R,
     image: &str,
+    device: D,
     items: &[Item],
     watcher: &impl Watcher,
-) -> Result<(), Failure>
-where
-    R::File: FileExt,
-{
-    match put_in_file(rt, image, items, watcher) {
-        Ok(filled) => end_of(filled, items.len()),
-        Err(failure) => Err(failure.on_image(rt, image)),
+) -> Result<(), Failure> {
+    match put_on_device(rt, device, items, watcher) {
+        Ok(holding) => end_of(holding.filled, items.len()),
+        Err(refusal) => Err(Failure::from(refusal).on_image(rt, image)),
     }
-}
-
-/// Puts items into the volume of a file's image, and tells how many went into it.
-fn put_in_file<R: Files + AllocGlobal>(
-    rt: &R,
-    image: &str,
-    items: &[Item],
-    watcher: &impl Watcher,
-) -> Result<Filled, Failure>
-where
-    R::File: FileExt,
-{
-    let device: FileDevice<R::File, Brand> = FileDevice::open_to_write(rt, image)?.gathering();
-    let holding = put_on_device(rt, device, items, watcher)?;
-    Ok(holding.filled)
 }
 
 /// Puts items into the volume of a file's image, where none of them may stand yet. Where one is refused, what went before it is

@@ -1,4 +1,5 @@
 ghost use Rattle.std.specs.Prelude.{◌≡◌, ◌-◌, ◌*◌, ◌++◌, ◌⊎◌, Err, IfErr, IfOk, IsErrOf, OnOk, length, min};
+ghost use Rattle.device.specs.Reading.{ReadsOnly};
 ghost use Rattle.device.specs.Writes.{HasFailed};
 ghost use Rattle.frozen.specs.Kept.{IsKeptOf};
 ghost use Rattle.layout.specs.declared.refusal.Refusal.TheVariants.{Device as DeviceRefusal};
@@ -28,9 +29,8 @@ pub fn read<D: Device>(
         → AreBytesAt frozen.now.geometry (image_view frozen.now.geometry (D.image device.old)) path.now bytes.items) }
     ensures refused { IfErr result (λ r. (r ≡ DeviceRefusal) ⊎ Replies frozen.now (Open path.now) (Err r)) }
     ensures cause { IsErrOf result Refusal.Device → HasFailed (D.failures device.old) (D.failures device.new) }
-    ensures same { D.image device.new ≡ D.image device.old }
-    ensures held { D.held device.new ≡ D.held device.old }
-    ensures honest { D.honest device.new → D.honest device.old }
+
+    ensures reads { ReadsOnly D.honest D.image D.held device.old device.new }
 {
     let number = find(frozen, path)?;
     if frozen.is_directory_at(number) {
@@ -57,9 +57,8 @@ fn add_block<D: Device>(
     ensures error { IfErr result (λ r. (r ≡ Refusal.Device) ⊎ (r ≡ Refusal.NoMemory)) }
     ensures failures { OnOk result (D.failures device.new ≡ D.failures device.old) }
     ensures cause { IsErrOf result Refusal.Device → HasFailed (D.failures device.old) (D.failures device.new) }
-    ensures same { D.image device.new ≡ D.image device.old }
-    ensures held { D.held device.new ≡ D.held device.old }
-    ensures honest { D.honest device.new → D.honest device.old }
+
+    ensures reads { ReadsOnly D.honest D.image D.held device.old device.new }
 {
     let Some(address) = frozen.claim_at(number, index) else {
         return Ok(());

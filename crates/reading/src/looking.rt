@@ -25,6 +25,7 @@ pub struct Found {
 pub fn stat(frozen: &Frozen, path: &[u8]) -> Result<Found, Refusal>
     ensures found { IfOk result (λ found. Replies frozen.now (Stat path.now) (Ok (Status found.number found.record.mode found.record.links found.record.size))) }
     ensures refused { IfErr result (λ r. Replies frozen.now (Stat path.now) (Err r)) }
+    ensures device { IsErrOf result Refusal.Device → ⊥ }
 {
     let number = find(frozen, path)?;
     Ok(Found {
@@ -38,6 +39,7 @@ pub fn stat(frozen: &Frozen, path: &[u8]) -> Result<Found, Refusal>
 pub fn list(alloc: Global, frozen: &Frozen, path: &[u8]) -> Result<Vec<Named>, Refusal>
     ensures listed { IfOk result (λ names. Replies frozen.now (ListNames path.now) (Ok (Listed (map name_of names.items)))) }
     ensures refused { IfErr result (λ r. Replies frozen.now (ListNames path.now) (Err r)) }
+    ensures device { IsErrOf result Refusal.Device → ⊥ }
 {
     let directory = find(frozen, path)?;
     if !frozen.is_directory_at(directory) {
@@ -48,8 +50,10 @@ pub fn list(alloc: Global, frozen: &Frozen, path: &[u8]) -> Result<Vec<Named>, R
 
 /// The number that a path leads to.
 pub(crate) fn find(frozen: &Frozen, path: &[u8]) -> Result<u32, Refusal>
-    ensures found { IfOk result (λ number. (image : List (List ℕ)) → IsKeptOf frozen.now image → Leads frozen.now.geometry (image_view frozen.now.geometry image) path.now number) }
-    ensures refused { IfErr result (λ r. (image : List (List ℕ)) → IsKeptOf frozen.now image → WhyNot frozen.now.geometry (image_view frozen.now.geometry image) path.now r) }
+    ensures found { IfOk result (λ number. (image : List (List ℕ)) → IsKeptOf frozen.now image
+        → Leads frozen.now.geometry (image_view frozen.now.geometry image) path.now number) }
+    ensures refused { IfErr result (λ r. (image : List (List ℕ)) → IsKeptOf frozen.now image
+        → WhyNot frozen.now.geometry (image_view frozen.now.geometry image) path.now r) }
     ensures device { IsErrOf result Refusal.Device → ⊥ }
 {
     let path = Path::parse(path)?;

@@ -1,7 +1,9 @@
-ghost use Rattle.std.specs.Prelude.{◌≡◌, ℕ, IfOk, List};
+ghost use Rattle.std.specs.Prelude.{◌≡◌, ◌⊎◌, ℕ, Err, IfErr, IfOk, IsErrOf, List};
 ghost use Rattle.std.specs.List.{All};
 ghost use Rattle.frozen.specs.Kept.{IsKeptOf};
+ghost use Rattle.machine.specs.Command.{ListNames};
 ghost use Rattle.model.specs.Image.{image_view};
+ghost use Rattle.reading.specs.Replies.{Replies};
 ghost use Rattle.reading.specs.Trees.{IsListing, joined_path};
 
 use crate::looking::find;
@@ -31,7 +33,10 @@ struct Place {
 /// A directory and each one below it, each followed by what stands below it, in the order of the names. Refused as `list` is, and
 /// with `Damaged` where there are more of them than the volume has numbers, since one then stands below itself.
 pub fn tree(alloc: Global, frozen: &Frozen, path: &[u8]) -> Result<Vec<Listing>, Refusal>
-    ensures listed { IfOk result (λ listings. (image : List (List ℕ)) → IsKeptOf frozen.now image → All (IsListing frozen.now.geometry (image_view frozen.now.geometry image)) listings.items) }
+    ensures listed { IfOk result (λ listings. (image : List (List ℕ)) → IsKeptOf frozen.now image
+        → All (IsListing frozen.now.geometry (image_view frozen.now.geometry image)) listings.items) }
+    ensures refused { IfErr result (λ r. (r ≡ Refusal.Damaged) ⊎ Replies frozen.now (ListNames path.now) (Err r)) }
+    ensures device { IsErrOf result Refusal.Device → ⊥ }
 {
     let number = find(frozen, path)?;
     if !frozen.is_directory_at(number) {
@@ -59,7 +64,8 @@ pub fn tree(alloc: Global, frozen: &Frozen, path: &[u8]) -> Result<Vec<Listing>,
 
 /// The names in a directory.
 fn listing_of(alloc: Global, frozen: &Frozen, place: Place) -> Result<Listing, AllocError>
-    ensures { IfOk result (λ listing. (image : List (List ℕ)) → IsKeptOf frozen.now image → IsListing frozen.now.geometry (image_view frozen.now.geometry image) listing) }
+    ensures { IfOk result (λ listing. (image : List (List ℕ)) → IsKeptOf frozen.now image
+        → IsListing frozen.now.geometry (image_view frozen.now.geometry image) listing) }
 {
     let Place { path, number } = place;
     let names = names(alloc, frozen, number)?;

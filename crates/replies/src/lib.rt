@@ -38,7 +38,8 @@ pub fn bytes_and_names_change_nothing()
 pub fn bytes_and_names_may_be_refused()
     ensures run { (geo : Geometry) (old new : State) (command : Command) (reply : Reply) → IsCopied reply
         → Run geo old (command ∷ []) (reply ∷ []) new → Run geo old (command ∷ []) (Err NoMemory ∷ []) new }
-    ensures service { (geo : Geometry) (disk0 : View) (q0 : List Pending) (old0 : State) (safe0 : ℕ → Bool) (disk : View) (q : List Pending) (new : State) (safe : ℕ → Bool)
+    ensures service { (geo : Geometry) (disk0 : View) (q0 : List Pending) (old0 : State) (safe0 : ℕ → Bool) (disk : View) (q : List Pending)
+        (new : State) (safe : ℕ → Bool)
         → (command : Command) (reply : Reply) (images : List View) → IsCopied reply
         → Service geo disk0 q0 old0 safe0 disk q new safe (command ∷ []) (reply ∷ []) images
         → Service geo disk0 q0 old0 safe0 disk q new safe (command ∷ []) (Err NoMemory ∷ []) images }

@@ -23,6 +23,7 @@ use std::sync::Wait;
 use std::thread::Threads;
 use user_scripts::{Commands, UserLine};
 use users::{Answered, Mended, Ran};
+use workers::OpenGate;
 
 /// What the line asks for: what the users of a script are answered, while the image is checked by this many workers and mended.
 #[derive(Clone, Copy)]
@@ -84,8 +85,8 @@ where
     Ok(run(rt, rt.alloc(), device, script, workers)?)
 }
 
-/// Mounts the volume of a device, and carries out the lines of a script, those of each user by a thread of its own, while the
-/// volume is frozen, checked by this many workers and mended once, and flushed; then all is written. What is printed has each
+/// Mounts the volume of a device, whose image as many workers check first, and carries out the lines of a script, those of each
+/// user by a thread of its own, while the volume is frozen, checked by this many workers and mended once, and flushed; then all is written. What is printed has each
 /// user's lines with their answers, the report of the check, its repairs, and how many of them were carried out.
 pub fn run<D: Device + Drop + Send>(
     rt: &(impl Threads + Wait + Sync),
@@ -98,7 +99,7 @@ pub fn run<D: Device + Drop + Send>(
     ensures workers { IsFalse (may_work workers) → result ≡ Err BadWorkers }
 {
     allow_workers(workers)?;
-    let volume = Volume::new(mount(alloc, device)?);
+    let volume = Volume::new(mount(rt, alloc, device, workers, &OpenGate)?);
     let Ran {
         answered,
         mended,

@@ -2,12 +2,12 @@
 ghost use Rattle.std.specs.Prelude.{◌<◌, IfOk};
 
 use crate::scripts::{lines_of_file, of_script};
+use changing::mount;
 use clap::{ArgMatches, Command as Words};
 use command_line::{Answer, DAMAGED, Failure, bytes_of_file};
 use device::{Device, MemDevice};
 use findings::Verdict;
 use image_lines::check::check;
-use image_lines::mounting::mount;
 use layout::Refusal;
 use recording::{Recording, Written};
 use snapshot::{Command, Volume};
@@ -79,7 +79,7 @@ pub fn stops(
     ensures status { IfOk result (λ answer. answer.status < 3) }
 {
     let device = Recording::new(alloc, MemDevice::from_bytes(alloc, image)?);
-    let mut volume = Volume::new(mount(alloc, device)?);
+    let mut volume = mount(alloc, device)?;
     stops_of_script(rt, alloc, image, &mut volume, script)
 }
 

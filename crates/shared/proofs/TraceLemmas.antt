@@ -1,5 +1,5 @@
 -- A trace begins, goes on by one entry, and begins anew.
-use Rattle.std.proofs.Common.{◌≡◌, ◌⊎◌, ◌+◌, inl, inr, refl, sym, ap, ap₂, ◌∙◌, subst, ℕ, List, [], ◌∷◌, ◌++◌, Ok, Err, IfOk, Result, IsErrOf, OnErr, arith, ◌↔◌, cond, length}
+use Rattle.std.proofs.Common.{◌≡◌, ◌⊎◌, ◌+◌, inl, inr, refl, sym, ap, ap₂, ◌∙◌, subst, ℕ, List, [], ◌∷◌, ◌++◌, Ok, Err, IfErr, IfOk, Result, IsErrOf, OnErr, arith, ◌↔◌, cond, length}
 use Rattle.std.specs.List.{count_by}
 use Rattle.std.proofs.lemmas.List.{map-append, length-append, length-map}
 use Rattle.std.proofs.lemmas.List.Sums.{sum_by-append, sum_by-cons}
@@ -72,6 +72,11 @@ never_full reply answer never (inr (copied, none)) full = never_no_memory answer
 pub caused_so : {P : Type 0} (reply answer : Result Answer Refusal) → (IsErrOf reply Device → P) → (answer ≡ reply) ⊎ (HasBytesOrNames reply × (answer ≡ Err NoMemory)) → IsErrOf answer Device → P
 caused_so reply answer cause (inl same) is = cause (sym same ∙ is)
 caused_so reply answer cause (inr (copied, none)) is = absurd (never_no_memory answer Device (λ e. cc) none is)
+
+-- and it has what each refusal has, if want of memory has that
+pub error_so : (P : Refusal → Type 0) → P NoMemory → (reply answer : Result Answer Refusal) → IfErr reply P → (answer ≡ reply) ⊎ (HasBytesOrNames reply × (answer ≡ Err NoMemory)) → IfErr answer P
+error_so P memory reply answer holds (inl same) = subst (λ r. IfErr r P) (sym same) holds
+error_so P memory reply answer holds (inr (copied, none)) = subst (λ r. IfErr r P) (sym none) memory
 
 -- where it is a refusal, all stayed as it was
 pub untouched_so : {P : Type 0} (reply answer : Result Answer Refusal) → OnErr reply P → (HasBytesOrNames reply → P) → (answer ≡ reply) ⊎ (HasBytesOrNames reply × (answer ≡ Err NoMemory)) → OnErr answer P

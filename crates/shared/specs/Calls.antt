@@ -1,13 +1,12 @@
 -- What a call does to a volume with its trace, and what is known of a call of which a lock hides the volume.
-use Rattle.std.specs.Prelude.{◌≡◌, ◌≢◌, ◌↔◌, ◌+◌, ◌<◌, ◌≤◌, ◌^◌, ℕ, List, [], length, Ok, Err, Result, IfOk, IsOk, OnErr, OnOk}
+use Rattle.std.specs.Prelude.{◌≡◌, ◌≢◌, ◌↔◌, ◌+◌, ◌<◌, ◌≤◌, ◌^◌, ℕ, List, [], length, Err, Result, IfErr, IfOk, IsOk, OnErr, OnOk}
 use Rattle.std.specs.List.{count_by}
 use Rattle.layout.specs.declared.refusal.Refusal.{Refusal}
 use Rattle.layout.specs.declared.refusal.Refusal.TheVariants.{TraceFull}
-use Rattle.queue_model.specs.Blocks.{home_of}
-use Rattle.queue_model.specs.Flush.{ready, taken}
 use Rattle.softdep.specs.Queued.{pending_of}
-use Rattle.snapshot.specs.Asked.{asked}
-use Rattle.snapshot.specs.Goes.{Applies}
+use Rattle.snapshot.specs.Alive.{Alive}
+use Rattle.snapshot.specs.Between.{Applied, could_go}
+use Rattle.snapshot.specs.Refusing.{IsCause}
 use Rattle.snapshot.specs.Writes.{Writes}
 use Rattle.snapshot.specs.declared.answer.Answer.{Answer}
 use Rattle.snapshot.specs.declared.answer.Answer.TheVariants.{Number}
@@ -31,16 +30,25 @@ pub record IsCall {D : Type 0} (honest : D → Type 0) (held_of : D → List (Li
   pub full : (reply ≡ Err TraceFull) ↔ (length old.trace ≡ old.limit)
   pub unchanged : reply ≡ Err TraceFull → new ≡ old
   -- else the volume gave this reply, and the trace has one entry more, of this command and this reply
-  pub applied : reply ≢ Err TraceFull → honest new.volume.device
-      → Applies (held_of old.volume.device) (image_of old.volume.device) old.volume (asked old.volume.kept.geometry command) reply (held_of new.volume.device) (image_of new.volume.device) new.volume
+  pub applied : reply ≢ Err TraceFull → honest new.volume.device → Applied held_of image_of old.volume command reply new.volume
   pub writes : reply ≢ Err TraceFull → Writes honest held_of image_of old.volume command reply new.volume
+  -- and it refused for a cause, whatever its device did
+  pub error : reply ≢ Err TraceFull → IfErr reply (IsCause old.volume command)
   pub entry : reply ≢ Err TraceFull → AddsEntry old.trace new.trace command reply
   -- a refused one leaves what users see, what is open and held, and the repairs
   pub untouched : OnErr reply ((new.volume.kept ≡ old.volume.kept) × (new.volume.holdings ≡ old.volume.holdings))
   -- a flush counts the updates of its block that could go
-  pub flushed : (a : ℕ) → command ≡ Flush a → honest new.volume.device → IfOk reply (λ answer. answer ≡ Number (taken (ready (home_of old.volume.kept.geometry) a (pending_of old.volume.queue))))
+  pub flushed : (a : ℕ) → command ≡ Flush a → honest new.volume.device → IfOk reply (λ answer. answer ≡ Number (could_go old.volume a))
   pub before : new.before ≡ old.before
   pub limit : new.limit ≡ old.limit
+
+-- a flush of the next block got this reply
+abbrev pub FlushesNext : {D : Type 0} → (D → Type 0) → (D → List (List (List ℕ))) → (D → List (List ℕ)) → Shown D → Result Answer Refusal → Shown D → Type 0
+FlushesNext honest held_of image_of old reply new = (a : ℕ) × IsNext old.volume.kept.geometry (pending_of old.volume.queue) a × IsCall honest held_of image_of old (Flush a) reply new
+
+-- an answer counts updates, and some exactly where some are pending
+abbrev pub CountsSome : {D : Type 0} → Alive D → Answer → Type 0
+CountsSome live answer = (n : ℕ) × (answer ≡ Number n) × ((n ≡ 0) ↔ (pending_of live.queue ≡ []))
 
 -- The trace was emptied, and its calls count among those before it; or a count would have become too large, and nothing changed.
 pub record IsRotation {D : Type 0} (old : Shown D) (result : Result (Unit {0}) Refusal) (new : Shown D) : Type 0 where

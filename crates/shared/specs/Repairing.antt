@@ -1,5 +1,6 @@
 -- Which calls are repairs.
-use Rattle.std.specs.Prelude.{◌≡◌, ◌⊎◌, ◌+◌, Bool, true, false, ℕ, nat_lt, if◌then◌else◌, Ok, Err, Result}
+use Rattle.std.specs.Prelude.{◌≡◌, ◌⊎◌, ◌+◌, ◌≤◌, Bool, true, false, ℕ, List, nat_lt, if◌then◌else◌, Ok, Err, Result}
+use Rattle.std.specs.List.{count_by}
 use Rattle.layout.specs.declared.refusal.Refusal.{Refusal}
 use Rattle.layout.specs.declared.refusal.Refusal.TheVariants.{AlreadyDone, BadIndex, NoPlan, TraceFull}
 use Rattle.machine.specs.Command.{Command as Request, RepairAt}
@@ -20,6 +21,10 @@ asks_repair _ = false
 abbrev pub is_repair_entry : Entry → Bool
 is_repair_entry entry = is_repair entry.command
 
+-- how many calls of a trace are
+abbrev pub repairs_in : List Entry → ℕ
+repairs_in trace = count_by is_repair_entry trace
+
 -- how much a call adds to the repairs, and to the others
 abbrev pub of_repairs : Command → ℕ
 of_repairs command = if is_repair command then 1 else 0
@@ -36,6 +41,10 @@ pub data Repairs (called : ℕ → Result Answer Refusal → Type 0) (next done 
 -- there is no repair at a place, or no check
 abbrev pub IsEnd : Refusal → Type 0
 IsEnd r = (r ≡ BadIndex) ⊎ (r ≡ NoPlan)
+
+-- at this place: there is none further, or this was known of a call of it
+abbrev pub EndsAt : (ℕ → Result Answer Refusal → Type 0) → ℕ → Type 0
+EndsAt called next = (4294967295 ≤ next) ⊎ ((r : Refusal) × IsEnd r × called next (Err r))
 
 -- How many calls of repairs came with the place at which it ended: none where the trace was full, or where there is no further place.
 abbrev pub ended : Result (Unit {0}) Refusal → ℕ → ℕ

@@ -12,6 +12,7 @@ use Rattle.snapshot.specs.Alive.{Alive, disk_of, state_of}
 use Rattle.snapshot.specs.Held.{HeldMore}
 use Rattle.snapshot.specs.Asked.{asked}
 use Rattle.snapshot.specs.Goes.{Goes, IsBeside}
+use Rattle.snapshot.specs.Stages.{Stage}
 use Rattle.shared.specs.Noted.{IsNoted}
 use Rattle.shared.specs.Opened.{Opened, opened_of}
 use Rattle.shared.specs.Repairing.{asks_repair}
@@ -39,6 +40,13 @@ pub record HasOpening {D : Type 0} (held : List (List (List ℕ))) (image : List
   pub beside : Beside
   pub goes : Goes opening_beside opening_held opening_image opening (asked_by opening.kept.geometry trace) responses beside held image now
 
+-- the volume before the first of these calls, and the present one
+abbrev pub opening_at : {D : Type 0} {held : List (List (List ℕ))} {image : List (List ℕ)} {trace : List Entry} {now : Alive D} → HasOpening held image trace now → Stage D
+opening_at o = record { volume = o.opening; beside = o.opening_beside; held = o.opening_held; image = o.opening_image }
+
+abbrev pub now_at : {D : Type 0} {held : List (List (List ℕ))} {image : List (List ℕ)} {trace : List Entry} {now : Alive D} → HasOpening held image trace now → Stage D
+now_at {held = held} {image = image} {now = now} o = record { volume = now; beside = o.beside; held = held; image = image }
+
 -- Before a trace, so many repairs and other calls led to its opening from a volume of which this was known.
 pub record HasPast {D : Type 0} (held_of : D → List (List (List ℕ))) (image_of : D → List (List ℕ)) (opens : Opened → Type 0) (before : Counts)
     {held : List (List (List ℕ))} {image : List (List ℕ)} {trace : List Entry} {now : Alive D} (o : HasOpening held image trace now) : Type 0 where
@@ -56,6 +64,10 @@ pub record HasPast {D : Type 0} (held_of : D → List (List (List ℕ))) (image_
 pub record HasHistory {D : Type 0} (held_of : D → List (List (List ℕ))) (image_of : D → List (List ℕ)) (opens : Opened → Type 0) (before : Counts) (trace : List Entry) (now : Alive D) : Type 0 where
   pub opening : HasOpening (held_of now.device) (image_of now.device) trace now
   pub past : HasPast held_of image_of opens before opening
+
+-- the volume that was shared
+abbrev pub first_at : {D : Type 0} {held_of : D → List (List (List ℕ))} {image_of : D → List (List ℕ)} {opens : Opened → Type 0} {before : Counts} {trace : List Entry} {now : Alive D} → HasHistory held_of image_of opens before trace now → Stage D
+first_at {held_of = held_of} {image_of = image_of} h = record { volume = h.past.first; beside = h.past.beside; held = held_of h.past.first.device; image = image_of h.past.first.device }
 
 -- From its opening, which is such a beginning, with these files that no stop is to lose, the volume went through a service of the trace's commands, and each image that the device held since is safe.
 pub record IsSafeTrace {D : Type 0} {held : List (List (List ℕ))} {image : List (List ℕ)} {trace : List Entry} {now : Alive D} (o : HasOpening held image trace now) (mount : View) (h : List Written) (cut : List Bool) (safe : ℕ → Bool) : Type 0 where

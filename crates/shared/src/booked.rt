@@ -1,14 +1,13 @@
 //! The volume under the lock, with the trace of what was called.
-ghost use Rattle.std.specs.Prelude.{◌≡◌, ◌≢◌, ◌↔◌, ◌⊎◌, ◌+◌, ◌<◌, ◌^◌, if◌then◌else◌, ℕ, [], Err, IfOk, IsErrOf, IsOkUnless, Ok, vec_len};
-ghost use Rattle.std.specs.List.{count_by};
+ghost use Rattle.std.specs.Prelude.{◌≡◌, ◌≢◌, ◌⊎◌, ◌+◌, ◌<◌, ◌^◌, if◌then◌else◌, [], Err, IfOk, IsErrOf, IsOkUnless, Ok, vec_len};
 ghost use Rattle.device.specs.Writes.{HasFailed};
 ghost use Rattle.softdep.specs.Queued.{pending_of};
-ghost use Rattle.shared.specs.Calls.{IsCall, IsOfSharing, IsRotation, no_calls};
+ghost use Rattle.shared.specs.Calls.{CountsSome, FlushesNext, IsCall, IsOfSharing, IsRotation, no_calls};
 ghost use Rattle.shared.specs.Next.{IsNext};
 ghost use Rattle.snapshot.specs.Asked.{HasBytesOrNames};
 ghost use Rattle.shared.specs.Noted.{Notes};
 ghost use Rattle.shared.specs.Opened.{opened_of};
-ghost use Rattle.shared.specs.Repairing.{is_repair, is_repair_entry, of_others, of_repairs};
+ghost use Rattle.shared.specs.Repairing.{is_repair, of_others, of_repairs, repairs_in};
 ghost use Rattle.shared.specs.Traces.{HasHistory};
 
 use crate::counts::Counts;
@@ -141,10 +140,10 @@ impl<D: Device + Drop, L: Sharing, M: Ledger> Booked<D, L, M> {
     /// `call` is.
     pub fn flush_some(&mut self, alloc: Global, seat: &mut Seat<L, M>) -> Reply
         ensures known { IsOfSharing D.honest D.held D.image L.limit L.opens self.old }
-        ensures call { (a : ℕ) × IsNext self.old.volume.kept.geometry (pending_of self.old.volume.queue) a × IsCall D.honest D.held D.image self.old (Command.Flush a) result self.new }
+        ensures call { FlushesNext D.honest D.held D.image self.old result self.new }
         ensures unchanged { result ≡ Err Refusal.TraceFull → seat.new ≡ seat.old }
         // The answer counts the updates that were written: 0 exactly where none was pending.
-        ensures wrote { D.honest self.new.volume.device → IfOk result (λ answer. (n : ℕ) × (answer ≡ Answer.Number n) × ((n ≡ 0) ↔ (pending_of self.old.volume.queue ≡ []))) }
+        ensures wrote { D.honest self.new.volume.device → IfOk result (CountsSome self.old.volume) }
         ensures cause { IsErrOf result Refusal.Device → HasFailed (D.failures self.old.volume.device) (D.failures self.new.volume.device) }
         ensures honest { D.honest self.new.volume.device → D.honest self.old.volume.device }
         ensures repairs { seat.new.repairs.amount ≡ seat.old.repairs.amount }
@@ -157,8 +156,8 @@ impl<D: Device + Drop, L: Sharing, M: Ledger> Booked<D, L, M> {
     /// The volume with its trace, where all calls were counted on these shares.
     pub fn close(self, mut all_repairs: Share<L>, mut all_others: Share<M>) -> Closed<D>
         requires { (all_repairs.parts ≡ L.parts) × (all_others.parts ≡ M.parts) }
-        ensures repairs { all_repairs.amount ≡ result.before.repairs + count_by is_repair_entry result.trace.items }
-        ensures others { all_others.amount + count_by is_repair_entry result.trace.items ≡ result.before.others + vec_len result.trace }
+        ensures repairs { all_repairs.amount ≡ result.before.repairs + repairs_in result.trace.items }
+        ensures others { all_others.amount + repairs_in result.trace.items ≡ result.before.others + vec_len result.trace }
         ensures before { result.before ≡ self.before }
         ensures trace { result.trace.items ≡ self.trace }
         ensures volume { result.volume ≡ self.volume }

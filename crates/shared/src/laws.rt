@@ -3,17 +3,13 @@ ghost use Rattle.std.specs.List.{All};
 ghost use Rattle.std.specs.Prelude.{◌≡◌, ◌++◌, ℕ, Bool, false, List};
 ghost use Rattle.model.specs.View.{View};
 ghost use Rattle.machine.specs.Balance.{Balance, Exact, OwesNothing};
-ghost use Rattle.machine.specs.Command.{Reply as Response};
 ghost use Rattle.machine.specs.Step.{Run};
 ghost use Rattle.queue_model.specs.Files.{Written};
-ghost use Rattle.courses.specs.Serves.{IsBeginning};
-ghost use Rattle.softdep.specs.Queued.{pending_of};
-ghost use Rattle.live_states.specs.Holdings.{Beside};
-ghost use Rattle.snapshot.specs.Alive.{Alive, disk_of, state_of};
+ghost use Rattle.snapshot.specs.Alive.{Alive};
 ghost use Rattle.snapshot.specs.Mounting.{IsMountable};
 ghost use Rattle.snapshot.specs.Cycles.{HasCycle};
-ghost use Rattle.snapshot.specs.Goes.{Goes};
-ghost use Rattle.shared.specs.Traces.{AreNoted, HasHistory, HasOpening, IsSafeTrace, asked_by};
+ghost use Rattle.snapshot.specs.Stages.{BeginsAt, LeadsTo, state_at};
+ghost use Rattle.shared.specs.Traces.{HasHistory, HasOpening, IsSafeTrace, asked_by, first_at, now_at, opening_at};
 ghost use Rattle.shared.specs.declared.counts.Counts.{Counts};
 ghost use Rattle.shared.specs.declared.entry.Entry.{Entry};
 
@@ -24,11 +20,11 @@ use device::Device;
 /// So where nothing is owed, the maps mark exactly what is reachable, open or held, and each link count equals its entries.
 pub fn traces_lead_to_balance<D: Device>()
     ensures run { (held : List (List (List ℕ))) (image : List (List ℕ)) (trace : List Entry) (now : Alive D) → (o : HasOpening held image trace now)
-        → Run now.kept.geometry (state_of o.opening_image o.opening o.opening_beside) (asked_by now.kept.geometry trace) o.responses (state_of image now o.beside)
-        × Balance now.kept.geometry (state_of o.opening_image o.opening o.opening_beside) }
+        → Run now.kept.geometry (state_at (opening_at o)) (asked_by now.kept.geometry trace) o.responses (state_at (now_at o))
+        × Balance now.kept.geometry (state_at (opening_at o)) }
     ensures balance { (held : List (List (List ℕ))) (image : List (List ℕ)) (trace : List Entry) (now : Alive D) → (o : HasOpening held image trace now)
-        → Balance now.kept.geometry (state_of image now o.beside)
-        × (OwesNothing now.kept.geometry (state_of image now o.beside) → Exact now.kept.geometry (state_of image now o.beside)) }
+        → Balance now.kept.geometry (state_at (now_at o))
+        × (OwesNothing now.kept.geometry (state_at (now_at o)) → Exact now.kept.geometry (state_at (now_at o))) }
 {
     snapshot::volumes_are_in_balance::<D>();
 }
@@ -37,8 +33,8 @@ pub fn traces_lead_to_balance<D: Device>()
 /// other calls as are counted, with their replies. So each law about the calls of a volume holds of all that threads did with it.
 pub fn histories_are_calls<D: Device, L: Sharing>()
     ensures { (before : Counts) (trace : List Entry) (now : Alive D) → (h : HasHistory D.held D.image L.opens before trace now)
-        → Goes h.past.beside (D.held h.past.first.device) (D.image h.past.first.device) h.past.first (h.past.commands ++ asked_by h.opening.opening.kept.geometry trace)
-        (h.past.responses ++ h.opening.responses) h.opening.beside (D.held now.device) (D.image now.device) now }
+        → LeadsTo (first_at h) (h.past.commands ++ asked_by h.opening.opening.kept.geometry trace)
+        (h.past.responses ++ h.opening.responses) (now_at h.opening) }
 {
     snapshot::calls_join::<D>();
 }
@@ -49,7 +45,7 @@ pub fn histories_are_calls<D: Device, L: Sharing>()
 pub fn repairs_of_a_history_end_exact<D: Device, L: Sharing>()
     ensures { (before : Counts) (trace : List Entry) (now : Alive D) → (h : HasHistory D.held D.image L.opens before trace now)
         → (cycle : HasCycle now.kept.geometry (h.past.commands ++ asked_by now.kept.geometry trace) (h.past.responses ++ h.opening.responses))
-        → OwesNothing now.kept.geometry (state_of (D.image now.device) now h.opening.beside) × Exact now.kept.geometry (state_of (D.image now.device) now h.opening.beside) }
+        → OwesNothing now.kept.geometry (state_at (now_at h.opening)) × Exact now.kept.geometry (state_at (now_at h.opening)) }
 {
     histories_are_calls::<D, L>();
     snapshot::whole_cycles_end_exact::<D>();
@@ -72,8 +68,7 @@ pub fn each_stop_of_a_trace_is_safe<D: Device>()
     ensures stops { (held : List (List (List ℕ))) (image : List (List ℕ)) (trace : List Entry) (now : Alive D) → (o : HasOpening held image trace now)
         → (mount : View) × (h : List Written) × (cut : List Bool) × IsSafeTrace o mount h cut (λ f. false) }
     ensures beginning { (held : List (List (List ℕ))) (image : List (List ℕ)) (trace : List Entry) (now : Alive D) → (o : HasOpening held image trace now)
-        → (mount : View) (h : List Written) (cut : List Bool) (safe : ℕ → Bool)
-        → IsBeginning o.opening.kept.geometry mount h cut (disk_of o.opening_image o.opening) (pending_of o.opening.queue) (state_of o.opening_image o.opening o.opening_beside) safe
+        → (mount : View) (h : List Written) (cut : List Bool) (safe : ℕ → Bool) → BeginsAt (opening_at o) mount h cut safe
         → IsSafeTrace o mount h cut safe }
 {
     snapshot::volumes_begin::<D>();

@@ -1,9 +1,9 @@
 //! Repairs, one after another.
-ghost use Rattle.std.specs.Prelude.{◌≡◌, ◌≢◌, ◌⊎◌, ◌+◌, ◌≤◌, Err, IfErr, Ok, OnOk};
+ghost use Rattle.std.specs.Prelude.{◌≡◌, ◌≢◌, ◌+◌, ◌≤◌, Err, IfErr, Ok, OnOk};
 ghost use Rattle.snapshot.specs.declared.answer.Answer.{Answer};
 ghost use Rattle.layout.specs.declared.refusal.Refusal.{Refusal};
 ghost use Rattle.shared.specs.Calls.{IsRepairOf};
-ghost use Rattle.shared.specs.Repairing.{IsEnd, Repairs, ended};
+ghost use Rattle.shared.specs.Repairing.{EndsAt, Repairs, ended};
 
 use crate::seat::Seat;
 use crate::shared::Shared;
@@ -51,7 +51,7 @@ impl<D: Device + Drop, L: Sharing, M: Ledger> Shared<D, L, M> {
         // A repair was called for each place that was passed, and for the place where it ended.
         ensures repairs { seat.new.repairs.amount + progress.old.next ≡ seat.old.repairs.amount + progress.new.next + ended result progress.new.next }
         // It ended where the volume had no repair, or no check; any other refusal is the one of the next place.
-        ensures ended { OnOk result ((4294967295 ≤ progress.new.next) ⊎ ((r : Refusal) × IsEnd r × IsRepairOf D.honest D.held D.image L.limit L.opens progress.new.next (Err r))) }
+        ensures ended { OnOk result (EndsAt (IsRepairOf D.honest D.held D.image L.limit L.opens) progress.new.next) }
         ensures refused { IfErr result (λ r. IsRepairOf D.honest D.held D.image L.limit L.opens progress.new.next (Err r)) }
         ensures handed_on { (result ≢ Err Refusal.AlreadyDone) × (result ≢ Err Refusal.BadIndex) × (result ≢ Err Refusal.NoPlan) }
     {

@@ -1,10 +1,10 @@
 //! The lock round the volume, how it is shared, and what is left when it is closed.
 ghost use Rattle.std.specs.Prelude.{◌≡◌, ◌≢◌, ◌↔◌, ◌+◌, ◌<◌, ◌≤◌, ℕ, List, All, Err, IfOk, IsErrOf, IsOkUnless, vec_len};
-ghost use Rattle.std.specs.List.{count_by, sum_by};
+ghost use Rattle.std.specs.List.{sum_by};
 ghost use Rattle.shared.specs.Calls.{IsCallOf, IsFlushOf, IsRotationOf};
 ghost use Rattle.shared.specs.Limits.{Within};
 ghost use Rattle.shared.specs.Opened.{opened_of};
-ghost use Rattle.shared.specs.Repairing.{is_repair_entry, of_others, of_repairs};
+ghost use Rattle.shared.specs.Repairing.{of_others, of_repairs, repairs_in};
 ghost use Rattle.shared.specs.Traces.{HasHistory};
 
 use crate::booked::{Booked, Closed};
@@ -133,8 +133,8 @@ impl<D: Device + Drop, L: Sharing, M: Ledger> Shared<D, L, M> {
         requires all { (vec_len seats ≡ L.parts) × (vec_len seats ≡ M.parts) }
         requires some { 0 < L.parts }
         ensures history { D.honest result.volume.device → HasHistory D.held D.image L.opens result.before result.trace.items result.volume }
-        ensures repairs { sum_by (λ seat. seat.repairs.amount) seats.items ≡ result.before.repairs + count_by is_repair_entry result.trace.items }
-        ensures others { sum_by (λ seat. seat.others.amount) seats.items + count_by is_repair_entry result.trace.items ≡ result.before.others + vec_len result.trace }
+        ensures repairs { sum_by (λ seat. seat.repairs.amount) seats.items ≡ result.before.repairs + repairs_in result.trace.items }
+        ensures others { sum_by (λ seat. seat.others.amount) seats.items + repairs_in result.trace.items ≡ result.before.others + vec_len result.trace }
     {
         let Shared { booked } = self;
         let (repairs, others) = whole(seats);

@@ -10,7 +10,7 @@ use Rattle.frozen.specs.Kept.{Kept, frozen_view, kept_bytes}
 use Rattle.fsck.specs.Checked.{CheckedImage}
 use Rattle.snapshot.specs.Asked.{check_of, is_same_geometry, no_image}
 
-other_metadata : (geo : Geometry) (v w : View) → SameMetadata geo v w → SameMetadata geo w v
+pub other_metadata : (geo : Geometry) (v w : View) → SameMetadata geo v w → SameMetadata geo w v
 other_metadata geo v w m =
     let back = other_way (same_facts geo v w m) in
     record {

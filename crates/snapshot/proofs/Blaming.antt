@@ -1,20 +1,26 @@
--- Which refusals a call may give, whatever its device did: `Device` only where the device failed, and never that a trace is full.
-use Rattle.std.proofs.Common.{◌≡◌, ◌≢◌, ◌⊎◌, [], Ok, Err, Result, IfErr, MatchResult, Option, Some, None, inl, inr, refl, sym, ap, ◌∙◌, subst}
-use Rattle.std.specs.Prelude.{IsErrOf, IsOkUnless, unwrap_or}
-use Rattle.std.specs.Option.{option_map}
-use Rattle.std.proofs.lemmas.Bool.{cond-true}
+-- Which refusals a call may give, whatever its device did: `Device` only where the device failed, else want of memory or a cause.
+use Rattle.std.proofs.Common.{◌≡◌, ◌⊎◌, ◌↔◌, ◌≤◌, ℕ, [], Ok, Err, Result, IfErr, MatchResult, Option, Some, None, inl, inr, refl, sym, ap, ◌∙◌, subst}
+use Rattle.std.specs.Prelude.{IsErrOf, IsOkUnless, IsSome, is_some, unwrap_or}
+use Rattle.std.specs.Bool.{then_some}
+use Rattle.std.specs.Option.{option_map, option_or}
+use Rattle.std.proofs.lemmas.Bool.{cond-true, le-leb}
 use Rattle.layout.specs.declared.refusal.Refusal.{Refusal}
-use Rattle.layout.specs.declared.refusal.Refusal.TheVariants.{BadIndex, Device, NoMemory, TraceFull}
-use Rattle.model.specs.Layout.{is_data_address}
-use Rattle.machine.specs.Command.{Command as Request}
+use Rattle.layout.specs.declared.refusal.Refusal.TheVariants.{BadIndex, Device, NoMemory, NoSnapshot, SnapshotStands, TraceFull}
+use Rattle.model.specs.Layout.{Geometry, block_count, is_data_address}
+use Rattle.machine.specs.Causes.{FirstRefusal, causes, refusal_of}
+use Rattle.machine.specs.Command.{Command as Request, Flush, Freeze, Release, SnapRead}
 use Rattle.machine.specs.State.{State}
 use Rattle.frozen.specs.Kept.{Kept, frozen_view, kept_bytes}
 use Rattle.metadata.specs.Shown.{Shows}
 use Rattle.replies.proofs.Causes.{first_not_device, first_not_full}
 use Rattle.live_states.specs.Holdings.{Has, Holdings, IsImageOf, held_by, opened_by, plan_by}
 use Rattle.live_states.specs.Planned.{IsFirstCauseWith, IsRefused, IsRefusedWith}
-use Rattle.live.specs.Alive.{IsFirstCause}
+use Rattle.live.specs.Alive.{Alive, IsFirstCause}
 use Rattle.snapshot.specs.declared.answer.Answer.{Answer}
+use Rattle.snapshot.specs.declared.command.Command.{Command}
+use Rattle.snapshot.specs.Asked.{asked}
+use Rattle.snapshot.specs.Refusing.{IsCause, IsCauseOf, IsWhyUnread}
+use Rattle.snapshot.proofs.Standing.{none_frozen, refuses_freeze, refuses_release}
 
 -- ---- a state that has what is kept, open and held
 
@@ -43,74 +49,146 @@ some_has kept holdings = record { opened = refl; held = refl; frozen = some_imag
 
 -- ---- a refusal
 
--- `Device` is only where this failed, and no trace is full
-abbrev pub Blames : Type 0 → Refusal → Type 0
-Blames failed r = (r ≡ Device → failed) × (r ≢ TraceFull)
+-- it is `Device` only where this failed, and it has a cause
+pub record Blames (failed : Type 0) (kept : Kept) (holdings : Holdings) (command : Request) (r : Refusal) : Type 0 where
+  pub device : r ≡ Device → failed
+  pub cause : IsCauseOf kept holdings command r
 
-module _ (failed : Type 0) where
-  by_first : (kept : Kept) (holdings : Holdings) (command : Request) (r : Refusal) → IsFirstCauseWith kept holdings command r → Blames failed r
-  by_first kept holdings command r first =
-      let here = first (some_state kept holdings) (some_shown kept holdings) (some_has kept holdings) in
-      (λ e. absurd (first_not_device kept.geometry (some_state kept holdings) command r here e), first_not_full kept.geometry (some_state kept holdings) command r here)
+module _ (kept : Kept) (holdings : Holdings) (command : Request) (r : Refusal) where
+  first_here : IsFirstCauseWith kept holdings command r → FirstRefusal kept.geometry (some_state kept holdings) command r
+  first_here first = first (some_state kept holdings) (some_shown kept holdings) (some_has kept holdings)
 
-  by_memory : (r : Refusal) → r ≡ NoMemory → Blames failed r
-  by_memory r e = (λ d. let bad : NoMemory ≡ Device = sym e ∙ d in cc, λ t. let bad : NoMemory ≡ TraceFull = sym e ∙ t in cc)
+  pub never_device : IsRefusedWith kept holdings command r → r ≡ Device → ⊥
+  never_device (inl memory) device = let bad : NoMemory ≡ Device = sym memory ∙ device in cc
+  never_device (inr first) device = first_not_device kept.geometry (some_state kept holdings) command r (first_here first) device
 
-  by_index : (r : Refusal) → r ≡ BadIndex → Blames failed r
-  by_index r e = (λ d. let bad : BadIndex ≡ Device = sym e ∙ d in cc, λ t. let bad : BadIndex ≡ TraceFull = sym e ∙ t in cc)
+  pub never_full : IsCauseOf kept holdings command r → r ≡ TraceFull → ⊥
+  never_full (inl device) full = let bad : Device ≡ TraceFull = sym device ∙ full in cc
+  never_full (inr (inl memory)) full = let bad : NoMemory ≡ TraceFull = sym memory ∙ full in cc
+  never_full (inr (inr (inl first))) full = first_not_full kept.geometry (some_state kept holdings) command r (first_here first) full
+  never_full (inr (inr (inr (index, unread)))) full = let bad : BadIndex ≡ TraceFull = sym index ∙ full in cc
 
-  by_cause : (kept : Kept) (holdings : Holdings) (command : Request) (r : Refusal) → IsRefusedWith kept holdings command r → Blames failed r
-  by_cause kept holdings command r (inl memory) = by_memory r memory
-  by_cause kept holdings command r (inr first) = by_first kept holdings command r first
+  pub has_cause : IsRefusedWith kept holdings command r → IsCauseOf kept holdings command r
+  has_cause (inl memory) = inr (inl memory)
+  has_cause (inr first) = inr (inr (inl first))
 
-  by_device : (r : Refusal) → (r ≡ Device → failed) → r ≡ Device → Blames failed r
-  by_device r has e = (has, λ t. let bad : Device ≡ TraceFull = sym e ∙ t in cc)
+-- a read of the snapshot
+module _ (kept : Kept) (holdings : Holdings) (i k : ℕ) (r : Refusal) where
+  pub unread_cause : IsWhyUnread kept.geometry holdings i k r → IsCauseOf kept holdings (SnapRead i k) r
+  unread_cause (inl first) = inr (inr (inl (λ old shows has. first old has)))
+  unread_cause (inr unread) = inr (inr (inr unread))
+
+  pub unread_never_device : IsWhyUnread kept.geometry holdings i k r → r ≡ Device → ⊥
+  unread_never_device (inl first) device = never_device kept holdings (SnapRead i k) r (inr (λ old shows has. first old has)) device
+  unread_never_device (inr (index, unread)) device = let bad : BadIndex ≡ Device = sym index ∙ device in cc
+
+module _ (failed : Type 0) (kept : Kept) (holdings : Holdings) (command : Request) where
+  by_cause : (r : Refusal) → IsRefusedWith kept holdings command r → Blames failed kept holdings command r
+  by_cause r cause = record { device = λ device. absurd (never_device kept holdings command r cause device); cause = has_cause kept holdings command r cause }
+
+  by_device : (r : Refusal) → (r ≡ Device → failed) → r ≡ Device → Blames failed kept holdings command r
+  by_device r has device = record { device = has; cause = inl device }
 
   -- ---- by what a call promises of its refusals
 
   module _ {T : Type 0} where
-    pub of_caused : (kept : Kept) (holdings : Holdings) (command : Request) (outcome : Result T Refusal) → IfErr outcome (IsRefusedWith kept holdings command) → IfErr outcome (Blames failed)
-    of_caused kept holdings command (Ok t) p = p
-    of_caused kept holdings command (Err r) p = by_cause kept holdings command r p
+    pub of_caused : (outcome : Result T Refusal) → IfErr outcome (IsRefusedWith kept holdings command) → IfErr outcome (Blames failed kept holdings command)
+    of_caused (Ok t) p = p
+    of_caused (Err r) p = by_cause r p
 
-    pub of_refused : (kept : Kept) (holdings : Holdings) (command : Request) (outcome : Result T Refusal) → IfErr outcome (IsRefused kept command) → IfErr outcome (Blames failed)
-    of_refused kept holdings command (Ok t) p = p
-    of_refused kept holdings command (Err r) (inl memory) = by_memory r memory
-    of_refused kept holdings command (Err r) (inr first) = by_first kept holdings command r (λ old shows has. first old shows)
+    pub of_refused : (outcome : Result T Refusal) → IfErr outcome (IsRefused kept command) → IfErr outcome (Blames failed kept holdings command)
+    of_refused (Ok t) p = p
+    of_refused (Err r) (inl memory) = by_cause r (inl memory)
+    of_refused (Err r) (inr first) = by_cause r (inr (λ old shows has. first old shows))
 
-    pub of_first : (kept : Kept) (holdings : Holdings) (command : Request) (outcome : Result T Refusal) → IfErr outcome (IsFirstCause kept command) → IfErr outcome (Blames failed)
-    of_first kept holdings command (Ok t) p = p
-    of_first kept holdings command (Err r) first = by_first kept holdings command r (λ old shows has. first old shows)
+    pub of_first : (outcome : Result T Refusal) → IfErr outcome (IsFirstCause kept command) → IfErr outcome (Blames failed kept holdings command)
+    of_first (Ok t) p = p
+    of_first (Err r) first = by_cause r (inr (λ old shows has. first old shows))
 
-    pub of_device_or_caused : (kept : Kept) (holdings : Holdings) (command : Request) (outcome : Result T Refusal) → IfErr outcome (λ r. (r ≡ Device) ⊎ IsRefusedWith kept holdings command r) → (IsErrOf outcome Device → failed)
-        → IfErr outcome (Blames failed)
-    of_device_or_caused kept holdings command (Ok t) p has = p
-    of_device_or_caused kept holdings command (Err r) (inl device) has = by_device r (λ e. has (ap Err e)) device
-    of_device_or_caused kept holdings command (Err r) (inr cause) has = by_cause kept holdings command r cause
+    pub of_device_or_caused : (outcome : Result T Refusal) → IfErr outcome (λ r. (r ≡ Device) ⊎ IsRefusedWith kept holdings command r) → (IsErrOf outcome Device → failed) → IfErr outcome (Blames failed kept holdings command)
+    of_device_or_caused (Ok t) p has = p
+    of_device_or_caused (Err r) (inl device) has = by_device r (λ e. has (ap Err e)) device
+    of_device_or_caused (Err r) (inr cause) has = by_cause r cause
 
-    pub of_device_or_index : (P : Type 0) (outcome : Result T Refusal) → IfErr outcome (λ r. (r ≡ Device) ⊎ ((r ≡ BadIndex) × P)) → (IsErrOf outcome Device → failed) → IfErr outcome (Blames failed)
-    of_device_or_index P (Ok t) p has = p
-    of_device_or_index P (Err r) (inl device) has = by_device r (λ e. has (ap Err e)) device
-    of_device_or_index P (Err r) (inr index) has = by_index r index.0
-
-    pub of_device : (outcome : Result T Refusal) → IsOkUnless outcome Device → (IsErrOf outcome Device → failed) → IfErr outcome (Blames failed)
+    pub of_device : (outcome : Result T Refusal) → IsOkUnless outcome Device → (IsErrOf outcome Device → failed) → IfErr outcome (Blames failed kept holdings command)
     of_device (Ok t) p has = p
     of_device (Err r) device has = by_device r (λ e. has (ap Err e)) device
 
-    pub of_told : (outcome : Result T Refusal) → (IsErrOf outcome Device → failed) → (IsErrOf outcome TraceFull → ⊥) → IfErr outcome (Blames failed)
-    of_told (Ok t) has none = tt
-    of_told (Err r) has none = (λ e. has (ap Err e), λ e. none (ap Err e))
+-- an address that is not on the volume
+refuses_flush : (geo : Geometry) (old : State) (a : ℕ) → block_count geo ≤ a → refusal_of geo old (Flush a) ≡ Some BadIndex
+unfolding causes
+refuses_flush geo old a high = ap (λ b. option_or (then_some b BadIndex) None) (le-leb (block_count geo) a high)
 
-    -- ---- and so for the reply
+-- a flush is refused for its block's address
+pub of_flush : (failed : Type 0) (kept : Kept) (holdings : Holdings) (a : ℕ) {T : Type 0} (outcome : Result T Refusal) → IfErr outcome (λ r. (r ≡ Device) ⊎ ((r ≡ BadIndex) × (block_count kept.geometry ≤ a))) → (IsErrOf outcome Device → failed)
+    → IfErr outcome (Blames failed kept holdings (Flush a))
+of_flush failed kept holdings a (Ok t) p has = p
+of_flush failed kept holdings a (Err r) (inl device) has = by_device failed kept holdings (Flush a) r (λ e. has (ap Err e)) device
+of_flush failed kept holdings a (Err r) (inr (index, past)) has =
+    subst (λ x. Blames failed kept holdings (Flush a) x) (sym index) (by_cause failed kept holdings (Flush a) BadIndex (inr (λ old shows has. inl (refuses_flush kept.geometry old a past))))
 
-    pub replied_so : (given : T → Answer) (outcome : Result T Refusal) (reply : Result Answer Refusal) → MatchResult outcome (λ t. reply ≡ Ok (given t)) (λ r. reply ≡ Err r) → IfErr outcome (Blames failed) → IfErr reply (Blames failed)
-    replied_so given (Ok t) reply told p = subst (λ x. IfErr x (Blames failed)) (sym told) p
-    replied_so given (Err r) reply told p = subst (λ x. IfErr x (Blames failed)) (sym told) p
+-- ---- and so for the reply
 
-    pub device_blamed : (reply : Result T Refusal) → IfErr reply (Blames failed) → IsErrOf reply Device → failed
-    device_blamed (Ok t) p e = let bad : Ok t ≡ Err Device = e in cc
-    device_blamed (Err r) p e = p.0 (let same : r ≡ Device = cc in same)
+module _ (failed : Type 0) (kept : Kept) (holdings : Holdings) (command : Request) {T : Type 0} where
+  pub replied_so : (given : T → Answer) (outcome : Result T Refusal) (reply : Result Answer Refusal) → MatchResult outcome (λ t. reply ≡ Ok (given t)) (λ r. reply ≡ Err r)
+      → IfErr outcome (Blames failed kept holdings command) → IfErr reply (Blames failed kept holdings command)
+  replied_so given (Ok t) reply told p = subst (λ x. IfErr x (Blames failed kept holdings command)) (sym told) p
+  replied_so given (Err r) reply told p = subst (λ x. IfErr x (Blames failed kept holdings command)) (sym told) p
 
-    pub no_trace_blamed : (reply : Result T Refusal) → IfErr reply (Blames failed) → IsErrOf reply TraceFull → ⊥
-    no_trace_blamed (Ok t) p e = let bad : Ok t ≡ Err TraceFull = e in cc
-    no_trace_blamed (Err r) p e = p.1 (let same : r ≡ TraceFull = cc in same)
+  pub device_blamed : (reply : Result T Refusal) → IfErr reply (Blames failed kept holdings command) → IsErrOf reply Device → failed
+  device_blamed (Ok t) p e = let bad : Ok t ≡ Err Device = e in cc
+  device_blamed (Err r) p e = p.device (let same : r ≡ Device = cc in same)
+
+  pub cause_blamed : (asks : Request) → asks ≡ command → (reply : Result T Refusal) → IfErr reply (Blames failed kept holdings command) → IfErr reply (IsCauseOf kept holdings asks)
+  cause_blamed asks same (Ok t) p = tt
+  cause_blamed asks same (Err r) p = subst (λ x. IsCauseOf kept holdings x r) (sym same) p.cause
+
+-- ---- causes of what a call refuses, and so of the reply
+
+module _ (kept : Kept) (holdings : Holdings) where
+  pub caused_so : (command : Request) {T : Type 0} (outcome : Result T Refusal) → IfErr outcome (IsRefusedWith kept holdings command) → IfErr outcome (IsCauseOf kept holdings command)
+  caused_so command (Ok t) p = tt
+  caused_so command (Err r) p = has_cause kept holdings command r p
+
+  pub handed_on : (asks command : Request) → asks ≡ command → {T : Type 0} (given : T → Answer) (outcome : Result T Refusal) (reply : Result Answer Refusal)
+      → MatchResult outcome (λ t. reply ≡ Ok (given t)) (λ r. reply ≡ Err r) → IfErr outcome (IsCauseOf kept holdings command) → IfErr reply (IsCauseOf kept holdings asks)
+  handed_on asks command same given (Ok t) reply told p = subst (λ x. IfErr x (IsCauseOf kept holdings asks)) (sym told) tt
+  handed_on asks command same given (Err r) reply told p = subst (λ x. IfErr x (IsCauseOf kept holdings asks)) (sym told) (subst (λ x. IsCauseOf kept holdings x r) (sym same) p)
+
+pub same_refusal : {T : Type 0} (r s : Refusal) → ◌≡◌ {A = Result T Refusal} (Err r) (Err s) → r ≡ s
+same_refusal r s e = cc
+
+-- a refusal that is never this one
+pub never_so : {T : Type 0} (P : Refusal → Type 0) (r : Refusal) → ((x : Refusal) → P x → x ≡ r → ⊥) → (outcome : Result T Refusal) → IfErr outcome P → IsErrOf outcome r → ⊥
+never_so P r never (Ok t) p is = let bad : Ok t ≡ Err r = is in cc
+never_so P r never (Err x) p is = never x p (let same : x ≡ r = cc in same)
+
+-- no trace is full where each refusal has a cause
+pub not_full : {D T : Type 0} (old : Alive D) (command : Command) (reply : Result T Refusal) → IfErr reply (IsCause old command) → IsErrOf reply TraceFull → ⊥
+not_full old command reply caused = never_so (IsCause old command) TraceFull (never_full old.kept old.holdings (asked old.kept.geometry command)) reply caused
+
+-- ---- a freeze and a release
+
+-- what neither fails nor lacks memory is refused where this is so
+abbrev pub AtMost : Refusal → Refusal → Type 0
+AtMost why r = (r ≡ why) ⊎ ((r ≡ NoMemory) ⊎ (r ≡ Device))
+
+pub memory_at_most : (why : Refusal) {T : Type 0} (outcome : Result T Refusal) → IsOkUnless outcome NoMemory → IfErr outcome (AtMost why)
+memory_at_most why (Ok t) p = tt
+memory_at_most why (Err r) memory = inr (inl memory)
+
+module _ (kept : Kept) (holdings : Holdings) where
+  at_most_cause : (command : Request) (why r : Refusal) → (r ≡ why → IsFirstCauseWith kept holdings command why) → AtMost why r → IsCauseOf kept holdings command r
+  at_most_cause command why r first (inl is) = subst (IsCauseOf kept holdings command) (sym is) (inr (inr (inl (first is))))
+  at_most_cause command why r first (inr (inl memory)) = inr (inl memory)
+  at_most_cause command why r first (inr (inr device)) = inl device
+
+  pub freeze_caused : {T : Type 0} (outcome : Result T Refusal) → IsErrOf outcome SnapshotStands ↔ IsSome holdings.snapshot → IfErr outcome (AtMost SnapshotStands) → IfErr outcome (IsCauseOf kept holdings Freeze)
+  freeze_caused (Ok t) stands most = tt
+  freeze_caused (Err r) stands most = at_most_cause Freeze SnapshotStands r
+      (λ is old shows has. inl (refuses_freeze kept.geometry old (none_frozen holdings.snapshot old.frozen has.frozen ∙ stands.0 (ap Err is)))) most
+
+  pub release_caused : {T : Type 0} (outcome : Result T Refusal) → IsErrOf outcome NoSnapshot ↔ (holdings.snapshot ≡ None) → IfErr outcome (AtMost NoSnapshot) → IfErr outcome (IsCauseOf kept holdings Release)
+  release_caused (Ok t) none most = tt
+  release_caused (Err r) none most = at_most_cause Release NoSnapshot r
+      (λ is old shows has. inl (refuses_release kept.geometry old (none_frozen holdings.snapshot old.frozen has.frozen ∙ ap is_some (none.0 (ap Err is))))) most

@@ -1,13 +1,14 @@
-mod Alike
+pub mod Alike
 mod AnswerLemmas
 pub mod AppliesLemmas
-mod Blaming
+pub mod Blaming
 mod CallLemmas
 mod Going
 mod Installs
 pub mod Joining
 mod PieceLemmas
 mod ReadLemmas
+pub mod Refusals
 mod Splitting
 mod Standing
 mod UserReplies

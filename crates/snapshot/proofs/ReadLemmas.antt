@@ -12,7 +12,7 @@ use Rattle.model.specs.Rules.{ObeysRules}
 use Rattle.model.specs.Uses.{IsClaim, blocks_of, claim_at, is_directory, is_directory_at, is_sound, is_sound_at}
 use Rattle.model.specs.View.{Inode, View}
 use Rattle.model.proofs.Same.{claim_there, same_facts, same_rules}
-use Rattle.model.proofs.UseLemmas.{claim_parts}
+use Rattle.model.proofs.UseLemmas.{claim_from, claim_parts}
 use Rattle.machine.specs.Balance.{Balance}
 use Rattle.machine.specs.Below.{when}
 use Rattle.machine.specs.Causes.{Accepts, causes, is_used_number, not_file, past, refusal_of}
@@ -81,7 +81,7 @@ module _ (geo : Geometry) (v : View) (i k : ℕ) (o : ObeysRules geo v) where
       not_free : (n : ℕ) → not (eqb n 0) ≡ true → n ≡ 0 → ⊥
       not_free n t e = let bad : not (eqb 0 0) ≡ true = subst (λ m. not (eqb m 0) ≡ true) e t in cc
 
-  pub inside_claims : is_used_number geo v i ≡ true → k < blocks_of (v.inode i).size → IsClaim geo v i k (block_of geo v i k)
+  inside_claims : is_used_number geo v i ≡ true → k < blocks_of (v.inode i).size → IsClaim geo v i k (block_of geo v i k)
   inside_claims u within =
       let sound = used_sound u in
       block_claimed geo v o i k sound within (few sound)
@@ -95,6 +95,13 @@ module _ (geo : Geometry) (v : View) (i k : ℕ) (o : ObeysRules geo v) where
       let sound = used_sound parts.0 in
       let halves = and_parts (is_number geo i) (is_sound (v.inode i)) sound in
       ((sound, parts.1), claim, λ e. omega (arith, e, leb-false (blocks_of (v.inode i).size) k parts.2, leb-true (blocks_of (v.inode i).size) 268 (and_parts _ (leb (blocks_of (v.inode i).size) 268) halves.1).1))
+
+  -- no block is missing
+  pub none_lacks : why_no_piece geo v i k ≡ None → claim_at geo v i k ≡ None → ⊥
+  none_lacks none unclaimed =
+      let parts = why_bools (is_used_number geo v i) (is_directory_at geo v i) (leb (blocks_of (v.inode i).size) k) none in
+      let claim = claim_from geo v i k (block_of geo v i k) (inside_claims parts.0 (leb-false (blocks_of (v.inode i).size) k parts.2)) in
+      let bad : Some (block_of geo v i k) ≡ None = sym claim ∙ unclaimed in cc
 
 -- the block of a piece is a data block
 pub piece_address : (kept : Kept) (i k : ℕ) (piece : Piece) → IsPieceOf kept i k piece → IsTrue (is_data_address kept.geometry piece.block)

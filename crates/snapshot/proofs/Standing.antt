@@ -104,7 +104,7 @@ module _ {D : Type 0} (held held' : List (List (List ℕ))) (image image' : List
   -- ---- it begins
 
   module _ (device : D) (snapshot : Kept) (unkept : old.holdings.snapshot ≡ None)
-      (shows : Shows snapshot (settled geo (state_over disk' (pending_of queue) old.holdings beside)))
+      (shows : Shows snapshot (settled geo s))
       (begun : state_over disk' (pending_of queue) (keeping old.holdings snapshot) (record { frozen = Some (settled geo (state_over disk' (pending_of queue) old.holdings beside)) })
       ≡ frozen geo (state_over disk' (pending_of queue) old.holdings beside))
       (so : StandsSo image' (record { device = device; queue = queue; kept = old.kept; holdings = keeping old.holdings snapshot })) where
@@ -113,9 +113,6 @@ module _ {D : Type 0} (held held' : List (List (List ℕ))) (image image' : List
 
     abbrev beside' : Beside
     beside' = record { frozen = Some (settled geo s) }
-
-    pub shows_settled : Shows snapshot (settled geo s)
-    shows_settled = subst (λ t. Shows snapshot (settled geo t)) same_state shows
 
     frozen_now : state_over disk' (pending_of queue) (keeping old.holdings snapshot) beside' ≡ frozen geo s
     frozen_now = subst (λ t. state_over disk' (pending_of queue) (keeping old.holdings snapshot) (record { frozen = Some (settled geo t) }) ≡ frozen geo t) same_state begun
@@ -129,7 +126,7 @@ module _ {D : Type 0} (held held' : List (List (List ℕ))) (image image' : List
         let step : Step geo s Freeze (Ok (Image (settled geo s))) t = (accepted, (refl, frozen_now)) in
         record {
           geometry = refl;
-          is = beside_then image' (record { device = device; queue = queue; kept = old.kept; holdings = keeping old.holdings snapshot }) so beside' image old beside Freeze (Ok (Image (settled geo s))) refl is shows_settled step;
+          is = beside_then image' (record { device = device; queue = queue; kept = old.kept; holdings = keeping old.holdings snapshot }) so beside' image old beside Freeze (Ok (Image (settled geo s))) refl is shows step;
           run = (t, step, refl);
           later = later;
           since = flushed_since held held' image image' old beside is queue flushes;

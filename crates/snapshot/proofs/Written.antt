@@ -16,7 +16,7 @@ use Rattle.live_states.specs.Snapshots.{held_blocks, keeping, let_go}
 use Rattle.live.specs.Alive.{Alive, StandsSo, state_of}
 use Rattle.snapshot.specs.Goes.{Freezes, HasBeside, IsBeside, Releases, Replies}
 use Rattle.snapshot.proofs.CallLemmas.{refused_after}
-use Rattle.snapshot.proofs.Standing.{freezes, releases, shows_settled}
+use Rattle.snapshot.proofs.Standing.{freezes, releases}
 
 -- whether something is there, by what is told of it
 pub some_copied : {X Y : Type 0} (f : X → Y) (o : Option (Bor X)) → is_some (option_map f (option_copied o)) ≡ is_some o
@@ -26,6 +26,10 @@ some_copied f (Some b) = refl
 pub none_where : {X : Type 0} (o : Option X) → is_some o ≡ false → o ≡ None
 none_where None t = refl
 none_where (Some x) t = let bad : true ≡ false = t in cc
+
+pub some_stands : {X : Type 0} (o : Option X) → is_some o ≡ true → o ≡ None → ⊥
+some_stands None t none = let bad : false ≡ true = t in cc
+some_stands (Some x) t none = let bad : Some x ≡ None = none in cc
 
 module _ {D : Type 0} (honest : D → Type 0) (held_of : D → List (List (List ℕ))) (image_of : D → List (List ℕ)) (old mid : Alive D) (kept : mid.kept ≡ old.kept) (holdings : mid.holdings ≡ old.holdings)
     (flushes : honest mid.device → AreFlushes old.kept.geometry (image_of old.device) (held_of old.device) (pending_of old.queue) (image_of mid.device) (held_of mid.device) (pending_of mid.queue))
@@ -52,7 +56,7 @@ module _ {D : Type 0} (honest : D → Type 0) (held_of : D → List (List (List 
   module _ (new : Alive D) (snapshot : Kept) (unkept : old.holdings.snapshot ≡ None) (none : pending_of mid.queue ≡ []) where
     abbrev Begins : Alive D → Type 0
     Begins m = (new ≡ record m { holdings = keeping m.holdings snapshot })
-        × ((beside : Beside) → IsImageOf m.holdings.snapshot beside.frozen → Shows snapshot (settled m.kept.geometry (state_of (image_of m.device) m beside)))
+        × ((beside : Beside) → IsImageOf old.holdings.snapshot beside.frozen → Shows snapshot (settled old.kept.geometry (state_of (image_of old.device) old beside)))
         × ((beside : Beside) → state_of (image_of new.device) new (record { frozen = Some (settled m.kept.geometry (state_of (image_of m.device) m beside)) }) ≡ frozen m.kept.geometry (state_of (image_of m.device) m beside))
 
     abbrev IsFrozen : Alive D → Type 0
@@ -65,7 +69,7 @@ module _ {D : Type 0} (honest : D → Type 0) (held_of : D → List (List (List 
     begins_from h so facts = subst IsFrozen (sym facts.0) (λ beside is.
         let begun = subst (λ (n : Alive D). state_of (image_of n.device) n (record { frozen = Some (settled old.kept.geometry (state_of (image_of mid.device) Mid beside)) }) ≡ frozen old.kept.geometry (state_of (image_of mid.device) Mid beside)) facts.0 (facts.2 beside) in
         let shows = facts.1 beside is.belongs in (
-          shows_settled (held_of old.device) (held_of mid.device) (image_of old.device) (image_of mid.device) old beside is mid.queue (flushes h) none mid.device snapshot unkept shows begun so,
+          shows,
           freezes (held_of old.device) (held_of mid.device) (image_of old.device) (image_of mid.device) old beside is mid.queue (flushes h) none mid.device snapshot unkept shows begun so,
         ))
 

@@ -2,8 +2,11 @@ pub use Rattle.live.specs.Alive
 pub use Rattle.live.specs.Held
 pub use Rattle.live.specs.Mounting
 pub mod Asked
+pub mod Between
 pub mod Cycles
 pub mod Goes
 pub mod Pieces
+pub mod Refusing
 pub mod Replied
+pub mod Stages
 pub mod Writes

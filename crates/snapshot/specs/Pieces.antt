@@ -29,3 +29,8 @@ pub record IsPieceOfSnapshot (geo : Geometry) (holdings : Holdings) (i k : ℕ) 
   pub geometry : snapshot.geometry ≡ geo
   pub metadata : KeepsMetadata snapshot
   pub found : IsPieceOf snapshot i k piece
+
+-- No cause is there, and yet the image has no such block: it breaks the rules.
+pub record LacksPiece (kept : Kept) (i k : ℕ) : Type 0 where
+  pub no_cause : why_no_piece kept.geometry (frozen_view kept) i k ≡ None
+  pub unclaimed : claim_at kept.geometry (frozen_view kept) i k ≡ None

@@ -1,11 +1,8 @@
-ghost use Rattle.std.specs.Prelude.{◌≡◌, ℕ, true, IfOk, IsErrOf, IsOkUnless, OnErr, map};
-ghost use Rattle.std.specs.List.{All};
+ghost use Rattle.std.specs.Prelude.{◌≡◌, ℕ, true, IfErr, IfOk, IsErrOf, IsOkUnless, OnErr};
 ghost use Rattle.device.specs.Writes.{HasFailed};
-ghost use Rattle.queue_model.specs.Blocks.{home_of};
-ghost use Rattle.queue_model.specs.Flush.{ready, taken};
-ghost use Rattle.softdep.specs.Queued.{pending_of};
-ghost use Rattle.snapshot.specs.Asked.{HasBytesOrNames, asked, is_users};
-ghost use Rattle.snapshot.specs.Goes.{Applies, Runs};
+ghost use Rattle.snapshot.specs.Asked.{HasBytesOrNames, is_users};
+ghost use Rattle.snapshot.specs.Between.{Applied, Ran, could_go};
+ghost use Rattle.snapshot.specs.Refusing.{AreCaused, IsCause};
 ghost use Rattle.snapshot.specs.Writes.{Writes};
 
 use crate::answer::{bytes, done, image};
@@ -20,15 +17,16 @@ impl<D: Device> Volume<D> {
     /// as they were. Nothing is written to the device but by a flush, which writes its block alone, and by a sync, a freeze and
     /// a release, which write what is pending.
     pub fn apply(&mut self, alloc: Global, command: &Command) -> Reply
-        ensures applied { D.honest self.new.device → Applies (D.held self.old.device) (D.image self.old.device) self.old (asked self.old.kept.geometry command.now) result (D.held self.new.device) (D.image self.new.device) self.new }
+        ensures applied { D.honest self.new.device → Applied D.held D.image self.old command.now result self.new }
         ensures untouched { OnErr result ((self.new.kept ≡ self.old.kept) × (self.new.holdings ≡ self.old.holdings)) }
         // An answer of bytes or names leaves all of that too.
         ensures reading { HasBytesOrNames result → (self.new.kept ≡ self.old.kept) × (self.new.holdings ≡ self.old.holdings) }
         // A flush counts the updates of its block that could go.
-        ensures flushed { (a : ℕ) → command.now ≡ Command.Flush a → D.honest self.new.device → IfOk result (λ answer. answer ≡ Answer.Number (taken (ready (home_of self.old.kept.geometry) a (pending_of self.old.queue)))) }
+        ensures flushed { (a : ℕ) → command.now ≡ Command.Flush a → D.honest self.new.device → IfOk result (λ answer. answer ≡ Answer.Number (could_go self.old a)) }
         ensures writes { Writes D.honest D.held D.image self.old command.now result self.new }
         ensures cause { IsErrOf result Refusal.Device → HasFailed (D.failures self.old.device) (D.failures self.new.device) }
-        ensures no_trace { IsErrOf result Refusal.TraceFull → ⊥ }
+        // Whatever the device did, a refusal has a cause in what the volume keeps.
+        ensures error { IfErr result (IsCause self.old command.now) }
         ensures honest { D.honest self.new.device → D.honest self.old.device }
     {
         match command {
@@ -44,15 +42,16 @@ impl<D: Device> Volume<D> {
     /// Carries out a command of users, and answers it.
     fn user_answer(&mut self, alloc: Global, command: &Command) -> Reply
         requires { is_users command.now ≡ true }
-        ensures applied { D.honest self.new.device → Applies (D.held self.old.device) (D.image self.old.device) self.old (asked self.old.kept.geometry command.now) result (D.held self.new.device) (D.image self.new.device) self.new }
+        ensures applied { D.honest self.new.device → Applied D.held D.image self.old command.now result self.new }
         ensures untouched { OnErr result ((self.new.kept ≡ self.old.kept) × (self.new.holdings ≡ self.old.holdings)) }
         // An answer of bytes or names leaves all of that too.
         ensures reading { HasBytesOrNames result → (self.new.kept ≡ self.old.kept) × (self.new.holdings ≡ self.old.holdings) }
         // A flush counts the updates of its block that could go.
-        ensures flushed { (a : ℕ) → command.now ≡ Command.Flush a → D.honest self.new.device → IfOk result (λ answer. answer ≡ Answer.Number (taken (ready (home_of self.old.kept.geometry) a (pending_of self.old.queue)))) }
+        ensures flushed { (a : ℕ) → command.now ≡ Command.Flush a → D.honest self.new.device → IfOk result (λ answer. answer ≡ Answer.Number (could_go self.old a)) }
         ensures writes { Writes D.honest D.held D.image self.old command.now result self.new }
         ensures cause { IsErrOf result Refusal.Device → HasFailed (D.failures self.old.device) (D.failures self.new.device) }
-        ensures no_trace { IsErrOf result Refusal.TraceFull → ⊥ }
+        // Whatever the device did, a refusal has a cause in what the volume keeps.
+        ensures error { IfErr result (IsCause self.old command.now) }
         ensures honest { D.honest self.new.device → D.honest self.old.device }
     {
         let reply = user_reply(&mut self.live, alloc, command);
@@ -63,10 +62,11 @@ impl<D: Device> Volume<D> {
     /// Carries out commands, one after another, and gives their replies. Refused with `NoMemory` alone, and then none was
     /// carried out.
     pub fn run(&mut self, alloc: Global, commands: Vec<Command>) -> Result<Vec<Reply>, Refusal>
-        ensures ran { IfOk result (λ replies. D.honest self.new.device → Runs (D.held self.old.device) (D.image self.old.device) self.old (map (asked self.old.kept.geometry) commands.items) replies.items (D.held self.new.device) (D.image self.new.device) self.new) }
+        ensures ran { IfOk result (λ replies. D.honest self.new.device → Ran D.held D.image self.old commands.items replies.items self.new) }
         ensures untouched { OnErr result (self.new ≡ self.old) }
         ensures error { IsOkUnless result Refusal.NoMemory }
-        ensures no_trace { IfOk result (λ replies. All (λ reply. IsErrOf reply Refusal.TraceFull → ⊥) replies.items) }
+        // Whatever the device did, each refusal has a cause in what the volume kept then.
+        ensures caused { IfOk result (λ replies. AreCaused self.old commands.items replies.items self.new) }
         ensures honest { D.honest self.new.device → D.honest self.old.device }
     {
         let mut replies = Vec::with_capacity(alloc, commands.len())?;

@@ -1,7 +1,7 @@
 ghost use Rattle.std.specs.Prelude.{◌≡◌, Err, IfErr, Ok, OnErr, OnOk};
 ghost use Rattle.std.specs.List.{list_all};
 ghost use Rattle.findings.specs.Findings.{is_soft};
-ghost use Rattle.machine.specs.Command.{Done, Install, RepairAt};
+ghost use Rattle.machine.specs.Command.{Done, RepairAt};
 ghost use Rattle.frozen.specs.Kept.{frozen_view};
 ghost use Rattle.fsck.specs.Checked.{IsChecked};
 ghost use Rattle.machine.specs.Causes.{FirstRefusal};
@@ -10,7 +10,7 @@ ghost use Rattle.live_states.specs.Holdings.{Has};
 ghost use Rattle.live_states.specs.Planned.{IsRefusedWith};
 ghost use Rattle.live_states.specs.Snapshots.{AreRepairsOf, IsInstallable, installing};
 ghost use Rattle.snapshot.specs.Asked.{check_of};
-ghost use Rattle.snapshot.specs.Goes.{Replies};
+ghost use Rattle.snapshot.specs.Between.{GotReply, asks_install};
 
 use crate::Volume;
 use device::Device;
@@ -27,9 +27,9 @@ impl<D: Device> Volume<D> {
     /// is damaged, with `ForeignPlan` where that image is another one than the snapshot's: its geometry, a record, a bit, or a byte of
     /// an indirect block or a directory's block differs; and with `NoMemory`.
     pub fn install(&mut self, alloc: Global, checked: &Checked) -> Result<(), Refusal>
-        ensures installed { OnOk result (D.honest self.new.device → Replies (D.held self.old.device) (D.image self.old.device) self.old (Install (check_of self.old.kept.geometry checked.now)) (Ok Done) (D.held self.new.device) (D.image self.new.device) self.new) }
-        ensures refused { IfErr result (λ r. D.honest self.new.device → Replies (D.held self.old.device) (D.image self.old.device) self.old (Install (check_of self.old.kept.geometry checked.now)) (Err r) (D.held self.new.device) (D.image self.new.device) self.new) }
-        ensures cause { IfErr result (IsRefusedWith self.old.kept self.old.holdings (Install (check_of self.old.kept.geometry checked.now))) }
+        ensures installed { OnOk result (D.honest self.new.device → GotReply D.held D.image self.old (asks_install self.old checked.now) (Ok Done) self.new) }
+        ensures refused { IfErr result (λ r. D.honest self.new.device → GotReply D.held D.image self.old (asks_install self.old checked.now) (Err r) self.new) }
+        ensures cause { IfErr result (IsRefusedWith self.old.kept self.old.holdings (asks_install self.old checked.now)) }
         ensures untouched { OnErr result (self.new ≡ self.old) }
         ensures device { self.new.device ≡ self.old.device }
     {
@@ -45,8 +45,8 @@ impl<D: Device> Volume<D> {
     /// a number that is in no use is unmarked. Refused with `NoPlan` where no check is installed, with `BadIndex` where it
     /// has no such repair, with `AlreadyDone`, and with `NoMemory`.
     pub fn repair(&mut self, alloc: Global, place: u32) -> Result<(), Refusal>
-        ensures repaired { OnOk result (D.honest self.new.device → Replies (D.held self.old.device) (D.image self.old.device) self.old (RepairAt place) (Ok Done) (D.held self.new.device) (D.image self.new.device) self.new) }
-        ensures refused { IfErr result (λ r. D.honest self.new.device → Replies (D.held self.old.device) (D.image self.old.device) self.old (RepairAt place) (Err r) (D.held self.new.device) (D.image self.new.device) self.new) }
+        ensures repaired { OnOk result (D.honest self.new.device → GotReply D.held D.image self.old (RepairAt place) (Ok Done) self.new) }
+        ensures refused { IfErr result (λ r. D.honest self.new.device → GotReply D.held D.image self.old (RepairAt place) (Err r) self.new) }
         ensures cause { IfErr result (IsRefusedWith self.old.kept self.old.holdings (RepairAt place)) }
         ensures untouched { OnErr result (self.new ≡ self.old) }
         ensures device { self.new.device ≡ self.old.device }
@@ -61,7 +61,8 @@ impl<D: Device> Volume<D> {
 fn may_install<D: Device>(live: &Live<D>, checked: &Checked) -> Result<(), Refusal>
     ensures installable { OnOk result (IsInstallable live.now.kept live.now.holdings (check_of live.now.kept.geometry checked.now) checked.now.repairs) }
     ensures named { OnOk result (AreRepairsOf live.now.kept.geometry (installing live.now.holdings checked.now.repairs).repairs) }
-    ensures refused { IfErr result (λ r. (old : State) → Has live.now.holdings old → FirstRefusal live.now.kept.geometry old (Install (check_of live.now.kept.geometry checked.now)) r) }
+    ensures refused { IfErr result (λ r. (old : State) → Has live.now.holdings old
+        → FirstRefusal live.now.kept.geometry old (asks_install live.now checked.now) r) }
 {
     let Some(snapshot) = live.snapshot() else {
         return Err(Refusal::NoSnapshot);
@@ -91,7 +92,7 @@ fn is_mendable(checked: &Checked) -> bool
 }
 
 /// What a checked image says of itself is told by the findings of its image: a law, for a proof.
-fn tells_its_image(checked: &Checked)
+pub fn tells_its_image(checked: &Checked)
     ensures { IsChecked checked.now.frozen.geometry (frozen_view checked.now.frozen) checked.now }
 {
     findings_are_unique();

@@ -1,5 +1,5 @@
 //! What holds of a volume over a whole run of calls: laws, without code. They are told by `Goes`, in which the contracts of
-//! the calls are stated.
+//! the calls are stated, of stages: a volume with what stands beside it, and with what its device had held and holds.
 
 ghost use Rattle.std.specs.List.{All};
 ghost use Rattle.std.specs.Prelude.{◌≡◌, ℕ, Bool, false, List, [], ◌∷◌, ◌++◌, ◌⊎◌, None, Ok, Some, IsTrue, length, slice_get};
@@ -14,22 +14,21 @@ ghost use Rattle.machine.specs.Debts.{MakesNoDebt};
 ghost use Rattle.machine.specs.Runs.{IsTaken};
 ghost use Rattle.machine.specs.State.{Plan};
 ghost use Rattle.queue_model.specs.Files.{Written};
-ghost use Rattle.courses.specs.Serves.{IsBeginning, IsSafeService, Service};
 ghost use Rattle.softdep.specs.Queued.{pending_of};
-ghost use Rattle.live_states.specs.Holdings.{Beside, IsIdle};
-ghost use Rattle.live.specs.Alive.{Alive, disk_of, state_of};
+ghost use Rattle.live_states.specs.Holdings.{IsIdle};
+ghost use Rattle.live.specs.Alive.{disk_of};
 ghost use Rattle.live.specs.Held.{HeldMore};
 ghost use Rattle.live.specs.Mounting.{IsMountable};
 ghost use Rattle.snapshot.specs.Cycles.{HasCycle};
-ghost use Rattle.snapshot.specs.Goes.{Goes, IsBeside};
+ghost use Rattle.snapshot.specs.Stages.{BeginsAt, IsSafeTo, LeadsTo, ServesTo, Stage, StandsAt, geometry_at, state_at};
 
 use device::Device;
 
 /// What a volume goes through by calls, and then by more, it goes through by all of them.
 pub fn calls_join<D: Device>()
-    ensures { (beside beside' beside'' : Beside) (held held' held'' : List (List (List ℕ))) (image image' image'' : List (List ℕ)) (old mid new : Alive D) (commands more : List Command) (replies others : List Reply)
-        → Goes beside held image old commands replies beside' held' image' mid → Goes beside' held' image' mid more others beside'' held'' image'' new
-        → Goes beside held image old (commands ++ more) (replies ++ others) beside'' held'' image'' new }
+    ensures { (s t u : Stage D) (commands more : List Command) (replies others : List Reply)
+        → LeadsTo s commands replies t → LeadsTo t more others u
+        → LeadsTo s (commands ++ more) (replies ++ others) u }
 {}
 
 /// From wherever a volume may begin, as it may just mounted, what it goes through by calls is a service, whatever files no
@@ -37,33 +36,30 @@ pub fn calls_join<D: Device>()
 /// what was written, the cuts grow, each obeys the rules and holds in each block of a file what that very file wrote, or had
 /// at first; and a file that no stop was to lose, and of which no unlink took a name, is reachable in each.
 pub fn each_stop_of_a_run_is_safe<D: Device>()
-    ensures { (beside beside' : Beside) (held held' : List (List (List ℕ))) (image image' : List (List ℕ)) (old new : Alive D) (commands : List Command) (replies : List Reply)
-        → Goes beside held image old commands replies beside' held' image' new
-        → (mount : View) (h : List Written) (cut : List Bool) (safe : ℕ → Bool) → IsBeginning old.kept.geometry mount h cut (disk_of image old) (pending_of old.queue) (state_of image old beside) safe
-        → (later : List View) × HeldMore old.kept.geometry held held' later × (safe' : ℕ → Bool)
-        × Service old.kept.geometry (disk_of image old) (pending_of old.queue) (state_of image old beside) safe (disk_of image' new) (pending_of new.queue) (state_of image' new beside') safe' commands replies later
-        × IsSafeService old.kept.geometry mount h cut (disk_of image old) (pending_of old.queue) (state_of image old beside) safe (disk_of image' new) (pending_of new.queue) (state_of image' new beside') safe' commands replies later }
+    ensures { (s t : Stage D) (commands : List Command) (replies : List Reply) → LeadsTo s commands replies t
+        → (mount : View) (h : List Written) (cut : List Bool) (safe : ℕ → Bool) → BeginsAt s mount h cut safe
+        → (later : List View) × HeldMore (geometry_at s) s.held t.held later
+        × (safe' : ℕ → Bool) × ServesTo s safe commands replies t safe' later
+        × IsSafeTo s mount h cut safe commands replies t safe' later }
 {}
 
 /// A volume was mounted once, whatever was done with it since: it is where one may begin, with no file that no stop is to lose.
 pub fn volumes_begin<D: Device>()
-    ensures { (image : List (List ℕ)) (live : Alive D) (beside : Beside) → IsBeside image live beside
-        → (mount : View) × (h : List Written) × (cut : List Bool)
-        × IsBeginning live.kept.geometry mount h cut (disk_of image live) (pending_of live.queue) (state_of image live beside) (λ f. false) }
+    ensures { (s : Stage D) → StandsAt s
+        → (mount : View) × (h : List Written) × (cut : List Bool) × BeginsAt s mount h cut (λ f. false) }
 {}
 
 /// Each image that the device held during any calls is mountable: an image of this geometry that obeys the rules.
 pub fn each_image_held_is_mountable<D: Device>()
-    ensures { (beside beside' : Beside) (held held' : List (List (List ℕ))) (image image' : List (List ℕ)) (old new : Alive D) (commands : List Command) (replies : List Reply)
-        → IsBeside image old beside → Goes beside held image old commands replies beside' held' image' new
-        → (more : List (List (List ℕ))) × (held' ≡ held ++ more) × All (IsMountable old.kept.geometry) more }
+    ensures { (s t : Stage D) (commands : List Command) (replies : List Reply) → StandsAt s → LeadsTo s commands replies t
+        → (more : List (List (List ℕ))) × (t.held ≡ s.held ++ more) × All (IsMountable (geometry_at s)) more }
 {}
 
 /// A volume is in balance: everything that is marked or counted is in use, held for the snapshot, or owed a repair. Where
 /// nothing is owed, the maps mark exactly what is reachable, open or held, and each link count equals its entries.
 pub fn volumes_are_in_balance<D: Device>()
-    ensures { (image : List (List ℕ)) (live : Alive D) (beside : Beside) → IsBeside image live beside
-        → Balance live.kept.geometry (state_of image live beside) × (OwesNothing live.kept.geometry (state_of image live beside) → Exact live.kept.geometry (state_of image live beside)) }
+    ensures { (s : Stage D) → StandsAt s → Balance (geometry_at s) (state_at s)
+        × (OwesNothing (geometry_at s) (state_at s) → Exact (geometry_at s) (state_at s)) }
 {
     machine::balance_is_exact_where_nothing_is_owed();
 }
@@ -71,19 +67,19 @@ pub fn volumes_are_in_balance<D: Device>()
 /// No call makes a debt: what is owed after it was owed before, but that an inode with too many links that lost its last
 /// name is to be dropped.
 pub fn no_call_makes_a_debt<D: Device>()
-    ensures { (beside beside' : Beside) (held held' : List (List (List ℕ))) (image image' : List (List ℕ)) (old new : Alive D) (command : Command) (reply : Reply) → IsBeside image old beside
-        → Goes beside held image old (command ∷ []) (reply ∷ []) beside' held' image' new
-        → MakesNoDebt old.kept.geometry (state_of image old beside) (state_of image' new beside') }
+    ensures { (s t : Stage D) (command : Command) (reply : Reply) → StandsAt s → LeadsTo s (command ∷ []) (reply ∷ []) t
+        → MakesNoDebt (geometry_at s) (state_at s) (state_at t) }
 {
     machine::no_step_makes_a_debt();
 }
 
 /// A volume on which a check found nothing when it was mounted is exact, whatever is done with it.
 pub fn clean_volumes_stay_exact<D: Device>()
-    ensures { (beside' : Beside) (held held' : List (List (List ℕ))) (image image' : List (List ℕ)) (old new : Alive D) (commands : List Command) (replies : List Reply)
-        → IsMountable old.kept.geometry image → pending_of old.queue ≡ [] → IsIdle old.holdings → AreFindings old.kept.geometry (disk_of image old) []
-        → Goes (record { frozen = None }) held image old commands replies beside' held' image' new
-        → OwesNothing old.kept.geometry (state_of image' new beside') × Exact old.kept.geometry (state_of image' new beside') }
+    ensures { (s t : Stage D) (commands : List Command) (replies : List Reply)
+        → IsMountable (geometry_at s) s.image → pending_of s.volume.queue ≡ [] → IsIdle s.volume.holdings
+        → s.beside.frozen ≡ None → AreFindings (geometry_at s) (disk_of s.image s.volume) []
+        → LeadsTo s commands replies t
+        → OwesNothing (geometry_at s) (state_at t) × Exact (geometry_at s) (state_at t) }
 {
     machine::clean_volumes_stay_exact();
 }
@@ -93,22 +89,24 @@ pub fn clean_volumes_stay_exact<D: Device>()
 /// held, and each link count equals its entries; and from then on nothing is owed whatever is done, freezes and all. A part of a
 /// longer history that is such a cycle (`within`) ends it exact, too.
 pub fn whole_cycles_end_exact<D: Device>()
-    ensures cycle { (beside beside' : Beside) (held held' : List (List (List ℕ))) (image image' : List (List ℕ)) (old new : Alive D)
-        → (frozen : View) (check : Check) (findings : List Finding) (first second : List Command) (replies answers : List Reply) → IsBeside image old beside → length replies ≡ length first
-        → Goes beside held image old (Freeze ∷ (first ++ (Install check ∷ second))) (Ok (Image frozen) ∷ (replies ++ (Ok Done ∷ answers))) beside' held' image' new
+    ensures cycle { (s t : Stage D) (frozen : View) (check : Check) (findings : List Finding)
+        → (first second : List Command) (replies answers : List Reply) → StandsAt s → length replies ≡ length first
+        → LeadsTo s (Freeze ∷ (first ++ (Install check ∷ second))) (Ok (Image frozen) ∷ (replies ++ (Ok Done ∷ answers))) t
         → (IsTaken Freeze first replies → ⊥) → (IsTaken Freeze second answers → ⊥)
-        → AreFindings old.kept.geometry frozen findings → ((k : ℕ) (r : Repair) → slice_get (repairs_of findings) k ≡ Some r → IsTaken (RepairAt k) second answers)
-        → OwesNothing old.kept.geometry (state_of image' new beside') × Exact old.kept.geometry (state_of image' new beside') }
-    ensures within { (beside beside' : Beside) (held held' : List (List (List ℕ))) (image image' : List (List ℕ)) (old new : Alive D) (commands : List Command) (replies : List Reply)
-        → IsBeside image old beside → Goes beside held image old commands replies beside' held' image' new → HasCycle old.kept.geometry commands replies
-        → OwesNothing old.kept.geometry (state_of image' new beside') × Exact old.kept.geometry (state_of image' new beside') }
-    ensures planned { (beside beside' : Beside) (held held' : List (List (List ℕ))) (image image' : List (List ℕ)) (old new : Alive D) (commands : List Command) (replies : List Reply) (plan : Plan)
-        → IsBeside image old beside → (state_of image old beside).plan ≡ Some plan → Goes beside held image old commands replies beside' held' image' new → (IsTaken Freeze commands replies → ⊥)
+        → AreFindings (geometry_at s) frozen findings
+        → ((k : ℕ) (r : Repair) → slice_get (repairs_of findings) k ≡ Some r → IsTaken (RepairAt k) second answers)
+        → OwesNothing (geometry_at s) (state_at t) × Exact (geometry_at s) (state_at t) }
+    ensures within { (s t : Stage D) (commands : List Command) (replies : List Reply)
+        → StandsAt s → LeadsTo s commands replies t → HasCycle (geometry_at s) commands replies
+        → OwesNothing (geometry_at s) (state_at t) × Exact (geometry_at s) (state_at t) }
+    ensures planned { (s t : Stage D) (commands : List Command) (replies : List Reply) (plan : Plan)
+        → StandsAt s → (state_at s).plan ≡ Some plan
+        → LeadsTo s commands replies t → (IsTaken Freeze commands replies → ⊥)
         → ((k : ℕ) (r : Repair) → slice_get plan.repairs k ≡ Some r → IsTrue (plan.done k) ⊎ IsTaken (RepairAt k) commands replies)
-        → OwesNothing old.kept.geometry (state_of image' new beside') × Exact old.kept.geometry (state_of image' new beside') }
-    ensures after { (beside beside' : Beside) (held held' : List (List (List ℕ))) (image image' : List (List ℕ)) (old new : Alive D) (commands : List Command) (replies : List Reply)
-        → IsBeside image old beside → OwesNothing old.kept.geometry (state_of image old beside) → Goes beside held image old commands replies beside' held' image' new
-        → OwesNothing old.kept.geometry (state_of image' new beside') × Exact old.kept.geometry (state_of image' new beside') }
+        → OwesNothing (geometry_at s) (state_at t) × Exact (geometry_at s) (state_at t) }
+    ensures after { (s t : Stage D) (commands : List Command) (replies : List Reply)
+        → StandsAt s → OwesNothing (geometry_at s) (state_at s) → LeadsTo s commands replies t
+        → OwesNothing (geometry_at s) (state_at t) × Exact (geometry_at s) (state_at t) }
 {
     machine::runs_keep_the_balance();
     machine::whole_cycles_end_exact();

@@ -17,6 +17,7 @@ mod users;
 mod volume;
 
 pub use answer::{Answer, Reply};
+pub use checking::tells_its_image;
 pub use command::Command;
 pub use laws::{
     calls_join, clean_volumes_stay_exact, each_image_held_is_mountable, each_stop_of_a_run_is_safe,

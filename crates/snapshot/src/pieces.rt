@@ -1,8 +1,7 @@
-ghost use Rattle.std.specs.Prelude.{◌≡◌, ◌≤◌, IfErr, IfOk, IsErrOf, IsTrue, MatchOption, Some, false, length, take};
+ghost use Rattle.std.specs.Prelude.{◌≡◌, ◌⊎◌, ◌≤◌, IfErr, IfOk, IsTrue, MatchOption, Some, false, length, take};
 ghost use Rattle.frozen.specs.Kept.{frozen_view};
 ghost use Rattle.machine.specs.Causes.{is_used_number};
-ghost use Rattle.model.specs.Rules.{ObeysRules};
-ghost use Rattle.snapshot.specs.Pieces.{IsPieceOf, why_no_piece};
+ghost use Rattle.snapshot.specs.Pieces.{IsPieceOf, LacksPiece, why_no_piece};
 
 use frozen::Frozen;
 use inode::{FREE, Record};
@@ -19,12 +18,11 @@ pub(crate) struct Piece {
 }
 
 /// Where the block of this index of a file stands. Refused with `NotFound` where the number is in no use, with
-/// `IsDirectory`, and with `BadIndex` where the file ends before the block.
+/// `IsDirectory`, and with `BadIndex` where the file ends before the block, or where the image breaks the rules and lacks it.
 pub(crate) fn piece_of(frozen: &Frozen, inode: u32, index: u32) -> Result<Piece, Refusal>
     ensures piece { IfOk result (IsPieceOf frozen.now inode index) }
-    ensures refused { IfErr result (λ r. ObeysRules frozen.now.geometry (frozen_view frozen.now) → why_no_piece frozen.now.geometry (frozen_view frozen.now) inode index ≡ Some r) }
-    ensures device { IsErrOf result Refusal.Device → ⊥ }
-    ensures no_trace { IsErrOf result Refusal.TraceFull → ⊥ }
+    ensures refused { IfErr result (λ r. (why_no_piece frozen.now.geometry (frozen_view frozen.now) inode index ≡ Some r)
+        ⊎ ((r ≡ Refusal.BadIndex) × LacksPiece frozen.now inode index)) }
 {
     let Some(record) = record_of(frozen, inode) else {
         return Err(Refusal::NotFound);

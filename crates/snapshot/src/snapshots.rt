@@ -1,22 +1,18 @@
-ghost use Rattle.std.specs.Prelude.{◌≡◌, ◌≤◌, [], Err, IfErr, IfOk, IsErrOf, IsOkUnless, Ok, IsTrue, OnErr, OnOk, is_some};
+ghost use Rattle.std.specs.Prelude.{◌≡◌, ◌⊎◌, ◌↔◌, ◌≤◌, [], Err, IfErr, IfOk, IsErrOf, IsOkUnless, IsSome, None, Ok, IsTrue, OnErr, OnOk, is_some};
 ghost use Rattle.std.specs.Arc.{arc_value};
 ghost use Rattle.device.specs.Writes.{HasFailed};
 ghost use Rattle.frozen.specs.Kept.{KeepsMetadata};
-ghost use Rattle.machine.specs.Balance.{Balance};
-ghost use Rattle.machine.specs.Causes.{FirstRefusal};
-ghost use Rattle.machine.specs.State.{State};
 ghost use Rattle.model.specs.Layout.{is_data_address};
 ghost use Rattle.machine.specs.Command.{Bytes, Freeze, Release, SnapRead};
 ghost use Rattle.machine.specs.Snapshot.{settled};
 ghost use Rattle.metadata.specs.Shown.{Shows};
 ghost use Rattle.softdep.specs.Queued.{pending_of};
-ghost use Rattle.softdep.specs.Syncing.{AreFlushes};
-ghost use Rattle.live_states.specs.Holdings.{Beside, Has, IsImageOf};
+ghost use Rattle.live_states.specs.Holdings.{Beside, IsImageOf};
 ghost use Rattle.live_states.specs.Snapshots.{IsSettled};
 ghost use Rattle.live.specs.Alive.{StandsSo, state_of};
-ghost use Rattle.snapshot.specs.Goes.{Freezes, Releases, Replies};
+ghost use Rattle.snapshot.specs.Between.{Flushed, Froze, GotReply, Released, WroteLeast};
 ghost use Rattle.snapshot.specs.Pieces.{IsPieceOfSnapshot};
-ghost use Rattle.snapshot.specs.Writes.{WritesLeast};
+ghost use Rattle.snapshot.specs.Refusing.{IsCauseOf, IsWhyUnread};
 
 use crate::Volume;
 use crate::pieces::{Piece, first_bytes, piece_of};
@@ -24,45 +20,47 @@ use device::Device;
 use frozen::Frozen;
 use layout::Refusal;
 use live::Live;
-use std::alloc::{AllocError, Global};
+use std::alloc::Global;
 use std::sync::Arc;
 
 impl<D: Device> Volume<D> {
     /// A snapshot begins: the image of users, without the open files that have no name, as it is once all that is pending
     /// is written. From now on no block of a file in it is changed or given out, until it is released. The repairs of an
-    /// older check are dropped. Refused with `SnapshotStands`, with `NoMemory`, and with `Device`; what was written before
-    /// stays written.
+    /// older check are dropped. Refused with `SnapshotStands` and with `NoMemory`, and then nothing changed; and with `Device`,
+    /// and then what was written before stays written.
     pub fn freeze(&mut self, alloc: Global) -> Result<Arc<Frozen>, Refusal>
-        ensures frozen { IfOk result (λ snapshot. D.honest self.new.device → Freezes (D.held self.old.device) (D.image self.old.device) self.old (arc_value snapshot) (D.held self.new.device) (D.image self.new.device) self.new) }
-        ensures refused { IfErr result (λ r. D.honest self.new.device → Replies (D.held self.old.device) (D.image self.old.device) self.old Freeze (Err r) (D.held self.new.device) (D.image self.new.device) self.new) }
+        ensures frozen { IfOk result (λ snapshot. D.honest self.new.device → Froze D.held D.image self.old (arc_value snapshot) self.new) }
+        ensures refused { IfErr result (λ r. D.honest self.new.device → GotReply D.held D.image self.old Freeze (Err r) self.new) }
         ensures untouched { OnErr result ((self.new.kept ≡ self.old.kept) × (self.new.holdings ≡ self.old.holdings)) }
-        ensures writes { D.honest self.new.device → WritesLeast self.old.kept.geometry (pending_of self.old.queue) (D.image self.old.device) (D.held self.old.device) (D.image self.new.device) (D.held self.new.device) }
+        ensures writes { D.honest self.new.device → WroteLeast D.held D.image self.old self.new }
+        ensures stands { IsErrOf result Refusal.SnapshotStands ↔ IsSome self.old.holdings.snapshot }
         ensures standing { IsErrOf result Refusal.SnapshotStands → self.new ≡ self.old }
+        ensures full { IsErrOf result Refusal.NoMemory → self.new ≡ self.old }
+        ensures error { IfErr result (λ r. (r ≡ Refusal.SnapshotStands) ⊎ ((r ≡ Refusal.NoMemory) ⊎ (r ≡ Refusal.Device))) }
         ensures cause { IsErrOf result Refusal.Device → HasFailed (D.failures self.old.device) (D.failures self.new.device) }
-        ensures no_trace { IsErrOf result Refusal.TraceFull → ⊥ }
         ensures honest { D.honest self.new.device → D.honest self.old.device }
     {
         if has_snapshot(&self.live) {
             return Err(Refusal::SnapshotStands);
         }
-        write_all(&mut self.live)?;
         let Shared { kept, given } = shared_view(alloc, &self.live)?;
+        write_all(&mut self.live)?;
         self.live.keep(kept);
         self.live.device();
         Ok(given)
     }
 
     /// The bytes that a file had in its block of this index when the snapshot began. Refused with `NoSnapshot`, with
-    /// `NotFound` where the number was in no use, with `IsDirectory`, and with `BadIndex` where the file ended before the
-    /// block.
+    /// `NotFound` where the number was in no use, with `IsDirectory`, with `BadIndex` where the file ended before the block, with
+    /// `Device`, and with `NoMemory`.
     pub fn snap_read(&mut self, alloc: Global, inode: u32, index: u32) -> Result<Vec<u8>, Refusal>
-        ensures read { IfOk result (λ bytes. D.honest self.new.device → Replies (D.held self.old.device) (D.image self.old.device) self.old (SnapRead inode index) (Ok (Bytes bytes.items)) (D.held self.new.device) (D.image self.new.device) self.new) }
-        ensures refused { IfErr result (λ r. D.honest self.new.device → Replies (D.held self.old.device) (D.image self.old.device) self.old (SnapRead inode index) (Err r) (D.held self.new.device) (D.image self.new.device) self.new) }
+        ensures read { IfOk result (λ bytes. D.honest self.new.device → GotReply D.held D.image self.old (SnapRead inode index) (Ok (Bytes bytes.items)) self.new) }
+        ensures refused { IfErr result (λ r. D.honest self.new.device → GotReply D.held D.image self.old (SnapRead inode index) (Err r) self.new) }
         ensures untouched { (self.new.queue ≡ self.old.queue) × (self.new.kept ≡ self.old.kept) × (self.new.holdings ≡ self.old.holdings) }
         ensures image { D.image self.new.device ≡ D.image self.old.device }
         ensures held { D.held self.new.device ≡ D.held self.old.device }
+        ensures error { IfErr result (IsCauseOf self.old.kept self.old.holdings (SnapRead inode index)) }
         ensures cause { IsErrOf result Refusal.Device → HasFailed (D.failures self.old.device) (D.failures self.new.device) }
-        ensures no_trace { IsErrOf result Refusal.TraceFull → ⊥ }
         ensures honest { D.honest self.new.device → D.honest self.old.device }
     {
         let Piece { block, length } = piece_of_snapshot(&self.live, inode, index)?;
@@ -71,15 +69,17 @@ impl<D: Device> Volume<D> {
     }
 
     /// The snapshot ends once all that is pending is written; the blocks that were held for it are free. The repairs of its
-    /// check stay. Refused with `NoSnapshot`, with `NoMemory`, and with `Device`; what was written before stays written.
+    /// check stay. Refused with `NoSnapshot`, and then nothing changed, with `NoMemory`, and with `Device`; what was written
+    /// before stays written, since the plan that frees the blocks needs the marks on the device first.
     pub fn release(&mut self, alloc: Global) -> Result<(), Refusal>
-        ensures released { OnOk result (D.honest self.new.device → Releases (D.held self.old.device) (D.image self.old.device) self.old (D.held self.new.device) (D.image self.new.device) self.new) }
-        ensures refused { IfErr result (λ r. D.honest self.new.device → Replies (D.held self.old.device) (D.image self.old.device) self.old Release (Err r) (D.held self.new.device) (D.image self.new.device) self.new) }
+        ensures released { OnOk result (D.honest self.new.device → Released D.held D.image self.old self.new) }
+        ensures refused { IfErr result (λ r. D.honest self.new.device → GotReply D.held D.image self.old Release (Err r) self.new) }
         ensures untouched { OnErr result ((self.new.kept ≡ self.old.kept) × (self.new.holdings ≡ self.old.holdings)) }
-        ensures writes { D.honest self.new.device → WritesLeast self.old.kept.geometry (pending_of self.old.queue) (D.image self.old.device) (D.held self.old.device) (D.image self.new.device) (D.held self.new.device) }
+        ensures writes { D.honest self.new.device → WroteLeast D.held D.image self.old self.new }
+        ensures stands { IsErrOf result Refusal.NoSnapshot ↔ (self.old.holdings.snapshot ≡ None) }
         ensures none { IsErrOf result Refusal.NoSnapshot → self.new ≡ self.old }
+        ensures error { IfErr result (λ r. (r ≡ Refusal.NoSnapshot) ⊎ ((r ≡ Refusal.NoMemory) ⊎ (r ≡ Refusal.Device))) }
         ensures cause { IsErrOf result Refusal.Device → HasFailed (D.failures self.old.device) (D.failures self.new.device) }
-        ensures no_trace { IsErrOf result Refusal.TraceFull → ⊥ }
         ensures honest { D.honest self.new.device → D.honest self.old.device }
     {
         if !has_snapshot(&self.live) {
@@ -104,7 +104,7 @@ fn write_all<D: Device>(live: &mut Live<D>) -> Result<(), Refusal>
     ensures pending { OnOk result (pending_of live.new.queue ≡ []) }
     ensures metadata { live.new.kept ≡ live.old.kept }
     ensures holdings { live.new.holdings ≡ live.old.holdings }
-    ensures flushes { D.honest live.new.device → AreFlushes live.old.kept.geometry (D.image live.old.device) (D.held live.old.device) (pending_of live.old.queue) (D.image live.new.device) (D.held live.new.device) (pending_of live.new.queue) }
+    ensures flushes { D.honest live.new.device → Flushed D.held D.image live.old live.new }
     ensures stands { D.honest live.new.device → StandsSo (D.image live.new.device) live.new }
     ensures error { IsOkUnless result Refusal.Device }
     ensures cause { IsErrOf result Refusal.Device → HasFailed (D.failures live.old.device) (D.failures live.new.device) }
@@ -120,9 +120,7 @@ fn piece_of_snapshot<D: Device>(live: &Live<D>, inode: u32, index: u32) -> Resul
     ensures piece { IfOk result (IsPieceOfSnapshot live.now.kept.geometry live.now.holdings inode index) }
     ensures address { IfOk result (λ piece. IsTrue (is_data_address live.now.kept.geometry piece.block)) }
     ensures short { IfOk result (λ piece. piece.length ≤ 1024) }
-    ensures refused { IfErr result (λ r. (old : State) → Balance live.now.kept.geometry old → Has live.now.holdings old → FirstRefusal live.now.kept.geometry old (SnapRead inode index) r) }
-    ensures device { IsErrOf result Refusal.Device → ⊥ }
-    ensures no_trace { IsErrOf result Refusal.TraceFull → ⊥ }
+    ensures refused { IfErr result (IsWhyUnread live.now.kept.geometry live.now.holdings inode index) }
 {
     match live.snapshot() {
         Some(snapshot) => piece_of(snapshot, inode, index),
@@ -138,12 +136,13 @@ struct Shared {
 }
 
 /// What a check is to see of a volume.
-fn shared_view<D: Device>(alloc: Global, live: &Live<D>) -> Result<Shared, AllocError>
+fn shared_view<D: Device>(alloc: Global, live: &Live<D>) -> Result<Shared, Refusal>
     ensures settled { IfOk result (λ shared. IsSettled live.now.kept live.now.holdings (arc_value shared.kept)) }
     ensures shown { IfOk result (λ shared. D.honest live.now.device → (beside : Beside) → IsImageOf live.now.holdings.snapshot beside.frozen
         → Shows (arc_value shared.kept) (settled live.now.kept.geometry (state_of (D.image live.now.device) live.now beside))) }
     ensures whole { IfOk result (λ shared. ((arc_value shared.kept).geometry ≡ live.now.kept.geometry) × KeepsMetadata (arc_value shared.kept)) }
     ensures given { IfOk result (λ shared. arc_value shared.given ≡ arc_value shared.kept) }
+    ensures error { IsOkUnless result Refusal.NoMemory }
 {
     let kept = Arc::new(alloc, live.view(alloc)?)?;
     let given = kept.clone()?;

@@ -1,8 +1,9 @@
 //! The commands of users, carried out on the mounted volume.
-ghost use Rattle.std.specs.Prelude.{◌≡◌, true, IsErrOf, OnErr};
+ghost use Rattle.std.specs.Prelude.{◌≡◌, true, IfErr, IsErrOf, OnErr};
 ghost use Rattle.device.specs.Writes.{HasFailed};
-ghost use Rattle.snapshot.specs.Asked.{HasBytesOrNames, asked, is_users};
-ghost use Rattle.snapshot.specs.Replied.{Replied};
+ghost use Rattle.snapshot.specs.Asked.{HasBytesOrNames, is_users};
+ghost use Rattle.snapshot.specs.Between.{RepliedSo};
+ghost use Rattle.snapshot.specs.Refusing.{IsCause};
 ghost use Rattle.snapshot.specs.Writes.{Writes};
 
 use crate::answer::{bytes, count, done, names, number, status};
@@ -15,13 +16,13 @@ use std::alloc::Global;
 /// Carries out a command of users, and answers it.
 pub(crate) fn user_reply<D: Device>(live: &mut Live<D>, alloc: Global, command: &Command) -> Reply
     requires { is_users command.now ≡ true }
-    ensures replied { D.honest live.new.device → Replied (D.held live.old.device) (D.image live.old.device) live.old (asked live.old.kept.geometry command.now) result (D.held live.new.device) (D.image live.new.device) live.new }
+    ensures replied { D.honest live.new.device → RepliedSo D.held D.image live.old command.now result live.new }
     ensures untouched { OnErr result ((live.new.kept ≡ live.old.kept) × (live.new.holdings ≡ live.old.holdings)) }
     // An answer of bytes or names leaves all of that too.
     ensures reading { HasBytesOrNames result → (live.new.kept ≡ live.old.kept) × (live.new.holdings ≡ live.old.holdings) }
     ensures writes { Writes D.honest D.held D.image live.old command.now result live.new }
     ensures cause { IsErrOf result Refusal.Device → HasFailed (D.failures live.old.device) (D.failures live.new.device) }
-    ensures no_trace { IsErrOf result Refusal.TraceFull → ⊥ }
+    ensures error { IfErr result (IsCause live.old command.now) }
     ensures honest { D.honest live.new.device → D.honest live.old.device }
 {
     match command {

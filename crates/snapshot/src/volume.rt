@@ -26,7 +26,7 @@ impl<D: Device> Model for Volume<D> {
 }
 
 impl<D: Device> Volume<D> {
-    /// A mounted volume that keeps no snapshot.
+    /// A mounted volume that keeps no snapshot. A check that is installed in it stays, and its repairs can be carried out.
     pub fn new(live: Live<D>) -> Volume<D>
         requires none { live.holdings.snapshot ≡ None }
         ensures { result ≡ live }

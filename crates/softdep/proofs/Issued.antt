@@ -50,16 +50,6 @@ all_at P before u later all = subst P (get_or-append_seam before u later u) (all
 pub subst2_room : (t : Table) (n m k l : ℕ) → n ≡ m → k ≡ l → HasRoom t n k → HasRoom t m l
 subst2_room t n m k l e f room = subst (HasRoom t m) f (subst (λ x. HasRoom t x k) e room)
 
--- room for more is room for one
-pub less_room : (t : Table) (n k cells : ℕ) → HasRoom t (n + 1) (k + cells) → HasRoom t 1 cells
-less_room t n k cells room = record {
-  nodes = (let r = room.nodes in omega (arith, r));
-  taken = (let r = room.taken in omega (arith, r));
-  ready = (let r = room.ready in omega (arith, r));
-  few = room.few;
-  links = (let r = room.links in omega (arith, r));
-}
-
 pub nothing_left : (us : List Update) → length us ≡ 0 → us ≡ []
 nothing_left [] e = refl
 nothing_left (u ∷ us) e = absurd (omega (arith, e))

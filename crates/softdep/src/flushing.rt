@@ -32,9 +32,15 @@ impl Queue {
         ensures rest { OnOk result (pending_of self.new ≡ rest (pending_of self.old) (ready (home_of self.old.geometry) address (pending_of self.old))) }
         ensures count { IfOk result (λ count. count ≡ taken (ready (home_of self.old.geometry) address (pending_of self.old))) }
         ensures untouched { IfOk result (λ count. count ≡ 0 → device.new ≡ device.old) }
-        ensures written { IfOk result (λ count. 0 < count → (block : List ℕ) × (D.image device.new ≡ slice_set (D.image device.old) address block) × (D.held device.new ≡ D.held device.old ++ D.image device.new ∷ [])) }
-        ensures view { OnOk result (D.honest device.new → image_view self.old.geometry (D.image device.new) ≡ seen (image_view self.old.geometry (D.image device.old)) (pending_of self.old) (ready (home_of self.old.geometry) address (pending_of self.old))) }
-        ensures bytes { OnOk result (D.honest device.new → WritesTaken self.old.geometry address (pending_of self.old) (block_at (D.image device.old) address) (block_at (D.image device.new) address)) }
+        ensures written { IfOk result (λ count. 0 < count
+            → (block : List ℕ) × (D.image device.new ≡ slice_set (D.image device.old) address block)
+            × (D.held device.new ≡ D.held device.old ++ D.image device.new ∷ [])) }
+        ensures view { OnOk result (D.honest device.new
+            → image_view self.old.geometry (D.image device.new)
+            ≡ seen (image_view self.old.geometry (D.image device.old)) (pending_of self.old)
+            (ready (home_of self.old.geometry) address (pending_of self.old))) }
+        ensures bytes { OnOk result (D.honest device.new
+            → WritesTaken self.old.geometry address (pending_of self.old) (block_at (D.image device.old) address) (block_at (D.image device.new) address)) }
         ensures frame { OnOk result (D.honest device.new → IsImage self.old.geometry (D.image device.old) → IsImage self.old.geometry (D.image device.new)) }
         ensures calm { OnOk result (D.failures device.new ≡ D.failures device.old) }
         ensures refused { OnErr result (self.new ≡ self.old) }
@@ -74,12 +80,17 @@ impl Queue {
     pub fn sync<D: Device>(&mut self, device: &mut D, spares: &mut Spares) -> Result<(), Refusal>
         requires { length (D.image device.old) ≡ block_count self.old.geometry }
         ensures pending { OnOk result (pending_of self.new ≡ []) }
-        ensures view { OnOk result (D.honest device.new → image_view self.old.geometry (D.image device.new) ≡ users_view (image_view self.old.geometry (D.image device.old)) (pending_of self.old)) }
+        ensures view { OnOk result (D.honest device.new
+            → image_view self.old.geometry (D.image device.new) ≡ users_view (image_view self.old.geometry (D.image device.old)) (pending_of self.old)) }
         ensures put { HasPut self.old self.new }
         ensures count { length (D.image device.new) ≡ block_count self.new.geometry }
         ensures rest { (cut : List Bool) × IsClosed (pending_of self.old) cut × (pending_of self.new ≡ rest (pending_of self.old) cut) }
-        ensures history { D.honest device.new → IsHistory self.old.geometry (D.image device.old) (D.held device.old) (pending_of self.old) (D.image device.new) (D.held device.new) (pending_of self.new) }
-        ensures flushes { D.honest device.new → AreFlushes self.old.geometry (D.image device.old) (D.held device.old) (pending_of self.old) (D.image device.new) (D.held device.new) (pending_of self.new) }
+        ensures history { D.honest device.new
+            → IsHistory self.old.geometry (D.image device.old) (D.held device.old) (pending_of self.old)
+            (D.image device.new) (D.held device.new) (pending_of self.new) }
+        ensures flushes { D.honest device.new
+            → AreFlushes self.old.geometry (D.image device.old) (D.held device.old) (pending_of self.old)
+            (D.image device.new) (D.held device.new) (pending_of self.new) }
         ensures few { length (D.held device.new) + length (pending_of self.new) ≤ length (D.held device.old) + length (pending_of self.old) }
         ensures error { IsOkUnless result Refusal.Device }
         ensures cause { IsErrOf result Refusal.Device → HasFailed (D.failures device.old) (D.failures device.new) }

@@ -15,7 +15,8 @@ use updates::Update;
 
 impl Queue {
     /// Issues a command's updates, the first first, all or none. Each comes after the last pending update of its own cell
-    /// and of each cell that it names, those earlier in the list among them.
+    /// and of each cell that it names, those earlier in the list among them. The memory is bounded by what is pending at
+    /// once and by the volume's places, however much was issued: `Table::make_room` has the bound.
     pub fn issue(&mut self, updates: Vec<Update>) -> Result<(), Refusal>
         requires { All (IsUpdate self.old.geometry) updates.items }
         ensures issued { OnOk result (self.new ≡ issued self.old (map written updates.items)) }
@@ -25,7 +26,7 @@ impl Queue {
     {
         let cells = cells_in(updates.as_slice()).ok_or(Refusal::NoMemory)?;
         self.table.begin_anew();
-        self.table.make_room(updates.len(), cells)?;
+        self.table.make_room(&self.geometry, updates.len(), cells)?;
         self.events = self.events.and(&updates, &None);
         add_all(&mut self.table, &self.geometry, updates);
         Ok(())
@@ -37,10 +38,11 @@ fn add_all(table: &mut Table, geometry: &Geometry, updates: Vec<Update>)
     requires held { IsTable geometry.now table.old }
     requires cells { All (IsUpdate geometry.now) updates.items }
     requires room { HasRoom table.old (length updates.items) (cells_of updates.items) }
-    ensures { (entries : Entries) (q : List Pending) → Holds geometry.now table.old entries q → (entries' : Entries) × Holds geometry.now table.new entries' (added q (map written updates.items)) }
+    ensures { (entries : Entries) (q : List Pending) → Holds geometry.now table.old entries q
+        → (entries' : Entries) × Holds geometry.now table.new entries' (added q (map written updates.items)) }
 {
     for update in updates {
-        table.add(geometry, update.change, update.after.as_slice());
+        table.add(geometry, update);
     }
 }
 

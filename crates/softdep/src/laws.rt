@@ -12,9 +12,12 @@ ghost use Rattle.softdep.specs.Writing.{WritesTaken};
 /// and else each as it was. Where the record is free then, no byte of it is left.
 pub fn a_flush_clears_a_freed_record()
     ensures freed { (geo : Geometry) → IsGeometry geo → (n : ℕ) (q : List Pending) (old new : List ℕ) → WritesTaken geo (inode_block geo n) q old new
-        → TakesChange q (ready (home_of geo) (inode_block geo n) q) (SetInode n free_inode) → (k : ℕ) → 60 ≤ k → k < 128 → slice_index new (inode_byte n + k) ≡ 0 }
+        → TakesChange q (ready (home_of geo) (inode_block geo n) q) (SetInode n free_inode) → (k : ℕ) → 60 ≤ k → k < 128
+        → slice_index new (inode_byte n + k) ≡ 0 }
     ensures left { (geo : Geometry) → IsGeometry geo → (n : ℕ) (q : List Pending) (old new : List ℕ) → WritesTaken geo (inode_block geo n) q old new
-        → (TakesChange q (ready (home_of geo) (inode_block geo n) q) (SetInode n free_inode) → ⊥) → (k : ℕ) → 60 ≤ k → k < 128 → slice_index new (inode_byte n + k) ≡ slice_index old (inode_byte n + k) }
+        → (TakesChange q (ready (home_of geo) (inode_block geo n) q) (SetInode n free_inode) → ⊥) → (k : ℕ) → 60 ≤ k → k < 128
+        → slice_index new (inode_byte n + k) ≡ slice_index old (inode_byte n + k) }
     ensures zero { (geo : Geometry) → IsGeometry geo → (n : ℕ) (q : List Pending) (old new : List ℕ) → WritesTaken geo (inode_block geo n) q old new
-        → TakesChange q (ready (home_of geo) (inode_block geo n) q) (SetInode n free_inode) → inode_at new (inode_byte n) ≡ free_inode → (k : ℕ) → k < 128 → slice_index new (inode_byte n + k) ≡ 0 }
+        → TakesChange q (ready (home_of geo) (inode_block geo n) q) (SetInode n free_inode) → inode_at new (inode_byte n) ≡ free_inode → (k : ℕ) → k < 128
+        → slice_index new (inode_byte n + k) ≡ 0 }
 {}

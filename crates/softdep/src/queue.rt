@@ -83,7 +83,8 @@ impl Queue {
 
     /// The least block with an update that may go to the device, of this one and those above it.
     pub fn next_ready(&self, from: u32) -> Option<u32>
-        ensures next { MatchOption result (NothingReadyFrom (home_of self.now.geometry) (pending_of self.now) from) (λ address. IsNextReady (home_of self.now.geometry) (pending_of self.now) from address) }
+        ensures next { MatchOption result (NothingReadyFrom (home_of self.now.geometry) (pending_of self.now) from)
+            (λ address. IsNextReady (home_of self.now.geometry) (pending_of self.now) from address) }
         ensures on_volume { IfSome result (λ address. address < block_count self.now.geometry) }
     {
         self.table.next_ready(from)

@@ -21,9 +21,10 @@ use Rattle.stacks.specs.Stacks.{Links as StackLinks, stack_at, count_of, room_of
 use Rattle.softdep_queue.specs.declared.table.Node.{Node}
 use Rattle.softdep_queue.specs.declared.table.Table.{Table}
 use Rattle.softdep_queue.specs.Counts.{occurrences, count_in, code}
-use Rattle.softdep_queue.specs.Ties.{Holds, IsNodeOf, Shows, node_at, waiters_of}
+use Rattle.softdep_queue.specs.Ties.{Holds, IsNodeOf, Shows, node_at, pending_in, shown_by, waiters_of}
 use Rattle.softdep_queue.specs.Rooms.{HasRoom}
 use Rattle.softdep_queue.specs.Adding.{lasts, in_front, IsBehind}
+use Rattle.softdep_queue.proofs.Shown.{same_below}
 use Rattle.softdep_queue.proofs.Waits.{occurrences_tail, front_other, front_own, front_member, last_is}
 
 -- ---- counts
@@ -132,7 +133,8 @@ stacks_still ready ready' home number pushed others b i m = elim (cases_eq b hom
 pub record IsNodeFor (geo : Geometry) (t : Table) (u : Pending) (node : Node) : Type 0 where
   pub home : node.home ≡ home_of geo (cell_of u.change)
   pub on_volume : node.home < block_count geo
-  pub change : Shows node.change u.change
+  pub update : pending_in node.update ≡ Some u
+  pub change : Shows node.update u.change
   pub waiting : node.waiting ≡ length (lasts geo t (cell_of u.change ∷ u.after))
   pub few : node.waiting < 2 ^ 64
   pub waiters : node.waiters ≡ 0
@@ -258,7 +260,7 @@ module _ (geo : Geometry) (t : Table) (queue : Queue) (q : List Pending) (holds 
           record {
             home = ap (λ (x : Node). x.home) now ∙ behind.home e.id ∙ n.home;
             on_volume = n.on_volume;
-            change = subst (λ x. Shows x e.change) (sym (ap (λ (x : Node). x.change) now ∙ behind.change e.id)) n.change;
+            change = subst (λ x. Shows x e.change) (sym (ap (λ (x : Node). x.update) now ∙ behind.change e.id)) n.change;
             cell = n.cell;
             waiting = ap (λ (x : Node). x.waiting) now ∙ behind.waiting e.id ∙ n.waiting ∙ sym (same_due b e m);
             few = n.few;
@@ -275,7 +277,7 @@ module _ (geo : Geometry) (t : Table) (queue : Queue) (q : List Pending) (holds 
           record {
             home = ap (λ (x : Node). x.home) now ∙ is_node.home;
             on_volume = omega (arith, low, at);
-            change = subst (λ (x : Node). Shows x.change u.change) (sym now) is_node.change;
+            change = subst (λ (x : Node). Shows x.update u.change) (sym now) is_node.change;
             cell = cells.changed;
             waiting = ap (λ (x : Node). x.waiting) now ∙ is_node.waiting ∙ ap length waits_are ∙ sym new_due;
             few = omega (arith, few, count);
@@ -396,6 +398,15 @@ module _ (geo : Geometry) (t : Table) (queue : Queue) (q : List Pending) (holds 
             ∙ holds.ties.latest c is ∙ ap code (sym (cond-false (same_cell (cell_of u.change) c) (Some queue.next) (queue.last c) f))
       ]
 
+      shown : shown_by t''.nodes.items (length t''.nodes.items) ≡ u ∷ q
+      shown =
+          let nodes = ap length added.nodes in
+          let one = length-append t'.nodes.items (node ∷ []) in
+          let same = behind.count in
+          ap (shown_by t''.nodes.items) (let long : length t''.nodes.items ≡ suc (length t.nodes.items) = omega (arith, nodes, one, same) in long)
+          ∙ ap₂ (λ o l. cons_option o l) (ap (λ (x : Node). pending_in x.update) node_new ∙ is_node.update)
+          (same_below t''.nodes.items t.nodes.items (length t.nodes.items) (λ i low. ap (λ (x : Node). x.update) (node_old i low) ∙ behind.change i) ∙ holds.ties.shown)
+
       pub added_holds : Holds geo t'' after_it (u ∷ q)
       added_holds =
           let nodes = ap length added.nodes in
@@ -408,6 +419,8 @@ module _ (geo : Geometry) (t : Table) (queue : Queue) (q : List Pending) (holds 
           record {
             ties = record {
               represents = issued_represents (home_of geo) u queue q holds.ties.represents;
+              shown = shown;
+              cells = λ v m. elim (contains_cases u v q m) [ inl d ↦ subst (AreCells geo) d cells | inr old ↦ holds.ties.cells v old ];
               next = omega (arith, nodes, one, same, next);
               node = node_of;
               waiters = waiters;

@@ -102,8 +102,8 @@ module _ (geo : Geometry) (t : Table) (queue : Queue) (q : List Pending) (holds 
         let n = holds.ties.next in let d = found.2 in omega (arith, l, n, d)
 
     -- the node has these very bytes
-    pub last_shows : (bytes : List ℕ) × Shows (node_at t.nodes.items (last - 1)).change (SetBytes a bytes) × (last_bytes q a ≡ Some bytes)
+    pub last_shows : (bytes : List ℕ) × Shows (node_at t.nodes.items (last - 1)).update (SetBytes a bytes) × (last_bytes q a ≡ Some bytes)
     last_shows =
         let g = gives found.0.change a found.3 in
         let node = holds.ties.node (home_of geo (cell_of found.0.change)) found.0 (listed (home_of geo) queue q holds.ties.represents found.0 found.1) in
-        (g.0, subst (λ i. Shows (node_at t.nodes.items i).change (SetBytes a g.0)) found.2 (subst (Shows (node_at t.nodes.items found.0.id).change) g.1 node.change), found.4 ∙ ap bytes_of g.1)
+        (g.0, subst (λ i. Shows (node_at t.nodes.items i).update (SetBytes a g.0)) found.2 (subst (Shows (node_at t.nodes.items found.0.id).update) g.1 node.change), found.4 ∙ ap bytes_of g.1)

@@ -185,6 +185,8 @@ stays t t' a w n is some = subst (λ x. IsPushed t x a w n) (sym is) (record {
 shows_ready : (geo : Geometry) (t : Table) (queue : Queue) (q : List Pending) (due : ℕ → Entry → ℕ) (r : Stacks) → count_of r ≡ count_of t.ready → room_of r ≡ room_of t.ready → ShowsAll geo t queue q due → ShowsAll geo (record t { ready = r }) queue q due
 shows_ready geo t queue q due r count room shows = record {
   represents = shows.represents;
+  shown = shows.shown;
+  cells = shows.cells;
   next = shows.next;
   node = λ b e m. let n = shows.node b e m in record { home = n.home; on_volume = n.on_volume; change = n.change; cell = n.cell; waiting = n.waiting; few = n.few; chain = n.chain };
   waiters = shows.waiters;
@@ -232,6 +234,8 @@ module _ (geo : Geometry) (t₀ : Table) (queue : Queue) (q : List Pending) (a :
   begun = record {
     shows = record {
       represents = takes.ties.represents;
+      shown = takes.ties.shown;
+      cells = takes.ties.cells;
       next = takes.ties.next;
       node = takes.ties.node;
       waiters = takes.ties.waiters;
@@ -439,6 +443,8 @@ module _ (geo : Geometry) (t₀ : Table) (queue : Queue) (q : List Pending) (a :
     holds = record {
       ties = record {
         represents = last.shows.represents;
+        shown = last.shows.shown;
+        cells = last.shows.cells;
         next = last.shows.next;
         node = λ b e m. let n = last.shows.node b e m in record { home = n.home; on_volume = n.on_volume; change = n.change; cell = n.cell; waiting = n.waiting ∙ due_last b e; few = n.few; chain = n.chain };
         waiters = last.shows.waiters;

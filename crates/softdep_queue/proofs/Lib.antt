@@ -1,3 +1,4 @@
+mod Shown
 mod Steps
 mod Counting
 mod Taken
@@ -12,3 +13,5 @@ mod Rooms
 mod Waits
 mod Additions
 mod Contained
+pub mod RoomLemmas
+mod Moved

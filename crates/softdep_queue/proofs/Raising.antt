@@ -16,13 +16,16 @@ use Rattle.updates.specs.Places.{place_of}
 use Rattle.softdep_queue.specs.Counts.{occurrences}
 use Rattle.softdep_queue.specs.Ties.{IsNodeOf, node_at, waiters_of}
 use Rattle.softdep_queue.specs.Returning.{ShowsAll, more, held, AreFree}
-use Rattle.softdep_queue.proofs.Steps.{IsStep, node_there, node_other, node_step, waiters_same, occurrences_push, occurrences_head}
+use Rattle.softdep_queue.proofs.Shown.{same_shown}
+use Rattle.softdep_queue.proofs.Steps.{IsStep, node_there, same_update, node_other, node_step, waiters_same, occurrences_push, occurrences_head}
 
 -- only what the listed entries still wait for counts
 pub shows_due : (geo : Geometry) (t : Table) (queue : Queue) (q : List Pending) (due due' : ℕ → Entry → ℕ) → ((b : ℕ) (e : Entry) → Contains (queue.lists b) e → due b e ≡ due' b e)
     → ShowsAll geo t queue q due → ShowsAll geo t queue q due'
 shows_due geo t queue q due due' same shows = record {
   represents = shows.represents;
+  shown = shows.shown;
+  cells = shows.cells;
   next = shows.next;
   node = λ b e m. let n = shows.node b e m in record { home = n.home; on_volume = n.on_volume; change = n.change; cell = n.cell; waiting = n.waiting ∙ same b e m; few = n.few; chain = n.chain };
   waiters = shows.waiters;
@@ -72,6 +75,8 @@ module _ (geo : Geometry) (t : Table) (queue : Queue) (q : List Pending) (due : 
     pub raised : (t' : Table) → IsTrue (eqb b a) → IsStep t t' b w (due b f + 1) → ShowsAll geo t' queue q (more a w due)
     raised t' chosen step = record {
       represents = shows.represents;
+      shown = same_shown t'.nodes.items t.nodes.items long (same_update t t' b w (due b f + 1) step shown_low) ∙ shows.shown;
+      cells = shows.cells;
       next = shows.next ∙ sym long;
       node = λ k e m. node_step t t' b w (due b f + 1) step shown_low geo k e (due k e) (more a w due k e) (shows.node k e m) (waiting k e m);
       waiters = λ k l e g m o. ap (occurrences g.id) (waiters_same t t' b w (due b f + 1) step shown_low e.id) ∙ shows.waiters k l e g m o;

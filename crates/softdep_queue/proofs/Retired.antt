@@ -5,13 +5,13 @@ use Rattle.std.proofs.lemmas.Bool.{cases_eq, cases_Bool, or_cases, and_from, con
 use Rattle.std.proofs.lemmas.List.{length-map, length-reverse}
 use Rattle.model.specs.Layout.{Geometry}
 use Rattle.model.specs.View.{View}
-use Rattle.ordering.specs.Cuts.{Cell, Pending, rest}
+use Rattle.ordering.specs.Cuts.{Cell, Pending, cell_of, rest}
 use Rattle.queue_model.specs.Blocks.{home_of}
 use Rattle.queue_model.specs.Flush.{ready, taken}
-use Rattle.queue_model.specs.Entries.{Entry, Queue, has_id, may_go, unless, goes, flushed, AreTaken, NoOtherMayGo}
+use Rattle.queue_model.specs.Entries.{Entry, Queue, Stand, has_id, may_go, unless, goes, flushed, AreTaken, NoOtherMayGo}
 use Rattle.queue_model.proofs.Lists.{contains_head, contains_tail, contains_cases, contains_none, all_at}
-use Rattle.queue_model.proofs.Standing.{same_entry, is_pending}
-use Rattle.queue_model.proofs.Represented.{flushed_represents}
+use Rattle.queue_model.proofs.Standing.{same_entry, is_pending, listed}
+use Rattle.queue_model.proofs.Represented.{flushed_represents, goes_ready}
 use Rattle.queue_model.proofs.TakenLemmas.{all_taken, found}
 use Rattle.queue_model.proofs.FlushLemmas.{ready_closed, taken_rest}
 use Rattle.chains.specs.Chains.{Links as ChainLinks, numbers, IsChain}
@@ -20,9 +20,10 @@ use Rattle.stacks.specs.Stacks.{Links as StackLinks, stack_at, count_of, room_of
 use Rattle.softdep_queue.specs.declared.table.Node.{Node}
 use Rattle.softdep_queue.specs.declared.table.Table.{Table}
 use Rattle.softdep_queue.specs.Counts.{occurrences, count_in, code}
-use Rattle.softdep_queue.specs.Ties.{Ties, Holds, Shows, node_at, waiters_of}
+use Rattle.softdep_queue.specs.Ties.{Ties, Holds, Shows, node_at, shown_by, waiters_of}
 use Rattle.softdep_queue.specs.Retiring.{due_without, IsReleased, AreStruck}
 use Rattle.softdep_queue.proofs.Counting.{count_same, occurs, occurring}
+use Rattle.softdep_queue.proofs.Shown.{AreShown, left_shown, within_rest}
 use Rattle.softdep_queue.proofs.Taken.{ids, has_to, has_from, reverse_to, reverse_from}
 
 filter_from : (f : Entry → Bool) (xs : List Entry) (x : Entry) → Contains (filter f xs) x → Contains xs x × IsTrue (f x)
@@ -141,15 +142,27 @@ module _ (geo : Geometry) (disk : View) (t0 t1 t2 : Table) (queue : Queue) (q : 
         ])
   ]
 
+  some_shown : AreShown t0.nodes.items ties.represents.entries
+  some_shown e m z = subst (λ o. Shows o e.change) z (ties.node (home_of geo (cell_of e.change)) e (listed (home_of geo) queue q ties.represents e m)).change
+
+  shown_left : shown_by t2.nodes.items (length t2.nodes.items) ≡ rest q (ready (home_of geo) a q)
+  shown_left =
+      ap (λ (v : Vec Node Global). shown_by v.items (length v.items)) emptied.nodes ∙ ap (shown_by t1.nodes.items) struck.count
+      ∙ left_shown t0.nodes.items t1.nodes.items (goes queue a) (λ i f. ap (λ (x : Node). x.update) (struck.nodes i (sym (tells i) ∙ f))) (λ i t. struck.gone i (sym (tells i) ∙ t))
+      (length t0.nodes.items) ties.represents.entries q (subst (λ n. Stand n ties.represents.entries q) ties.next ties.represents.stand) some_shown ties.shown
+      ∙ ap (rest q) (goes_ready (home_of geo) a queue q ties.represents)
+
   pub retired : Holds geo t2 (flushed a queue) (rest q (ready (home_of geo) a q))
   retired = record {
     ties = record {
       represents = flushed_represents (home_of geo) a queue q ties.represents;
+      shown = shown_left;
+      cells = λ u m. ties.cells u (within_rest q (ready (home_of geo) a q) u m);
       next = ties.next ∙ sym (ap (λ (v : Vec Node Global). length v.items) emptied.nodes ∙ struck.count);
       node = λ b e m. let l = left b e m in let n = ties.node b e l.0 in record {
         home = ap (λ (x : Node). x.home) (node_same e.id l.1) ∙ n.home;
         on_volume = n.on_volume;
-        change = subst (λ (x : Node). Shows x.change e.change) (sym (node_same e.id l.1)) n.change;
+        change = subst (λ (x : Node). Shows x.update e.change) (sym (node_same e.id l.1)) n.change;
         cell = n.cell;
         waiting = ap (λ (x : Node). x.waiting) (node_same e.id l.1) ∙ n.waiting ∙ due_same e;
         few = n.few;

@@ -13,7 +13,7 @@ use Rattle.stacks.specs.Stacks.{stack_at, count_of, room_of}
 use Rattle.softdep_queue.specs.declared.table.Node.{Node}
 use Rattle.softdep_queue.specs.declared.table.Table.{Table}
 use Rattle.softdep_queue.specs.Counts.{occurrences, count_in}
-use Rattle.softdep_queue.specs.Ties.{Holds, IsNodeOf, Shows, node_at, waiters_of}
+use Rattle.softdep_queue.specs.Ties.{Holds, IsNodeOf, Shows, node_at, shown_by, waiters_of}
 
 -- the same but for more room
 pub record IsRoomier (t t' : Table) : Type 0 where
@@ -43,7 +43,7 @@ module _ (t t' : Table) (roomier : IsRoomier t t') where
       record {
         home = ap (λ (n : Node). n.home) same ∙ node.home;
         on_volume = node.on_volume;
-        change = subst (λ (n : Node). Shows n.change e.change) (sym same) node.change;
+        change = subst (λ (n : Node). Shows n.update e.change) (sym same) node.change;
         cell = node.cell;
         waiting = ap (λ (n : Node). n.waiting) same ∙ node.waiting;
         few = node.few;
@@ -61,6 +61,8 @@ module _ (t t' : Table) (roomier : IsRoomier t t') where
       record {
         ties = record {
           represents = ties.represents;
+          shown = ap (λ l. shown_by l (length l)) roomier.nodes ∙ ties.shown;
+          cells = ties.cells;
           next = ties.next ∙ sym nodes;
           node = λ b e m. node_kept geo b e (count_in queue.pending e.waits) (ties.node b e m);
           waiters = λ b c e f m n. ap (occurrences f.id) (same_waiters e.id) ∙ ties.waiters b c e f m n;
@@ -105,6 +107,8 @@ module _ (t t' : Table) (emptied : IsEmptied t t') (none : t.pending ≡ 0) (geo
       record {
         ties = record {
           represents = begun_anew (home_of geo) queue 0 ties.represents;
+          shown = ap (λ l. shown_by l (length l)) emptied.nodes;
+          cells = ties.cells;
           next = sym length_none;
           node = λ b e m. absurd (nobody b e m);
           waiters = λ b c e f m n. absurd (nobody b e m);

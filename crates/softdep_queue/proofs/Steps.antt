@@ -18,6 +18,7 @@ use Rattle.softdep_queue.specs.declared.table.Table.{Table}
 use Rattle.updates.specs.Places.{place_of}
 use Rattle.softdep_queue.specs.Counts.{occurrences}
 use Rattle.softdep_queue.specs.Ties.{Ties, IsNodeOf, Shows, node_at, waiters_of}
+use Rattle.softdep_queue.proofs.Shown.{same_shown}
 use Rattle.softdep_queue.specs.Lowering.{is_chosen, less, released}
 
 -- what is read at a place of the table is the node there
@@ -52,6 +53,8 @@ pub ties_due : (geo : Geometry) (t : Table) (queue : Queue) (q : List Pending) (
     → Ties geo t queue q due → Ties geo t queue q due'
 ties_due geo t queue q due due' same ties = record {
   represents = ties.represents;
+  shown = ties.shown;
+  cells = ties.cells;
   next = ties.next;
   node = λ b e m. let n = ties.node b e m in record { home = n.home; on_volume = n.on_volume; change = n.change; cell = n.cell; waiting = n.waiting ∙ same b e m; few = n.few; chain = n.chain };
   waiters = ties.waiters;
@@ -106,10 +109,10 @@ module _ (t t' : Table) (b w n : ℕ) (step : IsStep t t' b w n) (low : w < leng
     | inr d ↦ ap (λ (x : Node). x.waiters) (node_other i d)
   ]
 
-  pub same_change : (i : ℕ) → (node_at t'.nodes.items i).change ≡ (node_at t.nodes.items i).change
-  same_change i = elim (cases_eq i w) [
-    | inl e ↦ ap (λ j. (node_at t'.nodes.items j).change) e ∙ ap (λ (x : Node). x.change) node_there ∙ ap (λ j. (node_at t.nodes.items j).change) (sym e)
-    | inr d ↦ ap (λ (x : Node). x.change) (node_other i d)
+  pub same_update : (i : ℕ) → (node_at t'.nodes.items i).update ≡ (node_at t.nodes.items i).update
+  same_update i = elim (cases_eq i w) [
+    | inl e ↦ ap (λ j. (node_at t'.nodes.items j).update) e ∙ ap (λ (x : Node). x.update) node_there ∙ ap (λ j. (node_at t.nodes.items j).update) (sym e)
+    | inr d ↦ ap (λ (x : Node). x.update) (node_other i d)
   ]
 
   same_home : (i : ℕ) → (node_at t'.nodes.items i).home ≡ (node_at t.nodes.items i).home
@@ -126,7 +129,7 @@ module _ (t t' : Table) (b w n : ℕ) (step : IsStep t t' b w n) (low : w < leng
   node_step geo k e due due' node waiting = record {
     home = same_home e.id ∙ node.home;
     on_volume = node.on_volume;
-    change = subst (λ c. Shows c e.change) (sym (same_change e.id)) node.change;
+    change = subst (λ c. Shows c e.change) (sym (same_update e.id)) node.change;
     cell = node.cell;
     waiting = waiting;
     few = node.few;
@@ -171,6 +174,8 @@ module _ (geo : Geometry) (t : Table) (queue : Queue) (q : List Pending) (due : 
       pub lowered : Ties geo t' queue q (less a here w due)
       lowered = record {
         represents = ties.represents;
+        shown = same_shown t'.nodes.items t.nodes.items (ap length step.nodes ∙ length-set t.nodes.items w (record (node_at t.nodes.items w) { waiting = due b f - 1 })) (same_update t t' b w (due b f - 1) step number_low) ∙ ties.shown;
+        cells = ties.cells;
         next = ties.next ∙ sym (ap length step.nodes ∙ length-set t.nodes.items w (record (node_at t.nodes.items w) { waiting = due b f - 1 }));
         node = λ k e m. node_step t t' b w (due b f - 1) step number_low geo k e (due k e) (less a here w due k e) (ties.node k e m) (waiting k e m);
         waiters = λ k l e g m o. ap (occurrences g.id) (waiters_same t t' b w (due b f - 1) step number_low e.id) ∙ ties.waiters k l e g m o;

@@ -1,13 +1,14 @@
 -- One more update is struck out.
-use Rattle.std.proofs.Common.{◌≡◌, ℕ, suc, ◌<◌, Bool, true, false, ◌||◌, eqb, if◌then◌else◌, List, [], ◌∷◌, ◌++◌, ◌⊎◌, inl, inr, Option, Some, None, refl, sym, ap, ap₂, ◌∙◌, subst, IsFalse, Contains, length, arith, slice_index_or, slice_set, get_or-set_same, get_or-set_other, eq-eqb, ne_eqb}
+use Rattle.std.proofs.Common.{◌≡◌, ℕ, suc, ◌<◌, Bool, true, false, ◌||◌, eqb, if◌then◌else◌, List, [], ◌∷◌, ◌++◌, ◌⊎◌, inl, inr, Option, Some, None, refl, sym, ap, ap₂, ◌∙◌, subst, IsTrue, IsFalse, Contains, length, arith, slice_index_or, slice_set, get_or-set_same, get_or-set_other, eq-eqb, ne_eqb}
 use Rattle.std.proofs.lemmas.Bool.{cases_eq, cases_Bool, cond-true, cond-false, both_ways}
 use Rattle.std.proofs.lemmas.List.{length-set}
 use Rattle.model.specs.Layout.{Geometry}
 use Rattle.ordering.specs.Cuts.{Cell, Pending, cell_of}
 use Rattle.queue_model.specs.Blocks.{home_of}
 use Rattle.queue_model.specs.Entries.{Entry, Queue, has_id, unless}
-use Rattle.queue_model.proofs.Standing.{same_entry, last_entry}
+use Rattle.queue_model.proofs.Standing.{same_entry, last_entry, id_low}
 use Rattle.updates.specs.Places.{IsCell, place_of}
+use Rattle.softdep_queue.specs.declared.table.Node.{Node}
 use Rattle.softdep_queue.specs.declared.table.Table.{Table}
 use Rattle.softdep_queue.specs.Counts.{code}
 use Rattle.softdep_queue.specs.Ties.{Ties, node_at}
@@ -18,6 +19,7 @@ pub none_struck : (geo : Geometry) (t : Table) (queue : Queue) (q : List Pending
 none_struck geo t queue q due ties = record {
   count = refl;
   nodes = λ i f. refl;
+  gone = λ i t. absurd (let bad : false ≡ true = t in cc);
   places = refl;
   latest = λ c is. ties.latest c is ∙ ap code (sym (step (queue.last c)));
   chains = refl;
@@ -105,8 +107,9 @@ module _ (geo : Geometry) (places_apart : (c d : Cell) → IsCell geo c → IsCe
 
   pub one_struck : AreStruck geo t t2 queue (done ++ e ∷ [])
   one_struck = record {
-    count = ap length one.nodes ∙ length-set t1.nodes.items e.id (record (node_at t1.nodes.items e.id) { change = None }) ∙ before.count;
+    count = ap length one.nodes ∙ length-set t1.nodes.items e.id (record (node_at t1.nodes.items e.id) { update = None }) ∙ before.count;
     nodes = λ i f. node i f;
+    gone = gone_now;
     places = ap length one.latest ∙ long (eqb (slice_index_or t1.latest.items (place_of geo here) 0) (suc e.id)) ∙ before.places;
     latest = latest;
     chains = one.chains ∙ before.chains;
@@ -119,9 +122,22 @@ module _ (geo : Geometry) (places_apart : (c d : Cell) → IsCell geo c → IsCe
       long true = length-set t1.latest.items (place_of geo here) 0
       long false = refl
 
+      gone_now : (i : ℕ) → IsTrue (has_id (done ++ e ∷ []) i) → (node_at t2.nodes.items i).update ≡ None
+      gone_now i t = elim (cases_eq i e.id) [
+        | inl d ↦
+            let low = id_low (home_of geo) queue q ties.represents a e listed in
+            let next = ties.next in
+            let count = before.count in
+            ap (λ k. (node_at t2.nodes.items k).update) d ∙ ap (λ l. (node_at l e.id).update) one.nodes
+            ∙ ap (λ (x : Node). x.update) (get_or-set_same t1.nodes.items e.id (record (node_at t1.nodes.items e.id) { update = None }) (node_at [] 0) (omega (arith, low, next, count)))
+        | inr d ↦
+            ap (λ l. (node_at l i).update) one.nodes ∙ ap (λ (x : Node). x.update) (get_or-set_other t1.nodes.items e.id i (record (node_at t1.nodes.items e.id) { update = None }) (node_at [] 0) d)
+            ∙ before.gone i (ap (λ b. b || has_id done i) (sym (ne_eqb i e.id d)) ∙ sym (pushed i) ∙ t)
+      ]
+
       node : (i : ℕ) → IsFalse (has_id (done ++ e ∷ []) i) → node_at t2.nodes.items i ≡ node_at t.nodes.items i
       node i f = elim (cases_eq i e.id) [
         | inl d ↦ absurd (both_ways (has_id (done ++ e ∷ []) i) f (pushed i ∙ ap (λ b. b || has_id done i) (eq-eqb i e.id d)))
-        | inr d ↦ ap (λ l. node_at l i) one.nodes ∙ get_or-set_other t1.nodes.items e.id i (record (node_at t1.nodes.items e.id) { change = None }) (node_at [] 0) d
+        | inr d ↦ ap (λ l. node_at l i) one.nodes ∙ get_or-set_other t1.nodes.items e.id i (record (node_at t1.nodes.items e.id) { update = None }) (node_at [] 0) d
             ∙ before.nodes i (ap (λ b. b || has_id done i) (sym (ne_eqb i e.id d)) ∙ sym (pushed i) ∙ f)
       ]

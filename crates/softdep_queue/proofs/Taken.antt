@@ -19,7 +19,7 @@ use Rattle.updates.specs.Places.{place_of}
 use Rattle.softdep_queue.specs.declared.table.Node.{Node}
 use Rattle.softdep_queue.specs.declared.table.Table.{Table}
 use Rattle.softdep_queue.specs.Counts.{occurrences, count_in}
-use Rattle.softdep_queue.specs.Ties.{Ties, TiesBy, Holds, Takes, due_after, Shows, node_at, waiters_of}
+use Rattle.softdep_queue.specs.Ties.{Ties, TiesBy, Holds, Takes, due_after, Shows, node_at, waiters_of, shown_by}
 use Rattle.softdep_queue.specs.Lowering.{released, AreWaiting, MayBeReleased}
 use Rattle.softdep_queue.proofs.Counting.{count_same, taken_one, may_go_of_none, none_of_may_go}
 use Rattle.softdep_queue.proofs.Steps.{ties_due}
@@ -182,11 +182,13 @@ module _ (geo : Geometry) (t : Table) (queue : Queue) (q : List Pending) (a : �
       pub moved_ties : Ties geo t1 queue q (due_after queue a es)
       moved_ties = record {
         represents = takes.ties.represents;
+        shown = ap (λ v. shown_by v.items (length v.items)) moved.nodes ∙ takes.ties.shown;
+        cells = takes.ties.cells;
         next = takes.ties.next ∙ ap (λ v. length v.items) (sym moved.nodes);
         node = λ b e m. let n = takes.ties.node b e m in record {
           home = ap (λ v. (node_at v.items e.id).home) moved.nodes ∙ n.home;
           on_volume = n.on_volume;
-          change = subst (λ c. Shows c e.change) (ap (λ v. (node_at v.items e.id).change) (sym moved.nodes)) n.change;
+          change = subst (λ c. Shows c e.change) (ap (λ v. (node_at v.items e.id).update) (sym moved.nodes)) n.change;
           cell = n.cell;
           waiting = ap (λ v. (node_at v.items e.id).waiting) moved.nodes ∙ n.waiting;
           few = n.few;

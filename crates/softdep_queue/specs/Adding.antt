@@ -1,21 +1,20 @@
 -- How an update gets into the table.
-use Rattle.std.specs.Prelude.{◌≡◌, ℕ, zero, suc, ◌+◌, ◌<◌, List, ◌∷◌, Option, Some, None, length, map, slice_index_or}
+use Rattle.std.specs.Prelude.{◌≡◌, ℕ, zero, suc, ◌+◌, ◌<◌, List, ◌∷◌, Option, Some, None, length, slice_index_or}
 use Rattle.std.specs.List.{filter_map}
 use Rattle.std.specs.Vec.{vec_capacity}
 use Rattle.model.specs.Layout.{Geometry}
 use Rattle.ordering.specs.Cuts.{Cell, Pending}
-use Rattle.updates.specs.declared.cell.Cell.{Cell as OwnCell}
-use Rattle.updates.specs.declared.change.Change.{Change}
-use Rattle.updates.specs.Values.{cell, change}
+use Rattle.updates.specs.declared.change.Update.{Update}
+use Rattle.updates.specs.Values.{written}
 use Rattle.updates.specs.Places.{place_of, place_count}
 use Rattle.chains.specs.Chains.{IsChain}
 use Rattle.softdep_queue.specs.declared.table.Table.{Table}
 use Rattle.softdep_queue.specs.Counts.{occurrences}
 use Rattle.softdep_queue.specs.Ties.{node_at, waiters_of}
 
--- the update of the model: a change after these cells
-abbrev pub update_of : Change → List OwnCell → Pending
-update_of c after = record { change = change c; after = map cell after }
+-- the update of the model
+abbrev pub update_of : Update → Pending
+update_of u = (written u).update
 
 -- the number that a code stands for
 abbrev pub decode : ℕ → Option ℕ
@@ -50,7 +49,7 @@ pub record IsBehind (t t' : Table) (number : ℕ) (ids : List ℕ) : Type 0 wher
   pub count : length t'.nodes.items ≡ length t.nodes.items
   pub capacity : vec_capacity t'.nodes ≡ vec_capacity t.nodes
   pub home : (i : ℕ) → (node_at t'.nodes.items i).home ≡ (node_at t.nodes.items i).home
-  pub change : (i : ℕ) → (node_at t'.nodes.items i).change ≡ (node_at t.nodes.items i).change
+  pub change : (i : ℕ) → (node_at t'.nodes.items i).update ≡ (node_at t.nodes.items i).update
   pub waiting : (i : ℕ) → (node_at t'.nodes.items i).waiting ≡ (node_at t.nodes.items i).waiting
   pub chain : (i : ℕ) → IsChain t.chains (node_at t.nodes.items i).waiters → IsChain t'.chains (node_at t'.nodes.items i).waiters
   pub waiters : (i : ℕ) → IsChain t.chains (node_at t.nodes.items i).waiters → waiters_of t' i ≡ in_front (occurrences i ids) number (waiters_of t i)

@@ -8,3 +8,4 @@ pub mod Retiring
 pub mod Returning
 pub mod Contents
 pub mod Next
+pub mod Moving

@@ -1,5 +1,5 @@
 -- What was taken and written is struck out.
-use Rattle.std.specs.Prelude.{◌≡◌, ℕ, suc, not, ◌&&◌, ◌==◌, if◌then◌else◌, List, None, IsFalse, length, map, reverse, slice_set, slice_index_or}
+use Rattle.std.specs.Prelude.{◌≡◌, ℕ, suc, not, ◌&&◌, ◌==◌, if◌then◌else◌, List, None, IsTrue, IsFalse, length, map, reverse, slice_set, slice_index_or}
 use Rattle.model.specs.Layout.{Geometry}
 use Rattle.ordering.specs.Cuts.{Cell, Pending}
 use Rattle.queue_model.specs.Entries.{Entry, Queue, has_id, unless, AreTaken, NoOtherMayGo}
@@ -32,7 +32,7 @@ pub record IsReleased (geo : Geometry) (t : Table) (queue : Queue) (q : List Pen
 
 -- the node of a number shows nothing any more, and the number is no cell's last one
 pub record IsStruck (geo : Geometry) (t t' : Table) (i : ℕ) (c : Cell) : Type 0 where
-  pub nodes : t'.nodes.items ≡ slice_set t.nodes.items i (record (node_at t.nodes.items i) { change = None })
+  pub nodes : t'.nodes.items ≡ slice_set t.nodes.items i (record (node_at t.nodes.items i) { update = None })
   pub latest : t'.latest.items ≡ (if slice_index_or t.latest.items (place_of geo c) 0 == suc i then slice_set t.latest.items (place_of geo c) 0 else t.latest.items)
   pub chains : t'.chains ≡ t.chains
   pub ready : t'.ready ≡ t.ready
@@ -43,6 +43,7 @@ pub record IsStruck (geo : Geometry) (t t' : Table) (i : ℕ) (c : Cell) : Type 
 pub record AreStruck (geo : Geometry) (t t' : Table) (queue : Queue) (es : List Entry) : Type 0 where
   pub count : length t'.nodes.items ≡ length t.nodes.items
   pub nodes : (i : ℕ) → IsFalse (has_id es i) → node_at t'.nodes.items i ≡ node_at t.nodes.items i
+  pub gone : (i : ℕ) → IsTrue (has_id es i) → (node_at t'.nodes.items i).update ≡ None
   pub places : length t'.latest.items ≡ length t.latest.items
   pub latest : (c : Cell) → IsCell geo c → slice_index_or t'.latest.items (place_of geo c) 0 ≡ code (unless (has_id es) (queue.last c))
   pub chains : t'.chains ≡ t.chains

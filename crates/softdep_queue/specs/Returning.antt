@@ -6,15 +6,17 @@ use Rattle.model.specs.Layout.{Geometry, block_count}
 use Rattle.ordering.specs.Cuts.{Cell, Pending}
 use Rattle.queue_model.specs.Blocks.{home_of}
 use Rattle.queue_model.specs.Entries.{Entry, Queue, Represents, NoOtherMayGo}
-use Rattle.updates.specs.Places.{IsCell, place_of, place_count}
+use Rattle.updates.specs.Places.{IsCell, AreCells, place_of, place_count}
 use Rattle.stacks.specs.Stacks.{count_of, room_of}
 use Rattle.softdep_queue.specs.declared.table.Table.{Table}
 use Rattle.softdep_queue.specs.Counts.{occurrences, code}
-use Rattle.softdep_queue.specs.Ties.{IsNodeOf, Takes, waiters_of}
+use Rattle.softdep_queue.specs.Ties.{IsNodeOf, Takes, shown_by, waiters_of}
 
 -- The table shows the entries of a queue, of which each still waits for so many, whichever of them stand as ready.
 pub record ShowsAll (geo : Geometry) (t : Table) (queue : Queue) (q : List Pending) (due : ℕ → Entry → ℕ) : Type 0 where
   pub represents : Represents (home_of geo) queue q
+  pub shown : shown_by t.nodes.items (length t.nodes.items) ≡ q
+  pub cells : (u : Pending) → Contains q u → AreCells geo u
   pub next : queue.next ≡ length t.nodes.items
   pub node : (b : ℕ) (e : Entry) → Contains (queue.lists b) e → IsNodeOf geo t b e (due b e)
   pub waiters : (b c : ℕ) (e f : Entry) → Contains (queue.lists b) e → Contains (queue.lists c) f → occurrences f.id (waiters_of t e.id) ≡ occurrences e.id f.waits

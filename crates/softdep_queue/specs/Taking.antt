@@ -24,7 +24,7 @@ TakesOne geo queue q a es t old new false = Takes geo t queue q a es × NoOtherM
 -- the node of an id shows a change of one of the volume's cells
 pub record ShowsCell (geo : Geometry) (t : Table) (i : ℕ) : Type 0 where
   pub update : Update
-  pub shows : Shows (node_at t.nodes.items i).change update
+  pub shows : Shows (node_at t.nodes.items i).update update
   pub cell : IsCell geo (cell_of update)
   pub low : i < length t.nodes.items
 

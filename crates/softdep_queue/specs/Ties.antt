@@ -1,15 +1,15 @@
 -- How the table holds the pending updates: it shows the entries of a queue, each entry's id its place in the table.
-use Rattle.std.specs.Prelude.{◌≡◌, ℕ, ◌<◌, ◌≤◌, ◌^◌, not, ◌&&◌, ◌==◌, if◌then◌else◌, List, [], ◌⊎◌, ◌↔◌, Option, Some, None, IsTrue, length, map, reverse, slice_index_or}
-use Rattle.std.specs.List.{Contains}
+use Rattle.std.specs.Prelude.{◌≡◌, ℕ, zero, suc, ◌<◌, ◌≤◌, ◌^◌, not, ◌&&◌, ◌==◌, if◌then◌else◌, List, [], ◌⊎◌, ◌↔◌, Option, Some, None, IsTrue, length, map, reverse, slice_index_or}
+use Rattle.std.specs.List.{Contains, cons_option}
 use Rattle.std.specs.Vec.{vec_capacity}
 use Rattle.model.specs.Layout.{Geometry, block_count}
 use Rattle.ordering.specs.Cuts.{Cell, Pending, cell_of}
 use Rattle.queue_model.specs.Blocks.{home_of}
 use Rattle.queue_model.specs.Entries.{Entry, Queue, Represents, has_id, AreTaken}
 use Rattle.model.specs.Cells.{Update}
-use Rattle.updates.specs.declared.change.Change.{Change}
-use Rattle.updates.specs.Values.{change}
-use Rattle.updates.specs.Places.{IsCell, place_of, place_count}
+use Rattle.updates.specs.declared.change.Update.{Update as OwnUpdate}
+use Rattle.updates.specs.Values.{change, written}
+use Rattle.updates.specs.Places.{IsCell, AreCells, place_of, place_count}
 use Rattle.chains.specs.Chains.{numbers, IsChain}
 use Rattle.stacks.specs.Stacks.{stack_at, count_of, room_of}
 use Rattle.softdep_queue.specs.declared.table.Node.{Node}
@@ -18,22 +18,32 @@ use Rattle.softdep_queue.specs.Counts.{occurrences, count_in, code}
 
 -- the node of an id
 abbrev pub node_at : List Node → ℕ → Node
-node_at nodes i = slice_index_or nodes i (record { home = 0; change = None; waiting = 0; waiters = 0 })
+node_at nodes i = slice_index_or nodes i (record { home = 0; update = None; waiting = 0; waiters = 0 })
 
 -- the ids of those that wait for it
 abbrev pub waiters_of : Table → ℕ → List ℕ
 waiters_of t i = numbers t.chains (node_at t.nodes.items i).waiters
 
--- a change of the program is this one of the model
-abbrev pub Shows : Option Change → Update → Type 0
+-- an update of the program makes this change of the model
+abbrev pub Shows : Option OwnUpdate → Update → Type 0
 Shows None u = ⊥
-Shows (Some c) u = change c ≡ u
+Shows (Some x) u = change x.change ≡ u
+
+-- the pending update that an update of the program is
+abbrev pub pending_in : Option OwnUpdate → Option Pending
+pending_in None = None
+pending_in (Some x) = Some (written x).update
+
+-- the pending updates of the first so many nodes, the last first
+abbrev pub shown_by : List Node → ℕ → List Pending
+shown_by nodes zero = []
+shown_by nodes (suc n) = cons_option (pending_in (node_at nodes n).update) (shown_by nodes n)
 
 -- a node shows an entry of a block, which still waits for so many
 pub record IsNodeOf (geo : Geometry) (t : Table) (b : ℕ) (e : Entry) (due : ℕ) : Type 0 where
   pub home : (node_at t.nodes.items e.id).home ≡ b
   pub on_volume : b < block_count geo
-  pub change : Shows (node_at t.nodes.items e.id).change e.change
+  pub change : Shows (node_at t.nodes.items e.id).update e.change
   pub cell : IsCell geo (cell_of e.change)
   pub waiting : (node_at t.nodes.items e.id).waiting ≡ due
   pub few : length e.waits < 2 ^ 64
@@ -42,6 +52,8 @@ pub record IsNodeOf (geo : Geometry) (t : Table) (b : ℕ) (e : Entry) (due : �
 -- The table shows the entries of a queue, of which each still waits for so many. Those that are ready stand in the stack of their block, or were taken from it.
 pub record TiesBy (geo : Geometry) (t : Table) (queue : Queue) (q : List Pending) (due : ℕ → Entry → ℕ) (IsReady : ℕ → Entry → Type 0) : Type 0 where
   pub represents : Represents (home_of geo) queue q
+  pub shown : shown_by t.nodes.items (length t.nodes.items) ≡ q
+  pub cells : (u : Pending) → Contains q u → AreCells geo u
   pub next : queue.next ≡ length t.nodes.items
   pub node : (b : ℕ) (e : Entry) → Contains (queue.lists b) e → IsNodeOf geo t b e (due b e)
   pub waiters : (b c : ℕ) (e f : Entry) → Contains (queue.lists b) e → Contains (queue.lists c) f → occurrences f.id (waiters_of t e.id) ≡ occurrences e.id f.waits

@@ -5,9 +5,10 @@ ghost use Rattle.ordering.specs.Cuts.{Pending};
 ghost use Rattle.queue_model.specs.Blocks.{home_of};
 ghost use Rattle.queue_model.specs.Entries.{Queue, empty_queue, issued};
 ghost use Rattle.updates.specs.Values.{cell};
-ghost use Rattle.updates.specs.Places.{IsCell, AreCells};
+ghost use Rattle.updates.specs.Places.{IsCell, IsUpdate};
 ghost use Rattle.softdep_queue.specs.Ties.{Holds};
 ghost use Rattle.softdep_queue.specs.Rooms.{HasRoom, IsTable};
+ghost use Rattle.softdep_queue.specs.Moving.{IsCompact};
 ghost use Rattle.softdep_queue.specs.Adding.{update_of, lasts, MayWait, IsBehind};
 
 use crate::table::{Node, Table};
@@ -15,7 +16,7 @@ use chains::{Chain, Chains};
 use layout::Geometry;
 use ready::Ready;
 use std::alloc::{AllocError, Global};
-use updates::{Cell, Change, places};
+use updates::{Cell, Update, places};
 
 impl Table {
     /// The table in which nothing is pending.
@@ -32,9 +33,10 @@ impl Table {
         })
     }
 
-    /// Makes room for so many updates more, which come after so many cells in all, their own counted.
-    pub fn make_room(&mut self, updates: usize, cells: usize) -> Result<(), AllocError>
+    /// Takes memory for so many updates more, which come after so many cells in all, their own counted.
+    pub(crate) fn reserve(&mut self, updates: usize, cells: usize) -> Result<(), AllocError>
         ensures room { OnOk result (HasRoom self.new updates cells) }
+        ensures few { OnOk result (IsCompact self.old → IsCompact self.new) }
         ensures held { (geo : Numbers) (queue : Queue) (q : List Pending) → Holds geo self.old queue q → Holds geo self.new queue q }
     {
         self.nodes.reserve(updates)?;
@@ -54,18 +56,18 @@ impl Table {
         }
     }
 
-    /// Adds an update, which waits for the last pending one of its own cell and of each of these.
-    pub fn add(&mut self, geometry: &Geometry, change: Change, after: &[Cell])
+    /// Adds an update, which waits for the last pending one of its own cell and of each that it comes after.
+    pub fn add(&mut self, geometry: &Geometry, update: Update)
         requires held { IsTable geometry.now self.old }
-        requires cells { AreCells geometry.now (update_of change after.now) }
-        requires room { HasRoom self.old 1 (1 + length after.now) }
+        requires cells { IsUpdate geometry.now update }
+        requires room { HasRoom self.old 1 (1 + length update.after.items) }
         ensures held { (queue : Queue) (q : List Pending) → Holds geometry.now self.old queue q
-            → Holds geometry.now self.new (issued (home_of geometry.now) (update_of change after.now) queue) (update_of change after.now ∷ q) }
-        ensures room { (updates cells : ℕ) → HasRoom self.old (updates + 1) (cells + (1 + length after.now)) → HasRoom self.new updates cells }
+            → Holds geometry.now self.new (issued (home_of geometry.now) (update_of update) queue) (update_of update ∷ q) }
+        ensures room { (updates cells : ℕ) → HasRoom self.old (updates + 1) (cells + (1 + length update.after.items)) → HasRoom self.new updates cells }
     {
         let number = self.nodes.len() as u32;
-        let own = change.cell();
-        let waiting = self.wait(geometry, own, after, number);
+        let own = update.change.cell();
+        let waiting = self.wait(geometry, own, update.after.as_slice(), number);
         let home = own.home(geometry);
         self.latest[own.place(geometry)] = number + 1;
         if waiting == 0 {
@@ -73,7 +75,7 @@ impl Table {
         }
         self.nodes.push_reserved(Node {
             home,
-            change: Some(change),
+            update: Some(update),
             waiting,
             waiters: Chain::empty(),
         });

@@ -18,7 +18,7 @@ ghost use Rattle.softdep_queue.specs.Next.{IsNextReady, NothingReadyFrom};
 
 use crate::Table;
 use layout::{Block, Geometry};
-use updates::{Cell, Change};
+use updates::{Cell, Change, Update};
 
 impl Table {
     /// How many updates are pending.
@@ -32,14 +32,16 @@ impl Table {
     pub fn has_ready(&self, address: u32) -> bool
         requires { address < count_of self.now.ready }
         ensures some { (geo : Numbers) (queue : Queue) (q : List Pending) → Holds geo self.now queue q → result ≡ true → HasReady (home_of geo) q address }
-        ensures none { (geo : Numbers) (queue : Queue) (q : List Pending) → Holds geo self.now queue q → result ≡ false → taken (ready (home_of geo) address q) ≡ 0 }
+        ensures none { (geo : Numbers) (queue : Queue) (q : List Pending) → Holds geo self.now queue q → result ≡ false
+            → taken (ready (home_of geo) address q) ≡ 0 }
     {
         !self.ready.is_empty(address)
     }
 
     /// The least block with an update that waits for nothing.
     pub fn least_ready(&self) -> Option<u32>
-        ensures least { (geo : Numbers) (queue : Queue) (q : List Pending) → Holds geo self.now queue q → MatchOption result (q ≡ []) (λ address. IsLeastReady (home_of geo) q address) }
+        ensures least { (geo : Numbers) (queue : Queue) (q : List Pending) → Holds geo self.now queue q
+            → MatchOption result (q ≡ []) (λ address. IsLeastReady (home_of geo) q address) }
         ensures on_volume { IfSome result (λ address. address < count_of self.now.ready) }
     {
         self.ready.least()
@@ -47,7 +49,8 @@ impl Table {
 
     /// The least block with an update that waits for nothing, of this one and those above it.
     pub fn next_ready(&self, from: u32) -> Option<u32>
-        ensures next { (geo : Numbers) (queue : Queue) (q : List Pending) → Holds geo self.now queue q → MatchOption result (NothingReadyFrom (home_of geo) q from) (λ address. IsNextReady (home_of geo) q from address) }
+        ensures next { (geo : Numbers) (queue : Queue) (q : List Pending) → Holds geo self.now queue q
+            → MatchOption result (NothingReadyFrom (home_of geo) q from) (λ address. IsNextReady (home_of geo) q from address) }
         ensures on_volume { IfSome result (λ address. address < count_of self.now.ready) }
     {
         self.ready.next(from)
@@ -63,16 +66,19 @@ impl Table {
         if last == 0 {
             return None;
         }
-        bytes_in(&self.nodes[(last - 1) as usize].change)
+        bytes_in(&self.nodes[(last - 1) as usize].update)
     }
 }
 
-/// The bytes of a change of a whole block.
-fn bytes_in(change: &Option<Change>) -> Option<&Block>
-    ensures { (a : ℕ) (bytes : List ℕ) → Shows change.now (SetBytes a bytes) → option_copied result ≡ Some bytes }
+/// The bytes of an update of a whole block.
+fn bytes_in(update: &Option<Update>) -> Option<&Block>
+    ensures { (a : ℕ) (bytes : List ℕ) → Shows update.now (SetBytes a bytes) → option_copied result ≡ Some bytes }
 {
-    match change {
-        Some(Change::SetBytes(_, bytes)) => Some(bytes),
+    let Some(update) = update else {
+        return None;
+    };
+    match &update.change {
+        Change::SetBytes(_, bytes) => Some(bytes),
         _ => None,
     }
 }

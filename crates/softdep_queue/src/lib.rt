@@ -3,6 +3,7 @@
 
 mod adding;
 mod asking;
+mod moving;
 mod retiring;
 mod returning;
 mod table;

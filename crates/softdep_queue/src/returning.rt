@@ -12,7 +12,8 @@ impl Table {
     /// Puts back what was taken from a block.
     pub fn give_back(&mut self, address: u32)
         requires { MayBeGivenBack self.old address }
-        ensures { (geo : Numbers) (queue : Queue) (q : List Pending) (es : List Entry) → Takes geo self.old queue q address es → NoOtherMayGo queue address es → Holds geo self.new queue q }
+        ensures { (geo : Numbers) (queue : Queue) (q : List Pending) (es : List Entry) → Takes geo self.old queue q address es → NoOtherMayGo queue address es
+            → Holds geo self.new queue q }
     {
         for k in 0..self.taken.len() {
             let number = self.taken[k];
@@ -27,7 +28,8 @@ impl Table {
     /// Lets those of a block that were issued after an update wait for it again.
     fn raise(&mut self, number: u32, address: u32)
         requires { MayBeHeld self.old number address }
-        ensures raised { (geo : Numbers) (queue : Queue) (q : List Pending) (due : ℕ → Entry → ℕ) (b : ℕ) (e : Entry) → ShowsAll geo self.old queue q due → Contains (queue.lists b) e → e.id ≡ number
+        ensures raised { (geo : Numbers) (queue : Queue) (q : List Pending) (due : ℕ → Entry → ℕ) (b : ℕ) (e : Entry) → ShowsAll geo self.old queue q due
+            → Contains (queue.lists b) e → e.id ≡ number
             → AreFree queue due address number → ShowsAll geo self.new queue q (held address number due) }
         ensures ready { self.new.ready ≡ self.old.ready }
         ensures taken { self.new.taken ≡ self.old.taken }
@@ -42,7 +44,8 @@ impl Table {
     /// Lets an update wait for one more, if it is of this block.
     fn raise_one(&mut self, waiter: u32, address: u32)
         requires { MayBeRaised self.old waiter address }
-        ensures raised { (geo : Numbers) (queue : Queue) (q : List Pending) (due : ℕ → Entry → ℕ) (b : ℕ) (f : Entry) → ShowsAll geo self.old queue q due → Contains (queue.lists b) f → f.id ≡ waiter
+        ensures raised { (geo : Numbers) (queue : Queue) (q : List Pending) (due : ℕ → Entry → ℕ) (b : ℕ) (f : Entry) → ShowsAll geo self.old queue q due
+            → Contains (queue.lists b) f → f.id ≡ waiter
             → (IsTrue (b == address) → due b f < length f.waits) → ShowsAll geo self.new queue q (more address waiter due) }
         ensures chains { self.new.chains ≡ self.old.chains }
         ensures ready { self.new.ready ≡ self.old.ready }

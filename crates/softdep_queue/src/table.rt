@@ -8,14 +8,15 @@ ghost use Rattle.softdep_queue.specs.Lowering.{is_chosen, less, released, AreWai
 
 use chains::{Chain, Chains};
 use ready::Ready;
-use updates::Change;
+use updates::Update;
 
-/// An update that is pending, or was: then it has no change any more.
+/// A place for an update that is pending, or was: then nothing of it is left.
 #[derive(Drop)]
 pub(crate) struct Node {
     /// The block in which its cell stands.
     pub(crate) home: u32,
-    pub(crate) change: Option<Change>,
+    /// The cells that it comes after are kept, too: they are needed where the pending updates get new places.
+    pub(crate) update: Option<Update>,
     /// How many pending updates it waits for. One that it was issued after twice counts twice.
     pub(crate) waiting: usize,
     /// The updates that wait for it, each as often as it counts it.
@@ -41,10 +42,11 @@ impl Table {
     /// Lets those go on that wait for an update: those of this block, or those of all others.
     pub(crate) fn lower(&mut self, number: u32, address: u32, here: bool)
         requires { MayBeReleased self.old number address here }
-        ensures lowered { (geo : Numbers) (queue : Queue) (q : List Pending) (due : ℕ → Entry → ℕ) (b : ℕ) (e : Entry) → Ties geo self.old queue q due → Contains (queue.lists b) e → e.id ≡ number
+        ensures lowered { (geo : Numbers) (queue : Queue) (q : List Pending) (due : ℕ → Entry → ℕ) (b : ℕ) (e : Entry) → Ties geo self.old queue q due
+            → Contains (queue.lists b) e → e.id ≡ number
             → AreWaiting queue due address here number → Ties geo self.new queue q (released address here number due) }
         ensures taken { self.new.taken ≡ self.old.taken }
-        ensures changes { (i : ℕ) → (node_at self.new.nodes.items i).change ≡ (node_at self.old.nodes.items i).change }
+        ensures changes { (i : ℕ) → (node_at self.new.nodes.items i).update ≡ (node_at self.old.nodes.items i).update }
     {
         let mut chain = self.nodes[number as usize].waiters;
         while let Some(link) = self.chains.first(chain) {
@@ -56,11 +58,14 @@ impl Table {
     /// Lets an update wait for one less, if it is of this block, or if it is of another one.
     fn lower_one(&mut self, waiter: u32, address: u32, here: bool)
         requires { MayBeLowered self.old waiter address here }
-        ensures lowered { (geo : Numbers) (queue : Queue) (q : List Pending) (due : ℕ → Entry → ℕ) (b : ℕ) (f : Entry) → Ties geo self.old queue q due → Contains (queue.lists b) f → f.id ≡ waiter
+        ensures lowered { (geo : Numbers) (queue : Queue) (q : List Pending) (due : ℕ → Entry → ℕ) (b : ℕ) (f : Entry) → Ties geo self.old queue q due
+            → Contains (queue.lists b) f → f.id ≡ waiter
             → (IsTrue (is_chosen address here b) → 0 < due b f) → Ties geo self.new queue q (less address here waiter due) }
         ensures chains { self.new.chains ≡ self.old.chains }
         ensures taken { self.new.taken ≡ self.old.taken }
-        ensures nodes { (i : ℕ) → ((node_at self.new.nodes.items i).waiters ≡ (node_at self.old.nodes.items i).waiters) × ((node_at self.new.nodes.items i).change ≡ (node_at self.old.nodes.items i).change) }
+        ensures nodes { (i : ℕ)
+            → ((node_at self.new.nodes.items i).waiters ≡ (node_at self.old.nodes.items i).waiters)
+            × ((node_at self.new.nodes.items i).update ≡ (node_at self.old.nodes.items i).update) }
     {
         let home = self.nodes[waiter as usize].home;
         if (home == address) != here {

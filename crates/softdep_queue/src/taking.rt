@@ -17,7 +17,8 @@ impl Table {
     pub fn take(&mut self, geometry: &Geometry, address: u32, block: &mut Block) -> usize
         requires held { IsTable geometry.now self.old }
         requires address { address < block_count geometry.now }
-        ensures { (queue : Queue) (q : List Pending) → Holds geometry.now self.old queue q → TakesAll geometry.now queue q address self.new block.old block.new result }
+        ensures { (queue : Queue) (q : List Pending) → Holds geometry.now self.old queue q
+            → TakesAll geometry.now queue q address self.new block.old block.new result }
     {
         let mut count = 0;
         while self.take_one(geometry, address, block) {
@@ -31,7 +32,8 @@ impl Table {
     fn take_one(&mut self, geometry: &Geometry, address: u32, block: &mut Block) -> bool
         requires held { MayBeTakenFrom geometry.now self.old address }
         requires address { address < block_count geometry.now }
-        ensures { (queue : Queue) (q : List Pending) (es : List Entry) → Takes geometry.now self.old queue q address es → TakesOne geometry.now queue q address es self.new block.old block.new result }
+        ensures { (queue : Queue) (q : List Pending) (es : List Entry) → Takes geometry.now self.old queue q address es
+            → TakesOne geometry.now queue q address es self.new block.old block.new result }
     {
         let Some(number) = self.ready.pop(address) else {
             return false;
@@ -45,10 +47,10 @@ impl Table {
     /// Puts the change of an update into the block in which its cell stands.
     fn put(&self, geometry: &Geometry, number: u32, block: &mut Block)
         requires { ShowsCell geometry.now self.now number }
-        ensures { (u : Update) → Shows (node_at self.now.nodes.items number).change u → IsPutInto geometry.now u block.old block.new }
+        ensures { (u : Update) → Shows (node_at self.now.nodes.items number).update u → IsPutInto geometry.now u block.old block.new }
     {
-        if let Some(change) = &self.nodes[number as usize].change {
-            change.put(geometry, block);
+        if let Some(update) = &self.nodes[number as usize].update {
+            update.change.put(geometry, block);
         }
     }
 }

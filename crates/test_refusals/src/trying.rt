@@ -182,12 +182,7 @@ fn try_step(
 
 /// What users see of a volume.
 fn seen(alloc: Global, volume: &Volume<MemDevice>) -> Result<Seen, Refusal> {
-    twice!(seen_now(alloc, volume))
-}
-
-/// The same, which may be refused.
-fn seen_now(alloc: Global, volume: &Volume<MemDevice>) -> Result<Seen, Refusal> {
-    Ok(Seen::of(alloc, volume)?)
+    twice!(Seen::of(alloc, volume))
 }
 
 /// Compares an answer with the one that is wanted.

@@ -56,7 +56,7 @@ where
 const TOLD: &[(&str, u64)] = &[
     ("check --workers 1 rows_told.img", 7),
     ("check --workers 2 rows_told.img", 7),
-    ("repair --workers 2 rows_told.img", 21),
+    ("repair --workers 2 rows_told.img", 7),
     ("bits rows_told.img", 0),
     ("put rows_told.img /d rows_told", 2),
     ("get rows_told.img /d rows_told_out", 2),

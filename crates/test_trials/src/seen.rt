@@ -1,9 +1,10 @@
 //! What users see of a volume.
 use device::Device;
 use frozen::Frozen;
+use layout::Refusal;
 use same_metadata::have_same_metadata;
 use snapshot::Volume;
-use std::alloc::{AllocError, Global};
+use std::alloc::Global;
 
 /// What users see of a volume but for the bytes of files: its metadata, how many blocks are free, whether a snapshot stands, and
 /// how many repairs the check has that is installed.
@@ -17,7 +18,7 @@ pub struct Seen {
 
 impl Seen {
     /// That of a volume now.
-    pub fn of<D: Device>(alloc: Global, volume: &Volume<D>) -> Result<Seen, AllocError> {
+    pub fn of<D: Device>(alloc: Global, volume: &Volume<D>) -> Result<Seen, Refusal> {
         let live = volume.live();
         Ok(Seen {
             view: live.view(alloc)?,

@@ -2,15 +2,14 @@
 ghost use Rattle.std.specs.Prelude.{◌≡◌, IfOk};
 
 use crate::fault::refusal_of;
-use changing::{Outcome, change_device, outcome_of};
+use changing::{Outcome, change, change_device, mount, outcome_of};
 use clap::{Arg, ArgMatches, Command as Words};
 use command_line::{Answer, Failure, words};
 use device::Device;
 use failures::path_given;
 use file_device::FileDevice;
-use frozen::load;
 use layout::Refusal;
-use snapshot::Command;
+use snapshot::{Command, Volume};
 use std::alloc::{AllocError, Global};
 use std::marker::Brand;
 use std::os::unix::fs::FileExt;
@@ -158,7 +157,7 @@ where
     carry_out(rt, image, commands.as_slice())
 }
 
-/// Gives names in a file's image; the last path is the target.
+/// Gives names in a file's image; the last path is the target. The file is opened and its volume mounted once.
 fn name_in_file<R: Files + AllocGlobal>(
     rt: &R,
     image: &str,
@@ -172,50 +171,64 @@ where
     let Some((target, named)) = paths.split_last() else {
         return Err(Failure::from(Refusal::BadName));
     };
-    let aim = aim_in_file(rt, image, target, named.len())?;
-    let commands = namings(rt.alloc(), naming, aim, named, target)?;
-    carry_out(rt, image, commands.as_slice())
+    let mut volume = mount_file(rt, image).map_err(|failure| failure.on_image(rt, image))?;
+    name_in_volume(rt, image, &mut volume, naming, target, named)
 }
 
-/// Where so many names are given at a target in a file's image, which is read alone.
-fn aim_in_file<R: Files + AllocGlobal>(
+/// Opens a file to be written, and mounts the volume of its image.
+fn mount_file<R: Files + AllocGlobal>(
     rt: &R,
     image: &str,
-    target: &[u8],
-    count: usize,
-) -> Result<Aim, Failure>
+) -> Result<Volume<FileDevice<R::File, Brand>>, Failure>
 where
     R::File: FileExt,
 {
-    match aim_on_file(rt, image, target, count) {
-        Ok(aim) => Ok(aim),
-        Err(failure) => Err(failure.on_image(rt, image).on_path(rt.alloc(), target)),
+    let device: FileDevice<R::File, Brand> = FileDevice::open_to_write(rt, image)?;
+    Ok(mount(rt.alloc(), device)?)
+}
+
+/// Gives names in the volume of a file's image, and writes all.
+fn name_in_volume<R: Files + AllocGlobal, D: Device>(
+    rt: &R,
+    image: &str,
+    volume: &mut Volume<D>,
+    naming: Naming,
+    target: &[u8],
+    named: &[Vec<u8>],
+) -> Result<Answer, Failure>
+where
+    R::File: FileExt,
+    ensures { IfOk result (λ answer. answer.status ≡ 0) }
+{
+    let aim = aim_in_volume(rt, image, volume, target, named.len())?;
+    let commands = namings(rt.alloc(), naming, aim, named, target)?;
+    match change(rt.alloc(), volume, commands.as_slice()) {
+        Ok(replies) => told(
+            rt,
+            image,
+            commands.as_slice(),
+            outcome_of(replies.as_slice()),
+        ),
+        Err(cause) => Err(Failure::from(cause).on_image(rt, image)),
     }
 }
 
-/// Opens a file, and gives where so many names are given at a target in its image.
-fn aim_on_file<R: Files + AllocGlobal>(
+/// Where so many names are given at a target in the volume of a file's image.
+fn aim_in_volume<R: Files + AllocGlobal, D: Device>(
     rt: &R,
     image: &str,
+    volume: &Volume<D>,
     target: &[u8],
     count: usize,
-) -> Result<Aim, Failure>
-where
-    R::File: FileExt,
-{
-    let mut device: FileDevice<R::File, Brand> = FileDevice::open(rt, image)?;
-    Ok(aim_on_device(rt.alloc(), &mut device, target, count)?)
-}
-
-/// Where so many names are given at a target in a device's image.
-fn aim_on_device<D: Device>(
-    alloc: Global,
-    device: &mut D,
-    target: &[u8],
-    count: usize,
-) -> Result<Aim, Refusal> {
-    let frozen = load(alloc, device)?;
-    aim_at(&frozen, target, count)
+) -> Result<Aim, Failure> {
+    match aim_at(volume.live().metadata(), target, count) {
+        Ok(aim) => Ok(aim),
+        Err(cause) => Err(
+            Failure::from(cause)
+                .on_image(rt, image)
+                .on_path(rt.alloc(), target),
+        ),
+    }
 }
 
 /// Carries out commands on the volume of a file's image up to the first one that is refused, and writes all.
@@ -229,14 +242,28 @@ where
     ensures { IfOk result (λ answer. answer.status ≡ 0) }
 {
     match change_file(rt, image, commands) {
-        Ok(Outcome { refused: None, .. }) => Ok(Answer::nothing(rt.alloc())),
-        Ok(
-            Outcome {
-                done,
-                refused: Some(cause),
-            },
-        ) => Err(refusal_of(rt, image, commands.get(done), cause).after(done, commands.len())),
+        Ok(outcome) => told(rt, image, commands, outcome),
         Err(failure) => Err(failure.on_image(rt, image)),
+    }
+}
+
+/// What is answered where so many of these commands were carried out on the volume of a file's image.
+fn told<R: Files + AllocGlobal>(
+    rt: &R,
+    image: &str,
+    commands: &[Command],
+    outcome: Outcome,
+) -> Result<Answer, Failure>
+where
+    R::File: FileExt,
+    ensures { IfOk result (λ answer. answer.status ≡ 0) }
+{
+    let Outcome { done, refused } = outcome;
+    match refused {
+        None => Ok(Answer::nothing(rt.alloc())),
+        Some(cause) => {
+            Err(refusal_of(rt, image, commands.get(done), cause).after(done, commands.len()))
+        }
     }
 }
 

@@ -1,12 +1,16 @@
 //! What stands in the image of a device, which is read alone.
-ghost use Rattle.std.specs.Prelude.{◌≡◌, ◌++◌, ℕ, false, IfOk, IsErrOf, List, OnOk, map};
+ghost use Rattle.std.specs.Prelude.{◌≡◌, ◌++◌, ◌⊎◌, ℕ, Err, false, true, IfErr, IfOk, IsErrOf, List, OnOk, map};
+ghost use Rattle.device.specs.Reading.{ReadsOnly};
 ghost use Rattle.device.specs.Writes.{HasFailed};
 ghost use Rattle.frozen.specs.Kept.{IsKeptOf};
+ghost use Rattle.frozen.specs.Loading.{LoadRefuses};
 ghost use Rattle.live_paths.specs.Listed.{name_of};
+ghost use Rattle.machine.specs.Command.{ListNames, Open, Stat};
 ghost use Rattle.model.specs.Image.{IsImage, image_view};
 ghost use Rattle.model.specs.Layout.{Geometry as Numbers};
 ghost use Rattle.reading.specs.Bytes.{AreBytesAt};
-ghost use Rattle.tools.specs.Told.{IsListed, name_lines};
+ghost use Rattle.reading.specs.Replies.{Replies};
+ghost use Rattle.tools.specs.Told.{IsListed, Refuses, name_lines};
 
 use crate::texts::{status_text, write_head, write_long_names, write_names};
 use census::census_of;
@@ -26,11 +30,12 @@ pub struct Style {
     pub recursive: bool,
 }
 
-/// The numbers of a device's image, a line for each.
+/// The numbers of a device's image, a line for each. Refused as an image that cannot be loaded.
 pub fn info<D: Device>(alloc: Global, device: &mut D) -> Result<Vec<u8>, Refusal>
-    ensures same { D.image device.new ≡ D.image device.old }
-    ensures held { D.held device.new ≡ D.held device.old }
+    ensures refused { IfErr result (λ refusal. LoadRefuses (D.honest device.new) (D.image device.old) refusal) }
     ensures cause { IsErrOf result Refusal.Device → HasFailed (D.failures device.old) (D.failures device.new) }
+
+    ensures reads { ReadsOnly D.honest D.image D.held device.old device.new }
 {
     let census = census_of(alloc, device)?;
     let mut text = String::new(alloc);
@@ -38,29 +43,34 @@ pub fn info<D: Device>(alloc: Global, device: &mut D) -> Result<Vec<u8>, Refusal
     Ok(text.into_bytes())
 }
 
-/// What a path leads to, a line for each of its number, kind, links, size and blocks.
+/// What a path leads to, a line for each of its number, kind, links, size and blocks. Refused as an image that cannot be
+/// loaded, and then as `reading::stat` is.
 pub fn stat<D: Device>(alloc: Global, device: &mut D, path: &[u8]) -> Result<Vec<u8>, Refusal>
-    ensures same { D.image device.new ≡ D.image device.old }
-    ensures held { D.held device.new ≡ D.held device.old }
+    ensures refused { IfErr result (λ refusal. Refuses (D.honest device.new) (D.image device.old) (Stat path.now) refusal) }
+    ensures cause { IsErrOf result Refusal.Device → HasFailed (D.failures device.old) (D.failures device.new) }
+
+    ensures reads { ReadsOnly D.honest D.image D.held device.old device.new }
 {
     let frozen = load(alloc, device)?;
     let found = reading::stat(&frozen, path)?;
     Ok(status_text(alloc, &found)?.into_bytes())
 }
 
-/// The bytes of a file.
+/// The bytes of a file. Refused as an image that cannot be loaded, and then as `reading::read` is.
 pub fn cat<D: Device>(alloc: Global, device: &mut D, path: &[u8]) -> Result<Vec<u8>, Refusal>
     // Where the device was honest it holds an image, and these are the bytes that users see of the file.
     ensures bytes { IfOk result (λ bytes. D.honest device.new → (geo : Numbers) × IsImage geo (D.image device.old)
         × AreBytesAt geo (image_view geo (D.image device.old)) path.now bytes.items) }
-    ensures same { D.image device.new ≡ D.image device.old }
-    ensures held { D.held device.new ≡ D.held device.old }
+    ensures refused { IfErr result (λ refusal. Refuses (D.honest device.new) (D.image device.old) (Open path.now) refusal) }
+
+    ensures reads { ReadsOnly D.honest D.image D.held device.old device.new }
 {
     let frozen = load(alloc, device)?;
     reading::read(alloc, &frozen, device, path)
 }
 
-/// The names in a directory, a line for each, in the order of its slots.
+/// The names in a directory, a line for each, in the order of its slots. Refused as an image that cannot be loaded, then as
+/// `reading::list` is, and where each directory below is listed as `reading::tree` is.
 pub fn ls<D: Device>(
     alloc: Global,
     device: &mut D,
@@ -68,9 +78,13 @@ pub fn ls<D: Device>(
     style: Style,
 ) -> Result<Vec<u8>, Refusal>
     // Where the device was honest it holds an image, and the lines are the names that the machine lists.
-    ensures listed { (style.long ≡ false) → (style.recursive ≡ false) → IfOk result (λ text. D.honest device.new → IsListed (D.image device.old) path.now text.items) }
-    ensures same { D.image device.new ≡ D.image device.old }
-    ensures held { D.held device.new ≡ D.held device.old }
+    ensures listed { (style.long ≡ false) → (style.recursive ≡ false)
+        → IfOk result (λ text. D.honest device.new → IsListed (D.image device.old) path.now text.items) }
+    ensures refused { IfErr result (λ refusal. (style.recursive ≡ true × refusal ≡ Refusal.Damaged)
+        ⊎ Refuses (D.honest device.new) (D.image device.old) (ListNames path.now) refusal) }
+    ensures cause { IsErrOf result Refusal.Device → HasFailed (D.failures device.old) (D.failures device.new) }
+
+    ensures reads { ReadsOnly D.honest D.image D.held device.old device.new }
 {
     let frozen = load(alloc, device)?;
     if style.recursive {
@@ -81,7 +95,9 @@ pub fn ls<D: Device>(
 
 /// The names in a directory, a line for each.
 fn names_text(alloc: Global, frozen: &Frozen, path: &[u8], long: bool) -> Result<Vec<u8>, Refusal>
-    ensures { long ≡ false → IfOk result (λ text. (image : List (List ℕ)) → IsKeptOf frozen.now image → IsListed image path.now text.items) }
+    ensures listed { long ≡ false → IfOk result (λ text. (image : List (List ℕ)) → IsKeptOf frozen.now image → IsListed image path.now text.items) }
+    ensures refused { IfErr result (λ r. Replies frozen.now (ListNames path.now) (Err r)) }
+    ensures device { IsErrOf result Refusal.Device → ⊥ }
 {
     let names = list(alloc, frozen, path)?;
     let mut text = Vec::new(alloc);
@@ -95,7 +111,10 @@ fn listings_text(
     frozen: &Frozen,
     path: &[u8],
     long: bool,
-) -> Result<Vec<u8>, Refusal> {
+) -> Result<Vec<u8>, Refusal>
+    ensures refused { IfErr result (λ r. (r ≡ Refusal.Damaged) ⊎ Replies frozen.now (ListNames path.now) (Err r)) }
+    ensures device { IsErrOf result Refusal.Device → ⊥ }
+{
     let listings = tree(alloc, frozen, path)?;
     let mut text = Vec::new(alloc);
     for listing in &listings {

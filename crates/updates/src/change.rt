@@ -64,7 +64,8 @@ impl Change {
 
     /// The bytes of the whole block in which the cell stands, where those are the new value.
     pub fn whole(&self) -> Option<&Arc<Block>>
-        ensures { IfSome result (λ block. (geo : Numbers) → IsGeometry geo → IsCell geo (cell_of (change self.now)) → (old : List ℕ) → IsPutInto geo (change self.now) old (arc_value block.now)) }
+        ensures { IfSome result (λ block. (geo : Numbers) → IsGeometry geo → IsCell geo (cell_of (change self.now)) → (old : List ℕ)
+            → IsPutInto geo (change self.now) old (arc_value block.now)) }
     {
         match self {
             Change::SetBytes(_, bytes) => Some(bytes),
@@ -78,7 +79,8 @@ impl Change {
         ensures view { (blocks : ℕ → List ℕ) → blocks (home_of geometry.now (cell_of (change self.now))) ≡ block.old
             → view_of geometry.now (put_at blocks (home_of geometry.now (cell_of (change self.now))) block.new) ≡ updated (view_of geometry.now blocks) (change self.now) }
         ensures alone { ChangesAlone geometry.now (change self.now) block.old block.new }
-        ensures group_block { (g : ℕ) → home_of geometry.now (cell_of (change self.now)) ≡ group_block geometry.now g → IsGroupBlock g block.old → IsGroupBlock g block.new }
+        ensures group_block { (g : ℕ) → home_of geometry.now (cell_of (change self.now)) ≡ group_block geometry.now g → IsGroupBlock g block.old
+            → IsGroupBlock g block.new }
     {
         let inodes = geometry.inodes_a_group();
         match self {

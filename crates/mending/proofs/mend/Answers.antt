@@ -1,12 +1,63 @@
-use Rattle.std.proofs.Common.{◌≡◌, ◌∙◌, sym, ap, subst, length}
+use Rattle.std.proofs.Common.{◌≡◌, ◌∙◌, inl, refl, subst, sym}
 use Rattle.std.specs.Arc.{arc_value}
+use Rattle.std.proofs.lemmas.Result.{err_from_is_err_and}
 use Rattle.fsck.specs.Checked.{CheckedImage, IsChecked}
 use Rattle.machine.specs.Snapshot.{settled}
 use Rattle.snapshot.specs.Alive.{disk_of, state_of}
 use Rattle.snapshot.specs.Asked.{check_of}
-use Rattle.mending.proofs.Ended.{Ended, ends}
-use Rattle.mending.proofs.Joining.{nothing_beside}
+use Rattle.mending.specs.Repairs.{MayMend, MendsFrozen}
+use Rattle.mending.proofs.MayMend.{may_mend, of_snapshot, some_snapshot}
+use Rattle.mending.proofs.Ended.{Ended, checked_there, ends}
+use Rattle.snapshot.proofs.Refusals.{may_freeze, refused_so}
+use Rattle.machine.specs.Command.{Freeze}
+use Rattle.mending.proofs.Joining.{joins_of, nothing_beside}
+use Rattle.mending.proofs.Seen.{alone}
 use Rattle.mending.proofs.mend.Goals as goal
+
+pub returns-in_err-freeze-clause-error : goal.returns-in_err-freeze-clause-error
+returns-in_err-freeze-clause-error g c =
+    let p = err_from_is_err_and c.from_residual.result c.from_residual.ensures.1 in
+    rw (p.1, p.2) (λ honest.
+    let held = g.D.Device.held in
+    let image = g.D.Device.image in
+    let old = c.args.volume.now in
+    let new = c.freeze.new.self in
+    let beside = c.live.ensures.balance (c.freeze.ensures.honest honest) in
+    let is = alone (image old.device) old beside.beside c.requires.idle.snapshot beside.is in
+    refused_so (held old.device) (image old.device) old (held new.device) (image new.device) new nothing_beside is Freeze
+    (may_freeze old.kept.geometry (state_of (image old.device) old nothing_beside) refl) tt _ (c.in_err-freeze.ensures.refused honest))
+
+pub returns-in_err-check_snapshot-clause-error : goal.returns-in_err-check_snapshot-clause-error
+returns-in_err-check_snapshot-clause-error g c =
+    let p = err_from_is_err_and c.from_residual-in_err-check_snapshot.result c.from_residual-in_err-check_snapshot.ensures.1 in
+    rw (p.1, p.2) (λ honest.
+    let image = g.D.Device.image in
+    let old = c.args.volume.now in
+    let beside = c.live.ensures.balance (c.freeze.ensures.honest honest) in
+    let is = alone (image old.device) old beside.beside c.requires.idle.snapshot beside.is in
+    inl (c.in_err-check_snapshot.ensures.error (some_snapshot _ _ (c.in_ok-freeze.ensures.frozen honest nothing_beside is).1.is.belongs)))
+
+pub returns-in_err-mend_frozen-clause-error : goal.returns-in_err-mend_frozen-clause-error
+returns-in_err-mend_frozen-clause-error g c =
+    let p = err_from_is_err_and c.from_residual-in_err-mend_frozen.result c.from_residual-in_err-mend_frozen.ensures.1 in
+    rw (p.1, p.2) (λ honest.
+    let held = g.D.Device.held in
+    let image = g.D.Device.image in
+    let v0 = c.args.volume.now in
+    let v1 = c.freeze.new.self in
+    let v2 = c.mend_frozen.new.volume in
+    let checked : CheckedImage = c.in_ok-check_snapshot.field-0 in
+    let snapshot = arc_value c.in_ok-freeze.field-0 in
+    let h1 = c.mend_frozen.ensures.honest honest in
+    let h0 = c.freeze.ensures.honest h1 in
+    let beside = c.live.ensures.balance h0 in
+    let is = alone (image v0.device) v0 beside.beside c.requires.idle.snapshot beside.is in
+    let freezes = c.in_ok-freeze.ensures.frozen h1 in
+    let of = c.in_ok-check_snapshot.ensures.checked in
+    let found = checked_there (joins_of c.calls_join.ensures) (held v0.device) (held v1.device) (held v2.device) (image v0.device) (image v1.device) (image v2.device) v0 v1 v2 snapshot checked is freezes of in
+    let may = may_mend image c.damaged_where_a_rule_is_broken.ensures (held v0.device) (held v1.device) (image v0.device) v0 v1 snapshot checked c.requires.pending c.requires.idle (c.requires.mounted h0) is freezes found
+    (of_snapshot image c.damaged_where_a_rule_is_broken.ensures (held v0.device) (held v1.device) (image v0.device) v0 v1 snapshot checked c.requires.pending c.requires.idle (c.requires.mounted h0) is freezes found of) in
+    c.in_err-mend_frozen.ensures.error honest (subst (MayMend image v1) (sym (c.deref.ensures ∙ c.in_ok-checked.ensures.ok)) may))
 
 pub returns : goal.returns
 returns g c =
@@ -15,36 +66,29 @@ returns g c =
     let honest = g.D.Device.honest in
     let v0 = c.args.volume.now in
     let v1 = c.freeze.new.self in
-    let v2 = c.install.new.self in
-    let v3 = c.repair_all.new.volume in
-    let v4 = c.release.new.self in
-    let v5 = c.apply.new.self in
+    let v2 = c.mend_frozen.new.volume in
     let checked : CheckedImage = c.in_ok-check_snapshot.field-0 in
     let given : arc_value c.in_ok-checked.checked ≡ checked = c.in_ok-checked.ensures.ok in
-    let check = check_of v1.kept.geometry c.deref.result.now in
-    let n = length c.repairs.result.now in
-    let count : length checked.repairs ≡ n = ap (λ (x : CheckedImage). length x.repairs) (sym given ∙ sym c.deref-2.ensures) ∙ ap length (sym c.repairs.ensures.repairs) in
-    let ended : honest v5.device → Ended (held v0.device) (image v0.device) v0 check n checked (held v5.device) (image v5.device) v5 = λ h5.
-    let h4 = c.apply.ensures.honest h5 in
-    let h3 = c.release.ensures.honest h4 in
-    let h2 = subst honest c.repair_all.ensures.device h3 in
-    let h1 = subst honest c.install.ensures.device h2 in
-    let h0 = c.freeze.ensures.honest h1 in
-    ends c.calls_join.ensures (held v0.device) (held v1.device) (held v2.device) (held v3.device) (held v4.device) (held v5.device)
-    (image v0.device) (image v1.device) (image v2.device) (image v3.device) (image v4.device) (image v5.device) v0 v1 v2 v3 v4 v5
-    (arc_value c.in_ok-freeze.field-0) check n c.in_ok-apply.field-0 checked c.requires.pending c.requires.idle (c.live.ensures.balance h0) c.in_ok-check_snapshot.ensures count
-    (c.in_ok-freeze.ensures.frozen h1) (c.in_ok-install.ensures.installed h2) (c.in_ok-repair_all.ensures.repaired h3) (c.in_ok-release.ensures.released h4) (c.in_ok-apply.ensures.applied h5)
-    in
-    let first : honest v5.device → honest v0.device = λ h5.
-    c.freeze.ensures.honest (subst honest c.install.ensures.device (subst honest c.repair_all.ensures.device (c.release.ensures.honest (c.apply.ensures.honest h5))))
+    let check = check_of v1.kept.geometry checked in
+    let first : honest v2.device → honest v0.device = λ h2. c.freeze.ensures.honest (c.mend_frozen.ensures.honest h2) in
+    let ended : honest v2.device → Ended (held v0.device) (image v0.device) v0 check _ checked (held v2.device) (image v2.device) v2 = λ h2.
+    let h1 = c.mend_frozen.ensures.honest h2 in
+    let beside = c.live.ensures.balance (c.freeze.ensures.honest h1) in
+    let is = alone (image v0.device) v0 beside.beside c.requires.idle.snapshot beside.is in
+    let freezes = c.in_ok-freeze.ensures.frozen h1 in
+    ends (joins_of c.calls_join.ensures) (held v0.device) (held v1.device) (held v2.device) (image v0.device) (image v1.device) (image v2.device) v0 v1 v2 (arc_value c.in_ok-freeze.field-0) checked
+    c.requires.pending c.requires.idle is
+    (checked_there (joins_of c.calls_join.ensures) (held v0.device) (held v1.device) (held v2.device) (image v0.device) (image v1.device) (image v2.device) v0 v1 v2 (arc_value c.in_ok-freeze.field-0) checked is freezes c.in_ok-check_snapshot.ensures.checked)
+    freezes (subst (λ x. MendsFrozen held image v1 x v2) (c.deref.ensures ∙ given) (c.in_ok-mend_frozen.ensures.mends h2))
     in
     record {
-      clean = λ h5.
-          let e = ended h5 in
-          c.mended_images_are_clean.ensures e.cycle.beside (held v0.device) (held v5.device) (image v0.device) (image v5.device) v0 v5 (settled v0.kept.geometry (state_of (image v0.device) v0 nothing_beside)) check checked.findings n e.cycle.answer
-          (c.requires.mounted (first h5)) c.requires.pending c.requires.idle e.is e.is_settled.findings e.count e.cycle.goes;
-      framed = λ h5. (ended h5).cycle.goes.is.framed;
-      checked = λ h5. subst (λ x. IsChecked v0.kept.geometry (disk_of (image v0.device) v0) x) (sym given) (ended h5).is_checked;
-      geometry = λ h5. (ended h5).cycle.goes.geometry;
+      clean = λ h2.
+          let e = ended h2 in
+          c.mended_images_are_clean.ensures e.cycle.beside (held v0.device) (held v2.device) (image v0.device) (image v2.device) v0 v2 (settled v0.kept.geometry (state_of (image v0.device) v0 nothing_beside)) check checked.findings _ e.cycle.answer
+          (c.requires.mounted (first h2)) c.requires.pending c.requires.idle e.is e.is_settled.findings e.count e.cycle.goes;
+      framed = λ h2. (ended h2).cycle.goes.is.framed;
+      checked = λ h2. subst (λ x. IsChecked v0.kept.geometry (disk_of (image v0.device) v0) x) (sym given) (ended h2).is_checked;
+      geometry = λ h2. (ended h2).cycle.goes.geometry;
+      error = tt;
       honest = first;
     }

@@ -1,8 +1,9 @@
 //! The volumes of the story, all of them in memory.
 use crate::demo::texts::{SCRIPT, STOP, USERS_SCRIPT, WORKERS};
 use crate::stops::carry_out;
+use changing::mount;
 use device::MemDevice;
-use image_lines::mounting::mount;
+use image_lines::mounting::mount as mount_by_workers;
 use layout::{BLOCK_BYTES, Block, Geometry, Refusal, fresh_block};
 use outcomes::with;
 use snapshot::{Command, Volume};
@@ -11,6 +12,7 @@ use std::sync::Wait;
 use std::thread::Threads;
 use user_scripts::{BadScript, Commands, UserLine, parse};
 use users::{Ran, run};
+use workers::OpenGate;
 
 /// The bytes of a fresh image of one group with 16 blocks and 16 inodes.
 pub(crate) fn fresh_bytes(alloc: Global) -> Result<Vec<u8>, Refusal> {
@@ -45,7 +47,7 @@ fn refusal_of(refused: BadScript) -> Refusal {
 /// What the device held, as the script ran on the volume of this image, after the write at which the script is stopped.
 pub(crate) fn stopped(alloc: Global, image: &[u8]) -> Result<MemDevice, Refusal> {
     let device = MemDevice::from_bytes(alloc, image)?;
-    let mut volume = Volume::new(mount(alloc, device)?);
+    let mut volume = mount(alloc, device)?;
     stopped_on(alloc, &mut volume)
 }
 
@@ -62,7 +64,7 @@ pub(crate) fn run_of_users(
     alloc: Global,
     device: MemDevice,
 ) -> Result<Ran<MemDevice>, Refusal> {
-    let volume = Volume::new(mount(alloc, device)?);
+    let volume = Volume::new(mount_by_workers(rt, alloc, device, WORKERS, &OpenGate)?);
     let (script, volume) = with(lines_of(alloc, USERS_SCRIPT, Commands::OfUsers), volume)?;
     run(rt, alloc, volume, script, WORKERS)
 }

@@ -1,6 +1,21 @@
 use Rattle.std.proofs.Common.{length, subst, take}
+use Rattle.std.proofs.lemmas.Result.{err_from_is_err_and}
 use Rattle.changing.specs.Changes.{Changes}
+use Rattle.changing.proofs.StopLemmas.{given_out}
 use Rattle.changing.proofs.mounted.change_device.Goals as goal
+
+pub returns-in_err-volume-clause-refused : goal.returns-in_err-volume-clause-refused
+returns-in_err-volume-clause-refused g c =
+    let p = err_from_is_err_and c.from_residual.result c.from_residual.ensures.1 in
+    let let_go = c.in_err-volume.ensures.refused in
+    rw (p.1, p.2) (record { after = let_go.after; refuses = λ honest. let_go.refuses })
+
+pub returns-in_err-replies-clause-refused : goal.returns-in_err-replies-clause-refused
+returns-in_err-replies-clause-refused g c =
+    let p = err_from_is_err_and c.from_residual-in_err-replies.result c.from_residual-in_err-replies.ensures.1 in
+    let honest = g.D.Device.honest in
+    let device = c.change.new.volume.device in
+    rw (p.1, p.2) (record { after = device; refuses = λ h. given_out (honest device) (g.D.Device.image c.args.device) _ (c.in_err-replies.ensures.error h) })
 
 pub returns-clause-changed : goal.returns-clause-changed
 returns-clause-changed g c = λ honest.

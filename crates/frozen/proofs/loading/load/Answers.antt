@@ -16,16 +16,16 @@ returns-clause-ok g c = λ honest.
     let image = g.D.Device.image c.args.device.now in
     let steps = c.in_ok-read_indirect.ensures in
     let last = c.in_ok-read_directories.ensures in
-    let before = steps.honest (last.honest honest) in
-    let first : c.read.new.to ≡ block_at image 0 = c.in_ok-read.ensures.block (c.in_ok-blocks.ensures.honest before) in
+    let before = steps.reads.honest (last.reads.honest honest) in
+    let first : c.read.new.to ≡ block_at image 0 = c.in_ok-read.ensures.block (c.in_ok-blocks.ensures.reads.honest before) in
     let read = c.in_ok-read.ensures.same in
-    let frame = c.in_ok-blocks.ensures.same in
+    let frame = c.in_ok-blocks.ensures.reads.same in
     let are : AreBlocksOf kept.blocks (g.D.Device.image c.read_frame.new.device) =
     subst (AreBlocksOf kept.blocks) (sym frame) (c.in_ok-blocks.ensures.blocks before (first ∙ ap (λ i. block_at i 0) (sym read))) in
     let are_middle : AreBlocksOf middle.blocks (g.D.Device.image c.read_frame.new.device) =
-    steps.blocks (last.honest honest) (subst (λ (k : Kept). AreBlocksOf k.blocks (g.D.Device.image c.read_frame.new.device)) (sym c.new-held.ensures) are) in
+    steps.blocks (last.reads.honest honest) (subst (λ (k : Kept). AreBlocksOf k.blocks (g.D.Device.image c.read_frame.new.device)) (sym c.new-held.ensures) are) in
     let are_held : AreBlocksOf held.blocks image =
-    subst (AreBlocksOf held.blocks) (steps.same ∙ frame ∙ read) (last.blocks honest (subst (AreBlocksOf middle.blocks) (sym steps.same) are_middle)) in
+    subst (AreBlocksOf held.blocks) (steps.reads.same ∙ frame ∙ read) (last.blocks honest (subst (AreBlocksOf middle.blocks) (sym steps.reads.same) are_middle)) in
     let more : KeepsMore kept held = more_of_more kept middle held (subst (λ (k : Kept). KeepsMore k middle) c.new-held.ensures steps.more) last.more in
     subst (λ (k : Kept). IsKeptOf k image) (sym c.new.ensures)
     (all_kept_of held image last.metadata are_held

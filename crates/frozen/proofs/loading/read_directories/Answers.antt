@@ -1,6 +1,7 @@
 use Rattle.std.proofs.Common.{sym, ap, ◌∙◌, subst, arith}
 use Rattle.model.specs.Layout.{Geometry, inode_count}
 use Rattle.frozen.specs.Loading.{AreBlocksOf}
+use Rattle.device.proofs.ReadingLemmas.{reads_on}
 use Rattle.frozen.proofs.ClaimLemmas.{more_of_more, indirect_stays}
 use Rattle.frozen.proofs.KeepingLemmas.{one_directory_more, all_directories}
 use Rattle.frozen.proofs.loading.read_directories.Goals as goal
@@ -15,11 +16,9 @@ loop-number-preserved g c =
       indirect = indirect_stays c.loop-number.held c.read_directory.new.held i.frame step.more i.indirect;
       directories = one_directory_more c.loop-number.held c.read_directory.new.held i.frame step.more i.indirect c.loop-number.number i.directories step.directory;
       blocks = λ honest are.
-          subst (AreBlocksOf c.read_directory.new.held.blocks) i.same (step.blocks honest (subst (AreBlocksOf c.loop-number.held.blocks) (sym i.same) (i.blocks (step.honest honest) are)));
-      same = step.same ∙ i.same;
-      held = step.held ∙ i.held;
+          subst (AreBlocksOf c.read_directory.new.held.blocks) i.reads.same (step.blocks honest (subst (AreBlocksOf c.loop-number.held.blocks) (sym i.reads.same) (i.blocks (step.reads.honest honest) are)));
+      reads = reads_on i.reads step.reads;
       failures = step.failures ∙ i.failures;
-      honest = λ h. i.honest (step.honest h);
     }
 
 pub returns-clause-metadata : goal.returns-clause-metadata

@@ -2,6 +2,7 @@ use Rattle.std.proofs.Common.{sym, ap, ◌∙◌, subst, arith}
 use Rattle.model.specs.View.{Inode}
 use Rattle.model.specs.Uses.{blocks_of}
 use Rattle.frozen.specs.Loading.{AreBlocksOf}
+use Rattle.device.proofs.ReadingLemmas.{reads_on}
 use Rattle.frozen.proofs.ClaimLemmas.{more_of_more, indirect_stays, inode_stays}
 use Rattle.frozen.proofs.KeepingLemmas.{one_position_more, all_positions}
 use Rattle.frozen.proofs.loading.read_directory.Goals as goal
@@ -16,11 +17,9 @@ loop-position-preserved g c =
       indirect = indirect_stays c.loop-position.held c.keep_claimed.new.held i.frame step.more i.indirect;
       positions = one_position_more c.loop-position.held c.keep_claimed.new.held i.frame step.more i.indirect c.args.number c.loop-position.position i.positions step.claim;
       blocks = λ honest are.
-          subst (AreBlocksOf c.keep_claimed.new.held.blocks) i.same (step.blocks honest (subst (AreBlocksOf c.loop-position.held.blocks) (sym i.same) (i.blocks (step.honest honest) are)));
-      same = step.same ∙ i.same;
-      held = step.held ∙ i.held;
+          subst (AreBlocksOf c.keep_claimed.new.held.blocks) i.reads.same (step.blocks honest (subst (AreBlocksOf c.loop-position.held.blocks) (sym i.reads.same) (i.blocks (step.reads.honest honest) are)));
+      reads = reads_on i.reads step.reads;
       failures = step.failures ∙ i.failures;
-      honest = λ h. i.honest (step.honest h);
     }
 
 pub returns-clause-directory : goal.returns-clause-directory

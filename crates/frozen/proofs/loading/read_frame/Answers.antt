@@ -7,6 +7,7 @@ use Rattle.model.specs.Image.{block_at}
 use Rattle.model.proofs.ImageLemmas.{is_block}
 use Rattle.frozen.specs.Shared.{shared_blocks}
 use Rattle.frozen.specs.Loading.{BlockRefuses}
+use Rattle.device.proofs.ReadingLemmas.{reads_on}
 use Rattle.frozen.proofs.LoadLemmas.{kept_more, read_more, all_kept, frame_refused}
 use Rattle.frozen.proofs.loading.read_frame.Goals as goal
 
@@ -17,8 +18,8 @@ returns-in_err-kept-clause-refused g c =
     let honest = g.D.Device.honest c.keep_block.new.device in
     rw (p.1, p.2)
     (frame_refused c.args.geometry.now c.blocks-address-end.ensures.geometry c.args.first.now (shared_blocks c.loop-address.blocks.items) c.loop-address.address i.kept
-    honest (g.D.Device.image c.args.device.now) c.in_err-kept.field-0.0 (λ h. i.told (c.in_err-kept.ensures.honest h))
-    (subst (λ image. BlockRefuses honest c.args.geometry.now image c.loop-address.address c.in_err-kept.field-0.0) i.same c.in_err-kept.ensures.refused))
+    honest (g.D.Device.image c.args.device.now) c.in_err-kept.field-0.0 (λ h. i.told (c.in_err-kept.ensures.reads.honest h))
+    (subst (λ image. BlockRefuses honest c.args.geometry.now image c.loop-address.address c.in_err-kept.field-0.0) i.reads.same c.in_err-kept.ensures.refused))
 
 pub loop-address-preserved : goal.loop-address-preserved
 loop-address-preserved g c =
@@ -31,11 +32,9 @@ loop-address-preserved g c =
       kept = kept_more c.args.geometry.now c.args.first.now old (shared_blocks c.push-in-loop-address.new.self.items) c.loop-address.address new
           (omega (arith, c.loop-address.auto.address)) i.kept added c.in_ok-kept.ensures.kept;
       told = λ h. read_more (g.D.Device.image c.args.device.now) old (shared_blocks c.push-in-loop-address.new.self.items) c.loop-address.address new i.kept.count
-          (i.told (c.in_ok-kept.ensures.honest h)) added (λ b e. c.in_ok-kept.ensures.block h b e ∙ ap (λ image. block_at image c.loop-address.address) i.same);
-      same = c.in_ok-kept.ensures.same ∙ i.same;
-      held = c.in_ok-kept.ensures.held ∙ i.held;
+          (i.told (c.in_ok-kept.ensures.reads.honest h)) added (λ b e. c.in_ok-kept.ensures.block h b e ∙ ap (λ image. block_at image c.loop-address.address) i.reads.same);
+      reads = reads_on i.reads c.in_ok-kept.ensures.reads;
       failures = c.in_ok-kept.ensures.failures ∙ i.failures;
-      honest = λ h. i.honest (c.in_ok-kept.ensures.honest h);
     }
 
 pub returns-clause-kept : goal.returns-clause-kept

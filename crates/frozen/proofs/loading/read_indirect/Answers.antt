@@ -1,6 +1,7 @@
 use Rattle.std.proofs.Common.{sym, ap, ◌∙◌, subst, arith}
 use Rattle.model.specs.Layout.{Geometry, inode_count}
 use Rattle.frozen.specs.Loading.{AreBlocksOf}
+use Rattle.device.proofs.ReadingLemmas.{reads_on}
 use Rattle.frozen.proofs.ClaimLemmas.{more_of_more}
 use Rattle.frozen.proofs.KeepingLemmas.{one_indirect_more, all_indirect}
 use Rattle.frozen.proofs.loading.read_indirect.Goals as goal
@@ -14,11 +15,9 @@ loop-number-preserved g c =
       more = more_of_more c.args.held.now c.loop-number.held c.keep_claimed.new.held i.more step.more;
       indirect = one_indirect_more c.loop-number.held c.keep_claimed.new.held i.frame step.more c.loop-number.number i.indirect step.claim;
       blocks = λ honest are.
-          subst (AreBlocksOf c.keep_claimed.new.held.blocks) i.same (step.blocks honest (subst (AreBlocksOf c.loop-number.held.blocks) (sym i.same) (i.blocks (step.honest honest) are)));
-      same = step.same ∙ i.same;
-      held = step.held ∙ i.held;
+          subst (AreBlocksOf c.keep_claimed.new.held.blocks) i.reads.same (step.blocks honest (subst (AreBlocksOf c.loop-number.held.blocks) (sym i.reads.same) (i.blocks (step.reads.honest honest) are)));
+      reads = reads_on i.reads step.reads;
       failures = step.failures ∙ i.failures;
-      honest = λ h. i.honest (step.honest h);
     }
 
 pub returns-clause-indirect : goal.returns-clause-indirect

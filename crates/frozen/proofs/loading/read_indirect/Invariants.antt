@@ -1,6 +1,7 @@
 use Rattle.std.proofs.Common.{◌≡◌}
 use Rattle.frozen.specs.Kept.{KeepsFrame, KeepsMore}
 use Rattle.frozen.specs.Loading.{AreBlocksOf}
+use Rattle.device.specs.Reading.{ReadsOnly}
 use Rattle.frozen.proofs.KeepingLemmas.{KeepsIndirectBelow}
 use Rattle.frozen.proofs.loading.read_indirect.Given as goal
 
@@ -10,8 +11,6 @@ invariant-loop-number g l = record {
   more : KeepsMore l.fn.held l.held;
   indirect : KeepsIndirectBelow l.held l.number;
   blocks : g.D.Device.honest l.device → AreBlocksOf l.fn.held.blocks (g.D.Device.image l.fn.device) → AreBlocksOf l.held.blocks (g.D.Device.image l.fn.device);
-  same : g.D.Device.image l.device ≡ g.D.Device.image l.fn.device;
-  held : g.D.Device.held l.device ≡ g.D.Device.held l.fn.device;
+  reads : ReadsOnly g.D.Device.honest g.D.Device.image g.D.Device.held l.fn.device l.device;
   failures : g.D.Device.failures l.device ≡ g.D.Device.failures l.fn.device;
-  honest : g.D.Device.honest l.device → g.D.Device.honest l.fn.device;
 }

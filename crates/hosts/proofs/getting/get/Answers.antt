@@ -6,16 +6,16 @@ use Rattle.hosts.proofs.CopyLemmas.{made_all}
 use Rattle.hosts.proofs.getting.get.Goals as goal
 
 pub get_part-requires : goal.get_part-requires
-get_part-requires g c = record { count = ap length c.load.ensures.same ∙ c.in_ok-frozen.ensures.count }
+get_part-requires g c = record { count = ap length c.load.ensures.reads.same ∙ c.in_ok-frozen.ensures.count }
 
 pub returns-clause-copies : goal.returns-clause-copies
 returns-clause-copies g c = λ honest.
     let frozen = c.in_ok-frozen.frozen in
-    let kept = c.in_ok-frozen.ensures.ok (c.get_part.ensures.honest honest) in
+    let kept = c.in_ok-frozen.ensures.ok (c.get_part.ensures.reads.honest honest) in
     let geo = frozen.geometry in
     let new = c.get_part.new.copies.files.items in (
       geo,
       kept.is_image,
       made_all geo (image_view geo (g.D.Device.image c.args.device.now)) c.new.result.items new c.new.ensures
-          (subst (λ image. MadeMore geo (image_view geo image) c.new.result.items new) c.load.ensures.same (c.in_ok-get_part.ensures.more honest (subst (IsKeptOf frozen) (sym c.load.ensures.same) kept))),
+          (subst (λ image. MadeMore geo (image_view geo image) c.new.result.items new) c.load.ensures.reads.same (c.in_ok-get_part.ensures.more honest (subst (IsKeptOf frozen) (sym c.load.ensures.reads.same) kept))),
     )

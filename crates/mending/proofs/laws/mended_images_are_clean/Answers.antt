@@ -8,8 +8,8 @@ use Rattle.machine.specs.State.{State, open_at}
 use Rattle.ordering.specs.Cuts.{users_view}
 use Rattle.softdep.specs.Queued.{pending_of}
 use Rattle.snapshot.specs.Alive.{disk_of, state_of}
-use Rattle.mending.specs.Repairs.{all_done, repairs_below}
-use Rattle.mending.proofs.Cycle.{each_repaired, no_freeze, stands_alone, stays_open, then_asked, then_replied}
+use Rattle.mending.specs.Repairs.{all_done, repairs_below, then_asked, then_replied}
+use Rattle.mending.proofs.Cycle.{each_repaired, no_freeze, stands_alone, stays_open}
 use Rattle.mending.proofs.Syncing.{none_left}
 use Rattle.mending.proofs.laws.mended_images_are_clean.Goals as goal
 
@@ -18,7 +18,8 @@ returns g c = λ beside' held held' image image' old new frozen check findings n
     let geo = old.kept.geometry in
     let s : State = state_of image old (record { frozen = None }) in
     let t : State = state_of image' new beside' in
-    let exact = (c.whole_cycles_end_exact.ensures.cycle (record { frozen = None }) beside' held held' image image' old new frozen check findings [] (then_asked n) [] (then_replied n answer)
+    let exact = (c.whole_cycles_end_exact.ensures.cycle (record { volume = old; beside = record { frozen = None }; held = held; image = image }) (record { volume = new; beside = beside'; held = held'; image = image' })
+    frozen check findings [] (then_asked n) [] (then_replied n answer)
     is refl goes (λ h. h) (no_freeze n answer) found (each_repaired findings n answer count)).1 in
     let balance : Balance geo t = subst (λ g. Balance g t) goes.geometry goes.is.stands.balance in
     let opened = stays_open geo s t check frozen n answer goes.run in

@@ -1,17 +1,18 @@
 use Rattle.std.proofs.Common.{List, ℕ, ◌++◌, ◌∷◌, Ok, subst}
 use Rattle.std.proofs.lemmas.List.Elements.{All-weaker}
-use Rattle.machine.specs.Command.{Done, Freeze, Image, Install}
+use Rattle.machine.specs.Command.{Done, Image}
 use Rattle.machine.specs.State.{mounted}
 use Rattle.machine.specs.Step.{Run}
 use Rattle.model.specs.Image.{image_view}
 use Rattle.snapshot.specs.Mounting.{IsMountable}
+use Rattle.snapshot.specs.Stages.{geometry_at}
 use Rattle.promises.specs.Leaky.{IsOnlyLeaky}
 use Rattle.promises.proofs.laws.every_stop_is_only_leaky.Goals as goal
 
 pub returns : goal.returns
-returns g c = λ beside beside' held held' image image' old new commands replies is goes.
-    let geo = old.kept.geometry in
-    let held_more = c.each_image_held_is_mountable.ensures beside beside' held held' image image' old new commands replies is goes in
+returns g c = λ s t commands replies is leads.
+    let geo = geometry_at s in
+    let held_more = c.each_image_held_is_mountable.ensures s t commands replies is leads in
     let leaky : (stop : List (List ℕ)) → IsMountable geo stop → IsOnlyLeaky geo stop = λ stop mounts.
     let start = mounted (image_view geo stop) in
     record {

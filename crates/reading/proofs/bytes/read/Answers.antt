@@ -1,5 +1,6 @@
 use Rattle.std.proofs.Common.{◌≡◌, ◌++◌, inl, inr, refl, sym, ap, ap₂, ◌∙◌, subst, arith}
 use Rattle.std.proofs.lemmas.Result.{err_from_is_err_and}
+use Rattle.device.proofs.ReadingLemmas.{reads_on}
 use Rattle.frozen.specs.Kept.{IsKeptOf, frozen_view}
 use Rattle.layout.specs.declared.refusal.Refusal.TheVariants.{Device}
 use Rattle.machine.specs.Cells.{seen}
@@ -32,9 +33,7 @@ returns-then-is_directory_at-clause-refused g c = inr (λ image is.
 
 pub loop-index-init : goal.loop-index-init
 loop-index-init g c = record {
-  same = refl;
-  held = refl;
-  honest = λ h. h;
+  reads = record { same = refl; held = refl; honest = λ h. h };
   failures = refl;
   read = λ h is. c.new-bytes.ensures.items ∙ sym (seen_none c.args.frozen.now.geometry (image_view c.args.frozen.now.geometry (g.D.Device.image c.args.device.now)) c.in_ok-number.number);
 }
@@ -57,13 +56,11 @@ loop-index-preserved g c =
     let i = c.in_ok-number.number in
     let k = c.loop-index.index in
     record {
-      same = c.add_block.ensures.same ∙ inv.same;
-      held = c.add_block.ensures.held ∙ inv.held;
-      honest = λ h. inv.honest (c.add_block.ensures.honest h);
+      reads = reads_on inv.reads c.add_block.ensures.reads;
       failures = c.in_ok-add_block.ensures.failures ∙ inv.failures;
       read = λ h is.
-          c.in_ok-add_block.ensures.added h (subst (IsKeptOf kept) (sym inv.same) is)
-          ∙ ap₂ (λ bytes there. bytes ++ seen kept.geometry (image_view kept.geometry there) i k) (inv.read (c.add_block.ensures.honest h) is) inv.same
+          c.in_ok-add_block.ensures.added h (subst (IsKeptOf kept) (sym inv.reads.same) is)
+          ∙ ap₂ (λ bytes there. bytes ++ seen kept.geometry (image_view kept.geometry there) i k) (inv.read (c.add_block.ensures.reads.honest h) is) inv.reads.same
           ∙ sym (seen_next kept.geometry (image_view kept.geometry image) i k);
     }
 

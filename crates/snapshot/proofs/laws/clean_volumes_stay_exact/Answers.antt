@@ -4,12 +4,12 @@ use Rattle.machine.specs.Step.{Run}
 use Rattle.live_states.specs.Volume.{state_over}
 use Rattle.live_states.proofs.Standing.{idle_mounted, nothing_beside}
 use Rattle.live.specs.Alive.{disk_of, state_of}
+use Rattle.snapshot.specs.Stages.{geometry_at, state_at}
 use Rattle.snapshot.proofs.laws.clean_volumes_stay_exact.Goals as goal
 
 pub returns : goal.returns
-returns g c = λ beside' held held' image image' old new commands replies mountable none idle found goes.
-    let geo = old.kept.geometry in
-    let disk = disk_of image old in
-    let t = state_of image' new beside' in
-    let begins : state_of image old nothing_beside ≡ mounted disk = ap (λ q. state_over disk q old.holdings nothing_beside) none ∙ sym (idle_mounted disk old.holdings idle) in
-    c.clean_volumes_stay_exact.ensures geo image t commands replies mountable.is_image found (subst (λ (s : State). Run geo s commands replies t) begins goes.run)
+returns g c = λ s t commands replies mountable none idle bare found leads.
+    let disk = disk_of s.image s.volume in
+    let alone : state_at s ≡ state_of s.image s.volume nothing_beside = ap (λ f. state_of s.image s.volume (record { frozen = f })) bare in
+    let begins : state_at s ≡ mounted disk = alone ∙ ap (λ q. state_over disk q s.volume.holdings nothing_beside) none ∙ sym (idle_mounted disk s.volume.holdings idle) in
+    c.clean_volumes_stay_exact.ensures (geometry_at s) s.image (state_at t) commands replies mountable.is_image found (subst (λ (x : State). Run (geometry_at s) x commands replies (state_at t)) begins leads.run)

@@ -1,10 +1,9 @@
 use Rattle.std.proofs.Common.{sym, subst}
 use Rattle.machine.specs.Debts.{MakesNoDebt}
-use Rattle.live.specs.Alive.{state_of}
+use Rattle.snapshot.specs.Stages.{geometry_at, state_at}
 use Rattle.snapshot.proofs.laws.no_call_makes_a_debt.Goals as goal
 
 pub returns : goal.returns
-returns g c = λ beside beside' held held' image image' old new command reply is goes.
-    let geo = old.kept.geometry in
-    let s = state_of image old beside in
-    subst (MakesNoDebt geo s) (sym goes.run.2) (c.no_step_makes_a_debt.ensures geo is.stands.geometry s goes.run.0 command reply is.stands.balance goes.run.1)
+returns g c = λ s t command reply is leads.
+    subst (MakesNoDebt (geometry_at s) (state_at s)) (sym leads.run.2)
+    (c.no_step_makes_a_debt.ensures (geometry_at s) is.stands.geometry (state_at s) leads.run.0 command reply is.stands.balance leads.run.1)

@@ -1,27 +1,26 @@
 use Rattle.std.proofs.Common.{◌∷◌, ◌++◌, Ok, subst}
 use Rattle.machine.specs.Command.{Done, Freeze, Image, Install}
 use Rattle.machine.specs.Step.{Run}
-use Rattle.live.specs.Alive.{state_of}
+use Rattle.snapshot.specs.Stages.{geometry_at, state_at}
 use Rattle.snapshot.proofs.Splitting.{split}
 use Rattle.snapshot.proofs.laws.whole_cycles_end_exact.Goals as goal
 
 pub returns-clause-cycle : goal.returns-clause-cycle
-returns-clause-cycle g c = λ beside beside' held held' image image' old new frozen check findings first second replies answers is e goes none none' found each.
-    let geo = old.kept.geometry in
-    let s = state_of image old beside in
-    let t = state_of image' new beside' in
-    let rest = split geo goes.run.0 t first (Install check ∷ second) replies (Ok Done ∷ answers) e goes.run.2 in
-    c.checks_carried_out_end_exact.ensures.cycle geo is.stands.geometry s goes.run.0 rest.0 rest.2.0 t frozen check findings first second replies answers
-    is.stands.balance goes.run.1 rest.1 none rest.2.1 rest.2.2 none' found each
+returns-clause-cycle g c = λ from to frozen check findings first second replies answers is e leads none none' found each.
+    let geo = geometry_at from in
+    let t = state_at to in
+    let rest = split geo leads.run.0 t first (Install check ∷ second) replies (Ok Done ∷ answers) e leads.run.2 in
+    c.checks_carried_out_end_exact.ensures.cycle geo is.stands.geometry (state_at from) leads.run.0 rest.0 rest.2.0 t frozen check findings first second replies answers
+    is.stands.balance leads.run.1 rest.1 none rest.2.1 rest.2.2 none' found each
 
 pub returns-clause-within : goal.returns-clause-within
-returns-clause-within g c = λ beside beside' held held' image image' old new commands replies is goes cycle.
-    let geo = old.kept.geometry in
-    let s = state_of image old beside in
-    let t = state_of image' new beside' in
+returns-clause-within g c = λ from to commands replies is leads cycle.
+    let geo = geometry_at from in
+    let s = state_at from in
+    let t = state_at to in
     let cs = Freeze ∷ (cycle.first ++ (Install cycle.check ∷ cycle.second)) in
     let rs = Ok (Image cycle.frozen) ∷ (cycle.replies ++ (Ok Done ∷ cycle.answers)) in
-    let run = subst (λ x. Run geo s (cycle.earlier ++ cs) x t) cycle.responses_are (subst (λ x. Run geo s x replies t) cycle.commands_are goes.run) in
+    let run = subst (λ x. Run geo s (cycle.earlier ++ cs) x t) cycle.responses_are (subst (λ x. Run geo s x replies t) cycle.commands_are leads.run) in
     let later = split geo s t cycle.earlier cs cycle.before rs cycle.as_many run in
     let balance = c.runs_keep_the_balance.ensures.balanced geo is.stands.geometry s later.0 cycle.earlier cycle.before is.stands.balance later.1 in
     let rest = split geo later.2.0 t cycle.first (Install cycle.check ∷ cycle.second) cycle.replies (Ok Done ∷ cycle.answers) cycle.as_many_first later.2.2 in
@@ -29,9 +28,9 @@ returns-clause-within g c = λ beside beside' held held' image image' old new co
     balance later.2.1 rest.1 cycle.no_freeze_first rest.2.1 rest.2.2 cycle.no_freeze_second cycle.found cycle.each
 
 pub returns-clause-planned : goal.returns-clause-planned
-returns-clause-planned g c = λ beside beside' held held' image image' old new commands replies plan is planned goes none each.
-    c.whole_cycles_end_exact.ensures.cycle old.kept.geometry is.stands.geometry (state_of image old beside) (state_of image' new beside') commands replies plan is.stands.balance planned goes.run none each
+returns-clause-planned g c = λ s t commands replies plan is planned leads none each.
+    c.whole_cycles_end_exact.ensures.cycle (geometry_at s) is.stands.geometry (state_at s) (state_at t) commands replies plan is.stands.balance planned leads.run none each
 
 pub returns-clause-after : goal.returns-clause-after
-returns-clause-after g c = λ beside beside' held held' image image' old new commands replies is none goes.
-    c.whole_cycles_end_exact.ensures.after old.kept.geometry is.stands.geometry (state_of image old beside) (state_of image' new beside') commands replies is.stands.balance none goes.run
+returns-clause-after g c = λ s t commands replies is none leads.
+    c.whole_cycles_end_exact.ensures.after (geometry_at s) is.stands.geometry (state_at s) (state_at t) commands replies is.stands.balance none leads.run

@@ -1,20 +1,17 @@
-use Rattle.std.proofs.Common.{◌≡◌, ℕ, Option, Some, IsTrue, inl, sym, ap, ◌∙◌, subst}
+use Rattle.std.proofs.Common.{◌≡◌, ◌⊎◌, ℕ, Option, Some, IsTrue, inl, inr, sym, ap, ◌∙◌, subst}
 use Rattle.std.specs.Arc.{arc_value}
 use Rattle.std.specs.Option.{option_copied, option_map}
 use Rattle.std.proofs.lemmas.Result.{IfOk-weaker}
 use Rattle.layout.specs.declared.refusal.Refusal.{Refusal}
+use Rattle.layout.specs.declared.refusal.Refusal.TheVariants.{BadIndex}
 use Rattle.model.specs.Layout.{Geometry, is_data_address}
-use Rattle.model.specs.Rules.{ObeysRules}
-use Rattle.machine.specs.Balance.{Balance}
-use Rattle.machine.specs.Causes.{FirstRefusal}
-use Rattle.machine.specs.Command.{SnapRead}
-use Rattle.machine.specs.State.{State}
 use Rattle.frozen.specs.Kept.{Kept, KeepsMetadata, frozen_view}
-use Rattle.live_states.specs.Holdings.{Has, Holdings}
+use Rattle.live_states.specs.Holdings.{Holdings}
 use Rattle.live.specs.Alive.{IsSnapshotOf}
 use Rattle.snapshot.specs.declared.pieces.Piece.{Piece}
-use Rattle.snapshot.specs.Pieces.{IsPieceOf, IsPieceOfSnapshot, why_no_piece}
-use Rattle.snapshot.proofs.ReadLemmas.{no_snapshot, obeys_too, refused_read, piece_address}
+use Rattle.snapshot.specs.Pieces.{IsPieceOf, IsPieceOfSnapshot, LacksPiece, why_no_piece}
+use Rattle.snapshot.specs.Refusing.{IsWhyUnread}
+use Rattle.snapshot.proofs.ReadLemmas.{no_snapshot, refused_read, piece_address}
 use Rattle.snapshot.proofs.CallLemmas.{if_err, nothing}
 use Rattle.snapshot.proofs.Installs.{stands_as, none_stands}
 use Rattle.snapshot.proofs.snapshots.piece_of_snapshot.Goals as goal
@@ -32,10 +29,11 @@ module _ (geo : Geometry) (holdings : Holdings) (told : Option Kept) (s : Kept) 
   address : (i k : ℕ) (piece : Piece) → IsPieceOf s i k piece → IsTrue (is_data_address geo piece.block)
   address i k piece is = subst (λ g. IsTrue (is_data_address g piece.block)) kept.0 (piece_address s i k piece is)
 
-  refused : (i k : ℕ) (r : Refusal) → (ObeysRules s.geometry (frozen_view s) → why_no_piece s.geometry (frozen_view s) i k ≡ Some r) → (old : State) → Balance geo old → Has holdings old → FirstRefusal geo old (SnapRead i k) r
-  refused i k r why old balance has =
+  refused : (i k : ℕ) (r : Refusal) → (why_no_piece s.geometry (frozen_view s) i k ≡ Some r) ⊎ ((r ≡ BadIndex) × LacksPiece s i k) → IsWhyUnread geo holdings i k r
+  refused i k r (inl why) = inl (λ old has.
       let there = stands_as holdings.snapshot s old.frozen stands has.frozen in
-      inl (refused_read geo s there.image kept.0 kept.1 there.shows old i k there.is r (why (obeys_too geo s there.image kept.0 kept.1 there.shows (balance.snapshot there.image there.is).0)))
+      inl (refused_read geo s there.image kept.0 kept.1 there.shows old i k there.is r why))
+  refused i k r (inr (index, lacks)) = inr (index, record { snapshot = s; stands = stands; geometry = kept.0; metadata = kept.1; lacks = lacks })
 
 pub returns-in-Some-clause-piece : goal.returns-in-Some-clause-piece
 returns-in-Some-clause-piece g c =
@@ -58,10 +56,10 @@ returns-in-Some-clause-refused g c =
     let live = c.args.live.now in
     let s = arc_value c.in-Some.snapshot.now in
     if_err (λ r why u. refused live.kept.geometry live.holdings (option_map arc_value (option_copied c.snapshot.result)) s c.snapshot.ensures.snapshot (ap (λ o. option_map arc_value (option_copied o)) c.in-Some.is) c.snapshot.ensures.whole
-    c.args.inode c.args.index r (subst (λ k. ObeysRules k.geometry (frozen_view k) → why_no_piece k.geometry (frozen_view k) c.args.inode c.args.index ≡ Some r) c.deref.ensures why)) c.piece_of.result c.piece_of.ensures.refused (nothing c.piece_of.result)
+    c.args.inode c.args.index r (subst (λ k. (why_no_piece k.geometry (frozen_view k) c.args.inode c.args.index ≡ Some r) ⊎ ((r ≡ BadIndex) × LacksPiece k c.args.inode c.args.index)) c.deref.ensures why)) c.piece_of.result c.piece_of.ensures.refused (nothing c.piece_of.result)
 
 pub returns-in-None-clause-refused : goal.returns-in-None-clause-refused
-returns-in-None-clause-refused g c = λ old balance has.
+returns-in-None-clause-refused g c = inl (λ old has.
     let live = c.args.live.now in
     inl (no_snapshot live.kept.geometry old c.args.inode c.args.index
-    (none_stands live.holdings.snapshot old.frozen (sym c.snapshot.ensures.snapshot ∙ ap (λ o. option_map arc_value (option_copied o)) c.in-None.is) has.frozen))
+    (none_stands live.holdings.snapshot old.frozen (sym c.snapshot.ensures.snapshot ∙ ap (λ o. option_map arc_value (option_copied o)) c.in-None.is) has.frozen)))

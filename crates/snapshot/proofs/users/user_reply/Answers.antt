@@ -6,7 +6,7 @@ use Rattle.live_paths.specs.Listed.{name_of}
 use Rattle.snapshot.specs.declared.answer.Answer.TheVariants.{Done, Number, Bytes, Names, Status}
 use Rattle.snapshot.specs.Asked.{asked}
 use Rattle.snapshot.proofs.AnswerLemmas.{neither}
-use Rattle.snapshot.proofs.Blaming.{device_blamed, no_trace_blamed, of_caused, of_device, of_device_or_caused, of_device_or_index, of_first, of_refused, replied_so}
+use Rattle.snapshot.proofs.Blaming.{cause_blamed, device_blamed, of_caused, of_device, of_device_or_caused, of_first, of_flush, of_refused, replied_so}
 use Rattle.snapshot.proofs.Writing.{idle_writes, refused_writes, untouched, writes_flush}
 use Rattle.snapshot.proofs.UserReplies.{looked, on_err_always, plain, plainly_done, reading, reading_done, unflushed, writing, writing_done}
 use Rattle.snapshot.proofs.users.user_reply.Goals as goal
@@ -109,178 +109,182 @@ returns-in-Sync-clause-replied g c =
 pub returns-in-Create-clause-cause : goal.returns-in-Create-clause-cause
 returns-in-Create-clause-cause g c =
     let live = c.args.live.now in
-    device_blamed _ c.number.result (replied_so _ (λ (n : ℕ). Number n) c.create.result c.number.result c.number.ensures
+    device_blamed _ live.kept live.holdings _ c.number.result (replied_so _ live.kept live.holdings _ (λ (n : ℕ). Number n) c.create.result c.number.result c.number.ensures
     (of_refused _ live.kept live.holdings (AsksCreate c.deref.result.now) c.create.result c.create.ensures.cause))
 
-pub returns-in-Create-clause-no_trace : goal.returns-in-Create-clause-no_trace
-returns-in-Create-clause-no_trace g c =
+pub returns-in-Create-clause-error : goal.returns-in-Create-clause-error
+returns-in-Create-clause-error g c =
     let live = c.args.live.now in
-    no_trace_blamed ⊥ c.number.result (replied_so ⊥ (λ (n : ℕ). Number n) c.create.result c.number.result c.number.ensures
+    cause_blamed ⊥ live.kept live.holdings _ (asked live.kept.geometry c.args.command.now) (ap (asked live.kept.geometry) c.in-Create.is ∙ ap AsksCreate (sym c.deref.ensures.value)) c.number.result (replied_so ⊥ live.kept live.holdings _ (λ (n : ℕ). Number n) c.create.result c.number.result c.number.ensures
     (of_refused ⊥ live.kept live.holdings (AsksCreate c.deref.result.now) c.create.result c.create.ensures.cause))
 
 pub returns-in-Mkdir-clause-cause : goal.returns-in-Mkdir-clause-cause
 returns-in-Mkdir-clause-cause g c =
     let live = c.args.live.now in
-    device_blamed _ c.number-in-Mkdir.result (replied_so _ (λ (n : ℕ). Number n) c.mkdir.result c.number-in-Mkdir.result c.number-in-Mkdir.ensures
+    device_blamed _ live.kept live.holdings _ c.number-in-Mkdir.result (replied_so _ live.kept live.holdings _ (λ (n : ℕ). Number n) c.mkdir.result c.number-in-Mkdir.result c.number-in-Mkdir.ensures
     (of_refused _ live.kept live.holdings (AsksMkdir c.deref-in-Mkdir.result.now) c.mkdir.result c.mkdir.ensures.cause))
 
-pub returns-in-Mkdir-clause-no_trace : goal.returns-in-Mkdir-clause-no_trace
-returns-in-Mkdir-clause-no_trace g c =
+pub returns-in-Mkdir-clause-error : goal.returns-in-Mkdir-clause-error
+returns-in-Mkdir-clause-error g c =
     let live = c.args.live.now in
-    no_trace_blamed ⊥ c.number-in-Mkdir.result (replied_so ⊥ (λ (n : ℕ). Number n) c.mkdir.result c.number-in-Mkdir.result c.number-in-Mkdir.ensures
+    cause_blamed ⊥ live.kept live.holdings _ (asked live.kept.geometry c.args.command.now) (ap (asked live.kept.geometry) c.in-Mkdir.is ∙ ap AsksMkdir (sym c.deref-in-Mkdir.ensures.value)) c.number-in-Mkdir.result (replied_so ⊥ live.kept live.holdings _ (λ (n : ℕ). Number n) c.mkdir.result c.number-in-Mkdir.result c.number-in-Mkdir.ensures
     (of_refused ⊥ live.kept live.holdings (AsksMkdir c.deref-in-Mkdir.result.now) c.mkdir.result c.mkdir.ensures.cause))
 
 pub returns-in-Link-clause-cause : goal.returns-in-Link-clause-cause
 returns-in-Link-clause-cause g c =
     let live = c.args.live.now in
-    device_blamed _ c.done.result (replied_so _ (λ t. Done) c.link.result c.done.result c.done.ensures
+    device_blamed _ live.kept live.holdings _ c.done.result (replied_so _ live.kept live.holdings _ (λ t. Done) c.link.result c.done.result c.done.ensures
     (of_refused _ live.kept live.holdings (AsksLink c.deref-in-Link.result.now c.deref-in-Link-2.result.now) c.link.result c.link.ensures.cause))
 
-pub returns-in-Link-clause-no_trace : goal.returns-in-Link-clause-no_trace
-returns-in-Link-clause-no_trace g c =
+pub returns-in-Link-clause-error : goal.returns-in-Link-clause-error
+returns-in-Link-clause-error g c =
     let live = c.args.live.now in
-    no_trace_blamed ⊥ c.done.result (replied_so ⊥ (λ t. Done) c.link.result c.done.result c.done.ensures
+    cause_blamed ⊥ live.kept live.holdings _ (asked live.kept.geometry c.args.command.now) (ap (asked live.kept.geometry) c.in-Link.is ∙ ap₂ AsksLink (sym c.deref-in-Link.ensures.value) (sym c.deref-in-Link-2.ensures.value)) c.done.result (replied_so ⊥ live.kept live.holdings _ (λ t. Done) c.link.result c.done.result c.done.ensures
     (of_refused ⊥ live.kept live.holdings (AsksLink c.deref-in-Link.result.now c.deref-in-Link-2.result.now) c.link.result c.link.ensures.cause))
 
 pub returns-in-Unlink-clause-cause : goal.returns-in-Unlink-clause-cause
 returns-in-Unlink-clause-cause g c =
     let live = c.args.live.now in
-    device_blamed _ c.done-in-Unlink.result (replied_so _ (λ t. Done) c.unlink.result c.done-in-Unlink.result c.done-in-Unlink.ensures
+    device_blamed _ live.kept live.holdings _ c.done-in-Unlink.result (replied_so _ live.kept live.holdings _ (λ t. Done) c.unlink.result c.done-in-Unlink.result c.done-in-Unlink.ensures
     (of_refused _ live.kept live.holdings (AsksUnlink c.deref-in-Unlink.result.now) c.unlink.result c.unlink.ensures.cause))
 
-pub returns-in-Unlink-clause-no_trace : goal.returns-in-Unlink-clause-no_trace
-returns-in-Unlink-clause-no_trace g c =
+pub returns-in-Unlink-clause-error : goal.returns-in-Unlink-clause-error
+returns-in-Unlink-clause-error g c =
     let live = c.args.live.now in
-    no_trace_blamed ⊥ c.done-in-Unlink.result (replied_so ⊥ (λ t. Done) c.unlink.result c.done-in-Unlink.result c.done-in-Unlink.ensures
+    cause_blamed ⊥ live.kept live.holdings _ (asked live.kept.geometry c.args.command.now) (ap (asked live.kept.geometry) c.in-Unlink.is ∙ ap AsksUnlink (sym c.deref-in-Unlink.ensures.value)) c.done-in-Unlink.result (replied_so ⊥ live.kept live.holdings _ (λ t. Done) c.unlink.result c.done-in-Unlink.result c.done-in-Unlink.ensures
     (of_refused ⊥ live.kept live.holdings (AsksUnlink c.deref-in-Unlink.result.now) c.unlink.result c.unlink.ensures.cause))
 
 pub returns-in-Rmdir-clause-cause : goal.returns-in-Rmdir-clause-cause
 returns-in-Rmdir-clause-cause g c =
     let live = c.args.live.now in
-    device_blamed _ c.done-in-Rmdir.result (replied_so _ (λ t. Done) c.rmdir.result c.done-in-Rmdir.result c.done-in-Rmdir.ensures
+    device_blamed _ live.kept live.holdings _ c.done-in-Rmdir.result (replied_so _ live.kept live.holdings _ (λ t. Done) c.rmdir.result c.done-in-Rmdir.result c.done-in-Rmdir.ensures
     (of_refused _ live.kept live.holdings (AsksRmdir c.deref-in-Rmdir.result.now) c.rmdir.result c.rmdir.ensures.cause))
 
-pub returns-in-Rmdir-clause-no_trace : goal.returns-in-Rmdir-clause-no_trace
-returns-in-Rmdir-clause-no_trace g c =
+pub returns-in-Rmdir-clause-error : goal.returns-in-Rmdir-clause-error
+returns-in-Rmdir-clause-error g c =
     let live = c.args.live.now in
-    no_trace_blamed ⊥ c.done-in-Rmdir.result (replied_so ⊥ (λ t. Done) c.rmdir.result c.done-in-Rmdir.result c.done-in-Rmdir.ensures
+    cause_blamed ⊥ live.kept live.holdings _ (asked live.kept.geometry c.args.command.now) (ap (asked live.kept.geometry) c.in-Rmdir.is ∙ ap AsksRmdir (sym c.deref-in-Rmdir.ensures.value)) c.done-in-Rmdir.result (replied_so ⊥ live.kept live.holdings _ (λ t. Done) c.rmdir.result c.done-in-Rmdir.result c.done-in-Rmdir.ensures
     (of_refused ⊥ live.kept live.holdings (AsksRmdir c.deref-in-Rmdir.result.now) c.rmdir.result c.rmdir.ensures.cause))
 
 pub returns-in-Rename-clause-cause : goal.returns-in-Rename-clause-cause
 returns-in-Rename-clause-cause g c =
     let live = c.args.live.now in
-    device_blamed _ c.done-in-Rename.result (replied_so _ (λ t. Done) c.rename.result c.done-in-Rename.result c.done-in-Rename.ensures
+    device_blamed _ live.kept live.holdings _ c.done-in-Rename.result (replied_so _ live.kept live.holdings _ (λ t. Done) c.rename.result c.done-in-Rename.result c.done-in-Rename.ensures
     (of_refused _ live.kept live.holdings (AsksRename c.deref-in-Rename.result.now c.deref-in-Rename-2.result.now) c.rename.result c.rename.ensures.cause))
 
-pub returns-in-Rename-clause-no_trace : goal.returns-in-Rename-clause-no_trace
-returns-in-Rename-clause-no_trace g c =
+pub returns-in-Rename-clause-error : goal.returns-in-Rename-clause-error
+returns-in-Rename-clause-error g c =
     let live = c.args.live.now in
-    no_trace_blamed ⊥ c.done-in-Rename.result (replied_so ⊥ (λ t. Done) c.rename.result c.done-in-Rename.result c.done-in-Rename.ensures
+    cause_blamed ⊥ live.kept live.holdings _ (asked live.kept.geometry c.args.command.now) (ap (asked live.kept.geometry) c.in-Rename.is ∙ ap₂ AsksRename (sym c.deref-in-Rename.ensures.value) (sym c.deref-in-Rename-2.ensures.value)) c.done-in-Rename.result (replied_so ⊥ live.kept live.holdings _ (λ t. Done) c.rename.result c.done-in-Rename.result c.done-in-Rename.ensures
     (of_refused ⊥ live.kept live.holdings (AsksRename c.deref-in-Rename.result.now c.deref-in-Rename-2.result.now) c.rename.result c.rename.ensures.cause))
 
 pub returns-in-Open-clause-cause : goal.returns-in-Open-clause-cause
 returns-in-Open-clause-cause g c =
     let live = c.args.live.now in
-    device_blamed _ c.number-in-Open.result (replied_so _ (λ (n : ℕ). Number n) c.open.result c.number-in-Open.result c.number-in-Open.ensures
+    device_blamed _ live.kept live.holdings _ c.number-in-Open.result (replied_so _ live.kept live.holdings _ (λ (n : ℕ). Number n) c.open.result c.number-in-Open.result c.number-in-Open.ensures
     (of_caused _ live.kept live.holdings (AsksOpen c.deref-in-Open.result.now) c.open.result c.open.ensures.cause))
 
-pub returns-in-Open-clause-no_trace : goal.returns-in-Open-clause-no_trace
-returns-in-Open-clause-no_trace g c =
+pub returns-in-Open-clause-error : goal.returns-in-Open-clause-error
+returns-in-Open-clause-error g c =
     let live = c.args.live.now in
-    no_trace_blamed ⊥ c.number-in-Open.result (replied_so ⊥ (λ (n : ℕ). Number n) c.open.result c.number-in-Open.result c.number-in-Open.ensures
+    cause_blamed ⊥ live.kept live.holdings _ (asked live.kept.geometry c.args.command.now) (ap (asked live.kept.geometry) c.in-Open.is ∙ ap AsksOpen (sym c.deref-in-Open.ensures.value)) c.number-in-Open.result (replied_so ⊥ live.kept live.holdings _ (λ (n : ℕ). Number n) c.open.result c.number-in-Open.result c.number-in-Open.ensures
     (of_caused ⊥ live.kept live.holdings (AsksOpen c.deref-in-Open.result.now) c.open.result c.open.ensures.cause))
 
 pub returns-in-Close-clause-cause : goal.returns-in-Close-clause-cause
 returns-in-Close-clause-cause g c =
     let live = c.args.live.now in
-    device_blamed _ c.done-in-Close.result (replied_so _ (λ t. Done) c.close.result c.done-in-Close.result c.done-in-Close.ensures
+    device_blamed _ live.kept live.holdings _ c.done-in-Close.result (replied_so _ live.kept live.holdings _ (λ t. Done) c.close.result c.done-in-Close.result c.done-in-Close.ensures
     (of_caused _ live.kept live.holdings (AsksClose c.in-Close.handle) c.close.result c.close.ensures.cause))
 
-pub returns-in-Close-clause-no_trace : goal.returns-in-Close-clause-no_trace
-returns-in-Close-clause-no_trace g c =
+pub returns-in-Close-clause-error : goal.returns-in-Close-clause-error
+returns-in-Close-clause-error g c =
     let live = c.args.live.now in
-    no_trace_blamed ⊥ c.done-in-Close.result (replied_so ⊥ (λ t. Done) c.close.result c.done-in-Close.result c.done-in-Close.ensures
+    cause_blamed ⊥ live.kept live.holdings _ (asked live.kept.geometry c.args.command.now) (ap (asked live.kept.geometry) c.in-Close.is) c.done-in-Close.result (replied_so ⊥ live.kept live.holdings _ (λ t. Done) c.close.result c.done-in-Close.result c.done-in-Close.ensures
     (of_caused ⊥ live.kept live.holdings (AsksClose c.in-Close.handle) c.close.result c.close.ensures.cause))
 
 pub returns-in-Read-clause-cause : goal.returns-in-Read-clause-cause
 returns-in-Read-clause-cause g c =
     let live = c.args.live.now in
-    device_blamed _ c.bytes.result (replied_so _ Bytes c.read.result c.bytes.result c.bytes.ensures
+    device_blamed _ live.kept live.holdings _ c.bytes.result (replied_so _ live.kept live.holdings _ Bytes c.read.result c.bytes.result c.bytes.ensures
     (of_device_or_caused _ live.kept live.holdings (AsksRead c.in-Read.handle c.in-Read.index) c.read.result c.read.ensures.error c.read.ensures.cause))
 
-pub returns-in-Read-clause-no_trace : goal.returns-in-Read-clause-no_trace
-returns-in-Read-clause-no_trace g c =
+pub returns-in-Read-clause-error : goal.returns-in-Read-clause-error
+returns-in-Read-clause-error g c =
     let live = c.args.live.now in
-    no_trace_blamed _ c.bytes.result (replied_so _ Bytes c.read.result c.bytes.result c.bytes.ensures
+    cause_blamed _ live.kept live.holdings _ (asked live.kept.geometry c.args.command.now) (ap (asked live.kept.geometry) c.in-Read.is) c.bytes.result (replied_so _ live.kept live.holdings _ Bytes c.read.result c.bytes.result c.bytes.ensures
     (of_device_or_caused _ live.kept live.holdings (AsksRead c.in-Read.handle c.in-Read.index) c.read.result c.read.ensures.error c.read.ensures.cause))
 
 pub returns-in-Write-clause-cause : goal.returns-in-Write-clause-cause
 returns-in-Write-clause-cause g c =
     let live = c.args.live.now in
-    device_blamed _ c.done-in-Write.result (replied_so _ (λ t. Done) c.write.result c.done-in-Write.result c.done-in-Write.ensures
+    device_blamed _ live.kept live.holdings _ c.done-in-Write.result (replied_so _ live.kept live.holdings _ (λ t. Done) c.write.result c.done-in-Write.result c.done-in-Write.ensures
     (of_device_or_caused _ live.kept live.holdings (AsksWrite c.in-Write.handle c.in-Write.index c.deref-in-Write.result.now) c.write.result c.write.ensures.error c.write.ensures.cause))
 
-pub returns-in-Write-clause-no_trace : goal.returns-in-Write-clause-no_trace
-returns-in-Write-clause-no_trace g c =
+pub returns-in-Write-clause-error : goal.returns-in-Write-clause-error
+returns-in-Write-clause-error g c =
     let live = c.args.live.now in
-    no_trace_blamed _ c.done-in-Write.result (replied_so _ (λ t. Done) c.write.result c.done-in-Write.result c.done-in-Write.ensures
+    cause_blamed _ live.kept live.holdings _ (asked live.kept.geometry c.args.command.now) (ap (asked live.kept.geometry) c.in-Write.is ∙ ap (AsksWrite c.in-Write.handle c.in-Write.index) (sym c.deref-in-Write.ensures.value)) c.done-in-Write.result (replied_so _ live.kept live.holdings _ (λ t. Done) c.write.result c.done-in-Write.result c.done-in-Write.ensures
     (of_device_or_caused _ live.kept live.holdings (AsksWrite c.in-Write.handle c.in-Write.index c.deref-in-Write.result.now) c.write.result c.write.ensures.error c.write.ensures.cause))
 
 pub returns-in-Truncate-clause-cause : goal.returns-in-Truncate-clause-cause
 returns-in-Truncate-clause-cause g c =
     let live = c.args.live.now in
-    device_blamed _ c.done-in-Truncate.result (replied_so _ (λ t. Done) c.truncate.result c.done-in-Truncate.result c.done-in-Truncate.ensures
+    device_blamed _ live.kept live.holdings _ c.done-in-Truncate.result (replied_so _ live.kept live.holdings _ (λ t. Done) c.truncate.result c.done-in-Truncate.result c.done-in-Truncate.ensures
     (of_caused _ live.kept live.holdings (AsksTruncate c.in-Truncate.handle c.in-Truncate.size) c.truncate.result c.truncate.ensures.cause))
 
-pub returns-in-Truncate-clause-no_trace : goal.returns-in-Truncate-clause-no_trace
-returns-in-Truncate-clause-no_trace g c =
+pub returns-in-Truncate-clause-error : goal.returns-in-Truncate-clause-error
+returns-in-Truncate-clause-error g c =
     let live = c.args.live.now in
-    no_trace_blamed ⊥ c.done-in-Truncate.result (replied_so ⊥ (λ t. Done) c.truncate.result c.done-in-Truncate.result c.done-in-Truncate.ensures
+    cause_blamed ⊥ live.kept live.holdings _ (asked live.kept.geometry c.args.command.now) (ap (asked live.kept.geometry) c.in-Truncate.is) c.done-in-Truncate.result (replied_so ⊥ live.kept live.holdings _ (λ t. Done) c.truncate.result c.done-in-Truncate.result c.done-in-Truncate.ensures
     (of_caused ⊥ live.kept live.holdings (AsksTruncate c.in-Truncate.handle c.in-Truncate.size) c.truncate.result c.truncate.ensures.cause))
 
 pub returns-in-List-clause-cause : goal.returns-in-List-clause-cause
 returns-in-List-clause-cause g c =
     let live = c.args.live.now in
-    device_blamed _ c.names.result (replied_so _ Names c.list.result c.names.result c.names.ensures
+    device_blamed _ live.kept live.holdings _ c.names.result (replied_so _ live.kept live.holdings _ Names c.list.result c.names.result c.names.ensures
     (of_refused _ live.kept live.holdings (ListNames c.deref-in-List.result.now) c.list.result c.list.ensures.cause))
 
-pub returns-in-List-clause-no_trace : goal.returns-in-List-clause-no_trace
-returns-in-List-clause-no_trace g c =
+pub returns-in-List-clause-error : goal.returns-in-List-clause-error
+returns-in-List-clause-error g c =
     let live = c.args.live.now in
-    no_trace_blamed ⊥ c.names.result (replied_so ⊥ Names c.list.result c.names.result c.names.ensures
+    cause_blamed ⊥ live.kept live.holdings _ (asked live.kept.geometry c.args.command.now) (ap (asked live.kept.geometry) c.in-List.is ∙ ap ListNames (sym c.deref-in-List.ensures.value)) c.names.result (replied_so ⊥ live.kept live.holdings _ Names c.list.result c.names.result c.names.ensures
     (of_refused ⊥ live.kept live.holdings (ListNames c.deref-in-List.result.now) c.list.result c.list.ensures.cause))
 
 pub returns-in-Stat-clause-cause : goal.returns-in-Stat-clause-cause
 returns-in-Stat-clause-cause g c =
     let live = c.args.live.now in
-    device_blamed _ c.status.result (replied_so _ Status c.stat.result c.status.result c.status.ensures
+    device_blamed _ live.kept live.holdings _ c.status.result (replied_so _ live.kept live.holdings _ Status c.stat.result c.status.result c.status.ensures
     (of_first _ live.kept live.holdings (AsksStat c.deref-in-Stat.result.now) c.stat.result c.stat.ensures.cause))
 
-pub returns-in-Stat-clause-no_trace : goal.returns-in-Stat-clause-no_trace
-returns-in-Stat-clause-no_trace g c =
+pub returns-in-Stat-clause-error : goal.returns-in-Stat-clause-error
+returns-in-Stat-clause-error g c =
     let live = c.args.live.now in
-    no_trace_blamed ⊥ c.status.result (replied_so ⊥ Status c.stat.result c.status.result c.status.ensures
+    cause_blamed ⊥ live.kept live.holdings _ (asked live.kept.geometry c.args.command.now) (ap (asked live.kept.geometry) c.in-Stat.is ∙ ap AsksStat (sym c.deref-in-Stat.ensures.value)) c.status.result (replied_so ⊥ live.kept live.holdings _ Status c.stat.result c.status.result c.status.ensures
     (of_first ⊥ live.kept live.holdings (AsksStat c.deref-in-Stat.result.now) c.stat.result c.stat.ensures.cause))
 
 pub returns-in-Flush-clause-cause : goal.returns-in-Flush-clause-cause
 returns-in-Flush-clause-cause g c =
-    device_blamed _ c.count.result (replied_so _ (λ (n : ℕ). Number n) c.flush.result c.count.result c.count.ensures
-    (of_device_or_index _ _ c.flush.result c.flush.ensures.error c.flush.ensures.cause))
+    let live = c.args.live.now in
+    device_blamed _ live.kept live.holdings _ c.count.result (replied_so _ live.kept live.holdings _ (λ (n : ℕ). Number n) c.flush.result c.count.result c.count.ensures
+    (of_flush _ live.kept live.holdings c.in-Flush.address c.flush.result c.flush.ensures.error c.flush.ensures.cause))
 
-pub returns-in-Flush-clause-no_trace : goal.returns-in-Flush-clause-no_trace
-returns-in-Flush-clause-no_trace g c =
-    no_trace_blamed _ c.count.result (replied_so _ (λ (n : ℕ). Number n) c.flush.result c.count.result c.count.ensures
-    (of_device_or_index _ _ c.flush.result c.flush.ensures.error c.flush.ensures.cause))
+pub returns-in-Flush-clause-error : goal.returns-in-Flush-clause-error
+returns-in-Flush-clause-error g c =
+    let live = c.args.live.now in
+    cause_blamed _ live.kept live.holdings _ (asked live.kept.geometry c.args.command.now) (ap (asked live.kept.geometry) c.in-Flush.is) c.count.result (replied_so _ live.kept live.holdings _ (λ (n : ℕ). Number n) c.flush.result c.count.result c.count.ensures
+    (of_flush _ live.kept live.holdings c.in-Flush.address c.flush.result c.flush.ensures.error c.flush.ensures.cause))
 
 pub returns-in-Sync-clause-cause : goal.returns-in-Sync-clause-cause
 returns-in-Sync-clause-cause g c =
-    device_blamed _ c.done-in-Sync.result (replied_so _ (λ t. Done) c.sync.result c.done-in-Sync.result c.done-in-Sync.ensures
-    (of_device _ c.sync.result c.sync.ensures.error c.sync.ensures.cause))
+    let live = c.args.live.now in
+    device_blamed _ live.kept live.holdings _ c.done-in-Sync.result (replied_so _ live.kept live.holdings _ (λ t. Done) c.sync.result c.done-in-Sync.result c.done-in-Sync.ensures
+    (of_device _ live.kept live.holdings AsksSync c.sync.result c.sync.ensures.error c.sync.ensures.cause))
 
-pub returns-in-Sync-clause-no_trace : goal.returns-in-Sync-clause-no_trace
-returns-in-Sync-clause-no_trace g c =
-    no_trace_blamed _ c.done-in-Sync.result (replied_so _ (λ t. Done) c.sync.result c.done-in-Sync.result c.done-in-Sync.ensures
-    (of_device _ c.sync.result c.sync.ensures.error c.sync.ensures.cause))
+pub returns-in-Sync-clause-error : goal.returns-in-Sync-clause-error
+returns-in-Sync-clause-error g c =
+    let live = c.args.live.now in
+    cause_blamed _ live.kept live.holdings _ (asked live.kept.geometry c.args.command.now) (ap (asked live.kept.geometry) c.in-Sync.is) c.done-in-Sync.result (replied_so _ live.kept live.holdings _ (λ t. Done) c.sync.result c.done-in-Sync.result c.done-in-Sync.ensures
+    (of_device _ live.kept live.holdings AsksSync c.sync.result c.sync.ensures.error c.sync.ensures.cause))
 
 -- ---- what an answer of bytes or names leaves
 

@@ -2,13 +2,13 @@ use Rattle.std.proofs.Common.{All, ◌≡◌, ◌+◌, [], ◌∷◌, ◌++◌, 
 use Rattle.std.proofs.lemmas.List.{append_assoc, map-append}
 use Rattle.queue_model.specs.Entries.{issued}
 use Rattle.queue_model.specs.Blocks.{home_of}
-use Rattle.updates.specs.Places.{IsUpdate, AreCells}
+use Rattle.updates.specs.Places.{IsUpdate}
 use Rattle.updates.specs.Values.{written}
 use Rattle.softdep_queue.specs.Ties.{Holds}
 use Rattle.softdep_queue.specs.Rooms.{HasRoom}
 use Rattle.softdep.specs.Queued.{added, cells_of}
-use Rattle.updates.specs.Values.{change, cell}
-use Rattle.softdep.proofs.Issued.{added_push, all_at, subst2_room, less_room, nothing_left}
+use Rattle.softdep_queue.proofs.RoomLemmas.{less_room}
+use Rattle.softdep.proofs.Issued.{added_push, all_at, subst2_room, nothing_left}
 use Rattle.softdep.proofs.issuing.add_all.Goals as goal
 
 pub loop-update-init : goal.loop-update-init
@@ -25,26 +25,16 @@ add-requires-clause-held c =
     let now = c.loop-update.invariant.holds h.queue h.q h.holds in
     record { queue = now.0; q = _; holds = now.1 }
 
--- the next update is one of those that were handed over
-module _ (c : goal.After-as_slice) where
-  next : c.args.updates.items ≡ c.loop-update.yielded ++ c.in-Some.update ∷ c.next.new.self.rest.items
-  next = c.loop-update.invariant.split ∙ ap (λ l. c.loop-update.yielded ++ l) c.in-Some.ensures.steps.0
-
-  cells : IsUpdate c.args.geometry.now c.in-Some.update
-  cells = all_at (IsUpdate c.args.geometry.now) c.loop-update.yielded c.in-Some.update c.next.new.self.rest.items (subst (All (IsUpdate c.args.geometry.now)) next c.requires.cells)
-
-  pub room : HasRoom c.loop-update.table (length c.next.new.self.rest.items + 1) (cells_of c.next.new.self.rest.items + (1 + length c.as_slice.result.now))
-  room =
-      let r = subst (λ us. HasRoom c.loop-update.table (length us) (cells_of us)) c.in-Some.ensures.steps.0 c.loop-update.invariant.room in
-      subst2_room c.loop-update.table (length (c.in-Some.update ∷ c.next.new.self.rest.items)) (length c.next.new.self.rest.items + 1) (cells_of (c.in-Some.update ∷ c.next.new.self.rest.items)) (cells_of c.next.new.self.rest.items + (1 + length c.as_slice.result.now))
-      (omega arith) (let l = ap length c.as_slice.ensures.value in omega (arith, l)) r
-
 pub add-requires-clause-cells : goal.add-requires-clause-cells
 add-requires-clause-cells c =
-    subst (λ l. AreCells c.args.geometry.now (record { change = change c.in-Some.update.change; after = map cell l })) (sym c.as_slice.ensures.value) (cells c)
+    all_at (IsUpdate c.args.geometry.now) c.loop-update.yielded c.in-Some.update c.next.new.self.rest.items
+    (subst (All (IsUpdate c.args.geometry.now)) (c.loop-update.invariant.split ∙ ap (λ l. c.loop-update.yielded ++ l) c.in-Some.ensures.steps.0) c.requires.cells)
 
 pub add-requires-clause-room : goal.add-requires-clause-room
-add-requires-clause-room c = less_room c.loop-update.table (length c.next.new.self.rest.items) (cells_of c.next.new.self.rest.items) (1 + length c.as_slice.result.now) (room c)
+add-requires-clause-room c = less_room c.loop-update.table (length c.next.new.self.rest.items) (cells_of c.next.new.self.rest.items) (1 + length c.in-Some.update.after.items)
+    (let r = subst (λ us. HasRoom c.loop-update.table (length us) (cells_of us)) c.in-Some.ensures.steps.0 c.loop-update.invariant.room in
+    subst2_room c.loop-update.table (length (c.in-Some.update ∷ c.next.new.self.rest.items)) (length c.next.new.self.rest.items + 1) (cells_of (c.in-Some.update ∷ c.next.new.self.rest.items)) (cells_of c.next.new.self.rest.items + (1 + length c.in-Some.update.after.items))
+    (omega arith) (omega arith) r)
 
 pub loop-update-preserved : goal.loop-update-preserved
 loop-update-preserved c = record {
@@ -52,16 +42,15 @@ loop-update-preserved c = record {
   held = c.loop-update.invariant.held;
   room = c.add.ensures.room (length c.next.new.self.rest.items) (cells_of c.next.new.self.rest.items)
       (let r = subst (λ us. HasRoom c.loop-update.table (length us) (cells_of us)) c.in-Some.ensures.steps.0 c.loop-update.invariant.room in
-      subst2_room c.loop-update.table (length (c.in-Some.update ∷ c.next.new.self.rest.items)) (length c.next.new.self.rest.items + 1) (cells_of (c.in-Some.update ∷ c.next.new.self.rest.items)) (cells_of c.next.new.self.rest.items + (1 + length c.as_slice.result.now))
-      (omega arith) (let l = ap length c.as_slice.ensures.value in omega (arith, l)) r);
+      subst2_room c.loop-update.table (length (c.in-Some.update ∷ c.next.new.self.rest.items)) (length c.next.new.self.rest.items + 1) (cells_of (c.in-Some.update ∷ c.next.new.self.rest.items)) (cells_of c.next.new.self.rest.items + (1 + length c.in-Some.update.after.items))
+      (omega arith) (omega arith) r);
   holds = λ entries q holds.
       let before = c.loop-update.invariant.holds entries q holds in
       let now = c.add.ensures.held before.0 (added q (map written c.loop-update.yielded)) before.1 in
-      let entries' = issued (home_of c.args.geometry.now) (record { change = change c.in-Some.update.change; after = map cell c.as_slice.result.now }) before.0 in (
+      let entries' = issued (home_of c.args.geometry.now) (written c.in-Some.update).update before.0 in (
         entries',
         subst (λ p. Holds c.args.geometry.now c.add.new.self entries' p)
-            (ap (λ l. (record { change = change c.in-Some.update.change; after = map cell l }) ∷ added q (map written c.loop-update.yielded)) c.as_slice.ensures.value
-            ∙ sym (ap (added q) (map-append written c.loop-update.yielded (c.in-Some.update ∷ [])) ∙ added_push q (map written c.loop-update.yielded) (written c.in-Some.update)))
+            (sym (ap (added q) (map-append written c.loop-update.yielded (c.in-Some.update ∷ [])) ∙ added_push q (map written c.loop-update.yielded) (written c.in-Some.update)))
             now,
       );
 }

@@ -3,8 +3,8 @@ use Rattle.live_paths.specs.Listed.{name_of}
 use Rattle.tools.specs.Told.{name_lines}
 use Rattle.tools.proofs.looking.names_text.Goals as goal
 
-pub returns : goal.returns
-returns c = λ plain image is.
+pub returns-clause-listed : goal.returns-clause-listed
+returns-clause-listed c = λ plain image is.
     let names = map name_of c.in_ok-names.names.items in
     record {
       geometry = c.args.frozen.now.geometry;

@@ -1,12 +1,14 @@
-use Rattle.std.proofs.Common.{rules, subst, refl, ◌≡◌, ◌++◌, ◌∷◌, [], sym, ◌∙◌, ap, ◌+◌, cond}
+use Rattle.std.proofs.Common.{rules, subst, inl, inr, refl, ◌≡◌, ◌++◌, ◌∷◌, [], sym, ◌∙◌, ap, ◌+◌, cond}
 use Rattle.std.specs.List.{count_by}
 use Rattle.std.proofs.lemmas.List.Sums.{sum_by_push}
 use Rattle.snapshot.specs.Asked.{asked}
+use Rattle.snapshot.specs.Refusing.{IsCause}
+use Rattle.snapshot.proofs.Blaming.{not_full}
 use Rattle.shared.specs.declared.entry.Entry.{Entry}
 use Rattle.shared.specs.Calls.{IsOfSharing}
 use Rattle.shared.specs.Repairing.{is_repair_entry}
 use Rattle.shared.specs.Shown.{Shown}
-use Rattle.shared.proofs.TraceLemmas.{answer_so, applied_so, called, caused_so, never_full, untouched_so, writes_so}
+use Rattle.shared.proofs.TraceLemmas.{answer_so, applied_so, called, caused_so, error_so, never_full, untouched_so, writes_so}
 use Rattle.shared.proofs.booked.Booked.call.Goals as goal
 
 pub invariant_of-self : goal.invariant_of-self
@@ -43,12 +45,13 @@ returns-clause-call g c =
     let reply = c.apply-reply.result in
     let answer = c.with_note-reply.result.0 in
     let same = c.with_note-reply.ensures.same in
-    let not_full = never_full reply answer c.apply-reply.ensures.no_trace same in
+    let none_full = never_full reply answer (not_full old c.args.command reply c.apply-reply.ensures.error) same in
     rw (← c.self.view_is) (record {
-      full = (λ full. absurd (not_full full), λ full. absurd (search rules));
-      unchanged = λ full. absurd (not_full full);
+      full = (λ full. absurd (none_full full), λ full. absurd (search rules));
+      unchanged = λ full. absurd (none_full full);
       applied = λ _ h. applied_so (held old.device) (held new.device) (image old.device) (image new.device) old new (asked old.kept.geometry c.args.command) reply answer same (c.apply-reply.ensures.applied h);
       writes = λ _. writes_so honest held image old new c.args.command reply answer same c.apply-reply.ensures.writes;
+      error = λ _. error_so (IsCause old c.args.command) (inr (inl refl)) reply answer c.apply-reply.ensures.error same;
       entry = search rules;
       untouched = untouched_so reply answer c.apply-reply.ensures.untouched c.apply-reply.ensures.reading same;
       flushed = λ a is h. answer_so _ reply answer (c.apply-reply.ensures.flushed a is h) same;
@@ -57,7 +60,8 @@ returns-clause-call g c =
     })
 
 pub returns-clause-unchanged : goal.returns-clause-unchanged
-returns-clause-unchanged g c = λ full. absurd (never_full c.apply-reply.result c.with_note-reply.result.0 c.apply-reply.ensures.no_trace c.with_note-reply.ensures.same full)
+returns-clause-unchanged g c = λ full.
+    absurd (never_full c.apply-reply.result c.with_note-reply.result.0 (not_full c.self.inside.volume c.args.command c.apply-reply.result c.apply-reply.ensures.error) c.with_note-reply.ensures.same full)
 
 pub returns-clause-cause : goal.returns-clause-cause
 returns-clause-cause g c =

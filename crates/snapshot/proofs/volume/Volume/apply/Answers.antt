@@ -1,12 +1,13 @@
 use Rattle.std.proofs.Common.{refl, sym, ap, ◌∙◌}
 use Rattle.std.specs.Arc.{arc_value}
-use Rattle.machine.specs.Command.{Bytes as AreBytes, Install as AsksInstall, RepairAt, SnapRead as AsksSnapRead}
+use Rattle.machine.specs.Command.{Bytes as AreBytes, Freeze as AsksFreeze, Install as AsksInstall, Release as AsksRelease, RepairAt, SnapRead as AsksSnapRead}
 use Rattle.snapshot.specs.declared.answer.Answer.TheVariants.{Bytes, Done, Image}
 use Rattle.snapshot.specs.Asked.{asked, check_of}
 use Rattle.snapshot.proofs.AnswerLemmas.{neither}
 use Rattle.snapshot.proofs.AppliesLemmas.{freezing, releasing, stays, stays_done}
-use Rattle.snapshot.proofs.Blaming.{device_blamed, no_trace_blamed, of_caused, of_told, replied_so}
-use Rattle.layout.specs.declared.refusal.Refusal.TheVariants.{NoSnapshot, SnapshotStands}
+use Rattle.snapshot.proofs.Blaming.{caused_so, freeze_caused, handed_on, never_device, never_so, release_caused}
+use Rattle.layout.specs.declared.refusal.Refusal.TheVariants.{Device, NoSnapshot, SnapshotStands}
+use Rattle.live_states.specs.Planned.{IsRefusedWith}
 use Rattle.live.specs.Alive.{Alive}
 use Rattle.snapshot.proofs.Writing.{refused_by, untouched}
 use Rattle.snapshot.proofs.volume.Volume.apply.Goals as goal
@@ -47,48 +48,57 @@ returns-in-Repair-clause-applied g c =
 -- ---- what a refusal may be
 
 pub returns-in-Freeze-clause-cause : goal.returns-in-Freeze-clause-cause
-returns-in-Freeze-clause-cause g c =
-    device_blamed _ c.image.result (replied_so _ Image c.freeze.result c.image.result c.image.ensures (of_told _ c.freeze.result c.freeze.ensures.cause c.freeze.ensures.no_trace))
-
-pub returns-in-Freeze-clause-no_trace : goal.returns-in-Freeze-clause-no_trace
-returns-in-Freeze-clause-no_trace g c =
-    no_trace_blamed _ c.image.result (replied_so _ Image c.freeze.result c.image.result c.image.ensures (of_told _ c.freeze.result c.freeze.ensures.cause c.freeze.ensures.no_trace))
+returns-in-Freeze-clause-cause g c = λ is. c.freeze.ensures.cause (refused_by Image c.freeze.result c.image.result Device c.image.ensures is)
 
 pub returns-in-SnapRead-clause-cause : goal.returns-in-SnapRead-clause-cause
-returns-in-SnapRead-clause-cause g c =
-    device_blamed _ c.bytes.result (replied_so _ Bytes c.snap_read.result c.bytes.result c.bytes.ensures (of_told _ c.snap_read.result c.snap_read.ensures.cause c.snap_read.ensures.no_trace))
-
-pub returns-in-SnapRead-clause-no_trace : goal.returns-in-SnapRead-clause-no_trace
-returns-in-SnapRead-clause-no_trace g c =
-    no_trace_blamed _ c.bytes.result (replied_so _ Bytes c.snap_read.result c.bytes.result c.bytes.ensures (of_told _ c.snap_read.result c.snap_read.ensures.cause c.snap_read.ensures.no_trace))
+returns-in-SnapRead-clause-cause g c = λ is. c.snap_read.ensures.cause (refused_by Bytes c.snap_read.result c.bytes.result Device c.bytes.ensures is)
 
 pub returns-in-Release-clause-cause : goal.returns-in-Release-clause-cause
-returns-in-Release-clause-cause g c =
-    device_blamed _ c.done.result (replied_so _ (λ t. Done) c.release.result c.done.result c.done.ensures (of_told _ c.release.result c.release.ensures.cause c.release.ensures.no_trace))
-
-pub returns-in-Release-clause-no_trace : goal.returns-in-Release-clause-no_trace
-returns-in-Release-clause-no_trace g c =
-    no_trace_blamed _ c.done.result (replied_so _ (λ t. Done) c.release.result c.done.result c.done.ensures (of_told _ c.release.result c.release.ensures.cause c.release.ensures.no_trace))
+returns-in-Release-clause-cause g c = λ is. c.release.ensures.cause (refused_by (λ t. Done) c.release.result c.done.result Device c.done.ensures is)
 
 pub returns-in-Install-clause-cause : goal.returns-in-Install-clause-cause
-returns-in-Install-clause-cause g c =
+returns-in-Install-clause-cause g c = λ is.
     let live = c.args.self.now in
-    device_blamed _ c.done-in-Install.result (replied_so _ (λ t. Done) c.install.result c.done-in-Install.result c.done-in-Install.ensures (of_caused _ live.kept live.holdings (AsksInstall (check_of live.kept.geometry c.deref.result.now)) c.install.result c.install.ensures.cause))
-
-pub returns-in-Install-clause-no_trace : goal.returns-in-Install-clause-no_trace
-returns-in-Install-clause-no_trace g c =
-    let live = c.args.self.now in
-    no_trace_blamed ⊥ c.done-in-Install.result (replied_so ⊥ (λ t. Done) c.install.result c.done-in-Install.result c.done-in-Install.ensures (of_caused ⊥ live.kept live.holdings (AsksInstall (check_of live.kept.geometry c.deref.result.now)) c.install.result c.install.ensures.cause))
+    absurd (never_so (IsRefusedWith live.kept live.holdings (AsksInstall (check_of live.kept.geometry c.deref.result.now))) Device (never_device live.kept live.holdings (AsksInstall (check_of live.kept.geometry c.deref.result.now))) c.install.result c.install.ensures.cause
+    (refused_by (λ t. Done) c.install.result c.done-in-Install.result Device c.done-in-Install.ensures is))
 
 pub returns-in-Repair-clause-cause : goal.returns-in-Repair-clause-cause
-returns-in-Repair-clause-cause g c =
+returns-in-Repair-clause-cause g c = λ is.
     let live = c.args.self.now in
-    device_blamed _ c.done-in-Repair.result (replied_so _ (λ t. Done) c.repair.result c.done-in-Repair.result c.done-in-Repair.ensures (of_caused _ live.kept live.holdings (RepairAt c.in-Repair.place) c.repair.result c.repair.ensures.cause))
+    absurd (never_so (IsRefusedWith live.kept live.holdings (RepairAt c.in-Repair.place)) Device (never_device live.kept live.holdings (RepairAt c.in-Repair.place)) c.repair.result c.repair.ensures.cause
+    (refused_by (λ t. Done) c.repair.result c.done-in-Repair.result Device c.done-in-Repair.ensures is))
 
-pub returns-in-Repair-clause-no_trace : goal.returns-in-Repair-clause-no_trace
-returns-in-Repair-clause-no_trace g c =
+-- ---- and why
+
+pub returns-in-Freeze-clause-error : goal.returns-in-Freeze-clause-error
+returns-in-Freeze-clause-error g c =
     let live = c.args.self.now in
-    no_trace_blamed ⊥ c.done-in-Repair.result (replied_so ⊥ (λ t. Done) c.repair.result c.done-in-Repair.result c.done-in-Repair.ensures (of_caused ⊥ live.kept live.holdings (RepairAt c.in-Repair.place) c.repair.result c.repair.ensures.cause))
+    handed_on live.kept live.holdings (asked live.kept.geometry c.args.command.now) AsksFreeze (ap (asked live.kept.geometry) c.in-Freeze.is)
+    Image c.freeze.result c.image.result c.image.ensures (freeze_caused live.kept live.holdings c.freeze.result c.freeze.ensures.stands c.freeze.ensures.error)
+
+pub returns-in-SnapRead-clause-error : goal.returns-in-SnapRead-clause-error
+returns-in-SnapRead-clause-error g c =
+    let live = c.args.self.now in
+    handed_on live.kept live.holdings (asked live.kept.geometry c.args.command.now) (AsksSnapRead c.in-SnapRead.inode c.in-SnapRead.index) (ap (asked live.kept.geometry) c.in-SnapRead.is)
+    Bytes c.snap_read.result c.bytes.result c.bytes.ensures c.snap_read.ensures.error
+
+pub returns-in-Release-clause-error : goal.returns-in-Release-clause-error
+returns-in-Release-clause-error g c =
+    let live = c.args.self.now in
+    handed_on live.kept live.holdings (asked live.kept.geometry c.args.command.now) AsksRelease (ap (asked live.kept.geometry) c.in-Release.is)
+    (λ t. Done) c.release.result c.done.result c.done.ensures (release_caused live.kept live.holdings c.release.result c.release.ensures.stands c.release.ensures.error)
+
+pub returns-in-Install-clause-error : goal.returns-in-Install-clause-error
+returns-in-Install-clause-error g c =
+    let live = c.args.self.now in
+    handed_on live.kept live.holdings (asked live.kept.geometry c.args.command.now) (AsksInstall (check_of live.kept.geometry c.deref.result.now)) (ap (asked live.kept.geometry) c.in-Install.is ∙ ap (λ checked. AsksInstall (check_of live.kept.geometry checked)) (sym c.deref.ensures))
+    (λ t. Done) c.install.result c.done-in-Install.result c.done-in-Install.ensures (caused_so live.kept live.holdings (AsksInstall (check_of live.kept.geometry c.deref.result.now)) c.install.result c.install.ensures.cause)
+
+pub returns-in-Repair-clause-error : goal.returns-in-Repair-clause-error
+returns-in-Repair-clause-error g c =
+    let live = c.args.self.now in
+    handed_on live.kept live.holdings (asked live.kept.geometry c.args.command.now) (RepairAt c.in-Repair.place) (ap (asked live.kept.geometry) c.in-Repair.is)
+    (λ t. Done) c.repair.result c.done-in-Repair.result c.done-in-Repair.ensures (caused_so live.kept live.holdings (RepairAt c.in-Repair.place) c.repair.result c.repair.ensures.cause)
 
 -- ---- what an answer of bytes or names leaves
 

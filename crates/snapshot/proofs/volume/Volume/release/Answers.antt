@@ -1,12 +1,14 @@
-use Rattle.std.proofs.Common.{◌≡◌, Err, OnOk, IfErr, inl, inr, refl, sym, ◌∙◌, subst}
+use Rattle.std.proofs.Common.{◌≡◌, ◌↔◌, Err, None, OnOk, IfErr, inl, inr, refl, sym, ◌∙◌, subst}
+use Rattle.std.specs.Prelude.{IsErrOf}
 use Rattle.std.proofs.lemmas.Result.{err_from_is_err_and}
-use Rattle.layout.specs.declared.refusal.Refusal.TheVariants.{Device, NoMemory, NoSnapshot}
+use Rattle.layout.specs.declared.refusal.Refusal.TheVariants.{Device, NoSnapshot}
 use Rattle.machine.specs.Command.{Release}
 use Rattle.live.specs.Alive.{Alive, state_of}
 use Rattle.snapshot.specs.Goes.{Releases, Replies}
+use Rattle.snapshot.proofs.Blaming.{memory_at_most}
 use Rattle.snapshot.proofs.CallLemmas.{same_err}
 use Rattle.snapshot.proofs.Standing.{none_frozen, refuses_release}
-use Rattle.snapshot.proofs.Written.{ends_err, ends_keeps, ends_ok, written_err, written_keeps}
+use Rattle.snapshot.proofs.Written.{ends_err, ends_keeps, ends_ok, none_where, some_stands, written_err, written_keeps}
 use Rattle.snapshot.proofs.Writing.{Wrote, unless_memory, wrote_none, wrote_so}
 use Rattle.snapshot.proofs.volume.Volume.release.Goals as goal
 
@@ -90,3 +92,37 @@ returns-clause-writes g c =
 
 pub returns-clause-none : goal.returns-clause-none
 returns-clause-none g c = λ is. absurd (unless_memory c.end_keep-outcome.result c.end_keep-outcome.ensures.error is)
+
+-- ---- why it is refused
+
+pub returns-then-not-has_snapshot-clause-stands : goal.returns-then-not-has_snapshot-clause-stands
+returns-then-not-has_snapshot-clause-stands g c =
+    subst (λ (l : Alive _). (Err NoSnapshot ≡ Err NoSnapshot) ↔ (l.holdings.snapshot ≡ None)) c.self.view_is
+    (λ is. none_where c.self.inside.live.holdings.snapshot (sym c.has_snapshot.ensures ∙ c.if-not-has_snapshot.true), λ none. refl)
+
+pub returns-then-not-has_snapshot-clause-error : goal.returns-then-not-has_snapshot-clause-error
+returns-then-not-has_snapshot-clause-error g c = inl refl
+
+pub returns-in_err-write_all-clause-stands : goal.returns-in_err-write_all-clause-stands
+returns-in_err-write_all-clause-stands g c =
+    let p = err_from_is_err_and c.from_residual.result c.from_residual.ensures.1 in
+    subst (λ (l : Alive _). IsErrOf c.from_residual.result NoSnapshot ↔ (l.holdings.snapshot ≡ None)) c.self.view_is
+    (rw (p.1, p.2, c.in_err-write_all.ensures.error) (
+      λ is. absurd (let bad : Err Device ≡ Err NoSnapshot = is in cc),
+      λ none. absurd (some_stands c.self.inside.live.holdings.snapshot (sym c.has_snapshot.ensures ∙ c.if-not-has_snapshot.false) none),
+    ))
+
+pub returns-in_err-write_all-clause-error : goal.returns-in_err-write_all-clause-error
+returns-in_err-write_all-clause-error g c =
+    let p = err_from_is_err_and c.from_residual.result c.from_residual.ensures.1 in
+    rw (p.1, p.2) (inr (inr c.in_err-write_all.ensures.error))
+
+pub returns-clause-stands : goal.returns-clause-stands
+returns-clause-stands g c =
+    subst (λ (l : Alive _). IsErrOf c.end_keep-outcome.result NoSnapshot ↔ (l.holdings.snapshot ≡ None)) c.self.view_is (
+      λ is. absurd (unless_memory c.end_keep-outcome.result c.end_keep-outcome.ensures.error is),
+      λ none. absurd (some_stands c.self.inside.live.holdings.snapshot (sym c.has_snapshot.ensures ∙ c.if-not-has_snapshot.false) none),
+    )
+
+pub returns-clause-error : goal.returns-clause-error
+returns-clause-error g c = memory_at_most NoSnapshot c.end_keep-outcome.result c.end_keep-outcome.ensures.error

@@ -1,22 +1,31 @@
-use Rattle.std.proofs.Common.{◌≡◌, ◌+◌, ◌<◌, ◌≤◌, ℕ, arith, List, [], ◌∷◌, ◌++◌, Err, Result, length, map, take, ap, sym, ◌∙◌, subst}
+use Rattle.std.proofs.Common.{◌≡◌, ◌+◌, ◌<◌, ◌≤◌, ℕ, arith, List, [], ◌∷◌, ◌++◌, Result, IfErr, OnErr, get_or, length, map, take, ap, sym, ◌∙◌, subst}
 use Rattle.std.specs.Prelude.{vec_capacity, vec_len}
-use Rattle.std.specs.List.{All}
-use Rattle.std.proofs.lemmas.List.{take_all}
-use Rattle.std.proofs.lemmas.List.Elements.{All-nil, All-push}
+use Rattle.std.proofs.lemmas.List.{take_all, take_more}
 use Rattle.layout.specs.declared.refusal.Refusal.{Refusal}
-use Rattle.layout.specs.declared.refusal.Refusal.TheVariants.{TraceFull}
+use Rattle.live.specs.Alive.{Alive}
 use Rattle.snapshot.specs.declared.answer.Answer.{Answer}
 use Rattle.snapshot.specs.Asked.{asked}
 use Rattle.snapshot.specs.Goes.{Runs}
+use Rattle.snapshot.specs.Refusing.{AreCaused, IsCause, NoneYet, OneMore}
 use Rattle.snapshot.specs.declared.command.Command.{Command}
 use Rattle.snapshot.proofs.AppliesLemmas.{runs_next, runs_none}
 use Rattle.snapshot.proofs.volume.Volume.run.Goals as goal
 
-abbrev NotFull : Result Answer Refusal → Type 0
-NotFull reply = reply ≡ Err TraceFull → ⊥
+-- the next one of a list
+caused_next : {D : Type 0} (old mid new : Alive D) (items shown : List Command) → shown ≡ items → (i : ℕ) (command : Command) → i < length shown → command ≡ get_or shown i command
+    → (replies replies' : List (Result Answer Refusal)) (reply : Result Answer Refusal) → replies' ≡ replies ++ reply ∷ []
+    → AreCaused old (take i items) replies mid → IfErr reply (IsCause mid command) → OnErr reply ((new.kept ≡ mid.kept) × (new.holdings ≡ mid.holdings)) → AreCaused old (take (i + 1) items) replies' new
+caused_next old mid new items shown same i command within at replies replies' reply pushed caused cause left =
+    let more : take (i + 1) items ≡ take i items ++ command ∷ [] =
+    take_more items i command (subst (λ xs. i < length xs) same within) ∙ ap (λ x. take i items ++ x ∷ []) (sym (subst (λ xs. command ≡ get_or xs i command) same at)) in
+    subst (λ rs. AreCaused old (take (i + 1) items) rs new) (sym pushed) (subst (λ cs. AreCaused old cs (replies ++ reply ∷ []) new) (sym more) (OneMore command reply new caused cause left))
 
-one_more_reply : (replies more : List (Result Answer Refusal)) (reply : Result Answer Refusal) → more ≡ replies ++ reply ∷ [] → All NotFull replies → NotFull reply → All NotFull more
-one_more_reply replies more reply same all one = subst (All NotFull) (sym same) (All-push NotFull replies reply all one)
+none_caused : {D : Type 0} (old : Alive D) (items : List Command) (replies : List (Result Answer Refusal)) → replies ≡ [] → AreCaused old (take 0 items) replies old
+none_caused old items replies none = subst (λ rs. AreCaused old (take 0 items) rs old) (sym none) (by items)
+  where
+    by : (items : List Command) → AreCaused old (take 0 items) [] old
+    by [] = NoneYet
+    by (command ∷ commands) = NoneYet
 
 one_more : (n m i : ℕ) → n ≡ m + 1 → m ≡ i → n ≡ i + 1
 one_more n m i more is = more ∙ ap (λ k. k + 1) is
@@ -30,7 +39,7 @@ loop-command-init g c =
       room = room;
       count = c.in_ok-replies.ensures.len;
       honest = λ h. h;
-      no_trace = subst (All NotFull) (sym c.in_ok-replies.ensures.items) (All-nil NotFull);
+      caused = none_caused live c.args.commands.items c.in_ok-replies.replies.items c.in_ok-replies.ensures.items;
       ran = λ h. runs_none (g.D.Device.held live.device) (g.D.Device.image live.device) live c.args.commands.items c.in_ok-replies.replies.items c.in_ok-replies.ensures.items;
     }
 
@@ -51,7 +60,8 @@ loop-command-preserved g c =
       room = room;
       count = one_more (vec_len c.push.new.self) (vec_len c.loop-command.replies) i c.in_ok-push.ensures.len inv.count;
       honest = λ h. inv.honest (c.apply-reply.ensures.honest h);
-      no_trace = one_more_reply c.loop-command.replies.items c.push.new.self.items c.apply-reply.result c.in_ok-push.ensures.items inv.no_trace c.apply-reply.ensures.no_trace;
+      caused = caused_next old mid new c.args.commands.items shown c.deref-command-items.ensures.value i c.command-item.result within c.command-item.is
+          c.loop-command.replies.items c.push.new.self.items c.apply-reply.result c.in_ok-push.ensures.items inv.caused c.apply-reply.ensures.error c.apply-reply.ensures.untouched;
       ran = λ h. runs_next (held old.device) (held mid.device) (held new.device) (image old.device) (image mid.device) (image new.device) old mid new c.args.commands.items shown c.deref-command-items.ensures.value
           i c.command-item.result within c.command-item.is c.loop-command.replies.items c.push.new.self.items c.apply-reply.result c.in_ok-push.ensures.items
           (inv.ran (c.apply-reply.ensures.honest h)) (c.apply-reply.ensures.applied h);
@@ -66,3 +76,10 @@ returns-clause-ran g c = λ h.
     let past : length c.args.commands.items ≤ l.command-index = subst (λ (cs : List Command). length cs ≤ l.command-index) c.deref-command-items.ensures.value c.loop-command-test.false in
     subst (λ (cs : List Command). Runs (held old.device) (image old.device) old (map (asked old.kept.geometry) cs) l.replies.items (held l.self.device) (image l.self.device) l.self)
     (take_all l.command-index c.args.commands.items past) (l.invariant.ran h)
+
+pub returns-clause-caused : goal.returns-clause-caused
+returns-clause-caused g c =
+    let old = c.args.self.now in
+    let l = c.loop-command in
+    let past : length c.args.commands.items ≤ l.command-index = subst (λ (cs : List Command). length cs ≤ l.command-index) c.deref-command-items.ensures.value c.loop-command-test.false in
+    subst (λ (cs : List Command). AreCaused old cs l.replies.items l.self) (take_all l.command-index c.args.commands.items past) l.invariant.caused

@@ -1,17 +1,25 @@
-use Rattle.std.proofs.Common.{◌≡◌, ◌⊎◌, ℕ, List, length, take, Ok, Err, Result, inl, inr, refl, sym, ap, subst}
+use Rattle.std.proofs.Common.{◌≡◌, ◌⊎◌, ℕ, List, length, take, Ok, Err, inl, inr, refl, sym, subst}
 use Rattle.std.proofs.lemmas.Result.{err_from_is_err_and}
 use Rattle.layout.specs.declared.refusal.Refusal.{Refusal}
 use Rattle.layout.specs.declared.refusal.Refusal.TheVariants.{Device, NoMemory}
+use Rattle.model.specs.Layout.{Geometry}
+use Rattle.machine.specs.Balance.{Balance}
+use Rattle.machine.specs.Causes.{FirstRefusal}
 use Rattle.machine.specs.Command.{Bytes, SnapRead}
+use Rattle.machine.specs.State.{State}
+use Rattle.frozen.specs.Kept.{frozen_view}
 use Rattle.softdep.specs.Queued.{pending_of}
 use Rattle.ordering.specs.Cuts.{users_view}
 use Rattle.machine.specs.Step.{Step}
+use Rattle.live_states.specs.Holdings.{Has, Holdings}
 use Rattle.live_states.proofs.Standing.{has}
 use Rattle.live.specs.Alive.{Alive, disk_of, state_of}
 use Rattle.snapshot.specs.declared.pieces.Piece.{Piece}
 use Rattle.snapshot.specs.Pieces.{IsPieceOfSnapshot}
 use Rattle.snapshot.proofs.Installs.{stands_as}
-use Rattle.snapshot.proofs.ReadLemmas.{read_step}
+use Rattle.snapshot.specs.Refusing.{IsCauseOf, IsWhyUnread}
+use Rattle.snapshot.proofs.Blaming.{same_refusal, unread_cause, unread_never_device}
+use Rattle.snapshot.proofs.ReadLemmas.{none_lacks, obeys_too, read_step}
 use Rattle.snapshot.specs.Goes.{Replies}
 use Rattle.snapshot.proofs.CallLemmas.{same_beside, same_err}
 use Rattle.snapshot.proofs.Going.{quietly, refused}
@@ -34,8 +42,13 @@ module _ {D : Type 0} (honest : D → Type 0) (held_of : D → List (List (List 
       (subst (λ xs. Step old.kept.geometry s (SnapRead i k) (Ok (Bytes xs)) s) (sym first)
       (read_step old.kept.geometry p.snapshot there.image p.geometry p.metadata there.shows s i k there.is is.stands.balance is.files piece p.found bytes sees whole))
 
-not_device : {T U : Type 0} (r : Refusal) → (◌≡◌ {A = Result U Refusal} (Err r) (Err Device) → ⊥) → ◌≡◌ {A = Result T Refusal} (Err r) (Err Device) → ⊥
-not_device {T} {U} r never e = let same : r ≡ Device = cc in never (ap (λ (x : Refusal). Err x) same)
+-- where the volume is in balance, its snapshot lacks no block
+why_unread : (geo : Geometry) (holdings : Holdings) (i k : ℕ) (r : Refusal) → IsWhyUnread geo holdings i k r → (old : State) → Balance geo old → Has holdings old → FirstRefusal geo old (SnapRead i k) r
+why_unread geo holdings i k r (inl first) old balance has = first old has
+why_unread geo holdings i k r (inr (index, p)) old balance has =
+    let s = p.snapshot in
+    let there = stands_as holdings.snapshot s old.frozen p.stands has.frozen in
+    absurd (none_lacks s.geometry (frozen_view s) i k (obeys_too geo s there.image p.geometry p.metadata there.shows (balance.snapshot there.image there.is).0) p.lacks.no_cause p.lacks.unclaimed)
 
 pub returns-in_err-block-clause-refused : goal.returns-in_err-block-clause-refused
 returns-in_err-block-clause-refused g c =
@@ -46,12 +59,31 @@ returns-in_err-block-clause-refused g c =
     rw (p.1, p.2)
     (λ h. subst (λ (l : Alive _). Replies (g.D.Device.held l.device) (g.D.Device.image l.device) l command (Err r) (g.D.Device.held l.device) (g.D.Device.image l.device) l) c.self.view_is
     (same_err g.D.Device.honest g.D.Device.held g.D.Device.image old old command r refl
-    (λ beside is. inr (inr (c.in_err-block.ensures.refused (state_of (g.D.Device.image old.device) old beside) is.stands.balance (has (disk_of (g.D.Device.image old.device) old) (pending_of old.queue) old.holdings beside is.belongs))))))
+    (λ beside is. inr (inr (why_unread old.kept.geometry old.holdings c.args.inode c.args.index r c.in_err-block.ensures.refused (state_of (g.D.Device.image old.device) old beside) is.stands.balance
+    (has (disk_of (g.D.Device.image old.device) old) (pending_of old.queue) old.holdings beside is.belongs))))))
 
 pub returns-in_err-block-clause-cause : goal.returns-in_err-block-clause-cause
 returns-in_err-block-clause-cause g c =
     let p = err_from_is_err_and c.from_residual.result c.from_residual.ensures.1 in
-    rw (p.1, p.2) (λ e. absurd (not_device c.in_err-block.field-0.0 c.in_err-block.ensures.device e))
+    let old = c.self.inside.live in
+    rw (p.1, p.2) (λ e. absurd (unread_never_device old.kept old.holdings c.args.inode c.args.index c.in_err-block.field-0.0 c.in_err-block.ensures.refused (same_refusal c.in_err-block.field-0.0 Device e)))
+
+pub returns-in_err-block-clause-error : goal.returns-in_err-block-clause-error
+returns-in_err-block-clause-error g c =
+    let p = err_from_is_err_and c.from_residual.result c.from_residual.ensures.1 in
+    let old = c.self.inside.live in
+    let r = c.in_err-block.field-0.0 in
+    rw (p.1, p.2) (subst (λ (l : Alive _). IsCauseOf l.kept l.holdings (SnapRead c.args.inode c.args.index) r) c.self.view_is (unread_cause old.kept old.holdings c.args.inode c.args.index r c.in_err-block.ensures.refused))
+
+pub returns-in_err-bytes-clause-error : goal.returns-in_err-bytes-clause-error
+returns-in_err-bytes-clause-error g c =
+    let p = err_from_is_err_and c.from_residual-in_err-bytes.result c.from_residual-in_err-bytes.ensures.1 in
+    rw (p.1, p.2) (inl c.in_err-bytes.ensures.error)
+
+pub returns-in_err-first_bytes-clause-error : goal.returns-in_err-first_bytes-clause-error
+returns-in_err-first_bytes-clause-error g c =
+    let p = err_from_is_err_and c.from_residual-in_err-first_bytes.result c.from_residual-in_err-first_bytes.ensures.1 in
+    rw (p.1, p.2) (inr (inl refl))
 
 pub data_block-requires : goal.data_block-requires
 data_block-requires g c = c.in_ok-block.ensures.address

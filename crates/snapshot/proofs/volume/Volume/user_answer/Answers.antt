@@ -1,4 +1,4 @@
-use Rattle.std.proofs.Common.{◌≡◌, ℕ, IfOk, subst}
+use Rattle.std.proofs.Common.{◌≡◌, ℕ, IfErr, IfOk, subst}
 use Rattle.queue_model.specs.Blocks.{home_of}
 use Rattle.queue_model.specs.Flush.{ready, taken}
 use Rattle.softdep.specs.Queued.{pending_of}
@@ -7,6 +7,7 @@ use Rattle.snapshot.specs.declared.answer.Answer.TheVariants.{Number}
 use Rattle.snapshot.specs.declared.command.Command.TheVariants.{Flush}
 use Rattle.snapshot.specs.Asked.{asked}
 use Rattle.snapshot.specs.Goes.{Applies}
+use Rattle.snapshot.specs.Refusing.{IsCause}
 use Rattle.snapshot.proofs.AnswerLemmas.{flush_counts}
 use Rattle.snapshot.proofs.CallLemmas.{applies, beside_kept}
 use Rattle.snapshot.proofs.volume.Volume.user_answer.Goals as goal
@@ -44,3 +45,6 @@ returns-clause-flushed g c =
     subst (λ (l : Alive _). (a : ℕ) → c.args.command.now ≡ Flush a → honest new.device → IfOk reply (λ answer. answer ≡ Number (taken (ready (home_of l.kept.geometry) a (pending_of l.queue))))) c.self.view_is
     (λ a asks h.
     flush_counts (held old.device) (held new.device) (image old.device) (image new.device) old new (c.self.invariant (c.user_reply-reply.ensures.honest h)) a c.args.command.now asks reply (c.user_reply-reply.ensures.replied h))
+
+pub returns-clause-error : goal.returns-clause-error
+returns-clause-error g c = subst (λ (l : Alive _). IfErr c.user_reply-reply.result (IsCause l c.args.command.now)) c.self.view_is c.user_reply-reply.ensures.error

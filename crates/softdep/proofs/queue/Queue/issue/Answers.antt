@@ -5,19 +5,28 @@ use Rattle.softdep.specs.Queued.{Queued, IsQueue, after, fresh_queue, issued, ad
 use Rattle.softdep.proofs.Issued.{after_push, pending_issued, geometry_issued, closed_issued}
 use Rattle.softdep.proofs.queue.Queue.issue.Goals as goal
 
+pub make_room-requires : goal.make_room-requires
+make_room-requires c =
+    let geo = c.self.inside.geometry in
+    let v : Queued = after (fresh_queue geo) c.self.inside.events.items in
+    let anew = c.begin_anew.ensures geo c.self.invariant.entries (pending_of v) c.self.invariant.holds in
+    record { queue = anew.0; q = pending_of v; holds = anew.1 }
+
 pub invariant_of-self : goal.invariant_of-self
 invariant_of-self c =
     let geo = c.self.inside.geometry in
     let v : Queued = after (fresh_queue geo) c.self.inside.events.items in
     let anew = c.begin_anew.ensures geo c.self.invariant.entries (pending_of v) c.self.invariant.holds in
-    record { entries = anew.0; holds = c.in_err-make_room.ensures.held geo anew.0 (pending_of v) anew.1; closed = c.self.invariant.closed; same = c.self.invariant.same }
+    let moved = c.in_err-make_room.ensures.held anew.0 (pending_of v) anew.1 in
+    record { entries = moved.0; holds = moved.1; closed = c.self.invariant.closed; same = c.self.invariant.same }
 
 pub add_all-requires-clause-held : goal.add_all-requires-clause-held
 add_all-requires-clause-held c =
     let geo = c.self.inside.geometry in
     let v : Queued = after (fresh_queue geo) c.self.inside.events.items in
     let anew = c.begin_anew.ensures geo c.self.invariant.entries (pending_of v) c.self.invariant.holds in
-    record { queue = anew.0; q = pending_of v; holds = c.in_ok-make_room.ensures.held geo anew.0 (pending_of v) anew.1 }
+    let moved = c.in_ok-make_room.ensures.held anew.0 (pending_of v) anew.1 in
+    record { queue = moved.0; q = pending_of v; holds = moved.1 }
 
 module _ (c : goal.After-add_all) where
   abbrev v : Queued
@@ -32,8 +41,8 @@ invariant_of-self-2 c =
     let geo = c.self.inside.geometry in
     let ws = map written c.args.updates.items in
     let anew = c.begin_anew.ensures geo c.self.invariant.entries (pending_of (v c)) c.self.invariant.holds in
-    let room = c.in_ok-make_room.ensures.held geo anew.0 (pending_of (v c)) anew.1 in
-    let now = c.add_all.ensures anew.0 (pending_of (v c)) room in
+    let moved = c.in_ok-make_room.ensures.held anew.0 (pending_of (v c)) anew.1 in
+    let now = c.add_all.ensures moved.0 (pending_of (v c)) moved.1 in
     subst (IsQueue geo c.add_all.new.table) (sym (next c)) (record {
       entries = now.0;
       holds = subst (Holds geo c.add_all.new.table now.0) (sym (pending_issued (v c) ws)) now.1;

@@ -1,4 +1,4 @@
-use Rattle.std.proofs.Common.{◌≡◌, ◌+◌, ◌<◌, [], ◌∷◌, ◌++◌, inl, refl, sym, ap, ◌∙◌, subst, Contains, length, arith, Some}
+use Rattle.std.proofs.Common.{◌≡◌, ◌+◌, ◌<◌, [], ◌∷◌, ◌++◌, inl, refl, sym, ap, ◌∙◌, subst, Contains, length, map, arith, Some}
 use Rattle.std.proofs.lemmas.List.{length-map}
 use Rattle.std.specs.Vec.{vec_capacity}
 use Rattle.model.specs.Layout.{Geometry as Numbers}
@@ -44,7 +44,7 @@ module _ (c : goal.After-self-2-1) where
   t = c.args.self.now
 
   abbrev u : Pending
-  u = update_of c.args.change c.args.after.now
+  u = update_of c.args.update
 
   number : c.len-number.result ≡ length t.nodes.items
   number = let len = c.len-number.ensures in omega (arith, len)
@@ -52,7 +52,8 @@ module _ (c : goal.After-self-2-1) where
   behind : IsBehind t c.wait-waiting.new.self (length t.nodes.items) (lasts geo t (cell_of u.change ∷ u.after))
   behind =
       subst (λ n. IsBehind t c.wait-waiting.new.self n (lasts geo t (cell_of u.change ∷ u.after))) number
-      (subst (λ x. IsBehind t c.wait-waiting.new.self c.len-number.result (lasts geo t (x ∷ u.after))) c.cell-own.ensures c.wait-waiting.ensures.behind)
+      (subst (λ x. IsBehind t c.wait-waiting.new.self c.len-number.result (lasts geo t (x ∷ u.after))) c.cell-own.ensures
+      (subst (λ l. IsBehind t c.wait-waiting.new.self c.len-number.result (lasts geo t (cell c.cell-own.result ∷ map cell l))) c.as_slice.ensures.value c.wait-waiting.ensures.behind))
 
   place : c.place.result ≡ place_of geo (cell_of u.change)
   place = c.place.ensures.place ∙ ap (place_of geo) c.cell-own.ensures
@@ -87,14 +88,15 @@ module _ (c : goal.After-self-2-1) where
       ])
 
   abbrev node : Node
-  node = record { home = c.home-home.result; change = Some c.args.change; waiting = c.wait-waiting.result; waiters = c.empty.result }
+  node = record { home = c.home-home.result; update = Some c.args.update; waiting = c.wait-waiting.result; waiters = c.empty.result }
 
   is_node : IsNodeFor geo t u node
   is_node = record {
     home = c.home-home.ensures.address ∙ ap (home_of geo) c.cell-own.ensures;
     on_volume = c.home-home.ensures.on_volume;
+    update = refl;
     change = refl;
-    waiting = c.wait-waiting.ensures.count ∙ ap (λ x. length (lasts geo t (x ∷ u.after))) c.cell-own.ensures;
+    waiting = c.wait-waiting.ensures.count ∙ ap (λ l. length (lasts geo t (cell c.cell-own.result ∷ map cell l))) c.as_slice.ensures.value ∙ ap (λ x. length (lasts geo t (x ∷ u.after))) c.cell-own.ensures;
     few = c.wait-waiting.type_inv;
     waiters = c.empty.ensures;
   }
@@ -120,10 +122,10 @@ module _ (c : goal.After-self-2-1) where
 
 pub returns-clause-held : goal.returns-clause-held
 returns-clause-held c queue q holds =
-    added_holds (geo c) (t c) queue q holds (u c) c.requires.cells c.wait-waiting.new.self _ (node c) (behind c) (is_node c) (added c _ refl refl refl refl refl refl) (own_place c) (1 + length c.args.after.now) c.requires.room
+    added_holds (geo c) (t c) queue q holds (u c) c.requires.cells c.wait-waiting.new.self _ (node c) (behind c) (is_node c) (added c _ refl refl refl refl refl refl) (own_place c) (1 + length c.args.update.after.items) c.requires.room
 
 pub returns-clause-room : goal.returns-clause-room
 returns-clause-room c updates cells has =
     let few = lasts_few (geo c) (t c) (cell_of (u c).change ∷ (u c).after) in
-    let count = length-map c.args.after.now cell in
-    room_left (t c) c.wait-waiting.new.self _ (length (t c).nodes.items) (place_of (geo c) (cell_of (u c).change)) (1 + length c.args.after.now) updates cells (lasts (geo c) (t c) (cell_of (u c).change ∷ (u c).after)) (node c) (behind c) (added c _ refl refl refl refl refl refl) (omega (arith, few, count)) has
+    let count = length-map c.args.update.after.items cell in
+    room_left (t c) c.wait-waiting.new.self _ (length (t c).nodes.items) (place_of (geo c) (cell_of (u c).change)) (1 + length c.args.update.after.items) updates cells (lasts (geo c) (t c) (cell_of (u c).change ∷ (u c).after)) (node c) (behind c) (added c _ refl refl refl refl refl refl) (omega (arith, few, count)) has

@@ -31,4 +31,4 @@ returns c queue q holds =
     let shown = last_shows c.args.geometry.now t queue q holds c.args.address c.requires.address c.index-last.result.now value c.if-last-eq0.false in
     let there = last_low c.args.geometry.now t queue q holds c.args.address c.requires.address c.index-last.result.now value c.if-last-eq0.false in
     let node = read t.nodes.items (c.index-last.result.now - 1) c.index.result.now there c.index.ensures in
-    c.bytes_in.ensures c.args.address shown.0 (subst (λ (x : Node). Shows x.change (SetBytes c.args.address shown.0)) (sym node) shown.1) ∙ sym shown.2
+    c.bytes_in.ensures c.args.address shown.0 (subst (λ (x : Node). Shows x.update (SetBytes c.args.address shown.0)) (sym node) shown.1) ∙ sym shown.2

@@ -15,7 +15,7 @@ invariant-loop-link l = record {
   chain : IsChain l.self.chains l.chain;
   chains : l.self.chains ≡ l.fn.self.chains;
   taken : l.self.taken ≡ l.fn.self.taken;
-  changes : (i : ℕ) → (node_at l.self.nodes.items i).change ≡ (node_at l.fn.self.nodes.items i).change;
+  changes : (i : ℕ) → (node_at l.self.nodes.items i).update ≡ (node_at l.fn.self.nodes.items i).update;
   ties : (geo : Numbers) (queue : Queue) (q : List Pending) (due : ℕ → Entry → ℕ) (b : ℕ) (e : Entry) → Ties geo l.fn.self queue q due → Contains (queue.lists b) e → e.id ≡ l.fn.number
       → AreWaiting queue due l.fn.address l.fn.here l.fn.number → Ties geo l.self queue q (less_all l.fn.address l.fn.here done due);
 }

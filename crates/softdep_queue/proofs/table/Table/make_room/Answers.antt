@@ -1,64 +1,15 @@
-use Rattle.std.proofs.Common.{refl, arith}
-use Rattle.softdep_queue.proofs.Rooms.{still_holds}
+use Rattle.std.proofs.Common.{sym, subst}
+use Rattle.queue_model.specs.Entries.{Queue}
+use Rattle.softdep_queue.specs.declared.table.Table.{Table}
+use Rattle.softdep_queue.specs.Ties.{Holds}
 use Rattle.softdep_queue.proofs.table.Table.make_room.Goals as goal
-
-pub returns-in_err-reserve-clause-held : goal.returns-in_err-reserve-clause-held
-returns-in_err-reserve-clause-held c =
-    still_holds c.args.self.now _ (record {
-      nodes = c.reserve.ensures.items;
-      links = refl;
-      stacks = λ b. refl;
-      count = refl;
-      room = omega arith;
-      taken = refl;
-      spare = omega arith;
-      latest = refl;
-      pending = refl;
-    })
-
-pub returns-in_err-reserve-2-clause-held : goal.returns-in_err-reserve-2-clause-held
-returns-in_err-reserve-2-clause-held c =
-    let spare = c.reserve-2.ensures.capacity in
-    still_holds c.args.self.now _ (record {
-      nodes = c.reserve.ensures.items;
-      links = refl;
-      stacks = λ b. refl;
-      count = refl;
-      room = omega arith;
-      taken = c.reserve-2.ensures.items;
-      spare = omega (arith, spare);
-      latest = refl;
-      pending = refl;
-    })
-
-pub returns-in_err-make_room-clause-held : goal.returns-in_err-make_room-clause-held
-returns-in_err-make_room-clause-held c =
-    let spare = c.reserve-2.ensures.capacity in
-    let room = c.make_room.ensures.grown in
-    still_holds c.args.self.now _ (record {
-      nodes = c.reserve.ensures.items;
-      links = refl;
-      stacks = c.make_room.ensures.stacks;
-      count = c.make_room.ensures.count;
-      room = omega (arith, room);
-      taken = c.reserve-2.ensures.items;
-      spare = omega (arith, spare);
-      latest = refl;
-      pending = refl;
-    })
+use Rattle.softdep_queue.proofs.table.Table.make_room.Goals.{then-is_sparse+in_ok-move_together, else-is_sparse}
 
 pub returns-clause-held : goal.returns-clause-held
-returns-clause-held c =
-    let spare = c.reserve-2.ensures.capacity in
-    let room = c.make_room.ensures.grown in
-    still_holds c.args.self.now _ (record {
-      nodes = c.reserve.ensures.items;
-      links = c.reserve-3.ensures.kept;
-      stacks = c.make_room.ensures.stacks;
-      count = c.make_room.ensures.count;
-      room = omega (arith, room);
-      taken = c.reserve-2.ensures.items;
-      spare = omega (arith, spare);
-      latest = refl;
-      pending = refl;
-    })
+returns-clause-held c queue q holds =
+    let geo = c.args.geometry.now in
+    let moved : (queue' : Queue) × Holds geo c.if-is_sparse.self queue' q = elim c.if-is_sparse.branch [
+      | then-is_sparse+in_ok-move_together w ↦ subst (λ (t : Table). (queue' : Queue) × Holds geo t queue' q) (sym w.self-is) (w.in_ok-move_together.ensures.held queue q holds)
+      | else-is_sparse w ↦ subst (λ (t : Table). (queue' : Queue) × Holds geo t queue' q) (sym w.self-is) (queue, holds)
+    ] in
+    (moved.0, c.reserve.ensures.held geo moved.0 q moved.1)

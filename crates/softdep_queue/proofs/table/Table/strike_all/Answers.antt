@@ -24,7 +24,7 @@ strike-requires-clause-shows c =
     let node = h.released.ties.node c.args.address at.0 listed in
     record {
       update = at.0.change;
-      shows = subst (λ i. Shows (node_at c.loop-left.self.nodes.items i).change at.0.change) id (subst (λ (x : Node). Shows x.change at.0.change) (sym (before.4.nodes at.0.id (not_done h.queue c.args.address before.0 at.1 at.0 each))) node.change);
+      shows = subst (λ i. Shows (node_at c.loop-left.self.nodes.items i).update at.0.change) id (subst (λ (x : Node). Shows x.update at.0.change) (sym (before.4.nodes at.0.id (not_done h.queue c.args.address before.0 at.1 at.0 each))) node.change);
       cell = node.cell;
       low = (let l = id_low (home_of geo) h.queue h.q h.released.ties.represents c.args.address at.0 listed in let n = h.released.ties.next in let m = before.4.count in omega (arith, l, n, m, id));
     }
@@ -54,7 +54,7 @@ loop-left-preserved c = record {
       let each = subst (AreTaken queue c.args.address) at.2 released.each in
       let listed = listed_at queue c.args.address before.0 at.1 at.0 each in
       let fresh = not_done queue c.args.address before.0 at.1 at.0 each in
-      let shows = subst (λ i. Shows (node_at c.loop-left.self.nodes.items i).change at.0.change) id (subst (λ (x : Node). Shows x.change at.0.change) (sym (before.4.nodes at.0.id fresh)) (released.ties.node c.args.address at.0 listed).change) in
+      let shows = subst (λ i. Shows (node_at c.loop-left.self.nodes.items i).update at.0.change) id (subst (λ (x : Node). Shows x.update at.0.change) (sym (before.4.nodes at.0.id fresh)) (released.ties.node c.args.address at.0 listed).change) in
       let one = subst (λ i. IsStruck geo c.loop-left.self c.strike.new.self i (cell_of at.0.change)) (sym id) (c.strike.ensures.struck at.0.change shows) in (
         before.0 ++ at.0 ∷ [],
         at.1,

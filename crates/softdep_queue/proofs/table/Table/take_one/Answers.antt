@@ -39,7 +39,7 @@ put-requires c =
     let node = h.takes.ties.node c.args.address e listed in
     record {
       update = e.change;
-      shows = subst (λ i. Shows (node_at t.nodes.items i).change e.change) id node.change;
+      shows = subst (λ i. Shows (node_at t.nodes.items i).update e.change) id node.change;
       cell = node.cell;
       low = (let l = id_low (home_of c.args.geometry.now) h.queue h.q h.takes.ties.represents c.args.address e listed in let n = h.takes.ties.next in omega (arith, l, n, id));
     }
@@ -64,7 +64,7 @@ returns c queue q es takes =
     let id = next_id geo t queue q a es takes number rest popped in
     let moved = moved_to t c.pop.new.self c.push_reserved.new.self a number popped c.in-Some.ensures.others c.in-Some.ensures.none c.in-Some.ensures.count c.in-Some.ensures.room c.push_reserved.ensures.items c.push_reserved.ensures.capacity in
     let t1 : Table = record t { ready = c.pop.new.self; taken = c.push_reserved.new.self } in
-    let shows = subst (λ i. Shows (node_at t.nodes.items i).change e.change) id (takes.ties.node a e listed).change in
+    let shows = subst (λ i. Shows (node_at t.nodes.items i).update e.change) id (takes.ties.node a e listed).change in
     let lowered = c.lower.ensures.lowered geo queue q (due_after queue a es) a e (moved_ties geo t queue q a es takes number rest popped t1 moved) listed id
     (waits_next geo t queue q a es takes number rest popped t1 moved) in (
       e,
