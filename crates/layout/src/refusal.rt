@@ -97,6 +97,9 @@ pub enum Refusal {
     /// The root stands where an entry is needed.
     #[error("30 IsRoot")]
     IsRoot,
+    /// As many snapshots stand as may, or no number is left for one more.
+    #[error("31 TooManySnapshots")]
+    TooManySnapshots,
     /// As many handles are open as may be.
     #[error("32 TooManyOpen")]
     TooManyOpen,

@@ -60,4 +60,5 @@ mounts geo image honest refusal.TraceFull is refuses h = absurd refuses
 mounts geo image honest refusal.NoPlan is refuses h = absurd refuses
 mounts geo image honest refusal.BadGeometry is refuses h = absurd refuses
 mounts geo image honest refusal.IsRoot is refuses h = absurd refuses
+mounts geo image honest refusal.TooManySnapshots is refuses h = absurd refuses
 mounts geo image honest refusal.TooManyOpen is refuses h = absurd refuses

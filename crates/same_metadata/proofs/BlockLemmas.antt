@@ -1,8 +1,13 @@
 -- When two images hold the same block at an address, and at a claim.
-use Rattle.std.proofs.Common.{◌≡◌, ℕ, Bool, false, List, [], Option, Some, None, unwrap_or, length, ◌↔◌, IsTrue, refl, sym, ap, ◌∙◌, subst, arith}
-use Rattle.std.proofs.lemmas.Bool.{cond-true, both_ways}
+use Rattle.std.proofs.Common.{◌≡◌, ◌<◌, ◌≤◌, inl, inr, ap₂, ltb, ℕ, Bool, false, List, [], Option, Some, None, unwrap_or, length, ◌↔◌, IsTrue, refl, sym, ap, ◌∙◌, subst, arith}
+use Rattle.std.proofs.lemmas.Bool.{cases_Bool, cond-true, both_ways, ltb-true}
+use Rattle.std.proofs.lemmas.Bool.Decides.{nat_tests}
 use Rattle.std.proofs.lemmas.Option.{none-some, same_Some}
-use Rattle.model.specs.Layout.{Geometry, is_data_address}
+use mathlib.Core.Path.{fun_ext}
+use Rattle.std.proofs.lemmas.List.{get_or_past}
+use Rattle.model.specs.View.{view_of}
+use Rattle.model.specs.Metadata.{SameMetadata}
+use Rattle.model.specs.Layout.{Geometry, block_count, is_data_address}
 use Rattle.model.specs.Uses.{claim_at}
 use Rattle.model.proofs.UseLemmas.{claim_from, claim_parts}
 use Rattle.frozen.specs.Kept.{Kept, KeepsFrame, frozen_view, kept_at, kept_bytes}
@@ -40,3 +45,25 @@ module _ (one other : Kept) (same : one.geometry ≡ other.geometry) where
 
   pub no_claim : (i k : ℕ) → claim_at one.geometry (frozen_view one) i k ≡ None → HasSameClaim one.geometry (frozen_view one) (frozen_view other) i k
   no_claim i k none a c = absurd (none-some a (sym none ∙ claim_from one.geometry (frozen_view one) i k a c))
+
+  -- those that keep the same blocks have the same metadata
+  pub same_blocks : KeepsFrame one → KeepsFrame other → ((a : ℕ) → a < block_count one.geometry → kept_bytes one.blocks a ≡ kept_bytes other.blocks a)
+      → SameMetadata one.geometry (frozen_view one) (frozen_view other)
+  same_blocks frame frame' each =
+      let geo = one.geometry in
+      let bytes : kept_bytes one.blocks ≡ kept_bytes other.blocks = fun_ext (λ a. elim (cases_Bool (ltb a (block_count geo))) [
+        | inl low ↦ each a (ltb-true a (block_count geo) low)
+        | inr high ↦
+            let past : block_count geo ≤ a = grind (arith, nat_tests, high) in
+            past_all one frame a past ∙ sym (past_all other frame' a (omega (arith, past, ap (λ (g : Geometry). block_count g) same)))
+      ]) in
+      subst (λ view. SameMetadata geo (frozen_view one) view) (ap₂ view_of same bytes) (record {
+        inode = λ i t. refl;
+        number_marked = λ i t. refl;
+        block_marked = λ a t. refl;
+        indirect_blocks = λ i a c. refl;
+        directory_blocks = λ d k a t c. refl;
+      })
+    where
+      past_all : (kept : Kept) → KeepsFrame kept → (a : ℕ) → block_count kept.geometry ≤ a → kept_bytes kept.blocks a ≡ []
+      past_all kept frame a past = ap (λ o. unwrap_or o []) (get_or_past kept.blocks a None (omega (arith, frame.count, past)))

@@ -61,9 +61,6 @@ module _ (geo : Geometry) (view other : View) where
   )
 
   -- where the bits of the blocks are the same, the inodes decide
-  pub by_inodes : (there : Geometry) (told : Bool) → geo ≡ there → ((a : ℕ) → IsTrue (is_data_address geo a) → view.block_marked a ≡ other.block_marked a)
-      → (IsTrue told ↔ ((i : ℕ) → IsTrue (is_number geo i) → HasSameInode geo view other i)) → IsTrue told ↔ ((geo ≡ there) × SameMetadata geo view other)
-  by_inodes there told same bits means = (
-    (λ yes. (same, all_metadata bits (means.0 yes))),
-    (λ h. means.1 (inode_of h.1)),
-  )
+  pub by_inodes : (told : Bool) → ((a : ℕ) → IsTrue (is_data_address geo a) → view.block_marked a ≡ other.block_marked a)
+      → (IsTrue told ↔ ((i : ℕ) → IsTrue (is_number geo i) → HasSameInode geo view other i)) → IsTrue told ↔ SameMetadata geo view other
+  by_inodes told bits means = ((λ yes. all_metadata bits (means.0 yes)), (λ h. means.1 (inode_of h)))

@@ -19,14 +19,37 @@ mod tests;
 /// Whether two images have the same geometry and the same metadata: all that a check looks at. That is the records of
 /// all inodes from number 2 on, the bits of these numbers and of the data blocks, and the bytes of the indirect blocks
 /// and of the blocks of sound directories that are claimed. It takes no memory, and time in proportion to the volume's
-/// size and to the claims of its directories.
+/// size and to the claims of its directories; where both keep the same blocks, these alone are compared.
 pub fn have_same_metadata(one: &Frozen, other: &Frozen) -> bool
     ensures { IsTrue result ↔ ((one.now.geometry ≡ other.now.geometry)
         × SameMetadata one.now.geometry (frozen_view one.now) (frozen_view other.now)) }
 {
-    one.geometry() == other.geometry()
-        && have_same_block_bits(one, other)
-        && have_same_inodes(one, other)
+    if one.geometry() != other.geometry() {
+        return false;
+    }
+    have_same_blocks(one, other) || have_same_parts(one, other)
+}
+
+/// Whether both keep the same blocks: then all metadata are the same.
+fn have_same_blocks(one: &Frozen, other: &Frozen) -> bool
+    requires { one.now.geometry ≡ other.now.geometry }
+    ensures { IsTrue result → SameMetadata one.now.geometry (frozen_view one.now) (frozen_view other.now) }
+{
+    for address in 0..one.geometry().blocks() {
+        if !has_same_block(one, other, address) {
+            return false;
+        }
+    }
+    other.geometry(); // for the proof: its clause `frame`
+    true
+}
+
+/// Whether the metadata are the same in both, part by part.
+fn have_same_parts(one: &Frozen, other: &Frozen) -> bool
+    requires { one.now.geometry ≡ other.now.geometry }
+    ensures { IsTrue result ↔ SameMetadata one.now.geometry (frozen_view one.now) (frozen_view other.now) }
+{
+    have_same_block_bits(one, other) && have_same_inodes(one, other)
 }
 
 /// Whether the bits of all data blocks are the same in both.

@@ -1,5 +1,4 @@
-ghost use Rattle.std.specs.Prelude.{◌≡◌, ℕ, ◌≤◌, List, [], length, OnOk, IfOk, IfSome, true, false};
-ghost use Rattle.model.specs.Layout.{Geometry as Numbers};
+ghost use Rattle.std.specs.Prelude.{◌≡◌, ◌≤◌, List, [], length, OnOk, IfOk, IfSome, false};
 ghost use Rattle.ordering.specs.Cuts.{Pending};
 ghost use Rattle.queue_model.specs.Entries.{Queue};
 ghost use Rattle.softdep_queue.specs.Ties.{Holds, shown_by};

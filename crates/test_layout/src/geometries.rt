@@ -38,6 +38,7 @@ const REFUSALS: &[(Refusal, &str)] = &[
     (Refusal::NoPlan, "28 NoPlan"),
     (Refusal::BadGeometry, "29 BadGeometry"),
     (Refusal::IsRoot, "30 IsRoot"),
+    (Refusal::TooManySnapshots, "31 TooManySnapshots"),
     (Refusal::TooManyOpen, "32 TooManyOpen"),
 ];
 
