@@ -63,12 +63,12 @@ module _ (geo : Geometry) (mounted : View) (h : List Written) (cut : List Bool) 
     life_holds disk q' held' safe' images (Puts {disk = d} {q = q} {held = held} {safe = safe} {images = im} next life closed) h' wrote leave within =
         let r = life_holds d q held safe im life h' wrote leave within in
         record { users_hold = r.users_hold; since = r.since; same = r.same ∙ sym (users_flushed d q next closed) }
-    life_holds disk q' held' safe' images (Releases {disk = d} {held = held} {safe = safe} {images = im} old blocks life e may) h' wrote leave within =
+    life_holds disk q' held' safe' images (Releases {disk = d} {held = held} {safe = safe} {images = im} old held1 blocks life e may) h' wrote leave within =
         let r = life_holds d [] held safe im life wrote.0 wrote.1 leave within in
         let m = (life_lived geo mounted h cut disk0 q0 held0 safe0 moment d [] held safe im life) in
         let all = moment_agrees geo mounted m.h' m.cut' (at_rest old.held safe) d [] (subst (λ x. IsMoment geo mounted m.h' m.cut' (at_rest x safe) d []) (sym e) m.moment) in
         let fit = released_fits geo d 0 [] blocks [] (nothing_yet geo d 0 []) in
-        let firm = still_firm geo d 0 [] _ (releasing blocks []) _ (release_issues geo d old safe blocks may all) fit.0 fit.1 in
+        let firm = still_firm geo d 0 [] _ (releasing blocks []) _ (release_issues geo d old safe held1 blocks may all) fit.0 fit.1 in
         let s = firm_holds geo mounted May Nowhere 0 d h wrote.0 r.users_hold r.since (λ n k bytes x. absurd x) [] [] refl r.same h' (releasing blocks []) wrote.2 firm in
         record { users_hold = s.users_hold; since = s.since; same = s.same }
 

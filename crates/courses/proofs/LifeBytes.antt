@@ -28,7 +28,7 @@ abbrev pub AllLeave : {geo : Geometry} {disk0 : View} {q0 : List Pending} {held0
 AllLeave Begins = Unit {0}
 AllLeave (Carries old file p held' safe' life e plan) = AllLeave life × LeavesBehind plan
 AllLeave (Puts cut life closed) = AllLeave life
-AllLeave (Releases old blocks life e may) = AllLeave life
+AllLeave (Releases old held' blocks life e may) = AllLeave life
 
 -- A plan on the way wrote this piece at position k of file n, of this generation.
 abbrev pub WasPut : {geo : Geometry} {disk0 : View} {q0 : List Pending} {held0 safe0 : ℕ → Bool} {disk : View} {q : List Pending} {held safe : ℕ → Bool} {images : List View}
@@ -37,4 +37,4 @@ WasPut mounted h h' n g k piece Begins wrote = ⊥
 WasPut mounted h h' n g k piece (Carries old file p held' safe' life e plan) wrote =
     WasPut mounted h wrote.0 n g k piece life wrote.1 ⊎ (IsWriteOf n k piece plan × (generation mounted wrote.0 n ≡ g))
 WasPut mounted h h' n g k piece (Puts cut life closed) wrote = WasPut mounted h h' n g k piece life wrote
-WasPut mounted h h' n g k piece (Releases old blocks life e may) wrote = WasPut mounted h wrote.0 n g k piece life wrote.1
+WasPut mounted h h' n g k piece (Releases old held' blocks life e may) wrote = WasPut mounted h wrote.0 n g k piece life wrote.1

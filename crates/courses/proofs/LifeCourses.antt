@@ -1,5 +1,5 @@
 -- What a volume goes through is a course.
-use Rattle.std.proofs.Common.{◌≡◌, ℕ, Bool, true, false, List, [], ◌∷◌, refl, sym, ap, ap₂, ◌∙◌, subst, IsTrue}
+use Rattle.std.proofs.Common.{◌≡◌, ℕ, Bool, true, List, [], ◌∷◌, refl, sym, ap, ap₂, ◌∙◌, subst, IsTrue}
 use Rattle.model.specs.Layout.{Geometry}
 use Rattle.model.specs.View.{View}
 use Rattle.model.specs.Reach.{IsReachable}
@@ -86,14 +86,14 @@ reached geo mounted h cut disk0 q0 held0 safe0 m disk p held' safe' images (Carr
 reached geo mounted h cut disk0 q0 held0 safe0 m disk p held' safe' images (Writes {disk = d} {q = q} {held = held} {safe = safe} {images = im} next life closed) =
     let r = reached geo mounted h cut disk0 q0 held0 safe0 m d q held safe im life in
     record { h' = r.h'; at = puts geo mounted h cut held0 safe0 d q held safe im r.h' r.at next closed; wrote = r.wrote }
-reached geo mounted h cut disk0 q0 held0 safe0 m disk p held' safe' images (Releases {disk = d} {held = held} {safe = safe} {images = im} old blocks life e may) =
+reached geo mounted h cut disk0 q0 held0 safe0 m disk p held' safe' images (Releases {disk = d} {held = held} {safe = safe} {images = im} old held1 blocks life e may) =
     let r = reached geo mounted h cut disk0 q0 held0 safe0 m d [] held safe im life in
     let a = subst (λ x. At geo mounted h cut held0 safe0 d [] x safe im r.h') (sym e) r.at in
-    let s = settles geo mounted h cut held0 safe0 d old.held safe im r.h' (λ a. false) a in
+    let s = settles geo mounted h cut held0 safe0 d old.held safe im r.h' held1 a in
     let fit = released_fits geo d 0 [] blocks [] (nothing_yet geo d 0 []) in
-    let l = plan_leads geo mounted r.h' s.cut' (at_rest (λ a. false) safe) d [] 0 (releasing blocks []) (at_rest (λ a. false) safe) true fit.0 s.moment
-    (release_issues geo d old safe blocks may (moment_agrees geo mounted r.h' a.cut' (at_rest old.held safe) d [] a.moment)) fit.1 in
-    record { h' = l.h'; at = goes_on geo mounted h cut held0 safe0 d [] (λ a. false) safe im r.h' s 0 (releasing blocks []) (λ a. false) safe l; wrote = (r.h', r.wrote, l.named) }
+    let l = plan_leads geo mounted r.h' s.cut' (at_rest held1 safe) d [] 0 (releasing blocks []) (at_rest held1 safe) true fit.0 s.moment
+    (release_issues geo d old safe held1 blocks may (moment_agrees geo mounted r.h' a.cut' (at_rest old.held safe) d [] a.moment)) fit.1 in
+    record { h' = l.h'; at = goes_on geo mounted h cut held0 safe0 d [] held1 safe im r.h' s 0 (releasing blocks []) held1 safe l; wrote = (r.h', r.wrote, l.named) }
 
 pub life_lived : (geo : Geometry) (mounted : View) (h : List Written) (cut : List Bool) (disk0 : View) (q0 : List Pending) (held0 safe0 : ℕ → Bool) → IsMoment geo mounted h cut (at_rest held0 safe0) disk0 q0
     → (disk : View) (q : List Pending) (held safe : ℕ → Bool) (images : List View) (life : Life geo disk0 q0 held0 safe0 disk q held safe images) → IsLived geo mounted h cut disk0 q0 held0 safe0 disk q held safe images life

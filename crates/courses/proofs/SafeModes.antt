@@ -1,5 +1,5 @@
 -- What no stop loses is a file at each moment, if it was one at the beginning.
-use Rattle.std.proofs.Common.{◌≡◌, ℕ, Bool, false, List, [], sym, ap, ◌∙◌, subst, IsTrue}
+use Rattle.std.proofs.Common.{◌≡◌, ℕ, Bool, List, [], sym, ap, ◌∙◌, subst, IsTrue}
 use Rattle.model.specs.Layout.{Geometry}
 use Rattle.model.specs.View.{View}
 use Rattle.ordering.specs.Cuts.{Pending, users_view}
@@ -27,9 +27,9 @@ still_files geo mounted h cut disk0 q0 held0 safe0 m files disk p held' safe' im
     ∙ still_files geo mounted h cut disk0 q0 held0 safe0 m files d q held safe im life f (fewer_safe geo d q (at_rest old.held safe) p0 (at_rest held1 safe1) chain f t)
 still_files geo mounted h cut disk0 q0 held0 safe0 m files disk p held' safe' images (Puts {disk = d} {q = q} {held = held} {safe = safe} {images = im} next life closed) f t =
     ap (λ (v : View). (v.inode f).mode) (users_flushed d q next closed) ∙ still_files geo mounted h cut disk0 q0 held0 safe0 m files d q held safe im life f t
-still_files geo mounted h cut disk0 q0 held0 safe0 m files disk p held' safe' images (Releases {disk = d} {held = held} {safe = safe} {images = im} old blocks life e may) f t =
+still_files geo mounted h cut disk0 q0 held0 safe0 m files disk p held' safe' images (Releases {disk = d} {held = held} {safe = safe} {images = im} old held1 blocks life e may) f t =
     let l = life_lived geo mounted h cut disk0 q0 held0 safe0 m d [] held safe im life in
     let all = subst (λ x. AllAgree geo d [] (at_rest x safe)) (sym e) (moment_agrees geo mounted l.h' l.cut' (at_rest held safe) d [] l.moment) in
-    safe_modes geo d [] (at_rest (λ a. false) safe) (releasing blocks []) (at_rest (λ a. false) safe) (release_issues geo d old safe blocks may all)
-    (release_agrees geo d old safe blocks may all) f t
+    safe_modes geo d [] (at_rest held1 safe) (releasing blocks []) (at_rest held1 safe) (release_issues geo d old safe held1 blocks may all)
+    (release_agrees geo d old safe held1 blocks may all) f t
     ∙ still_files geo mounted h cut disk0 q0 held0 safe0 m files d [] held safe im life f t

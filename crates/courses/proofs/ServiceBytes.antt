@@ -1,5 +1,5 @@
 -- A service shows in the blocks of files what users asked for.
-use Rattle.std.proofs.Common.{◌≡◌, ℕ, Bool, List, [], ◌∷◌, ◌++◌, ◌⊎◌, inl, inr, refl, sym, ◌∙◌, subst, slice_index}
+use Rattle.std.proofs.Common.{◌≡◌, ℕ, Bool, false, List, [], ◌∷◌, ◌++◌, ◌⊎◌, inl, inr, refl, sym, ◌∙◌, subst, slice_index}
 use Rattle.model.specs.Layout.{Geometry}
 use Rattle.model.specs.View.{View}
 use Rattle.ordering.specs.Cuts.{Cell, Pending, seen, rest}
@@ -91,7 +91,7 @@ module _ (geo : Geometry) (mounted : View) (h : List Written) (cut : List Bool) 
         let is : now d [] old ≡ old = now_is d [] old s.same in
         let t = subst (λ x. Stands geo d [] x safe) (sym is) s in
         let f = flushes (λ h'. Recorded mounted h h' service) (λ h' b n g k piece. WasWritten mounted h h' n g k piece service b) (home_of geo) disk q blocks d [] syncs old.held safe images l in (
-          EndsSnapshot old (held_below old n) f.0 refl (plan_release geo t.geometry (now d [] old) t.balance n few),
+          EndsSnapshot old (λ a. false) (held_below old n) f.0 refl (plan_release geo t.geometry (now d [] old) t.balance n few),
           f.1,
           λ h' wrote. let r = f.2 wrote.0 wrote.1 in ((wrote.0, r.0, wrote.2), λ m g k piece w. inl (r.1 m g k piece w)),
         )

@@ -104,7 +104,7 @@ module _ (geo : Geometry) (mounted : View) (h : List Written) (cut : List Bool) 
         let accepted : Accepts geo t Release = subst (λ x. Accepts geo x Release) (sym is) accepts in
         subst (λ x. Session geo disk0 q0 old0 safe0 disk' (releasing (held_below old n) []) (released x) safe (commands ++ Release ∷ []) (replies ++ Ok Done ∷ []) later) is
         (Forgets (released t) (held_below old n) (subst (λ x. Session geo disk0 q0 old0 safe0 disk' [] x safe commands replies later) (sym is) session') (accepted, refl)
-        (plan_release geo stands.geometry t stands.balance n few) refl (ap (λ (x : State). x.view) (release_steps_on geo disk' t safe stands accepted n few).1))
+        (plan_release geo stands.geometry t stands.balance n few) (ap (λ (x : State). x.view) (release_steps_on geo disk' t safe stands accepted n few).1))
 
     -- by a plan
     pub performs : (command : Command) (answer : Answer) (file : ℕ) (plan : List Pending) (new : State) (safe' : ℕ → Bool) → Accepts geo old command → IsDoneBy geo disk q old safe command answer file plan new safe'

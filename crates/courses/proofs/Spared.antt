@@ -39,4 +39,4 @@ spared geo disk0 q0 held0 safe0 disk q held safe images Begins f spares t = t
 spared geo disk0 q0 held0 safe0 disk q held' safe' images (Carries {disk = d} {q = q1} {held = held} {safe = safe} {images = im} old file p0 held1 safe1 life e plan) f spares t =
     spared_in geo d q1 old safe file p0 held1 safe1 plan f spares.1 (spared geo disk0 q0 held0 safe0 d q1 held safe im life f spares.0 t)
 spared geo disk0 q0 held0 safe0 disk q held' safe' images (Writes {disk = d} {q = q1} {held = held} {safe = safe} {images = im} next life closed) f spares t = spared geo disk0 q0 held0 safe0 d q1 held safe im life f spares t
-spared geo disk0 q0 held0 safe0 disk q held' safe' images (Releases {disk = d} {held = held} {safe = safe} {images = im} old blocks life e may) f spares t = spared geo disk0 q0 held0 safe0 d [] held safe im life f spares t
+spared geo disk0 q0 held0 safe0 disk q held' safe' images (Releases {disk = d} {held = held} {safe = safe} {images = im} old held1 blocks life e may) f spares t = spared geo disk0 q0 held0 safe0 d [] held safe im life f spares t

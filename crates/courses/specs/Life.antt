@@ -1,5 +1,5 @@
 -- What a volume goes through: plans of commands and writes to the device, in any order.
-use Rattle.std.specs.Prelude.{◌≡◌, ℕ, Bool, false, List, [], ◌∷◌, ◌++◌, length}
+use Rattle.std.specs.Prelude.{◌≡◌, ℕ, Bool, List, [], ◌∷◌, ◌++◌, length}
 use Rattle.model.specs.Layout.{Geometry}
 use Rattle.model.specs.View.{View}
 use Rattle.ordering.specs.Cuts.{Pending, IsClosed, seen, rest}
@@ -21,16 +21,16 @@ pub data Life (geo : Geometry) (disk0 : View) (q0 : List Pending) (held0 safe0 :
   -- a closed cut of what is pending is written
   Puts : {disk : View} {q : List Pending} {held safe : ℕ → Bool} {images : List View} (cut : List Bool) → Life geo disk0 q0 held0 safe0 disk q held safe images
       → IsClosed q cut → Life geo disk0 q0 held0 safe0 (seen disk q cut) (rest q cut) held safe (seen disk q cut ∷ images)
-  -- with nothing pending the snapshot ends
-  Releases : {disk : View} {held safe : ℕ → Bool} {images : List View} (old : State) (blocks : List ℕ) → Life geo disk0 q0 held0 safe0 disk [] held safe images
-      → old.held ≡ held → MayRelease geo (now disk [] old) blocks → Life geo disk0 q0 held0 safe0 disk (releasing blocks []) (λ a. false) safe images
+  -- with nothing pending a snapshot ends, and what is held for it alone is let go
+  Releases : {disk : View} {held safe : ℕ → Bool} {images : List View} (old : State) (held' : ℕ → Bool) (blocks : List ℕ) → Life geo disk0 q0 held0 safe0 disk [] held safe images
+      → old.held ≡ held → MayRelease geo (now disk [] old) held' blocks → Life geo disk0 q0 held0 safe0 disk (releasing blocks []) held' safe images
 
 -- What was written then: the updates of each plan, in the name of the plan's file, after what was written before it; those at a snapshot's end name 0.
 abbrev pub Wrote : {geo : Geometry} {disk0 : View} {q0 : List Pending} {held0 safe0 : ℕ → Bool} {disk : View} {q : List Pending} {held safe : ℕ → Bool} {images : List View} → View → List Written → List Written → Life geo disk0 q0 held0 safe0 disk q held safe images → Type 0
 Wrote mounted h h' Begins = h' ≡ h
 Wrote {geo = geo} mounted h h' (Carries {q = q} old file p held' safe' life e plan) = (before : List Written) × Wrote mounted h before life × Named geo mounted file before q h' p
 Wrote mounted h h' (Puts cut life closed) = Wrote mounted h h' life
-Wrote {geo = geo} mounted h h' (Releases old blocks life e may) = (before : List Written) × Wrote mounted h before life × Named geo mounted 0 before [] h' (releasing blocks [])
+Wrote {geo = geo} mounted h h' (Releases old held' blocks life e may) = (before : List Written) × Wrote mounted h before life × Named geo mounted 0 before [] h' (releasing blocks [])
 
 -- It is a course to a good moment at rest, and each image on the way obeys the rules, reaches the files that are safe at its end, and holds in each block of a file what that very file wrote.
 pub record IsLived (geo : Geometry) (mounted : View) (h : List Written) (cut : List Bool) (disk0 : View) (q0 : List Pending) (held0 safe0 : ℕ → Bool) (disk : View) (q : List Pending) (held safe : ℕ → Bool) (images : List View) (life : Life geo disk0 q0 held0 safe0 disk q held safe images) : Type 0 where
@@ -52,7 +52,7 @@ abbrev pub Spares : {geo : Geometry} {disk0 : View} {q0 : List Pending} {held0 s
 Spares f Begins = Unit {0}
 Spares f (Carries old file p held' safe' life e plan) = Spares f life × SparesIn f plan
 Spares f (Puts cut life closed) = Spares f life
-Spares f (Releases old blocks life e may) = Spares f life
+Spares f (Releases old held' blocks life e may) = Spares f life
 
 -- It goes on to this device and this pending by so many writes.
 pub record IsLater (geo : Geometry) (disk0 : View) (q0 : List Pending) (held0 safe0 : ℕ → Bool) (disk : View) (q : List Pending) (held safe : ℕ → Bool) (images : List View) (writes : ℕ) : Type 0 where

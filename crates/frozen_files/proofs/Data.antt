@@ -70,28 +70,28 @@ module _ (geo : Geometry) (g : IsGeometry geo) (old new : State) (b : Balance ge
   v = old.view
 
   abbrev Holding : State → Type 0
-  Holding s = Holds geo old.frozen a content s
+  Holding s = Holds geo a content s
 
   is_here : (s : State) → new ≡ s → Holding s → Holding new
   is_here s e h = subst (λ t. Holding t) (sym e) h
 
   begin : Holding old
-  begin = good_holds geo old.frozen a content kept old refl start
+  begin = good_holds geo a content old kept start
 
   -- ---- handles
 
   opened_holds : (opened : ℕ → Option ℕ) → Holding (record old { opened = opened })
-  opened_holds opened = record { frozen = refl; bytes = start.bytes; mark = start.mark; other = start.other }
+  opened_holds opened = record { kept = kept; bytes = start.bytes; mark = start.mark; other = start.other }
 
   pub open_holds : (opened : ℕ → Option ℕ) → new ≡ record old { opened = opened } → Holding new
   open_holds opened e = is_here (record old { opened = opened }) e (opened_holds opened)
 
   -- a plan
   pub install_holds : (plan : Option Plan) → new ≡ record old { plan = plan } → Holding new
-  install_holds plan e = is_here (record old { plan = plan }) e (record { frozen = refl; bytes = start.bytes; mark = start.mark; other = start.other })
+  install_holds plan e = is_here (record old { plan = plan }) e (record { kept = kept; bytes = start.bytes; mark = start.mark; other = start.other })
 
   pub close_holds : (h : ℕ) → new ≡ closed geo old h → Holding new
-  close_holds h e = is_here (closed geo old h) e (swept_holds geo old.frozen a content kept _ (opened_holds (put_at old.opened h None)) (file_of old h))
+  close_holds h e = is_here (closed geo old h) e (swept_holds geo a content _ (opened_holds (put_at old.opened h None)) (file_of old h))
 
   -- ---- truncations
 
@@ -102,7 +102,7 @@ module _ (geo : Geometry) (g : IsGeometry geo) (old new : State) (b : Balance ge
       let q = quiet (causes geo old (Truncate h n)) none in
       let p = b.open_file i (h, opened_file old h q.0) in
       let less = ltb-false (v.inode i).size n (when_none (ltb (v.inode i).size n) BadIndex q.1.0) in
-      is_here (truncated geo old i n) e (truncated_holds geo old.frozen a content kept old begin i n p.0 p.1 (λ many. omega (arith, many, less)))
+      is_here (truncated geo old i n) e (truncated_holds geo a content old begin i n p.0 p.1 (λ many. omega (arith, many, less)))
 
   -- ---- writes
 
@@ -130,13 +130,13 @@ module _ (geo : Geometry) (g : IsGeometry geo) (old new : State) (b : Balance ge
         (λ j m. let at = (b.rules.rule3.once j 268 i k x m.0 c).1 in omega (arith, at, low)) in
         let few_more : 12 < blocks_of size → 12 < blocks_of (v.inode i).size = λ many. elim (blocks_after (v.inode i).size k (length piece) 12 (omega (arith, inside)) short many) [ inl was ↦ was | inr at ↦ omega (arith, at, inside) ] in
         let v1 : View = updated v (SetBytes x bytes) in
-        is_here _ is (good_holds geo old.frozen a content kept _ refl
+        is_here _ is (good_holds geo a content _ kept
         (record_good geo a content v1 g1 i (record (v.inode i) { size = size }) (λ number s many. start.tables i number (sound_parts geo v i sound).1 (few_more many))
         (file_claims geo v1 i size sound file few_more)))
     stores_hold (Moved w inside is_kept_too p is) =
         let h = moved w (omega (arith, inside)) p in
-        is_here _ is (lets_go_holds geo old.frozen a content kept old refl i w h.bytes h.mark h.other)
-    stores_hold (Appended w at p is) = is_here _ is (good_holds geo old.frozen a content kept _ refl (moved w (omega (arith, at)) p))
+        is_here _ is (lets_go_holds geo a content old kept i w h.bytes h.mark h.other)
+    stores_hold (Appended w at p is) = is_here _ is (good_holds geo a content _ kept (moved w (omega (arith, at)) p))
 
   pub write_holds : (h k : ℕ) (piece : List ℕ) → refusal_of geo old (Write h k piece) ≡ None → Writes geo old (file_of old h) k piece new → Holding new
   unfolding causes
@@ -159,16 +159,16 @@ module _ (geo : Geometry) (g : IsGeometry geo) (old new : State) (b : Balance ge
       subst (λ x. OwesBy geo old x old.frozen c.repair) (sym c.planned) (k, c.stands, not_done)
 
   repaired_holds : (Owes geo old (FreeBlock a) → ⊥) → (r : Repair) → Owes geo old r → Holding (repaired geo old r)
-  repaired_holds none (DropInode i) o = relinked_holds geo old.frozen a content kept old begin i 0
-  repaired_holds none (LowerCount i x) o = relinked_holds geo old.frozen a content kept old begin i _
+  repaired_holds none (DropInode i) o = relinked_holds geo a content old begin i 0
+  repaired_holds none (LowerCount i x) o = relinked_holds geo a content old begin i _
   repaired_holds none (FreeBlock x) o = record {
-    frozen = refl;
+    kept = kept;
     bytes = start.bytes;
     mark = put_there v.block_marked x a false (λ e. none (subst (λ q. Owes geo old (FreeBlock q)) (sym e) o)) ∙ start.mark;
     other = λ i k m. start.other i k (marks_within geo v (repaired geo old (FreeBlock x)).view refl refl i k a m);
   }
   repaired_holds none (FreeNumber i) o = record {
-    frozen = refl;
+    kept = kept;
     bytes = start.bytes;
     mark = start.mark;
     other = λ j k m. start.other j k (marks_within geo v (repaired geo old (FreeNumber i)).view refl refl j k a m);
@@ -177,4 +177,4 @@ module _ (geo : Geometry) (g : IsGeometry geo) (old new : State) (b : Balance ge
   pub repair_holds : (Owes geo old (FreeBlock a) → ⊥) → (k : ℕ) → refusal_of geo old (RepairAt k) ≡ None → CarriesOut geo old k new → Holding new
   repair_holds none k refused c =
       let h = repaired_holds none c.repair (owed k c refused) in
-      is_here _ c.whole (record { frozen = h.frozen; bytes = h.bytes; mark = h.mark; other = h.other })
+      is_here _ c.whole (record { kept = h.kept; bytes = h.bytes; mark = h.mark; other = h.other })

@@ -1,12 +1,11 @@
--- A state in which block a is marked, has its bytes and is no metadata, after a command that lets blocks go.
-use Rattle.std.proofs.Common.{◌≡◌, ◌<◌, ℕ, Bool, false, not, ◌&&◌, eqb, List, [], ◌∷◌, inl, inr, refl, sym, ap, ◌∙◌, subst, IsTrue, IsFalse, arith, Option}
-use Rattle.std.specs.Option.{option_map_or}
+-- A state in which block a is kept and marked, has its bytes and is no metadata, after a command that lets blocks go.
+use Rattle.std.proofs.Common.{◌≡◌, ◌<◌, ℕ, Bool, false, not, ◌&&◌, eqb, List, [], ◌∷◌, inl, inr, refl, sym, ap, ◌∙◌, subst, IsTrue, IsFalse, arith}
 use Rattle.std.proofs.lemmas.Bool.{cases_Bool, and_from, both_ways, cond-true, cond-false}
 use Rattle.model.specs.Layout.{Geometry}
 use Rattle.model.specs.View.{View, Inode, free_inode}
 use Rattle.model.specs.Cells.{SetInode, SetNumber, updated, updated_all}
 use Rattle.model.specs.Uses.{blocks_of, is_sound_at, is_directory, is_directory_at}
-use Rattle.machine.specs.State.{State, is_open}
+use Rattle.machine.specs.State.{State, is_open, is_kept}
 use Rattle.machine.specs.Cells.{claims}
 use Rattle.machine.specs.Effects.{lets_go, swept, with_links, relinked, truncated}
 use Rattle.machine.proofs.Decisions.{sound_parts}
@@ -15,8 +14,8 @@ use Rattle.frozen_files.proofs.Used.{Direct, Middle, Last, uses, used, value_las
 use Rattle.frozen_files.proofs.Metadata.{IsMetadata, MetadataOf, metadata_from, marks_within, links_within, record_within}
 use Rattle.frozen_files.proofs.Good.{Good}
 
-pub record Holds (geo : Geometry) (image : Option View) (a : ℕ) (content : List ℕ) (s : State) : Type 0 where
-  pub frozen : s.frozen ≡ image
+pub record Holds (geo : Geometry) (a : ℕ) (content : List ℕ) (s : State) : Type 0 where
+  pub kept : IsTrue (is_kept s a)
   pub bytes : s.view.bytes a ≡ content
   pub mark : IsTrue (s.view.block_marked a)
   pub other : (i k : ℕ) → IsMetadata geo s.view i k a → ⊥
@@ -52,24 +51,23 @@ file_claims geo w i n sound file few k c m =
       kind = inl at;
     })
 
-module _ (geo : Geometry) (image : Option View) (a : ℕ) (content : List ℕ) (kept : IsTrue (option_map_or (λ (v : View). v.block_marked a) image false)) where
+module _ (geo : Geometry) (a : ℕ) (content : List ℕ) where
   -- blocks are let go, but none that the snapshot keeps
-  pub lets_go_holds : (s : State) → s.frozen ≡ image → (i : ℕ) (w : View) → w.bytes a ≡ content → IsTrue (w.block_marked a) → ((j k : ℕ) → IsMetadata geo w j k a → ⊥) → Holds geo image a content (lets_go geo s i w)
-  lets_go_holds s same i w bytes mark other = record {
-    frozen = same;
+  pub lets_go_holds : (s : State) → IsTrue (is_kept s a) → (i : ℕ) (w : View) → w.bytes a ≡ content → IsTrue (w.block_marked a) → ((j k : ℕ) → IsMetadata geo w j k a → ⊥) → Holds geo a content (lets_go geo s i w)
+  lets_go_holds s kept i w bytes mark other = record {
+    kept = kept;
     bytes = bytes;
-    mark = ap (λ q. w.block_marked a && not (claims geo s.view i a && not (claims geo w i a) && not (option_map_or (λ (v : View). v.block_marked a) q false))) same
-        ∙ ap (λ q. w.block_marked a && not (claims geo s.view i a && not (claims geo w i a) && not q)) kept
+    mark = ap (λ q. w.block_marked a && not (claims geo s.view i a && not (claims geo w i a) && not q)) kept
         ∙ ap (λ q. w.block_marked a && not q) (and_false (claims geo s.view i a && not (claims geo w i a)))
         ∙ and_true (w.block_marked a) ∙ mark;
     other = λ j k m. other j k (marks_within geo w (lets_go geo s i w).view refl refl j k a m);
   }
 
   -- an inode that is freed
-  pub swept_holds : (s : State) → Holds geo image a content s → (i : ℕ) → Holds geo image a content (swept geo s i)
+  pub swept_holds : (s : State) → Holds geo a content s → (i : ℕ) → Holds geo a content (swept geo s i)
   swept_holds s h i = elim (cases_Bool test) [
-    | inl t ↦ subst (λ (x : State). Holds geo image a content x) (sym (cond-true test gone s t)) freed
-    | inr f ↦ subst (λ (x : State). Holds geo image a content x) (sym (cond-false test gone s f)) h
+    | inl t ↦ subst (λ (x : State). Holds geo a content x) (sym (cond-true test gone s t)) freed
+    | inr f ↦ subst (λ (x : State). Holds geo a content x) (sym (cond-false test gone s f)) h
   ]
     where
       test : Bool
@@ -81,22 +79,22 @@ module _ (geo : Geometry) (image : Option View) (a : ℕ) (content : List ℕ) (
       gone : State
       gone = lets_go geo s i without
 
-      freed : Holds geo image a content gone
-      freed = lets_go_holds s h.frozen i without h.bytes h.mark (λ j k m.
+      freed : Holds geo a content gone
+      freed = lets_go_holds s h.kept i without h.bytes h.mark (λ j k m.
           let v1 : View = updated s.view (SetInode i free_inode) in
           h.other j k (record_within geo s.view i free_inode (λ l c n. absurd (nothing_claimed geo s.view i l c free_inode refl n)) j k a (marks_within geo v1 without refl refl j k a m)))
 
   -- an inode gets another number of links, and may be freed
-  pub relinked_holds : (s : State) → Holds geo image a content s → (i n : ℕ) → Holds geo image a content (relinked geo s i n)
+  pub relinked_holds : (s : State) → Holds geo a content s → (i n : ℕ) → Holds geo a content (relinked geo s i n)
   relinked_holds s h i n = swept_holds (record s { view = updated s.view (SetInode i (with_links (s.view.inode i) n)) })
-      (record { frozen = h.frozen; bytes = h.bytes; mark = h.mark; other = λ j k m. h.other j k (links_within geo s.view i n j k a m) }) i
+      (record { kept = h.kept; bytes = h.bytes; mark = h.mark; other = λ j k m. h.other j k (links_within geo s.view i n j k a m) }) i
 
   -- a file is truncated
-  pub truncated_holds : (s : State) → Holds geo image a content s → (i n : ℕ) → IsTrue (is_sound_at geo s.view i) → IsFalse (is_directory_at geo s.view i) → (12 < blocks_of n → 12 < blocks_of (s.view.inode i).size)
-      → Holds geo image a content (truncated geo s i n)
-  truncated_holds s h i n sound file few = lets_go_holds s h.frozen i (updated s.view (SetInode i (record (s.view.inode i) { size = n }))) h.bytes h.mark
+  pub truncated_holds : (s : State) → Holds geo a content s → (i n : ℕ) → IsTrue (is_sound_at geo s.view i) → IsFalse (is_directory_at geo s.view i) → (12 < blocks_of n → 12 < blocks_of (s.view.inode i).size)
+      → Holds geo a content (truncated geo s i n)
+  truncated_holds s h i n sound file few = lets_go_holds s h.kept i (updated s.view (SetInode i (record (s.view.inode i) { size = n }))) h.bytes h.mark
       (λ j k m. h.other j k (record_within geo s.view i (record (s.view.inode i) { size = n }) (file_claims geo s.view i n sound file few) j k a m))
 
   -- a view at the end of a command
-  pub good_holds : (s : State) → s.frozen ≡ image → Good geo a content s.view → Holds geo image a content s
-  good_holds s same g = record { frozen = same; bytes = g.bytes; mark = g.mark; other = g.other }
+  pub good_holds : (s : State) → IsTrue (is_kept s a) → Good geo a content s.view → Holds geo a content s
+  good_holds s kept g = record { kept = kept; bytes = g.bytes; mark = g.mark; other = g.other }

@@ -77,7 +77,7 @@ module _ (geo : Geometry) (s : State) (b : Balance geo s) where
 
 module _ (geo : Geometry) (old new : State) (b : Balance geo old) (b' : Balance geo new) (debts : MakesNoDebt geo old new) (k : KeepsFiles geo old) where
   -- where the snapshot stays, and each such block is as it was
-  by_blocks : new.frozen ≡ old.frozen → ((a : ℕ) → IsStanding geo old a → Holds geo old.frozen a (old.view.bytes a) new) → KeepsFiles geo new
+  by_blocks : new.frozen ≡ old.frozen → ((a : ℕ) → IsStanding geo old a → Holds geo a (old.view.bytes a) new) → KeepsFiles geo new
   by_blocks same holds = record {
     standing = λ image i q a e c.
         let e' : old.frozen ≡ Some image = sym same ∙ e in

@@ -30,13 +30,13 @@ module _ (geo : Geometry) (g : IsGeometry geo) (old new : State) (b : Balance ge
   v = old.view
 
   abbrev Holding : State → Type 0
-  Holding s = Holds geo old.frozen a content s
+  Holding s = Holds geo a content s
 
   is_here : (s : State) → new ≡ s → Holding s → Holding new
   is_here s e h = subst (λ t. Holding t) (sym e) h
 
   with_view : (w : View) → Good geo a content w → Holding (record old { view = w })
-  with_view w h = good_holds geo old.frozen a content kept (record old { view = w }) refl h
+  with_view w h = good_holds geo a content (record old { view = w }) kept h
 
   -- ---- new names
 
@@ -143,7 +143,7 @@ module _ (geo : Geometry) (g : IsGeometry geo) (old new : State) (b : Balance ge
   unfolding causes
   unlink_holds p none e =
       let c = quiet (causes geo old (Unlink p)) none in
-      is_here (unlinked geo old p) e (relinked_holds geo old.frozen a content kept (emptied geo old (holder geo v p) (slot_at geo v p)) (emptied_holds p (place_at geo v p c.0 c.1.0 c.1.1.0)) (number_at geo v p) _)
+      is_here (unlinked geo old p) e (relinked_holds geo a content (emptied geo old (holder geo v p) (slot_at geo v p)) (emptied_holds p (place_at geo v p c.0 c.1.0 c.1.1.0)) (number_at geo v p) _)
 
   pub remove_holds : (p : List ℕ) → refusal_of geo old (Rmdir p) ≡ None → new ≡ removed geo old p → Holding new
   unfolding causes
@@ -151,7 +151,7 @@ module _ (geo : Geometry) (g : IsGeometry geo) (old new : State) (b : Balance ge
       let c = quiet (causes geo old (Rmdir p)) none in
       let s = emptied geo old (holder geo v p) (slot_at geo v p) in
       is_here (removed geo old p) e
-      (relinked_holds geo old.frozen a content kept _ (relinked_holds geo old.frozen a content kept s (emptied_holds p (place_at geo v p c.0 c.1.0 c.1.1.0)) (number_at geo v p) _) (holder geo v p) _)
+      (relinked_holds geo a content _ (relinked_holds geo a content s (emptied_holds p (place_at geo v p c.0 c.1.0 c.1.1.0)) (number_at geo v p) _) (holder geo v p) _)
 
   -- ---- names that move
 

@@ -9,6 +9,7 @@ ghost use Rattle.std.specs.Option.{option_copied, option_map};
 ghost use Rattle.findings.specs.Numbers.{found_below};
 ghost use Rattle.model.specs.Layout.{Geometry as Numbers, block_count};
 ghost use Rattle.frozen.specs.Kept.{frozen_view};
+ghost use Rattle.marks.specs.Marks.{IsNextMarked, NothingMarkedFrom};
 ghost use Rattle.machine.specs.Causes.{refusal_of};
 ghost use Rattle.machine.specs.Command.{RepairAt};
 ghost use Rattle.machine.specs.State.{State};
@@ -183,6 +184,15 @@ impl Holdings {
         ensures { IfOk result (λ blocks. blocks.items ≡ held_blocks self.now) }
     {
         marked(alloc, &self.held)
+    }
+
+    /// The least block from this address on that is held; `None` where there is none.
+    pub fn next_held(&self, from: u32) -> Option<u32>
+        ensures next { MatchOption result (NothingMarkedFrom self.now.held from) (IsNextMarked self.now.held from) }
+        ensures few { length self.now.held < 4294967296 }
+    {
+        self.held.count();
+        self.held.next(from)
     }
 
     /// Whether a snapshot stands.

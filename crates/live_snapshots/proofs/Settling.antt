@@ -1,4 +1,4 @@
--- The inodes that are left out are those of a state that are open and have no links.
+-- The inodes that are left out are those of a state that are open and have no links, and the bits those of what it holds.
 use Rattle.std.proofs.Common.{◌≡◌, ℕ, Bool, true, false, ◌&&◌, cond, eqb, ltb, Option, None, IsTrue, refl, sym, ap, ◌∙◌, subst}
 use mathlib.Core.Path.{fun_ext}
 use Rattle.std.specs.Option.{option_map_or}
@@ -11,10 +11,11 @@ use Rattle.machine.specs.State.{State, is_open}
 use Rattle.machine.proofs.Tests.{open_tested}
 use Rattle.frozen.specs.Kept.{Kept, frozen_view}
 use Rattle.metadata.specs.Shown.{Shows}
-use Rattle.live_states.specs.Holdings.{Has, Holdings, is_open_by}
+use Rattle.live_states.specs.Holdings.{Has, Holdings, held_by, is_open_by}
 use Rattle.live_states.specs.Planned.{IsOfVolumeWith}
 use Rattle.live_states.specs.Snapshots.{IsSettled}
 use Rattle.live_snapshots.specs.Orphans.{LacksOrphans, is_orphan_of}
+use Rattle.live_snapshots.specs.Unmarked.{Unmarks, without_bits}
 
 module _ (kept : Kept) (holdings : Holdings) where
   open_same : (old : State) → Has holdings old → (i : ℕ) → is_open_by holdings i ≡ is_open old i
@@ -43,5 +44,9 @@ module _ (kept : Kept) (holdings : Holdings) where
         by false true true f = f refl
         by false false true f = refl
 
-    pub settles : (snapshot : Kept) → LacksOrphans kept holdings snapshot → IsSettled kept holdings snapshot
-    settles snapshot lacks old shows has = subst (λ (gone : ℕ → Bool). Shows snapshot (without kept.geometry old.view gone)) (fun_ext (orphan_same old shows has)) (lacks old.view shows)
+    -- without the orphans, and without the bits of what is held
+    pub settles : (left snapshot : Kept) → LacksOrphans kept holdings left → Unmarks left (held_by holdings) snapshot → IsSettled kept holdings snapshot
+    settles left snapshot lacks unmarks old shows has =
+        subst (λ (held : ℕ → Bool). Shows snapshot (without_bits held (without kept.geometry old.view (is_orphan old)))) (sym has.held)
+        (unmarks.shows (without kept.geometry old.view (is_orphan old))
+        (subst (λ (gone : ℕ → Bool). Shows left (without kept.geometry old.view gone)) (fun_ext (orphan_same old shows has)) (lacks old.view shows)))

@@ -1,1 +1,2 @@
 pub mod Orphans
+pub mod Unmarked

@@ -1,5 +1,6 @@
-//! The image that a check is to see: that of users, without the open files that have no name any more. Such a file goes
-//! with its last handle, so that a check would find a leak where there is none.
+//! The image that a check is to see: that of users, without the open files that have no name any more, and without the
+//! bits of the blocks that are held for a snapshot. Such a file goes with its last handle, and such a block with its
+//! snapshot, so that a check would find a leak where there is none.
 //!
 //! It is made from the metadata of the volume that is held in memory, and changes nothing. What it keeps it shares with the
 //! volume, but for the blocks that differ.
@@ -10,10 +11,12 @@ ghost use Rattle.frozen.specs.Kept.{KeepsMetadata};
 ghost use Rattle.live_states.specs.Planned.{IsOfVolumeWith};
 ghost use Rattle.live_states.specs.Snapshots.{IsSettled};
 
+mod held;
 mod orphans;
 #[cfg(test)]
 mod tests;
 
+use crate::held::unmark_held;
 use crate::orphans::without_orphans;
 use frozen::Frozen;
 use live_holdings::Holdings;
@@ -21,7 +24,8 @@ use metadata::Metadata;
 use std::alloc::{AllocError, Global};
 
 /// The metadata of the image that a check is to see: of the image of users, each open inode without links is freed, with
-/// its number and its blocks. The blocks of metadata that do not change are shared.
+/// its number and its blocks, and the blocks that are held are unmarked. The blocks of metadata that do not change are
+/// shared.
 pub fn settled(
     alloc: Global,
     metadata: &Metadata,
@@ -32,5 +36,7 @@ pub fn settled(
     ensures metadata { IfOk result KeepsMetadata }
     ensures geometry { IfOk result (λ snapshot. snapshot.geometry ≡ metadata.now.geometry) }
 {
-    without_orphans(alloc, metadata, holdings)
+    let mut left = without_orphans(alloc, metadata, holdings)?;
+    unmark_held(alloc, &mut left, holdings)?;
+    Ok(left)
 }

@@ -23,7 +23,7 @@ use Rattle.frozen.specs.Kept.{Kept, KeepsMetadata, IsKeptOf, frozen_view}
 use Rattle.metadata.specs.Shown.{Shows}
 use Rattle.metadata.proofs.ShownLemmas.{shows_image}
 use Rattle.live_states.specs.Drafts.{Draft, over}
-use Rattle.live_states.specs.Holdings.{Beside, Has, Holdings, IsIdle, IsImageOf, Repairs, going_on, held_by, is_open_by, opened_by, plan_by, plan_of}
+use Rattle.live_states.specs.Holdings.{Beside, Has, Holdings, IsIdle, IsImageOf, Repairs, going_on, held_by, is_kept_by, is_open_by, opened_by, plan_by, plan_of}
 use Rattle.live_states.specs.Planned.{IsOfVolume, IsOfVolumeWith, IsPlanned, IsPlannedWith, safe_after}
 use Rattle.live_states.specs.Volume.{IsVolume, state_over}
 
@@ -50,13 +50,15 @@ as_it_was old holdings view has =
     ap₂ (λ (o : ℕ → Option ℕ) (h : ℕ → Bool). record old { view = view; opened = o; held = h }) has.opened has.held
     ∙ ap (λ (p : Option Plan). record old { view = view; opened = opened_by holdings; held = held_by holdings; plan = p }) has.plan
 
--- no block is kept where no snapshot stands
-pub not_kept : (holdings : Holdings) (old : State) → holdings.snapshot ≡ None → Has holdings old → (a : ℕ) → IsFalse (is_kept old a)
-not_kept holdings old none has a = by old.frozen (subst (λ s. IsImageOf s old.frozen) none has.frozen)
+-- the snapshot keeps the same blocks as in the state
+pub kept_same : (holdings : Holdings) (old : State) → Has holdings old → (a : ℕ) → is_kept old a ≡ is_kept_by holdings a
+kept_same holdings old has a = by holdings.snapshot old.frozen has.frozen
   where
-    by : (o : Option View) → IsImageOf None o → option_map_or (λ (frozen : View). frozen.block_marked a) o false ≡ false
-    by None t = refl
-    by (Some view) t = absurd t
+    by : (s : Option Kept) (o : Option View) → IsImageOf s o → option_map_or (λ (v : View). v.block_marked a) o false ≡ option_map_or (λ (kept : Kept). (frozen_view kept).block_marked a) s false
+    by None None t = refl
+    by (Some kept) (Some view) t = sym (t.block_marked a)
+    by None (Some view) t = absurd t
+    by (Some kept) None t = absurd t
 
 -- an inode is open by these handles, or not
 pub same_open : (holdings : Holdings) (old : State) → Has holdings old → (i : ℕ) → is_open old i ≡ is_open_by holdings i

@@ -114,10 +114,10 @@ pub frozen_without : ((settled small gone).number_marked 3 ≡ false) × ((settl
 unfolding parts_of walk target lookup slot_of first_below any_below slot use_at claim_at claims
 frozen_without = (refl, refl)
 
--- under a snapshot a truncated block is held, and released with it
+-- under a snapshot a truncated block is held, which no check would see, and released with it
 abbrev pub kept : State
 kept = truncated small (frozen small written) 3 0
 
-pub block_held : (kept.held 5 ≡ true) × (kept.view.block_marked 5 ≡ true) × ((released kept).view.block_marked 5 ≡ false)
+pub block_held : (kept.held 5 ≡ true) × (kept.view.block_marked 5 ≡ true) × ((settled small kept).block_marked 5 ≡ false) × ((released kept).view.block_marked 5 ≡ false)
 unfolding any_below use_at claim_at claims
-block_held = (refl, refl, refl)
+block_held = (refl, refl, refl, refl)

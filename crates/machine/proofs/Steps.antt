@@ -1,7 +1,7 @@
 -- What opens, closes, freezes or repairs keeps the balance, and so does what changes nothing.
 use Rattle.std.proofs.Common.{◌≡◌, ◌≢◌, ℕ, Bool, true, false, not, ◌&&◌, eqb, List, [], ◌⊎◌, inl, inr, refl, sym, ap, ◌∙◌, subst, IsTrue, IsFalse, Option, Some, None, Ok, eqb-true, eq-eqb}
 use Rattle.std.specs.Prelude.{slice_get, is_none, is_some, unwrap_or}
-use Rattle.std.specs.Option.{option_and_then}
+use Rattle.std.specs.Option.{option_and_then, option_map_or}
 use Rattle.std.proofs.lemmas.Bool.{cases_eq, cases_Bool, and_parts, and_from, both_ways, cond-true, cond-false}
 use Rattle.model.specs.Layout.{Geometry}
 use Rattle.model.specs.View.{View}
@@ -96,28 +96,21 @@ module _ (geo : Geometry) (old new : State) (b : Balance geo old) where
   unfolding causes
   freeze_keeps none e =
       subst (λ s. Balance geo s) (sym e)
-      (base geo (frozen geo old) b.rules b.open_file (λ r. ((λ h. h), (λ h. h)))
-      (b.held_for (no_frozen old.frozen (when_none (is_some old.frozen) SnapshotStands (quiet (causes geo old Freeze) none).0))) tt b.whole b.records
-      (λ image is. subst (λ v. ObeysRules geo v × HasWholeBlocks geo v) (some_view (settled geo old) image is) (settled_obeys geo old b.rules b.open_file, b.whole)))
+      (base geo (frozen geo old) b.rules b.open_file (λ r. ((λ h. h), (λ h. h))) b.held_block
+      (λ a h. none_kept a old.frozen (when_none (is_some old.frozen) SnapshotStands (quiet (causes geo old Freeze) none).0) (b.held_for a h)) tt b.whole b.records
+      (λ image is. subst (λ v. ObeysRules geo v × HasWholeBlocks geo v) (some_view (settled geo old) image is)
+      (settled_obeys geo old b.rules b.open_file (λ a h. (b.held_block a h).0), b.whole)))
     where
-      no_frozen : (o : Option View) → is_some o ≡ false → o ≡ None
-      no_frozen None f = refl
-      no_frozen (Some v) f = absurd (both_ways true f refl)
+      -- where no snapshot stands, nothing is kept
+      none_kept : {P : Type 0} (a : ℕ) (o : Option View) → is_some o ≡ false → IsTrue (option_map_or (λ (v : View). v.block_marked a) o false) → P
+      none_kept a None f t = absurd (both_ways false refl t)
+      none_kept a (Some v) f t = absurd (both_ways true f refl)
 
       some_view : (v w : View) → Some v ≡ Some w → v ≡ w
       some_view v w e = cc
 
-  pub freeze_debts : refusal_of geo old Freeze ≡ None → new ≡ frozen geo old → MakesNoDebt geo old new
-  unfolding causes
-  freeze_debts none e r o =
-      found_before geo (Owes geo old) old (ledger geo old b) (no_frozen (when_none (is_some old.frozen) SnapshotStands (quiet (causes geo old Freeze) none).0)) r (subst (λ t. Owes geo t r) e o)
-    where
-      no_frozen : is_some old.frozen ≡ false → old.frozen ≡ None
-      no_frozen f = go old.frozen f
-        where
-          go : (o : Option View) → is_some o ≡ false → o ≡ None
-          go None f = refl
-          go (Some v) f = absurd (both_ways true f refl)
+  pub freeze_debts : new ≡ frozen geo old → MakesNoDebt geo old new
+  freeze_debts e r o = found_before geo (Owes geo old) old (ledger geo old b) r (subst (λ t. Owes geo t r) e o)
 
   -- ---- the repairs
 

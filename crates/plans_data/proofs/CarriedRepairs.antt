@@ -95,19 +95,19 @@ module _ (geo : Geometry) (disk : View) (old : State) (safe : ℕ → Bool) (sta
   abbrev none : Ghost
   none = at_rest (λ a. false) safe
 
-  may : MayRelease geo (now disk [] old) (held_below old n)
-  may = let m = plan_release geo stands.geometry old stands.balance n few in record { all = m.all; held = subst (λ v. HeldAreUnclaimed geo (record old { view = v })) (sym stands.same) m.held }
+  may : MayRelease geo (now disk [] old) (λ a. false) (held_below old n)
+  may = let m = plan_release geo stands.geometry old stands.balance n few in record { all = m.all; still = m.still; unclaimed = subst (λ v. HeldAreUnclaimed geo (record old { view = v })) (sym stands.same) m.unclaimed }
 
   pub release_steps_on : Step geo old Release (Ok Done) new
   release_steps_on = (accepted, subst (λ v. new ≡ released (record old { view = v })) stands.same (release_releases geo disk old (held_below old n) may))
 
   pub release_leads : Comes_to geo disk [] (at_rest old.held safe) → Comes_to geo disk unmarked none
-  release_leads = release_comes geo disk old safe (held_below old n) may
+  release_leads = release_comes geo disk old safe (λ a. false) (held_below old n) may
 
   pub release_stands : Stands geo disk unmarked new safe
   release_stands =
-      let settled = release_agrees geo disk old safe (held_below old n) may stands.agree in
-      let chain = release_issues geo disk old safe (held_below old n) may stands.agree in record {
+      let settled = release_agrees geo disk old safe (λ a. false) (held_below old n) may stands.agree in
+      let chain = release_issues geo disk old safe (λ a. false) (held_below old n) may stands.agree in record {
         geometry = stands.geometry;
         same = refl;
         balance = step_keeps geo stands.geometry old new Release (Ok Done) stands.balance release_steps_on;

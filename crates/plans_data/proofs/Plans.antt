@@ -110,5 +110,9 @@ module _ (geo : Geometry) (ok : IsGeometry geo) (old : State) (bal : Balance geo
   pub plan_number : (n : ℕ) (blocks : List ℕ) → Owes geo old (FreeNumber n) → MayRepair geo old (FreeNumber n) blocks
   plan_number n blocks o = owed_number geo old bal n o
 
-  pub plan_release : (n : ℕ) → ((a : ℕ) → IsTrue (old.held a) → a < n) → MayRelease geo old (held_below old n)
-  plan_release n few = record { all = held_are old n few; held = (balance_held geo old bal).1 }
+  pub plan_release : (n : ℕ) → ((a : ℕ) → IsTrue (old.held a) → a < n) → MayRelease geo old (λ a. false) (held_below old n)
+  plan_release n few = record {
+    all = λ a. ((λ c. ((held_are old n few a).0 c, refl)), (λ h. (held_are old n few a).1 h.0));
+    still = λ a t. absurd (both_ways false refl t);
+    unclaimed = (balance_held geo old bal).1;
+  }

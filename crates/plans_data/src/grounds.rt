@@ -1,6 +1,6 @@
 //! Whoever knows the balance and that a command is not refused has what its updates ask for.
 
-ghost use Rattle.std.specs.Prelude.{◌≡◌, ℕ, List, ◌<◌, ◌≤◌, ◌-◌, ◌↔◌, replicate, IsTrue, IsFalse};
+ghost use Rattle.std.specs.Prelude.{◌≡◌, ℕ, false, List, ◌<◌, ◌≤◌, ◌-◌, ◌↔◌, replicate, IsTrue, IsFalse};
 ghost use Rattle.std.specs.List.{Contains};
 ghost use Rattle.model.specs.Layout.{Geometry, IsGeometry};
 ghost use Rattle.model.specs.View.{View, Inode, free_inode};
@@ -71,7 +71,7 @@ pub fn accepted_commands_have_plans()
     ensures number { (geo : Geometry) → IsGeometry geo → (old : State) → Balance geo old → (n : ℕ) (blocks : List ℕ)
         → Owes geo old (FreeNumber n) → MayRepair geo old (FreeNumber n) blocks }
     ensures released { (geo : Geometry) → IsGeometry geo → (old : State) → Balance geo old → (n : ℕ) → ((a : ℕ) → IsTrue (old.held a) → a < n)
-        → MayRelease geo old (held_below old n) }
+        → MayRelease geo old (λ a. false) (held_below old n) }
 {}
 
 /// A write that no cause refuses finds the unmarked blocks that it needs, and zeroes with the pointer will do as its new

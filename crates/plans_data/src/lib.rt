@@ -2,7 +2,7 @@
 //! kinds, after which users see what the command is to show them.
 #![tactic(auto)]
 
-ghost use Rattle.std.specs.Prelude.{◌≡◌, ℕ, Bool, false, List, [], ◌∷◌, None, IsTrue, IsFalse};
+ghost use Rattle.std.specs.Prelude.{◌≡◌, ℕ, Bool, false, not, ◌&&◌, List, [], ◌∷◌, None, IsTrue, IsFalse};
 ghost use Rattle.model.specs.Layout.{Geometry};
 ghost use Rattle.model.specs.View.{View, free_inode};
 ghost use Rattle.model.specs.Cells.{SetInode, SetNumber, updated_all};
@@ -176,21 +176,22 @@ pub fn a_repair_is_made()
         → Issues geo disk q (at_rest old.held safe) (repairing r (inode_of (users_view disk q) r) (open_of old r) blocks q) (at_rest (held_after geo (now disk q old) r) safe) }
 {}
 
-/// With nothing pending the snapshot ends, as the machine says: the held blocks are forgotten, and then unmarked by
-/// updates of their kind.
+/// With nothing pending a snapshot ends, as the machine says: what is held for it alone is forgotten, and then unmarked by
+/// updates of their kind. Any part of what is held may be let go so.
 pub fn the_snapshot_ends()
-    ensures releases { (geo : Geometry) (disk : View) (old : State) (blocks : List ℕ) → MayRelease geo (now disk [] old) blocks
+    ensures unmarks { (geo : Geometry) (disk : View) (old : State) (held : ℕ → Bool) (blocks : List ℕ) → MayRelease geo (now disk [] old) held blocks
+        → users_view disk (releasing blocks []) ≡ record disk { block_marked = λ a. disk.block_marked a && not (old.held a && not (held a)) } }
+    ensures releases { (geo : Geometry) (disk : View) (old : State) (blocks : List ℕ) → MayRelease geo (now disk [] old) (λ a. false) blocks
         → becomes disk (releasing blocks []) (λ a. false) (record old { frozen = None }) ≡ released (now disk [] old) }
-    ensures forgets { (geo : Geometry) (disk : View) (old : State) (safe : ℕ → Bool) (blocks : List ℕ) → MayRelease geo (now disk [] old) blocks
-        → AllAgree geo disk [] (at_rest old.held safe) → AllAgree geo disk [] (at_rest (λ a. false) safe) }
-    ensures issues { (geo : Geometry) (disk : View) (old : State) (safe : ℕ → Bool) (blocks : List ℕ) → MayRelease geo (now disk [] old) blocks
-        → AllAgree geo disk [] (at_rest old.held safe) → Issues geo disk [] (at_rest (λ a. false) safe) (releasing blocks []) (at_rest (λ a. false) safe) }
-    ensures comes { (geo : Geometry) (disk : View) (old : State) (safe : ℕ → Bool) (blocks : List ℕ) → MayRelease geo (now disk [] old) blocks
-        → Comes_to geo disk [] (at_rest old.held safe) → Comes_to geo disk (releasing blocks []) (at_rest (λ a. false) safe) }
+    ensures forgets { (geo : Geometry) (disk : View) (old : State) (safe held : ℕ → Bool) (blocks : List ℕ) → MayRelease geo (now disk [] old) held blocks
+        → AllAgree geo disk [] (at_rest old.held safe) → AllAgree geo disk [] (at_rest held safe) }
+    ensures issues { (geo : Geometry) (disk : View) (old : State) (safe held : ℕ → Bool) (blocks : List ℕ) → MayRelease geo (now disk [] old) held blocks
+        → AllAgree geo disk [] (at_rest old.held safe) → Issues geo disk [] (at_rest held safe) (releasing blocks []) (at_rest held safe) }
+    ensures comes { (geo : Geometry) (disk : View) (old : State) (safe held : ℕ → Bool) (blocks : List ℕ) → MayRelease geo (now disk [] old) held blocks
+        → Comes_to geo disk [] (at_rest old.held safe) → Comes_to geo disk (releasing blocks []) (at_rest held safe) }
 {}
 
-/// Each of these lists leaves what is held right, as it was: claimed by nobody, and marked. (At the end of a snapshot
-/// nothing is held.)
+/// Each of these lists leaves what is held right, as it was: claimed by nobody, and marked.
 pub fn held_blocks_stay_right()
     ensures in_place { (geo : Geometry) (disk : View) (q : List Pending) (old : State) (safe : ℕ → Bool)
         → AllAgree geo disk q (at_rest old.held safe) → HeldAreRight geo (now disk q old)
@@ -220,4 +221,7 @@ pub fn held_blocks_stay_right()
         → AllAgree geo disk q (at_rest old.held safe) → HeldAreRight geo (now disk q old)
         → (r : Repair) (blocks : List ℕ) → MayRepair geo (now disk q old) r blocks
         → HeldAreRight geo (becomes disk (repairing r (inode_of (users_view disk q) r) (open_of old r) blocks q) (held_after geo (now disk q old) r) old) }
+    ensures released { (geo : Geometry) (disk : View) (old : State) (safe held : ℕ → Bool) (blocks : List ℕ)
+        → MayRelease geo (now disk [] old) held blocks → HeldAreRight geo (now disk [] old)
+        → HeldAreRight geo (becomes disk (releasing blocks []) held old) }
 {}
