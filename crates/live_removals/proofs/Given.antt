@@ -27,6 +27,7 @@ use Rattle.plans_data.proofs.Clearing.{among, among_contains, contains_among}
 use Rattle.plans_data.proofs.Used.{Direct, Last, Middle, Uses, used, uses}
 use Rattle.frozen.specs.Kept.{Kept, frozen_view}
 use Rattle.live_states.specs.Holdings.{Has, Holdings, IsImageOf, held_by, holding, is_kept_by, with_held}
+use Rattle.live_states.proofs.Standing.{kept_same}
 use Rattle.live_removals.specs.Blocks.{freed, goes_at, gone, held_back, is_loose, stays}
 use Rattle.live_removals.proofs.Clearing.{goes_from}
 
@@ -167,16 +168,6 @@ module _ (geo : Geometry) (view : View) (n : ℕ) where
       (and_from (is_some (claim_at geo view n k) && not (stays left k)) (which (block_of geo view n k))
       (and_from (is_some (claim_at geo view n k)) (not (stays left k)) (ap is_some (claim_from geo view n k a c)) (not_true (stays left k) f))
       (subst (λ x. IsTrue (which x)) (sym e) t)))
-
--- the snapshot keeps the same blocks in the state
-pub kept_same : (holdings : Holdings) (old : State) → Has holdings old → (a : ℕ) → is_kept old a ≡ is_kept_by holdings a
-kept_same holdings old has a = by holdings.snapshot old.frozen has.frozen
-  where
-    by : (s : Option Kept) (f : Option View) → IsImageOf s f → option_map_or (λ (v : View). v.block_marked a) f false ≡ option_map_or (λ kept. (frozen_view kept).block_marked a) s false
-    by None None t = refl
-    by (Some kept) (Some view) t = sym (t.block_marked a)
-    by None (Some view) t = absurd t
-    by (Some kept) None t = absurd t
 
 module _ (geo : Geometry) (old : State) (holdings : Holdings) (has : Has holdings old) (n : ℕ) (new : Inode) (left : ℕ) (cut : IsCut geo (old.view.inode n) new left) where
   abbrev view : View

@@ -23,19 +23,10 @@ use Rattle.live_writes.specs.Aimed.{IsPlaced, block_count_of, blocks_behind, blo
 use Rattle.live_writes.specs.declared.aiming.Place.{Place}
 use Rattle.live_writes.specs.declared.aiming.Place.TheVariants.{InPlace, Behind, Elsewhere}
 
--- what is open and kept is so by what is held in memory
+-- what is open is so by what is held in memory
 module _ (holdings : Holdings) (old : State) (has : Has holdings old) where
   pub open_there : (h : ℕ) → open_at old h ≡ handle_at holdings h
   open_there h = ap (λ (o : ℕ → Option ℕ). cond (ltb h 1024) (o h) None) has.opened
-
-  pub same_kept : (a : ℕ) → is_kept old a ≡ is_kept_by holdings a
-  same_kept a = by holdings.snapshot old.frozen has.frozen
-    where
-      by : (s : Option Kept) (o : Option View) → IsImageOf s o → option_map_or (λ (v : View). v.block_marked a) o false ≡ option_map_or (λ (k : Kept). (frozen_view k).block_marked a) s false
-      by None None t = refl
-      by (Some k) (Some v) t = sym (t.block_marked a)
-      by None (Some v) t = absurd t
-      by (Some k) None t = absurd t
 
 -- and the blocks of a file are those that users see
 pub claim_there : (kept : Kept) (view : View) → KeepsMetadata kept → Shows kept view → (i k : ℕ) → claim_at kept.geometry (frozen_view kept) i k ≡ claim_at kept.geometry view i k

@@ -30,13 +30,14 @@ use Rattle.metadata.specs.Shown.{Shows}
 use Rattle.live_states.specs.Drafts.{Draft, GoesOn, over}
 use Rattle.live_states.specs.Holdings.{Has, Holdings, going_on, held_by, opened_by, with_held}
 use Rattle.live_states.specs.Planned.{AreSeen, IsOfVolumeWith, IsPlannedToTheByte, IsPlannedWith, Seen}
+use Rattle.live_states.proofs.Standing.{kept_same}
 use Rattle.live_plans.proofs.GrowLemmas.{free_there, zeroes_whole}
 use Rattle.live_writes.specs.Aimed.{IsAimed, IsPlaced, IsTableFor, block_count_of, blocks_needed}
 use Rattle.live_writes.specs.Written.{grown_size, held_for, holder_at, updates_at, updates_by}
 use Rattle.live_writes.specs.declared.aiming.Place.{Place}
 use Rattle.live_writes.specs.declared.aiming.Place.TheVariants.{InPlace, Behind, Elsewhere}
 use Rattle.live_writes.specs.declared.aiming.Target.{Target}
-use Rattle.live_writes.proofs.Facts.{claim_there, has_indirect, open_there, same_kept}
+use Rattle.live_writes.proofs.Facts.{claim_there, has_indirect, open_there}
 use Rattle.live_writes.proofs.Pointing.{appends, holder_behind, holder_first, holder_used}
 use Rattle.live_writes.proofs.Refusals.{good_if, write_accepted}
 
@@ -128,7 +129,7 @@ module _ (kept : Kept) (holdings : Holdings) (keeps : KeepsMetadata kept) (volum
           (subst (λ j. Does (OverBlock j) j (written j (view.inode j) (block_of kept.geometry view j k) bytes (size_then j) q) (becomes disk (written j (view.inode j) (block_of kept.geometry view j k) bytes (size_then j) q) old.held old)) at (
             WritesInPlace h k piece bytes (subst (λ j. IsOverwritten piece (seen kept.geometry view j k) bytes) (sym at) over_it)
                 (subst (λ j. k < blocks_of (view.inode j).size) (sym at) (inside_so is.0))
-                (subst (λ j. IsFalse (is_kept old (block_of kept.geometry view j k))) (sym at) (ap (is_kept old) b ∙ same_kept holdings old has a ∙ is.2)),
+                (subst (λ j. IsFalse (is_kept old (block_of kept.geometry view j k))) (sym at) (ap (is_kept old) b ∙ kept_same holdings old has a ∙ is.2)),
             λ all. all,
           ))
 
@@ -199,7 +200,7 @@ module _ (kept : Kept) (holdings : Holdings) (keeps : KeepsMetadata kept) (volum
           (becomes disk (relocated j (view.inode j) k b bytes (size_then j) (holder_in_use k (view.bytes (view.inode j).indirect)) q) (held_besides kept.geometry (now disk q old) j k) old)) at (
             WritesElsewhere h k piece bytes b (subst (λ j. IsOverwritten piece (seen kept.geometry view j k) bytes) (sym at) over_it) (free_there kept view sees b is.3)
                 (subst (λ j. k < blocks_of (view.inode j).size) (sym at) (inside_so is.0))
-                (subst (λ j. IsTrue (is_kept old (block_of kept.geometry view j k))) (sym at) (ap (is_kept old) e ∙ same_kept holdings old has a ∙ is.2)),
+                (subst (λ j. IsTrue (is_kept old (block_of kept.geometry view j k))) (sym at) (ap (is_kept old) e ∙ kept_same holdings old has a ∙ is.2)),
             λ all. all,
           ))
 

@@ -19,9 +19,10 @@ use Rattle.metadata.specs.Shown.{Shows}
 use Rattle.metadata.proofs.ShownLemmas.{shows_metadata}
 use Rattle.live_places.proofs.ShownLemmas.{unmarked_there}
 use Rattle.live_states.specs.Holdings.{Has, Holdings}
+use Rattle.live_states.proofs.Standing.{kept_same}
 use Rattle.live_holdings.specs.Handles.{handle_at}
 use Rattle.live_writes.specs.Aimed.{blocks_needed}
-use Rattle.live_writes.proofs.Facts.{block_there, open_there, same_kept}
+use Rattle.live_writes.proofs.Facts.{block_there, open_there}
 
 or_true : (b : Bool) → (b || true) ≡ true
 or_true true = refl
@@ -112,7 +113,7 @@ module _ (kept : Kept) (holdings : Holdings) (keeps : KeepsMetadata kept) (old :
   pub needed_there : (i k : ℕ) → blocks_to_write kept.geometry old i k ≡ blocks_needed kept holdings i k
   needed_there i k =
       ap₂ (λ (n : Inode) (b : Bool). cond (ltb k (blocks_of n.size)) (cond b 1 0) (blocks_to_append n)) (sym (shows.inode i))
-      (ap (is_kept old) (block_there kept old.view keeps shows i k) ∙ same_kept holdings old has (block_of kept.geometry (frozen_view kept) i k))
+      (ap (is_kept old) (block_there kept old.view keeps shows i k) ∙ kept_same holdings old has (block_of kept.geometry (frozen_view kept) i k))
 
   pub counted_there : unmarked_blocks kept.geometry (frozen_view kept) ≡ unmarked_blocks kept.geometry old.view
   counted_there = unmarked_there kept old.view (shows_metadata kept old.view keeps shows)

@@ -1,10 +1,13 @@
-use Rattle.std.proofs.Common.{◌≡◌, ℕ, false, [], ◌∷◌, ◌++◌, inl, inr, refl, sym, ap, ◌∙◌, subst, Ok, None}
+use Rattle.std.proofs.Common.{◌≡◌, ℕ, false, [], ◌∷◌, ◌++◌, inl, inr, refl, sym, ap, ◌∙◌, subst, Ok, None, IsFalse}
 use Rattle.std.specs.Prelude.{nat_lt, slice_index_or}
+use Rattle.std.specs.Option.{option_map_or}
 use Rattle.std.proofs.lemmas.Bool.{both_ways, cases_Bool, cond-true, cond-false}
+use Rattle.model.specs.Layout.{Geometry}
+use Rattle.model.specs.View.{View}
 use Rattle.findings.specs.Findings.{AreFindings}
 use Rattle.machine.specs.Balance.{Balance}
 use Rattle.machine.specs.Command.{Done, Freeze, Image, Install, Release}
-use Rattle.machine.specs.State.{State, open_at}
+use Rattle.machine.specs.State.{State, is_kept, open_at}
 use Rattle.ordering.specs.Cuts.{users_view}
 use Rattle.softdep.specs.Queued.{pending_of}
 use Rattle.snapshot.specs.Alive.{disk_of, state_of}
@@ -25,7 +28,7 @@ returns g c = λ beside' held held' image image' old new frozen check findings n
     let opened = stays_open geo s t check frozen n answer goes.run in
     let alone = stands_alone geo s t check frozen n answer goes.run in
     let clean : AreFindings geo t.view [] = c.nothing_is_found_on_exact_images.ensures geo t balance exact
-    (λ h. closed h t s opened (ap (λ xs. slice_index_or xs h None) idle.opened)) (balance.held_for alone) in
+    (λ h. closed h t s opened (ap (λ xs. slice_index_or xs h None) idle.opened)) (none_held geo t balance alone) in
     let begins = c.mounted_volumes_begin.ensures image old mountable none idle (λ f. false) (λ f t. absurd (both_ways false refl t)) in
     let service = goes.service (disk_of image old) [] [] (λ f. false) begins in
     let nothing : pending_of new.queue ≡ [] =
@@ -34,6 +37,13 @@ returns g c = λ beside' held held' image image' old new frozen check findings n
     (Ok (Image frozen) ∷ Ok Done ∷ then_replied n answer) (Ok (Image frozen) ∷ Ok Done ∷ (all_done n ++ Ok Done ∷ [])) answer goes.later service.1 refl refl in
     subst (λ g. AreFindings g (disk_of image' new) []) (sym goes.geometry) (subst (λ v. AreFindings geo v []) (ap (λ q. users_view (disk_of image' new) q) nothing) clean)
   where
+    -- nothing is held where no snapshot stands
+    none_held : (geo : Geometry) (t : State) → Balance geo t → t.frozen ≡ None → (a : ℕ) → IsFalse (t.held a)
+    none_held geo t balance alone a = elim (cases_Bool (t.held a)) [
+      | inl h ↦ absurd (both_ways (is_kept t a) (ap (λ o. option_map_or (λ (v : View). v.block_marked a) o false) alone) (balance.held_for a h))
+      | inr f ↦ f
+    ]
+
     closed : (h : ℕ) (t s : State) → t.opened ≡ s.opened → s.opened h ≡ None → open_at t h ≡ None
     closed h t s same free = elim (cases_Bool (nat_lt h 1024)) [
       | inl low ↦ cond-true (nat_lt h 1024) (t.opened h) None low ∙ ap (λ f. f h) same ∙ free
