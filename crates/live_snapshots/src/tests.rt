@@ -1,3 +1,4 @@
+use crate::held::unmark_held;
 use crate::orphans::without_orphans;
 use device::{Before, Device, MemDevice, format};
 use frozen::{Frozen, load};
@@ -59,9 +60,20 @@ const MARKS_LEFT: [Changed; 5] = [
     (1, 162, 0b11),
 ];
 
-/// The metadata of the image with these bytes.
+/// Of two groups: blocks 4, 7 and 8 of the first one are marked, and 37 and 38 of the second.
+const MARKED: [Changed; 2] = [(1, 160, 0b1_1001), (33, 160, 0b110)];
+
+/// The same without blocks 7, 37 and 38.
+const UNMARKED: [Changed; 2] = [(1, 160, 0b1_0001), (33, 160, 0)];
+
+/// The metadata of the image of one group with these bytes.
 fn image(alloc: Global, changes: &[&[Changed]]) -> Result<Metadata, Refusal> {
-    let geometry = Geometry::new(1, 32, 16)?;
+    image_of(alloc, 1, changes)
+}
+
+/// The metadata of the image of so many groups with these bytes.
+fn image_of(alloc: Global, groups: u32, changes: &[&[Changed]]) -> Result<Metadata, Refusal> {
+    let geometry = Geometry::new(groups, 32, 16)?;
     let bytes = vec![in alloc; 0u8; geometry.blocks() as usize * BLOCK_BYTES]?;
     let mut device = MemDevice::from_bytes(alloc, bytes.as_slice())?;
     if device.blocks() != geometry.blocks() {
@@ -179,4 +191,32 @@ fn an_open_file_without_links_goes(rt: HostRuntime) -> Result<(), Refusal> {
 #[test]
 fn a_file_that_is_not_open_stays(rt: HostRuntime) -> Result<(), Refusal> {
     expect_lacking(&rt, &[&FILES, &ORPHAN, &MARKS], &[], None)
+}
+
+/// Blocks 7, 37 and 38 are held.
+fn with_three_held(alloc: Global, geometry: &Geometry) -> Result<Holdings, Refusal> {
+    if geometry.blocks() <= 38 {
+        return Err(Refusal::BadIndex);
+    }
+    let mut holdings = Holdings::new(alloc, geometry)?;
+    holdings.hold(&[7, 37, 38]);
+    Ok(holdings)
+}
+
+/// What is left of an image of two groups where three blocks are held.
+fn without_held(alloc: Global, metadata: &Metadata) -> Result<Frozen, Refusal> {
+    let holdings = with_three_held(alloc, &metadata.frozen().geometry())?;
+    let mut left = without_orphans(alloc, metadata, &holdings)?;
+    unmark_held(alloc, &mut left, &holdings)?;
+    Ok(left)
+}
+
+#[test]
+fn held_blocks_are_unmarked_in_each_group(rt: HostRuntime) -> Result<(), Refusal> {
+    let metadata = image_of(rt.alloc(), 2, &[&MARKED])?;
+    let left = without_held(rt.alloc(), &metadata)?;
+    let wanted = image_of(rt.alloc(), 2, &[&UNMARKED])?;
+    assert_eq!(rt; first_difference(wanted.frozen(), &left), None);
+    assert_eq!(rt; first_difference(metadata.frozen(), &left), Some(1));
+    Ok(())
 }

@@ -186,3 +186,39 @@ fn a_check_of_a_damaged_image_is_not_installed(rt: HostRuntime) -> Result<(), Fa
     on_mounted(rt.alloc(), 16, &[], |volume| expect_not_soft(&rt, volume))?;
     Ok(())
 }
+
+/// The file `/f` is removed.
+const REMOVED: &[Asked] = &[Asked::Close(0), Asked::Unlink(b"/f")];
+
+/// Expects so many blocks of a volume to be unmarked, and a check of what users see to find nothing.
+fn expect_nothing_found<R: Threads + AllocGlobal + Abort + Sync>(
+    rt: &R,
+    volume: &mut Volume<MemDevice>,
+    unmarked: u32,
+) -> Result<(), Refusal> {
+    same(rt, "unmarked", volume.live().unmarked_blocks(), unmarked);
+    let view = Arc::new(rt.alloc(), volume.live().view(rt.alloc())?)?;
+    let checked = check_one(rt, rt.alloc(), &view)?;
+    same(rt, "findings", checked.findings().len(), 0);
+    Ok(())
+}
+
+/// Expects the block of a file that is removed to stay marked while a snapshot has it, and no check to find it.
+fn expect_held<R: Threads + AllocGlobal + Abort + Sync>(
+    rt: &R,
+    volume: &mut Volume<MemDevice>,
+) -> Result<(), Refusal> {
+    make_file(rt, volume)?;
+    volume.freeze(rt.alloc())?;
+    let replies = replies_to(rt.alloc(), volume, REMOVED)?;
+    holds(rt, "removed", replies.iter().all(|reply| reply.is_ok()));
+    expect_nothing_found(rt, volume, 11)?;
+    volume.release(rt.alloc())?;
+    expect_nothing_found(rt, volume, 12)
+}
+
+#[test]
+fn what_is_held_is_no_finding(rt: HostRuntime) -> Result<(), Fail> {
+    on_mounted(rt.alloc(), 16, &[], |volume| expect_held(&rt, volume))?;
+    Ok(())
+}
