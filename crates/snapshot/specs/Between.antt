@@ -6,7 +6,6 @@ use Rattle.queue_model.specs.Blocks.{home_of}
 use Rattle.queue_model.specs.Flush.{ready, taken}
 use Rattle.frozen.specs.Kept.{Kept}
 use Rattle.softdep.specs.Queued.{pending_of}
-use Rattle.softdep.specs.Syncing.{AreFlushes}
 use Rattle.live.specs.Alive.{Alive}
 use Rattle.snapshot.specs.declared.answer.Answer.{Answer}
 use Rattle.snapshot.specs.declared.command.Command.{Command}
@@ -47,10 +46,6 @@ RepliedSo held image old command reply new = Replied (held old.device) (image ol
 -- block after block was written, each the least then that had an update which may go
 abbrev pub WroteLeast : {D : Type 0} → (D → List (List (List ℕ))) → (D → List (List ℕ)) → Alive D → Alive D → Type 0
 WroteLeast held image old new = WritesLeast old.kept.geometry (pending_of old.queue) (image old.device) (held old.device) (image new.device) (held new.device)
-
--- and these updates are left
-abbrev pub Flushed : {D : Type 0} → (D → List (List (List ℕ))) → (D → List (List ℕ)) → Alive D → Alive D → Type 0
-Flushed held image old new = AreFlushes old.kept.geometry (image old.device) (held old.device) (pending_of old.queue) (image new.device) (held new.device) (pending_of new.queue)
 
 -- how many updates of block a could go to the device
 abbrev pub could_go : {D : Type 0} → Alive D → ℕ → ℕ

@@ -10,7 +10,8 @@ ghost use Rattle.softdep.specs.Queued.{pending_of};
 ghost use Rattle.live_states.specs.Holdings.{Beside, IsImageOf};
 ghost use Rattle.live_states.specs.Snapshots.{IsSettled};
 ghost use Rattle.live.specs.Alive.{StandsSo, state_of};
-ghost use Rattle.snapshot.specs.Between.{Flushed, Froze, GotReply, Released, WroteLeast};
+ghost use Rattle.live.specs.Seen.{Flushed};
+ghost use Rattle.snapshot.specs.Between.{Froze, GotReply, Released, WroteLeast};
 ghost use Rattle.snapshot.specs.Pieces.{IsPieceOfSnapshot};
 ghost use Rattle.snapshot.specs.Refusing.{IsCauseOf, IsWhyUnread};
 
