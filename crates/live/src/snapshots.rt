@@ -42,8 +42,9 @@ impl<D: Device> Live<D> {
         self.metadata.frozen()
     }
 
-    /// The metadata of the image that a check is to see: that of users, without the open files that have no name. The
-    /// blocks that do not differ are shared. Refused with `NoMemory` alone.
+    /// The metadata of the image that a check is to see: that of users, without the open files that have no name, and with
+    /// the blocks unmarked that are held for a snapshot. The blocks of metadata that do not differ are shared. Refused with
+    /// `NoMemory` alone.
     pub fn view(&self, alloc: Global) -> Result<Frozen, Refusal>
         ensures settled { IfOk result (IsSettled self.now.kept self.now.holdings) }
         ensures shown { IfOk result (λ view. D.honest self.now.device → (beside : Beside) → IsImageOf self.now.holdings.snapshot beside.frozen

@@ -25,8 +25,8 @@ use std::alloc::Global;
 use std::sync::Arc;
 
 impl<D: Device> Volume<D> {
-    /// A snapshot begins: the image of users, without the open files that have no name, as it is once all that is pending
-    /// is written. From now on no block of a file in it is changed or given out, until it is released. The repairs of an
+    /// A snapshot begins: the image of users, without the open files that have no name and without what is held, as it is
+    /// once all that is pending is written. From now on no block of a file in it is changed or given out, until it is released. The repairs of an
     /// older check are dropped. Refused with `SnapshotStands` and with `NoMemory`, and then nothing changed; and with `Device`,
     /// and then what was written before stays written.
     pub fn freeze(&mut self, alloc: Global) -> Result<Arc<Frozen>, Refusal>
