@@ -26,9 +26,9 @@ use std::sync::Arc;
 
 impl<D: Device> Volume<D> {
     /// A snapshot begins: the image of users, without the open files that have no name and without what is held, as it is
-    /// once all that is pending is written. From now on no block of a file in it is changed or given out, until it is released. The repairs of an
-    /// older check are dropped. Refused with `SnapshotStands` and with `NoMemory`, and then nothing changed; and with `Device`,
-    /// and then what was written before stays written.
+    /// once all that is pending is written. From now on no block of a file in it is changed or given out, until it is
+    /// released. The repairs of an older check are dropped. Refused with `SnapshotStands` and with `NoMemory`, and then
+    /// nothing changed; and with `Device`, and then what was written before stays written.
     pub fn freeze(&mut self, alloc: Global) -> Result<Arc<Frozen>, Refusal>
         ensures frozen { IfOk result (λ snapshot. D.honest self.new.device → Froze D.held D.image self.old (arc_value snapshot) self.new) }
         ensures refused { IfErr result (λ r. D.honest self.new.device → GotReply D.held D.image self.old Freeze (Err r) self.new) }
