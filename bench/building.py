@@ -17,13 +17,10 @@ def run(words, folder):
 
 
 @functools.cache
-def program(crate, *words):
-    """Proves a crate and those that it stands on, builds its program as `rt ci` does, by LLVM, and gives the program's path. The words
-    are those of a short run, with which `rt run` ends."""
-    folder = os.path.join(TOP, 'crates', crate)
-    run(['rt', 'all', 'check', '--jobs', '1'], folder)
-    run(['rt', 'run', '--backend', 'llvm', '--', *words], folder)
-    return os.path.join(folder, 'out', crate)
+def program(crate):
+    """Proves a crate and those that it stands on, builds its program as `rt ci` does, by LLVM, and gives the program's path."""
+    run([os.path.join(TOP, 'bin', 'build'), crate], TOP)
+    return os.path.join(TOP, 'crates', crate, 'out', crate)
 
 
 @functools.cache
@@ -37,4 +34,4 @@ def fsvol():
 
 def test_lists():
     """The path of the program that carries out lists of commands."""
-    return program('test_lists', 'lists', 'lists.txt')
+    return program('test_lists')
