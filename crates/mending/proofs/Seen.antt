@@ -47,10 +47,11 @@ no_orphan view i = ap (λ t. t && eqb (view.inode i).links 0) (any_none handle_c
 
 settled_mounted : (geo : Geometry) (view : View) → settled geo (mounted view) ≡ view
 settled_mounted geo view =
-    ap (without geo view) (fun_ext (no_orphan view))
+    ap (λ gone. record (without geo view gone) { block_marked = λ a. (without geo view gone).block_marked a && not false }) (fun_ext (no_orphan view))
     ∙ ap₂ (λ (n m : ℕ → Bool). record view { number_marked = n; block_marked = m })
     (fun_ext (λ i. and_true (view.number_marked i)))
-    (fun_ext (λ a. ap (λ t. view.block_marked a && not t) (any_none (inode_count geo) (λ i. false && claims geo view i a) (λ i b. refl)) ∙ and_true (view.block_marked a)))
+    (fun_ext (λ a. and_true (view.block_marked a && not (any_below (inode_count geo) (λ i. false && claims geo view i a)))
+      ∙ ap (λ t. view.block_marked a && not t) (any_none (inode_count geo) (λ i. false && claims geo view i a) (λ i b. refl)) ∙ and_true (view.block_marked a)))
 
 pub settled_disk : {D : Type 0} (image : List (List ℕ)) (live : Alive D) → pending_of live.queue ≡ [] → IsIdle live.holdings → settled live.kept.geometry (state_of image live nothing_beside) ≡ disk_of image live
 settled_disk image live none idle =
