@@ -1,3 +1,4 @@
 pub mod LettingGo
+pub mod Placing
 pub mod Steps
 pub mod ShownLemmas

@@ -9,7 +9,7 @@ use Rattle.std.proofs.lemmas.List.Elements.{Contains-append_cases, All-push}
 use Rattle.std.specs.Arc.{arc_value}
 use Rattle.model.specs.Layout.{Geometry, block_count, group_block, group_of_address, is_number, is_data_address}
 use Rattle.free_space.specs.Free.{Free, IsFreeOf}
-use Rattle.model.specs.Image.{IsBlock, IsGroupBlock}
+use Rattle.model.specs.Image.{IsGroupBlock}
 use Rattle.model.proofs.Addresses.{maps_group, address_in_group}
 use Rattle.model.specs.View.{View, view_of}
 use Rattle.model.specs.Cells.{Update, SetInode, SetNumber, SetBlock, SetBytes, updated, updated_all, put_at}
@@ -20,15 +20,15 @@ use Rattle.queue_model.proofs.Lists.{contains_cases, contains_none}
 use Rattle.updates.specs.declared.change.Update as program
 use Rattle.updates.specs.Values.{change}
 use Rattle.updates.specs.Places.{IsCell}
-use Rattle.updates.specs.Alone.{ChangesAlone, IsPutInto}
+use Rattle.updates.specs.Alone.{ChangesAlone}
 use Rattle.frozen.specs.Kept.{Kept, KeepsFrame, frozen_view, kept_at, kept_bytes}
 use Rattle.frozen.specs.declared.frozen.Placed.{Placed}
-use Rattle.frozen.specs.Installed.{FitsIn, standing, with_block, with_blocks}
+use Rattle.frozen.specs.Installed.{FitsAt, FitsIn, standing, with_block, with_blocks}
 use Rattle.frozen.proofs.FrozenLemmas.{frame_from, frame_with, maps_are_frame}
 use Rattle.metadata.specs.declared.staged.Staged.{Staged}
 use Rattle.metadata.specs.declared.staged.Bit.{Bit}
 use Rattle.metadata.specs.Shown.{Shows}
-use Rattle.metadata.specs.Staged.{IsStaged, NoneAt, IsLastAt, GivesBytes, IsBitOf, bit, bits_of, changes, after as staged_after}
+use Rattle.metadata.specs.Staged.{HasChange, IsStaged, NoneAt, IsLastAt, GivesBytes, IsBitOf, bit, bits_of, changes, after as staged_after}
 
 -- two views with the same records and bits have the same after an update
 module _ (v w : View) where
@@ -192,6 +192,41 @@ pub with_more : (kept : Kept) (ps : List Placed) (p : Placed) → with_blocks ke
 with_more kept [] p = refl
 with_more kept (q ∷ ps) p = with_more (with_block kept q.address (arc_value q.block)) ps p
 
+-- ---- a block in the place of another
+
+set_twice : {X : Type 0} (xs : List X) (k : ℕ) (x y : X) → slice_set (slice_set xs k x) k y ≡ slice_set xs k y
+set_twice [] k x y = refl
+set_twice (z ∷ zs) zero x y = refl
+set_twice (z ∷ zs) (suc k) x y = ap (λ l. z ∷ l) (set_twice zs k x y)
+
+set_apart : {X : Type 0} (xs : List X) (j k : ℕ) (x y : X) → (j ≡ k → ⊥) → slice_set (slice_set xs j x) k y ≡ slice_set (slice_set xs k y) j x
+set_apart [] j k x y apart = refl
+set_apart (z ∷ zs) zero zero x y apart = absurd (apart refl)
+set_apart (z ∷ zs) zero (suc k) x y apart = refl
+set_apart (z ∷ zs) (suc j) zero x y apart = refl
+set_apart (z ∷ zs) (suc j) (suc k) x y apart = ap (λ l. z ∷ l) (set_apart zs j k x y (λ e. apart (ap suc e)))
+
+-- a block may come before others that stand elsewhere, or behind them
+comes_later : (kept : Kept) (ps : List Placed) (a : ℕ) (bytes : List ℕ) → NoneAt ps a → with_blocks (with_block kept a bytes) (map standing ps) ≡ with_block (with_blocks kept (map standing ps)) a bytes
+comes_later kept [] a bytes none = refl
+comes_later kept (p ∷ ps) a bytes none =
+    ap (λ bs. with_blocks (record kept { blocks = bs }) (map standing ps)) (set_apart kept.blocks a p.address (Some bytes) (Some (arc_value p.block)) (λ e. none 0 p (omega arith) (sym e)))
+    ∙ comes_later (with_block kept p.address (arc_value p.block)) ps a bytes (λ k d low. none (suc k) d (omega (arith, low)))
+
+-- in the place of the last one of its address
+pub replaced : (kept : Kept) (ps : List Placed) (k : ℕ) (p : Placed) → IsLastAt ps p.address k → with_blocks kept (map standing (slice_set ps k p)) ≡ with_block (with_blocks kept (map standing ps)) p.address (arc_value p.block)
+replaced kept [] k p is = absurd (omega (arith, is.low))
+replaced kept (q ∷ ps) zero p is =
+    let none : NoneAt ps p.address = λ j d low. is.last (suc j) d (omega arith) (omega (arith, low)) in
+    let later : with_blocks (with_block kept q.address (arc_value q.block)) (map standing ps) ≡ with_block (with_blocks kept (map standing ps)) p.address (arc_value q.block) =
+    ap (λ a. with_blocks (with_block kept a (arc_value q.block)) (map standing ps)) (is.here p) ∙ comes_later kept ps p.address (arc_value q.block) none in
+    comes_later kept ps p.address (arc_value p.block) none
+    ∙ sym (ap (λ bs. record (with_blocks kept (map standing ps)) { blocks = bs }) (set_twice (with_blocks kept (map standing ps)).blocks p.address (Some (arc_value q.block)) (Some (arc_value p.block))))
+    ∙ ap (λ m. with_block m p.address (arc_value p.block)) (sym later)
+replaced kept (q ∷ ps) (suc k) p is =
+    replaced (with_block kept q.address (arc_value q.block)) ps k p
+    (record { low = omega (arith, is.low); here = is.here; last = λ j d above below. is.last (suc j) d (omega (arith, above)) (omega (arith, below)) })
+
 pub same_geometry : (kept : Kept) (ps : List Placed) → (with_blocks kept (map standing ps)).geometry ≡ kept.geometry
 same_geometry kept [] = refl
 same_geometry kept (p ∷ ps) = same_geometry (with_block kept p.address (arc_value p.block)) ps
@@ -224,17 +259,14 @@ gives_before us u a gives = elim (Contains-append_cases us (u ∷ []) (SetBytes 
   ]
 ]
 
-module _ (kept : Kept) (frame : KeepsFrame kept) (us : List Update) (u : Update) (old new : Staged) (p : Placed)
-    (is : IsStaged kept us old) (behind : 0 < p.address) (low : p.address < block_count kept.geometry) (whole : IsBlock (arc_value p.block))
-    (home : p.address ≡ home_of kept.geometry (cell_of u)) (cell : IsCell kept.geometry (cell_of u))
-    (into : IsPutInto kept.geometry u (unwrap_or (kept_at (staged_after kept old).blocks p.address) (replicate 1024 0)) (arc_value p.block))
-    (blocks : new.blocks.items ≡ old.blocks.items ++ p ∷ []) (bits : map bit new.bits.items ≡ map bit old.bits.items ++ bits_of (u ∷ [])) where
+module _ (kept : Kept) (us : List Update) (u : Update) (old new : Staged) (is : IsStaged kept us old) (cell : IsCell kept.geometry (cell_of u))
+    (has : HasChange kept u old.blocks.items new.blocks.items) (bits : map bit new.bits.items ≡ map bit old.bits.items ++ bits_of (u ∷ [])) where
+  abbrev h : ℕ
+  h = home_of kept.geometry (cell_of u)
+
   -- the block as it was with what was staged before
   abbrev before : List ℕ
-  before = unwrap_or (kept_at (staged_after kept old).blocks p.address) (replicate 1024 0)
-
-  put : (blocks : ℕ → List ℕ) → blocks p.address ≡ before → view_of kept.geometry (put_at blocks p.address (arc_value p.block)) ≡ updated (view_of kept.geometry blocks) u
-  put blocks e = ap (λ a. view_of kept.geometry (put_at blocks a (arc_value p.block))) home ∙ into.view blocks (ap blocks (sym home) ∙ e)
+  before = unwrap_or (kept_at (staged_after kept old).blocks h) (replicate 1024 0)
 
   abbrev mid : Kept
   mid = staged_after kept old
@@ -242,52 +274,58 @@ module _ (kept : Kept) (frame : KeepsFrame kept) (us : List Update) (u : Update)
   same : mid.geometry ≡ kept.geometry
   same = same_geometry kept old.blocks.items
 
-  then : staged_after kept new ≡ with_block mid p.address (arc_value p.block)
-  then = ap (λ ps. with_blocks kept (map standing ps)) blocks ∙ with_more kept old.blocks.items p
-
   mid_frame : KeepsFrame mid
-  mid_frame = frame_with_all kept old.blocks.items frame is.fits
+  mid_frame = frame_with_all kept old.blocks.items has.frame is.fits
 
   -- a group's block of maps was one before
-  group_before : (g : ℕ) → group_block kept.geometry g ≡ p.address → IsGroupBlock g before
+  group_before : (g : ℕ) → group_block kept.geometry g ≡ h → IsGroupBlock g before
   group_before g e =
-      let in_volume : g < kept.geometry.groups = subst (λ h. h < kept.geometry.groups) (ap (group_of_address kept.geometry) (sym e) ∙ maps_group kept.geometry frame.geometry g) (address_in_group kept.geometry frame.geometry p.address low) in
-      let there : group_block mid.geometry g ≡ p.address = ap (λ (h : Geometry). group_block h g) same ∙ e in
-      let is_frame_block = maps_are_frame mid mid_frame g (subst (λ (h : Geometry). g < h.groups) (sym same) in_volume) in
-      subst (IsGroupBlock g) (ap (kept_bytes mid.blocks) there ∙ or_default (kept_at mid.blocks p.address) (subst (λ a. IsSome (kept_at mid.blocks a)) there (mid_frame.frame (group_block mid.geometry g) is_frame_block)))
-      (mid_frame.group_blocks g (subst (λ (h : Geometry). g < h.groups) (sym same) in_volume))
+      let in_volume : g < kept.geometry.groups = subst (λ n. n < kept.geometry.groups) (ap (group_of_address kept.geometry) (sym e) ∙ maps_group kept.geometry has.frame.geometry g) (address_in_group kept.geometry has.frame.geometry h has.low) in
+      let there : group_block mid.geometry g ≡ h = ap (λ (x : Geometry). group_block x g) same ∙ e in
+      let is_frame_block = maps_are_frame mid mid_frame g (subst (λ (x : Geometry). g < x.groups) (sym same) in_volume) in
+      subst (IsGroupBlock g) (ap (kept_bytes mid.blocks) there ∙ or_default (kept_at mid.blocks h) (subst (λ a. IsSome (kept_at mid.blocks a)) there (mid_frame.frame (group_block mid.geometry g) is_frame_block)))
+      (mid_frame.group_blocks g (subst (λ (x : Geometry). g < x.groups) (sym same) in_volume))
     where
       or_default : (o : Option (List ℕ)) → IsSome o → unwrap_or o [] ≡ unwrap_or o (replicate {A = ℕ} 1024 0)
       or_default (Some b) some = refl
       or_default None some = let bad : false ≡ true = some in cc
 
-  fits : FitsIn kept.geometry p
-  fits = record { behind = behind; on_volume = low; whole = whole; group_block = λ g e. into.group_block g (sym home ∙ sym e) (group_before g e) }
+  fits : FitsAt kept.geometry h has.bytes
+  fits = record { behind = has.behind; on_volume = has.low; whole = has.whole; group_block = λ g e. has.put.group_block g (sym e) (group_before g e) }
 
-  step : (users : View) → Shows mid users → Shows (with_block mid p.address (arc_value p.block)) (updated users u)
-  step = shows_after mid mid_frame p.address before (arc_value p.block) u (subst (λ (g : Geometry). p.address < block_count g) (sym same) low)
-      (home ∙ ap (λ (g : Geometry). home_of g (cell_of u)) (sym same)) (subst (λ (g : Geometry). IsCell g (cell_of u)) (sym same) cell) refl
-      (subst (λ (g : Geometry). (blocks : ℕ → List ℕ) → blocks p.address ≡ before → view_of g (put_at blocks p.address (arc_value p.block)) ≡ updated (view_of g blocks) u) (sym same) put)
-      (subst (λ (g : Geometry). ChangesAlone g u before (arc_value p.block)) (sym same) into.alone)
+  low : h < block_count mid.geometry
+  low = subst (λ (g : Geometry). h < block_count g) (sym same) has.low
 
-  more : (a : ℕ) → IsSome (kept_at mid.blocks a) ⊎ (a ≡ p.address) → IsSome (kept_at (with_block mid p.address (arc_value p.block)).blocks a)
-  more = more_after mid mid_frame p.address before (arc_value p.block) u (subst (λ (g : Geometry). p.address < block_count g) (sym same) low)
-      (home ∙ ap (λ (g : Geometry). home_of g (cell_of u)) (sym same)) (subst (λ (g : Geometry). IsCell g (cell_of u)) (sym same) cell) refl
-      (subst (λ (g : Geometry). (blocks : ℕ → List ℕ) → blocks p.address ≡ before → view_of g (put_at blocks p.address (arc_value p.block)) ≡ updated (view_of g blocks) u) (sym same) put)
-      (subst (λ (g : Geometry). ChangesAlone g u before (arc_value p.block)) (sym same) into.alone)
+  home : h ≡ home_of mid.geometry (cell_of u)
+  home = ap (λ (g : Geometry). home_of g (cell_of u)) (sym same)
 
-  stays : (a : ℕ) → IsSome (kept_at kept.blocks a) ⊎ GivesBytes (us ++ u ∷ []) a → IsSome (kept_at (with_block mid p.address (arc_value p.block)).blocks a)
+  cell_there : IsCell mid.geometry (cell_of u)
+  cell_there = subst (λ (g : Geometry). IsCell g (cell_of u)) (sym same) cell
+
+  put : (blocks : ℕ → List ℕ) → blocks h ≡ before → view_of mid.geometry (put_at blocks h has.bytes) ≡ updated (view_of mid.geometry blocks) u
+  put = subst (λ (g : Geometry). (blocks : ℕ → List ℕ) → blocks h ≡ before → view_of g (put_at blocks h has.bytes) ≡ updated (view_of g blocks) u) (sym same) has.put.view
+
+  alone : ChangesAlone mid.geometry u before has.bytes
+  alone = subst (λ (g : Geometry). ChangesAlone g u before has.bytes) (sym same) has.put.alone
+
+  step : (users : View) → Shows mid users → Shows (with_block mid h has.bytes) (updated users u)
+  step = shows_after mid mid_frame h before has.bytes u low home cell_there refl put alone
+
+  more : (a : ℕ) → IsSome (kept_at mid.blocks a) ⊎ (a ≡ h) → IsSome (kept_at (with_block mid h has.bytes).blocks a)
+  more = more_after mid mid_frame h before has.bytes u low home cell_there refl put alone
+
+  stays : (a : ℕ) → IsSome (kept_at kept.blocks a) ⊎ GivesBytes (us ++ u ∷ []) a → IsSome (kept_at (with_block mid h has.bytes).blocks a)
   stays a (inl some) = more a (inl (is.more a (inl some)))
   stays a (inr gives) = elim (gives_before us u a gives) [
     | inl g ↦ more a (inl (is.more a (inr g)))
-    | inr e ↦ more a (inr (sym (home ∙ ap (λ (v : Update). home_of kept.geometry (cell_of v)) e.1)))
+    | inr e ↦ more a (inr (sym (ap (λ (v : Update). home_of kept.geometry (cell_of v)) e.1)))
   ]
 
   pub staged_one_more : IsStaged kept (us ++ u ∷ []) new
   staged_one_more = record {
-    fits = subst (All (FitsIn kept.geometry)) (sym blocks) (All-push (FitsIn kept.geometry) old.blocks.items p is.fits fits);
-    view = λ users shows. subst (λ k. Shows k (updated_all users (us ++ u ∷ []))) (sym then) (subst (Shows (with_block mid p.address (arc_value p.block))) (sym (updated_push users us u)) (step (updated_all users us) (is.view users shows)));
-    more = λ a h. subst (λ (k : Kept). IsSome (kept_at k.blocks a)) (sym then) (stays a h);
+    fits = has.each fits is.fits;
+    view = λ users shows. subst (λ k. Shows k (updated_all users (us ++ u ∷ []))) (sym has.then) (subst (Shows (with_block mid h has.bytes)) (sym (updated_push users us u)) (step (updated_all users us) (is.view users shows)));
+    more = λ a some. subst (λ (k : Kept). IsSome (kept_at k.blocks a)) (sym has.then) (stays a some);
     cells = All-push (λ v. IsCell kept.geometry (cell_of v)) us u is.cells cell;
     bits = bits ∙ ap (λ bs. bs ++ bits_of (u ∷ [])) is.bits ∙ sym (bits_push us u);
   }
@@ -295,6 +333,10 @@ module _ (kept : Kept) (frame : KeepsFrame kept) (us : List Update) (u : Update)
 pub on_ok : {E P Q : Type 0} (r : Result (Unit {0}) E) → OnOk r P → (P → Q) → OnOk r Q
 on_ok (Ok x) p f = f p
 on_ok (Err e) p f = tt
+
+pub on_both : {E P Q R : Type 0} (r : Result (Unit {0}) E) → OnOk r P → OnOk r Q → (P → Q → R) → OnOk r R
+on_both (Ok x) p q f = f p q
+on_both (Err e) p q f = tt
 
 -- nothing was staged yet
 pub none_staged : (kept : Kept) (staged : Staged) → staged.blocks.items ≡ [] → staged.bits.items ≡ [] → IsStaged kept [] staged

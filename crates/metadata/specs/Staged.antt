@@ -1,16 +1,19 @@
 -- What the blocks in memory become with some changes.
-use Rattle.std.specs.Prelude.{◌≡◌, ◌≢◌, ℕ, ◌<◌, List, [], ◌∷◌, length, map, All, IsSome, ◌⊎◌, slice_index_or}
+use Rattle.std.specs.Prelude.{◌≡◌, ◌≢◌, ℕ, ◌<◌, List, [], ◌∷◌, length, map, replicate, unwrap_or, All, IsSome, ◌⊎◌, slice_index_or}
 use Rattle.std.specs.List.{Contains}
 use Rattle.model.specs.View.{View}
 use Rattle.model.specs.Cells.{Update, SetInode, SetNumber, SetBlock, SetBytes, updated_all}
 use Rattle.updates.specs.declared.change.Update as program
 use Rattle.updates.specs.Values.{change}
 use Rattle.frozen.specs.declared.frozen.Placed.{Placed}
-use Rattle.frozen.specs.Kept.{Kept, kept_at}
-use Rattle.frozen.specs.Installed.{FitsIn as Fits, standing, with_blocks}
+use Rattle.frozen.specs.Kept.{Kept, KeepsFrame, kept_at}
+use Rattle.frozen.specs.Installed.{FitsAt, FitsIn as Fits, standing, with_block, with_blocks}
 use Rattle.free_space.specs.Free.{Free, IsFreeOf}
-use Rattle.model.specs.Layout.{Geometry}
+use Rattle.model.specs.Image.{IsBlock}
+use Rattle.model.specs.Layout.{Geometry, block_count}
 use Rattle.ordering.specs.Cuts.{cell_of}
+use Rattle.queue_model.specs.Blocks.{home_of}
+use Rattle.updates.specs.Alone.{IsPutInto}
 use Rattle.updates.specs.Places.{IsCell}
 use Rattle.metadata.specs.declared.staged.Staged.{Staged}
 use Rattle.metadata.specs.declared.staged.Bit.{Bit}
@@ -62,6 +65,17 @@ pub record IsStaged (kept : Kept) (us : List Update) (staged : Staged) : Type 0 
   -- and each is one of a cell of the volume
   pub cells : All (λ u. IsCell kept.geometry (cell_of u)) us
   pub bits : map bit staged.bits.items ≡ bits_of us
+
+-- With the new blocks in their places the block of a change's address is what it was with the old ones, with the change put into it; all else is as it was.
+pub record HasChange (kept : Kept) (u : Update) (old new : List Placed) : Type 0 where
+  pub frame : KeepsFrame kept
+  pub bytes : List ℕ
+  pub behind : 0 < home_of kept.geometry (cell_of u)
+  pub low : home_of kept.geometry (cell_of u) < block_count kept.geometry
+  pub whole : IsBlock bytes
+  pub put : IsPutInto kept.geometry u (unwrap_or (kept_at (with_blocks kept (map standing old)).blocks (home_of kept.geometry (cell_of u))) (replicate 1024 0)) bytes
+  pub then : with_blocks kept (map standing new) ≡ with_block (with_blocks kept (map standing old)) (home_of kept.geometry (cell_of u)) bytes
+  pub each : FitsAt kept.geometry (home_of kept.geometry (cell_of u)) bytes → All (Fits kept.geometry) old → All (Fits kept.geometry) new
 
 -- none of these blocks is to stand at this address, or this one is the last that is
 abbrev pub NoneAt : List Placed → ℕ → Type 0

@@ -15,8 +15,8 @@ ghost use Rattle.model.specs.Metadata.{SameMetadata};
 ghost use Rattle.model.specs.Image.{IsBlock, image_view};
 ghost use Rattle.frozen.specs.Kept.{Kept, KeepsMetadata, IsKeptOf, frozen_view, kept_at};
 ghost use Rattle.metadata.specs.Shown.{Shows};
-ghost use Rattle.frozen.specs.Installed.{IsPlain, standing, with_blocks, without_block};
-ghost use Rattle.metadata.specs.Staged.{IsStaged, NoneAt, IsLastAt, AreBitsOf, IsBitOf, after, bit, bit as update_of, changes};
+ghost use Rattle.frozen.specs.Installed.{IsPlain, without_block};
+ghost use Rattle.metadata.specs.Staged.{AreBitsOf, HasChange, IsBitOf, IsLastAt, IsStaged, NoneAt, after, bit, bit as update_of, changes};
 
 use crate::{Bit, Staged};
 use free_space::FreeSpace;
@@ -147,18 +147,55 @@ impl Metadata {
         requires { IsCell self.now.geometry (cell_of (change_of change.now)) }
         ensures { OnOk result ((us : List Changed) → IsStaged self.now us staged.old → IsStaged self.now (us ++ change_of change.now ∷ []) staged.new) }
     {
-        let address = change.cell().home(&self.frozen.geometry());
-        let block = self.changed(alloc, staged.blocks.as_slice(), address, change, spares)?;
-        staged.blocks.push(Placed { address, block })?;
+        self.place(alloc, &mut staged.blocks, change, spares)?;
         staged.note(change)
     }
 
-    /// The block of this address as it is with these in their places, and then with one more change. A change that gives all of
-    /// its bytes shares them.
+    /// Puts one more change into the block of its address among these, or, if none is to stand there, into one more: so
+    /// they are no more than the blocks that the changes are in.
+    fn place(
+        &self,
+        alloc: Global,
+        blocks: &mut Vec<Placed>,
+        change: &Change,
+        spares: &mut Spares,
+    ) -> Result<(), AllocError>
+        requires { IsCell self.now.geometry (cell_of (change_of change.now)) }
+        ensures { OnOk result (HasChange self.now (change_of change.now) blocks.old.items blocks.new.items) }
+    {
+        let geometry = self.frozen.geometry();
+        let address = change.cell().home(&geometry);
+        match last_at(blocks.as_slice(), address) {
+            Some(place) => put_into(&mut blocks[place].block, &geometry, change),
+            None => self.place_first(alloc, blocks, address, change, spares),
+        }
+    }
+
+    /// Adds the block of this address with one change.
+    fn place_first(
+        &self,
+        alloc: Global,
+        blocks: &mut Vec<Placed>,
+        address: u32,
+        change: &Change,
+        spares: &mut Spares,
+    ) -> Result<(), AllocError>
+        requires cell { IsCell self.now.geometry (cell_of (change_of change.now)) }
+        requires address { address ≡ home_of self.now.geometry (cell_of (change_of change.now)) }
+        requires low { address < length self.now.blocks }
+        ensures { OnOk result ((placed : Placed) × (placed.address ≡ address) × IsBlock (arc_value placed.block)
+            × IsPutInto self.now.geometry (change_of change.now) (unwrap_or (kept_at self.now.blocks address) (replicate 1024 0)) (arc_value placed.block)
+            × (blocks.new.items ≡ blocks.old.items ++ placed ∷ [])) }
+    {
+        let block = self.changed(alloc, address, change, spares)?;
+        blocks.push(Placed { address, block })?;
+        Ok(())
+    }
+
+    /// The block of this address with one change. A change that gives all of its bytes shares them.
     fn changed(
         &self,
         alloc: Global,
-        blocks: &[Placed],
         address: u32,
         change: &Change,
         spares: &mut Spares,
@@ -166,21 +203,21 @@ impl Metadata {
         requires cell { IsCell self.now.geometry (cell_of (change_of change.now)) }
         requires address { address ≡ home_of self.now.geometry (cell_of (change_of change.now)) }
         requires low { address < length self.now.blocks }
-        ensures changed { IfOk result (λ block. IsPutInto self.now.geometry (change_of change.now) (unwrap_or (kept_at (with_blocks self.now (map standing blocks.now)).blocks address) (replicate 1024 0)) (arc_value block)) }
+        ensures changed { IfOk result (λ block. IsPutInto self.now.geometry (change_of change.now)
+            (unwrap_or (kept_at self.now.blocks address) (replicate 1024 0)) (arc_value block)) }
         ensures whole { IfOk result (λ block. IsBlock (arc_value block)) }
     {
         self.frozen.geometry();
         match change.whole() {
             Some(block) => share_again(block),
-            None => self.changed_in_part(alloc, blocks, address, change, spares),
+            None => self.changed_in_part(alloc, address, change, spares),
         }
     }
 
-    /// The block of this address as it is with these in their places, and then with one more change of a part of it.
+    /// The block of this address with one change of a part of it.
     fn changed_in_part(
         &self,
         alloc: Global,
-        blocks: &[Placed],
         address: u32,
         change: &Change,
         spares: &mut Spares,
@@ -188,23 +225,21 @@ impl Metadata {
         requires cell { IsCell self.now.geometry (cell_of (change_of change.now)) }
         requires address { address ≡ home_of self.now.geometry (cell_of (change_of change.now)) }
         requires low { address < length self.now.blocks }
-        ensures changed { IfOk result (λ block. IsPutInto self.now.geometry (change_of change.now) (unwrap_or (kept_at (with_blocks self.now (map standing blocks.now)).blocks address) (replicate 1024 0)) (arc_value block)) }
+        ensures changed { IfOk result (λ block. IsPutInto self.now.geometry (change_of change.now)
+            (unwrap_or (kept_at self.now.blocks address) (replicate 1024 0)) (arc_value block)) }
         ensures whole { IfOk result (λ block. IsBlock (arc_value block)) }
     {
         let geometry = self.frozen.geometry();
-        let mut block = spares.share(alloc, self.standing_at(blocks, address))?;
+        let mut block = spares.share(alloc, self.kept_or_zeroes(address))?;
         put_into(&mut block, &geometry, change)?;
         Ok(block)
     }
 
-    /// A block as it is with these in their places, and zeroes where it is none that is kept.
-    fn standing_at<'a>(&'a self, blocks: &'a [Placed], address: u32) -> &'a Block
+    /// A block as it is, and zeroes where it is none that is kept.
+    fn kept_or_zeroes(&self, address: u32) -> &Block
         requires { address < length self.now.blocks }
-        ensures { result.now ≡ unwrap_or (kept_at (with_blocks self.now (map standing blocks.now)).blocks address) (replicate 1024 0) }
+        ensures { result.now ≡ unwrap_or (kept_at self.now.blocks address) (replicate 1024 0) }
     {
-        if let Some(place) = last_at(blocks, address) {
-            return &blocks[place].block;
-        }
         match self.frozen.block(address) {
             Some(block) => block,
             None => &[0; BLOCK_BYTES],

@@ -45,6 +45,7 @@ fn changes_of_one_block_add_up(rt: HostRuntime) -> Result<(), Fail> {
     let staged = metadata.stage(alloc, &updates, &mut Spares::none(alloc))?;
     let bits = [Bit::Number(5, true), Bit::Number(15, true)];
     assert_eq!(rt; staged.bits.as_slice(), bits.as_slice());
+    assert_eq!(rt; staged.blocks.len(), 1);
     let last = staged.blocks.last().ok_or("no block")?;
     assert_eq!(rt;
         (last.address, last.block[32], last.block[33]),
