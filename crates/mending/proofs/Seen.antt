@@ -51,7 +51,7 @@ settled_mounted geo view =
     ∙ ap₂ (λ (n m : ℕ → Bool). record view { number_marked = n; block_marked = m })
     (fun_ext (λ i. and_true (view.number_marked i)))
     (fun_ext (λ a. and_true (view.block_marked a && not (any_below (inode_count geo) (λ i. false && claims geo view i a)))
-      ∙ ap (λ t. view.block_marked a && not t) (any_none (inode_count geo) (λ i. false && claims geo view i a) (λ i b. refl)) ∙ and_true (view.block_marked a)))
+    ∙ ap (λ t. view.block_marked a && not t) (any_none (inode_count geo) (λ i. false && claims geo view i a) (λ i b. refl)) ∙ and_true (view.block_marked a)))
 
 pub settled_disk : {D : Type 0} (image : List (List ℕ)) (live : Alive D) → pending_of live.queue ≡ [] → IsIdle live.holdings → settled live.kept.geometry (state_of image live nothing_beside) ≡ disk_of image live
 settled_disk image live none idle =
