@@ -12,6 +12,7 @@ use Rattle.model.specs.Layout.{Geometry, inode_count}
 use Rattle.model.specs.Metadata.{SameMetadata}
 use Rattle.model.specs.View.{View}
 use Rattle.machine.proofs.Decisions.{any_none}
+use Rattle.machine.specs.Below.{any_below}
 use Rattle.machine.proofs.Tests.{and_true}
 use Rattle.machine.specs.Cells.{claims}
 use Rattle.machine.specs.Snapshot.{is_orphan, settled, without}
