@@ -1,8 +1,9 @@
 -- Which refusals a call may give, whatever its device did: `Device` only where the device failed, else want of memory or a cause.
 use Rattle.std.proofs.Common.{◌≡◌, ◌⊎◌, ◌↔◌, ◌≤◌, ℕ, [], Ok, Err, Result, IfErr, MatchResult, Option, Some, None, inl, inr, refl, sym, ap, ◌∙◌, subst}
 use Rattle.std.specs.Prelude.{IsErrOf, IsOkUnless, IsSome, is_some, unwrap_or}
-use Rattle.std.specs.Option.{option_map}
-use Rattle.std.proofs.lemmas.Bool.{cond-true}
+use Rattle.std.specs.Bool.{then_some}
+use Rattle.std.specs.Option.{option_map, option_or}
+use Rattle.std.proofs.lemmas.Bool.{cond-true, le-leb}
 use Rattle.layout.specs.declared.refusal.Refusal.{Refusal}
 use Rattle.layout.specs.declared.refusal.Refusal.TheVariants.{BadIndex, Device, NoMemory, NoSnapshot, SnapshotStands, TraceFull}
 use Rattle.model.specs.Layout.{Geometry, block_count, is_data_address}
@@ -15,7 +16,6 @@ use Rattle.replies.proofs.Causes.{first_not_device, first_not_full}
 use Rattle.live_states.specs.Holdings.{Has, Holdings, IsImageOf, held_by, opened_by, plan_by}
 use Rattle.live_states.specs.Planned.{IsFirstCauseWith, IsRefused, IsRefusedWith}
 use Rattle.live.specs.Alive.{Alive, IsFirstCause}
-use Rattle.live.proofs.Flushes.{refuses_flush}
 use Rattle.snapshot.specs.declared.answer.Answer.{Answer}
 use Rattle.snapshot.specs.declared.command.Command.{Command}
 use Rattle.snapshot.specs.Asked.{asked}
@@ -113,6 +113,11 @@ module _ (failed : Type 0) (kept : Kept) (holdings : Holdings) (command : Reques
     pub of_device : (outcome : Result T Refusal) → IsOkUnless outcome Device → (IsErrOf outcome Device → failed) → IfErr outcome (Blames failed kept holdings command)
     of_device (Ok t) p has = p
     of_device (Err r) device has = by_device r (λ e. has (ap Err e)) device
+
+-- an address that is not on the volume
+refuses_flush : (geo : Geometry) (old : State) (a : ℕ) → block_count geo ≤ a → refusal_of geo old (Flush a) ≡ Some BadIndex
+unfolding causes
+refuses_flush geo old a high = ap (λ b. option_or (then_some b BadIndex) None) (le-leb (block_count geo) a high)
 
 -- a flush is refused for its block's address
 pub of_flush : (failed : Type 0) (kept : Kept) (holdings : Holdings) (a : ℕ) {T : Type 0} (outcome : Result T Refusal) → IfErr outcome (λ r. (r ≡ Device) ⊎ ((r ≡ BadIndex) × (block_count kept.geometry ≤ a))) → (IsErrOf outcome Device → failed)
