@@ -10,6 +10,15 @@ use Rattle.frozen.specs.Kept.{Kept, frozen_view, kept_bytes}
 use Rattle.fsck.specs.Checked.{CheckedImage}
 use Rattle.snapshot.specs.Asked.{check_of, is_same_geometry, no_image}
 
+pub same_as_itself : (geo : Geometry) (v : View) → SameMetadata geo v v
+same_as_itself geo v = record {
+  inode = λ i t. refl;
+  number_marked = λ i t. refl;
+  block_marked = λ a t. refl;
+  indirect_blocks = λ i a c. refl;
+  directory_blocks = λ d k a t c. refl;
+}
+
 pub other_metadata : (geo : Geometry) (v w : View) → SameMetadata geo v w → SameMetadata geo w v
 other_metadata geo v w m =
     let back = other_way (same_facts geo v w m) in

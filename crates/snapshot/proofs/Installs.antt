@@ -30,8 +30,9 @@ use Rattle.metadata.specs.Shown.{Shows}
 use Rattle.metadata.proofs.ShownLemmas.{shows_metadata}
 use Rattle.live_states.specs.Holdings.{Has, Holdings, IsImageOf, Repairs, plan_of}
 use Rattle.live_states.specs.Snapshots.{AreRepairsOf, IsInstallable, IsRepairOf, installing}
+use Rattle.live.specs.Alive.{Alive, IsSnapshotOf}
 use Rattle.snapshot.specs.Asked.{check_of}
-use Rattle.snapshot.proofs.Alike.{alike, alike_through, image_of_check, image_where_same, not_no_image}
+use Rattle.snapshot.proofs.Alike.{alike, alike_through, image_of_check, image_where_same, not_no_image, same_as_itself}
 
 -- ---- the causes of an install, in order
 
@@ -100,6 +101,10 @@ module _ (kept : Kept) (holdings : Holdings) (check : Check) where
       pub refused_foreign : list_all is_soft check.findings ≡ true → ((old : State) → Has holdings old → Belongs kept.geometry old (Install check) → ⊥) → HeldCause ForeignPlan
       unfolding causes_of
       refused_foreign e foreign old has = inr (to_soft old has ∙ ap (causes_of true false) e, foreign old has, refl)
+
+-- whatever users see, this is the first cause why a volume does not take the repairs of a check
+abbrev pub IsWhyNot : {D : Type 0} → CheckedImage → Refusal → Alive D → Type 0
+IsWhyNot checked r live = (old : State) → Has live.holdings old → FirstRefusal live.kept.geometry old (Install (check_of live.kept.geometry checked)) r
 
 -- ---- verdicts
 
@@ -221,3 +226,18 @@ module _ (kept : Kept) (holdings : Holdings) (checked : CheckedImage) (is : IsCh
         )
         | inr none ↦ not_no_image geo snapshot view ok same (shown view there.shows) (subst (SameMetadata geo view) none metadata)
       ]
+
+-- the image that was checked is the snapshot that stands
+module _ (kept : Kept) (holdings : Holdings) (checked : CheckedImage) (is : IsChecked checked.frozen.geometry (frozen_view checked.frozen) checked) (stands : holdings.snapshot ≡ Some checked.frozen)
+    (whole : IsSnapshotOf kept.geometry holdings.snapshot) where
+  own_whole : (checked.frozen.geometry ≡ kept.geometry) × KeepsMetadata checked.frozen
+  own_whole = subst (IsSnapshotOf kept.geometry) stands whole
+
+  own_metadata : SameMetadata checked.frozen.geometry (frozen_view checked.frozen) (frozen_view checked.frozen)
+  own_metadata = same_as_itself checked.frozen.geometry (frozen_view checked.frozen)
+
+  pub own_installable : holdings.repairs ≡ None → list_all is_soft checked.findings ≡ true → IsInstallable kept holdings (check_of kept.geometry checked) checked.repairs
+  own_installable = installable kept holdings checked is checked.frozen stands own_whole.0 own_whole.1 refl own_metadata
+
+  pub own_named : list_all is_soft checked.findings ≡ true → AreRepairsOf kept.geometry (installing holdings checked.repairs).repairs
+  own_named = repairs_named kept holdings checked is checked.frozen stands own_whole.0 own_whole.1 refl own_metadata

@@ -1,4 +1,4 @@
-ghost use Rattle.std.specs.Prelude.{◌≡◌, Err, IfErr, Ok, OnErr, OnOk};
+ghost use Rattle.std.specs.Prelude.{◌≡◌, ◌⊎◌, true, Err, IfErr, IsOkUnless, IsSome, None, Ok, OnErr, OnOk, Some};
 ghost use Rattle.std.specs.List.{list_all};
 ghost use Rattle.findings.specs.Findings.{is_soft};
 ghost use Rattle.machine.specs.Command.{Done, RepairAt};
@@ -33,7 +33,35 @@ impl<D: Device> Volume<D> {
         ensures untouched { OnErr result (self.new ≡ self.old) }
         ensures device { self.new.device ≡ self.old.device }
     {
-        may_install(&self.live, checked)?;
+        may_install(self.live(), checked)?;
+        self.take_repairs(alloc, checked)
+    }
+
+    /// Takes the repairs of a check as `install` does, where the image that was checked is the very snapshot that stands:
+    /// nothing is compared. Refused with `PlanStands`, with `PlanNotSoft`, and with `NoMemory`.
+    pub fn install_own(&mut self, alloc: Global, checked: &Checked) -> Result<(), Refusal>
+        requires own { self.old.holdings.snapshot ≡ Some checked.now.frozen }
+        ensures installed { OnOk result (D.honest self.new.device → GotReply D.held D.image self.old (asks_install self.old checked.now) (Ok Done) self.new) }
+        ensures refused { IfErr result (λ r. D.honest self.new.device → GotReply D.held D.image self.old (asks_install self.old checked.now) (Err r) self.new) }
+        ensures cause { IfErr result (IsRefusedWith self.old.kept self.old.holdings (asks_install self.old checked.now)) }
+        ensures error { IfErr result (λ r. (r ≡ Refusal.PlanStands) ⊎ ((r ≡ Refusal.PlanNotSoft) ⊎ (r ≡ Refusal.NoMemory))) }
+        ensures untouched { OnErr result (self.new ≡ self.old) }
+        ensures device { self.new.device ≡ self.old.device }
+    {
+        may_install_own(self.live(), checked)?;
+        self.take_repairs(alloc, checked)
+    }
+
+    /// Takes the repairs of a check that may be installed, none of them done.
+    fn take_repairs(&mut self, alloc: Global, checked: &Checked) -> Result<(), Refusal>
+        requires installable { IsInstallable self.old.kept self.old.holdings (check_of self.old.kept.geometry checked.now) checked.now.repairs }
+        requires named { AreRepairsOf self.old.kept.geometry (installing self.old.holdings checked.now.repairs).repairs }
+        ensures installed { OnOk result (D.honest self.new.device → GotReply D.held D.image self.old (asks_install self.old checked.now) (Ok Done) self.new) }
+        ensures refused { IfErr result (λ r. D.honest self.new.device → GotReply D.held D.image self.old (asks_install self.old checked.now) (Err r) self.new) }
+        ensures error { IsOkUnless result Refusal.NoMemory }
+        ensures untouched { OnErr result (self.new ≡ self.old) }
+        ensures device { self.new.device ≡ self.old.device }
+    {
         let repairs = checked.repairs().to_vec(alloc)?;
         let outcome = self.live.install(alloc, repairs);
         self.live.device();
@@ -67,15 +95,43 @@ fn may_install<D: Device>(live: &Live<D>, checked: &Checked) -> Result<(), Refus
     let Some(snapshot) = live.snapshot() else {
         return Err(Refusal::NoSnapshot);
     };
+    may_mend(live, checked)?;
+    tells_its_image(checked);
+    if !have_same_metadata(snapshot, checked.frozen()) {
+        return Err(Refusal::ForeignPlan);
+    }
+    Ok(())
+}
+
+/// Whether the repairs of a check may be taken, where the snapshot that stands is the image that was checked.
+fn may_install_own<D: Device>(live: &Live<D>, checked: &Checked) -> Result<(), Refusal>
+    requires { live.now.holdings.snapshot ≡ Some checked.now.frozen }
+    ensures installable { OnOk result (IsInstallable live.now.kept live.now.holdings (check_of live.now.kept.geometry checked.now) checked.now.repairs) }
+    ensures named { OnOk result (AreRepairsOf live.now.kept.geometry (installing live.now.holdings checked.now.repairs).repairs) }
+    ensures refused { IfErr result (λ r. (old : State) → Has live.now.holdings old
+        → FirstRefusal live.now.kept.geometry old (asks_install live.now checked.now) r) }
+    ensures error { IfErr result (λ r. (r ≡ Refusal.PlanStands) ⊎ (r ≡ Refusal.PlanNotSoft)) }
+{
+    may_mend(live, checked)?;
+    live.snapshot(); // for the proof: its clause `whole`
+    tells_its_image(checked);
+    Ok(())
+}
+
+/// Whether no check is installed in a volume whose snapshot stands, and repairs mend all that this check found.
+fn may_mend<D: Device>(live: &Live<D>, checked: &Checked) -> Result<(), Refusal>
+    requires { IsSome live.now.holdings.snapshot }
+    ensures unplanned { OnOk result (live.now.holdings.repairs ≡ None) }
+    ensures soft { OnOk result (list_all is_soft checked.now.findings ≡ true) }
+    ensures refused { IfErr result (λ r. (old : State) → Has live.now.holdings old
+        → FirstRefusal live.now.kept.geometry old (asks_install live.now checked.now) r) }
+    ensures error { IfErr result (λ r. (r ≡ Refusal.PlanStands) ⊎ (r ≡ Refusal.PlanNotSoft)) }
+{
     if live.repair_count().is_some() {
         return Err(Refusal::PlanStands);
     }
     if !is_mendable(checked) {
         return Err(Refusal::PlanNotSoft);
-    }
-    tells_its_image(checked);
-    if !have_same_metadata(snapshot, checked.frozen()) {
-        return Err(Refusal::ForeignPlan);
     }
     Ok(())
 }

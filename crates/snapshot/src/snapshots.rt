@@ -8,7 +8,7 @@ ghost use Rattle.machine.specs.Snapshot.{settled};
 ghost use Rattle.metadata.specs.Shown.{Shows};
 ghost use Rattle.softdep.specs.Queued.{pending_of};
 ghost use Rattle.live_states.specs.Holdings.{Beside, IsImageOf};
-ghost use Rattle.live_states.specs.Snapshots.{IsSettled};
+ghost use Rattle.live_states.specs.Snapshots.{IsSettled, keeping};
 ghost use Rattle.live.specs.Alive.{StandsSo, state_of};
 ghost use Rattle.live.specs.Seen.{Flushed};
 ghost use Rattle.snapshot.specs.Between.{Froze, GotReply, Released, WroteLeast};
@@ -41,14 +41,40 @@ impl<D: Device> Volume<D> {
         ensures cause { IsErrOf result Refusal.Device → HasFailed (D.failures self.old.device) (D.failures self.new.device) }
         ensures honest { D.honest self.new.device → D.honest self.old.device }
     {
+        if has_snapshot(self.live()) {
+            return Err(Refusal::SnapshotStands);
+        }
+        let Shared { kept, given } = shared_view(alloc, self.live())?;
+        self.freeze_as(kept)?;
+        Ok(given)
+    }
+
+    /// A snapshot begins as by `freeze`, where the caller has the metadata of its image already: nothing is copied. Refused
+    /// with `SnapshotStands`, and then nothing changed; and with `Device`, and then what was written before stays written.
+    pub fn freeze_as(&mut self, snapshot: Arc<Frozen>) -> Result<(), Refusal>
+        requires settled { IsSettled self.old.kept self.old.holdings (arc_value snapshot) }
+        requires shown { D.honest self.old.device → (beside : Beside) → IsImageOf self.old.holdings.snapshot beside.frozen
+            → Shows (arc_value snapshot) (settled self.old.kept.geometry (state_of (D.image self.old.device) self.old beside)) }
+        requires whole { ((arc_value snapshot).geometry ≡ self.old.kept.geometry) × KeepsMetadata (arc_value snapshot) }
+        ensures frozen { OnOk result (D.honest self.new.device → Froze D.held D.image self.old (arc_value snapshot) self.new) }
+        // Whatever the device did, this is the snapshot that stands, and users see what they saw.
+        ensures keeps { OnOk result ((self.new.kept ≡ self.old.kept) × (self.new.holdings ≡ keeping self.old.holdings (arc_value snapshot))) }
+        ensures refused { IfErr result (λ r. D.honest self.new.device → GotReply D.held D.image self.old Freeze (Err r) self.new) }
+        ensures untouched { OnErr result ((self.new.kept ≡ self.old.kept) × (self.new.holdings ≡ self.old.holdings)) }
+        ensures writes { D.honest self.new.device → WroteLeast D.held D.image self.old self.new }
+        ensures stands { IsErrOf result Refusal.SnapshotStands ↔ IsSome self.old.holdings.snapshot }
+        ensures standing { IsErrOf result Refusal.SnapshotStands → self.new ≡ self.old }
+        ensures error { IfErr result (λ r. (r ≡ Refusal.SnapshotStands) ⊎ (r ≡ Refusal.Device)) }
+        ensures cause { IsErrOf result Refusal.Device → HasFailed (D.failures self.old.device) (D.failures self.new.device) }
+        ensures honest { D.honest self.new.device → D.honest self.old.device }
+    {
         if has_snapshot(&self.live) {
             return Err(Refusal::SnapshotStands);
         }
-        let Shared { kept, given } = shared_view(alloc, &self.live)?;
         write_all(&mut self.live)?;
-        self.live.keep(kept);
+        self.live.keep(snapshot);
         self.live.device();
-        Ok(given)
+        Ok(())
     }
 
     /// The bytes that a file had in its block of this index when the snapshot began. Refused with `NoSnapshot`, with

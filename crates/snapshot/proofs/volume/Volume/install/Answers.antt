@@ -1,95 +1,30 @@
-use Rattle.std.proofs.Common.{◌≡◌, ℕ, List, [], Ok, Err, Result, OnErr, OnOk, IfErr, inl, inr, refl, sym, ◌∙◌, subst}
-use Rattle.std.proofs.lemmas.Result.{err_from_is_err_and}
-use Rattle.layout.specs.declared.refusal.Refusal.{Refusal}
-use Rattle.layout.specs.declared.refusal.Refusal.TheVariants.{NoMemory}
-use Rattle.findings.specs.declared.repair.Repair.{Repair}
-use Rattle.machine.specs.Command.{Check, Done, Install}
+use Rattle.std.proofs.Common.{inl, inr, refl, subst}
+use Rattle.std.proofs.lemmas.Result.{err_from_is_err_and, IfErr-weaker}
+use Rattle.machine.specs.Command.{Install}
 use Rattle.softdep.specs.Queued.{pending_of}
-use Rattle.live_states.specs.Planned.{IsQuietlyDone, IsRefusedWith}
-use Rattle.live_states.specs.Snapshots.{AreRepairsOf, IsInstallable, installing}
-use Rattle.live_states.proofs.Installing.{installed_quietly}
 use Rattle.live_states.proofs.Standing.{has}
-use Rattle.live.specs.Alive.{Alive, Answers, StandsSo, disk_of}
+use Rattle.live.specs.Alive.{disk_of}
 use Rattle.snapshot.specs.Asked.{check_of}
-use Rattle.snapshot.specs.Goes.{HasBeside, Replies}
-use Rattle.snapshot.proofs.CallLemmas.{if_err, kept_ok, on_ok, quiet_ok, same_err, same_device}
+use Rattle.snapshot.proofs.CallLemmas.{same_err}
+use Rattle.snapshot.proofs.Installs.{IsWhyNot}
 use Rattle.snapshot.proofs.volume.Volume.install.Goals as goal
 
 pub returns-in_err-may_install-clause-refused : goal.returns-in_err-may_install-clause-refused
 returns-in_err-may_install-clause-refused g c =
     let p = err_from_is_err_and c.from_residual.result c.from_residual.ensures.1 in
-    let old = c.self.inside.live in
+    let old = c.args.self.now in
+    let checked = c.args.checked.now in
     let r = c.in_err-may_install.field-0.0 in
-    let command = Install (check_of old.kept.geometry c.args.checked.now) in
+    let why : IsWhyNot checked r old = subst (IsWhyNot checked r) c.live.ensures.live c.in_err-may_install.ensures.refused in
     rw (p.1, p.2)
-    (λ h. subst (λ (l : Alive _). Replies (g.D.Device.held l.device) (g.D.Device.image l.device) l (Install (check_of l.kept.geometry c.args.checked.now)) (Err r) (g.D.Device.held l.device) (g.D.Device.image l.device) l) c.self.view_is
-    (same_err g.D.Device.honest g.D.Device.held g.D.Device.image old old command r refl
-    (λ beside is. inr (inr (c.in_err-may_install.ensures.refused _ (has (disk_of (g.D.Device.image old.device) old) (pending_of old.queue) old.holdings beside is.belongs))))))
+    (λ h. same_err g.D.Device.honest g.D.Device.held g.D.Device.image old old (Install (check_of old.kept.geometry checked)) r refl
+    (λ beside is. inr (inr (why _ (has (disk_of (g.D.Device.image old.device) old) (pending_of old.queue) old.holdings beside is.belongs)))))
 
 pub returns-in_err-may_install-clause-cause : goal.returns-in_err-may_install-clause-cause
 returns-in_err-may_install-clause-cause g c =
     let p = err_from_is_err_and c.from_residual.result c.from_residual.ensures.1 in
-    let r = c.in_err-may_install.field-0.0 in
-    rw (p.1, p.2)
-    (subst (λ (l : Alive _). IsRefusedWith l.kept l.holdings (Install (check_of l.kept.geometry c.args.checked.now)) r) c.self.view_is (inr (λ old shows has. c.in_err-may_install.ensures.refused old has)))
+    let why = subst (IsWhyNot c.args.checked.now c.in_err-may_install.field-0.0) c.live.ensures.live c.in_err-may_install.ensures.refused in
+    rw (p.1, p.2) (inr (λ old shows has. why old has))
 
-pub returns-in_err-repairs-clause-refused : goal.returns-in_err-repairs-clause-refused
-returns-in_err-repairs-clause-refused g c =
-    let p = err_from_is_err_and c.from_residual-in_err-repairs.result c.from_residual-in_err-repairs.ensures.1 in
-    let old = c.self.inside.live in
-    rw (p.1, p.2)
-    (λ h. subst (λ (l : Alive _). Replies (g.D.Device.held l.device) (g.D.Device.image l.device) l (Install (check_of l.kept.geometry c.args.checked.now)) (Err NoMemory) (g.D.Device.held l.device) (g.D.Device.image l.device) l) c.self.view_is
-    (same_err g.D.Device.honest g.D.Device.held g.D.Device.image old old (Install (check_of old.kept.geometry c.args.checked.now)) NoMemory refl (λ beside is. inl refl)))
-
-pub install-outcome-requires-clause-check : goal.install-outcome-requires-clause-check
-install-outcome-requires-clause-check g c =
-    let old = c.self.inside.live in
-    let check = check_of old.kept.geometry c.args.checked.now in
-    let items : c.in_ok-repairs.repairs.items ≡ c.args.checked.now.repairs = c.in_ok-repairs.ensures.items_if_clones_equal (λ x y e. e) ∙ c.repairs.ensures.repairs in
-    (check, subst (λ l. IsQuietlyDone old.kept old.holdings [] (Install check) Done (installing old.holdings l)) (sym items) (installed_quietly old.kept old.holdings check c.args.checked.now.repairs c.in_ok-may_install.ensures.installable))
-
-pub install-outcome-requires-clause-repairs : goal.install-outcome-requires-clause-repairs
-install-outcome-requires-clause-repairs g c =
-    let old = c.self.inside.live in
-    let items : c.in_ok-repairs.repairs.items ≡ c.args.checked.now.repairs = c.in_ok-repairs.ensures.items_if_clones_equal (λ x y e. e) ∙ c.repairs.ensures.repairs in
-    subst (λ l. AreRepairsOf old.kept.geometry (installing old.holdings l).repairs) (sym items) c.in_ok-may_install.ensures.named
-
-module _ {D : Type 0} {T : Type 0} (honest : D → Type 0) (held_of : D → List (List (List ℕ))) (image_of : D → List (List ℕ)) (old new : Alive D) (check : Check) (list items : List Repair) (same : items ≡ list)
-    (installable : IsInstallable old.kept old.holdings check list) (outcome : Result T Refusal)
-    (done : OnOk outcome ((check : Check) → IsQuietlyDone old.kept old.holdings [] (Install check) Done (installing old.holdings items) → honest old.device → Answers (image_of old.device) old (Install check) Done (image_of new.device) new []))
-    (installed : OnOk outcome (new ≡ record old { holdings = installing old.holdings items })) (untouched : OnErr outcome (new ≡ old)) (so : honest new.device → StandsSo (image_of new.device) new) where
-  quietly_done : IsQuietlyDone old.kept old.holdings [] (Install check) Done (installing old.holdings items)
-  quietly_done = subst (λ l. IsQuietlyDone old.kept old.holdings [] (Install check) Done (installing old.holdings l)) (sym same) (installed_quietly old.kept old.holdings check list installable)
-
-  device : new.device ≡ old.device
-  device = same_device old new (installing old.holdings items) outcome installed untouched
-
-  installs : OnOk outcome (honest new.device → Replies (held_of old.device) (image_of old.device) old (Install check) (Ok Done) (held_of new.device) (image_of new.device) new)
-  installs = on_ok (λ d. quiet_ok honest held_of image_of old new (Install check) Done device so (d check quietly_done)) outcome done
-
-  keeps : (honest old.device → HasBeside (image_of old.device) old) → honest new.device → HasBeside (image_of new.device) new
-  keeps has = kept_ok honest held_of image_of old new (Install check) Done outcome installs untouched has (subst honest device)
-
-pub invariant_of-self : goal.invariant_of-self
-invariant_of-self g c =
-    let old = c.self.inside.live in
-    let o = c.install-outcome.ensures in
-    keeps g.D.Device.honest g.D.Device.held g.D.Device.image old c.install-outcome.new.self (check_of old.kept.geometry c.args.checked.now) c.args.checked.now.repairs c.in_ok-repairs.repairs.items
-    (c.in_ok-repairs.ensures.items_if_clones_equal (λ x y e. e) ∙ c.repairs.ensures.repairs) c.in_ok-may_install.ensures.installable c.install-outcome.result o.done o.installed o.untouched c.device.ensures.stands c.self.invariant
-
-pub returns-clause-installed : goal.returns-clause-installed
-returns-clause-installed g c =
-    let old = c.self.inside.live in
-    let new = c.install-outcome.new.self in
-    let o = c.install-outcome.ensures in
-    subst (λ (l : Alive _). OnOk c.install-outcome.result (g.D.Device.honest new.device → Replies (g.D.Device.held l.device) (g.D.Device.image l.device) l (Install (check_of l.kept.geometry c.args.checked.now)) (Ok Done) (g.D.Device.held new.device) (g.D.Device.image new.device) new)) c.self.view_is
-    (installs g.D.Device.honest g.D.Device.held g.D.Device.image old new (check_of old.kept.geometry c.args.checked.now) c.args.checked.now.repairs c.in_ok-repairs.repairs.items
-    (c.in_ok-repairs.ensures.items_if_clones_equal (λ x y e. e) ∙ c.repairs.ensures.repairs) c.in_ok-may_install.ensures.installable c.install-outcome.result o.done o.installed o.untouched c.device.ensures.stands)
-
-pub returns-clause-refused : goal.returns-clause-refused
-returns-clause-refused g c =
-    let old = c.self.inside.live in
-    let new = c.install-outcome.new.self in
-    let o = c.install-outcome.ensures in
-    subst (λ (l : Alive _). IfErr c.install-outcome.result (λ r. g.D.Device.honest new.device → Replies (g.D.Device.held l.device) (g.D.Device.image l.device) l (Install (check_of l.kept.geometry c.args.checked.now)) (Err r) (g.D.Device.held new.device) (g.D.Device.image new.device) new)) c.self.view_is
-    (if_err (λ r none same h. same_err g.D.Device.honest g.D.Device.held g.D.Device.image old new (Install (check_of old.kept.geometry c.args.checked.now)) r same (λ beside is. inl none)) c.install-outcome.result o.error o.untouched)
+pub returns-clause-cause : goal.returns-clause-cause
+returns-clause-cause g c = IfErr-weaker c.take_repairs.result _ _ (λ r memory. inl memory) c.take_repairs.ensures.error
