@@ -42,6 +42,15 @@ impl<D: Device> Live<D> {
         self.metadata.frozen()
     }
 
+    /// None of the metadata in memory is missing, and where the device was honest so far, they are those that users see: a
+    /// law, for a proof.
+    pub fn keeps_metadata(&self)
+        ensures whole { KeepsMetadata self.now.kept }
+        ensures shown { D.honest self.now.device → Shows self.now.kept (seen_of D.image self.now) }
+    {
+        self.metadata.frozen();
+    }
+
     /// The metadata of the image that a check is to see: that of users, without the open files that have no name, and with
     /// the blocks unmarked that are held for a snapshot. The blocks of metadata that do not differ are shared. Refused with
     /// `NoMemory` alone.
