@@ -4,12 +4,9 @@ ghost use Rattle.device.specs.Writes.{HasFailed};
 ghost use Rattle.frozen.specs.Kept.{KeepsMetadata};
 ghost use Rattle.model.specs.Layout.{is_data_address};
 ghost use Rattle.machine.specs.Command.{Bytes, Freeze, Release, SnapRead};
-ghost use Rattle.machine.specs.Snapshot.{settled};
-ghost use Rattle.metadata.specs.Shown.{Shows};
 ghost use Rattle.softdep.specs.Queued.{pending_of};
-ghost use Rattle.live_states.specs.Holdings.{Beside, IsImageOf};
 ghost use Rattle.live_states.specs.Snapshots.{IsSettled, keeping};
-ghost use Rattle.live.specs.Alive.{StandsSo, state_of};
+ghost use Rattle.live.specs.Alive.{StandsSo};
 ghost use Rattle.live.specs.Seen.{Flushed};
 ghost use Rattle.snapshot.specs.Between.{Froze, GotReply, Released, WroteLeast};
 ghost use Rattle.snapshot.specs.Pieces.{IsPieceOfSnapshot};
@@ -53,8 +50,6 @@ impl<D: Device> Volume<D> {
     /// with `SnapshotStands`, and then nothing changed; and with `Device`, and then what was written before stays written.
     pub fn freeze_as(&mut self, snapshot: Arc<Frozen>) -> Result<(), Refusal>
         requires settled { IsSettled self.old.kept self.old.holdings (arc_value snapshot) }
-        requires shown { D.honest self.old.device → (beside : Beside) → IsImageOf self.old.holdings.snapshot beside.frozen
-            → Shows (arc_value snapshot) (settled self.old.kept.geometry (state_of (D.image self.old.device) self.old beside)) }
         requires whole { ((arc_value snapshot).geometry ≡ self.old.kept.geometry) × KeepsMetadata (arc_value snapshot) }
         ensures frozen { OnOk result (D.honest self.new.device → Froze D.held D.image self.old (arc_value snapshot) self.new) }
         // Whatever the device did, this is the snapshot that stands, and users see what they saw.
@@ -71,6 +66,7 @@ impl<D: Device> Volume<D> {
         if has_snapshot(&self.live) {
             return Err(Refusal::SnapshotStands);
         }
+        self.live.keeps_metadata();
         write_all(&mut self.live)?;
         self.live.keep(snapshot);
         self.live.device();
@@ -165,8 +161,6 @@ struct Shared {
 /// What a check is to see of a volume.
 fn shared_view<D: Device>(alloc: Global, live: &Live<D>) -> Result<Shared, Refusal>
     ensures settled { IfOk result (λ shared. IsSettled live.now.kept live.now.holdings (arc_value shared.kept)) }
-    ensures shown { IfOk result (λ shared. D.honest live.now.device → (beside : Beside) → IsImageOf live.now.holdings.snapshot beside.frozen
-        → Shows (arc_value shared.kept) (settled live.now.kept.geometry (state_of (D.image live.now.device) live.now beside))) }
     ensures whole { IfOk result (λ shared. ((arc_value shared.kept).geometry ≡ live.now.kept.geometry) × KeepsMetadata (arc_value shared.kept)) }
     ensures given { IfOk result (λ shared. arc_value shared.given ≡ arc_value shared.kept) }
     ensures error { IsOkUnless result Refusal.NoMemory }

@@ -13,7 +13,9 @@ use Rattle.softdep.specs.Queued.{pending_of}
 use Rattle.softdep.specs.Syncing.{AreFlushes}
 use Rattle.live_states.specs.Holdings.{Beside, IsImageOf}
 use Rattle.live_states.specs.Snapshots.{IsSettled, keeping}
-use Rattle.live.specs.Alive.{Alive, StandsSo, state_of}
+use Rattle.live_states.proofs.Standing.{has}
+use Rattle.live.specs.Alive.{Alive, StandsSo, disk_of, state_of}
+use Rattle.live.specs.Seen.{seen_of}
 use Rattle.snapshot.specs.Goes.{Freezes, HasBeside, Replies}
 use Rattle.snapshot.proofs.CallLemmas.{same_err}
 use Rattle.snapshot.proofs.Standing.{none_frozen, refuses_freeze}
@@ -50,6 +52,12 @@ IsWhole live snapshot = (snapshot.geometry ≡ live.kept.geometry) × KeepsMetad
 abbrev IsShown : {D : Type 0} → (D → Type 0) → (D → List (List ℕ)) → Alive D → Kept → Type 0
 IsShown honest image_of live snapshot = honest live.device → (beside : Beside) → IsImageOf live.holdings.snapshot beside.frozen
     → Shows snapshot (settled live.kept.geometry (state_of (image_of live.device) live beside))
+
+-- where it is settled, it is what a check is to see
+is_shown : {D : Type 0} (honest : D → Type 0) (image_of : D → List (List ℕ)) (live : Alive D) (snapshot : Kept) → IsSettled live.kept live.holdings snapshot → (honest live.device → Shows live.kept (seen_of image_of live))
+    → IsShown honest image_of live snapshot
+is_shown honest image_of live snapshot settled shown h beside belongs =
+    settled (state_of (image_of live.device) live beside) (shown h) (has (disk_of (image_of live.device) live) (pending_of live.queue) live.holdings beside belongs)
 
 pub keep-requires-clause-settled : goal.keep-requires-clause-settled
 keep-requires-clause-settled g c =
@@ -88,7 +96,8 @@ invariant_of-self-2 g c =
     let mid = c.write_all.new.live in
     let snapshot = arc_value c.args.snapshot in
     then_beside g.D.Device.honest g.D.Device.held g.D.Device.image c.self.inside.live mid c.keep.new.self e.metadata e.holdings e.flushes e.stands (sym c.has_snapshot.ensures ∙ c.if-has_snapshot.false) e.pending
-    snapshot c.keep.ensures.kept e.honest (subst (λ (l : Alive _). IsShown g.D.Device.honest g.D.Device.image l snapshot) (sym c.self.view_is) c.requires.shown) c.keep.ensures.frozen c.device.ensures.stands c.self.invariant
+    snapshot c.keep.ensures.kept e.honest (is_shown g.D.Device.honest g.D.Device.image c.self.inside.live snapshot
+    (subst (λ (l : Alive _). IsSettled l.kept l.holdings snapshot) (sym c.self.view_is) c.requires.settled) c.keeps_metadata.ensures.shown) c.keep.ensures.frozen c.device.ensures.stands c.self.invariant
 
 pub returns-clause-frozen : goal.returns-clause-frozen
 returns-clause-frozen g c =
@@ -98,7 +107,8 @@ returns-clause-frozen g c =
     let snapshot = arc_value c.args.snapshot in
     λ h. subst (λ (l : Alive _). Freezes (g.D.Device.held l.device) (g.D.Device.image l.device) l snapshot (g.D.Device.held new.device) (g.D.Device.image new.device) new) c.self.view_is
     (is_frozen g.D.Device.honest g.D.Device.held g.D.Device.image c.self.inside.live mid new e.metadata e.holdings e.flushes e.stands (sym c.has_snapshot.ensures ∙ c.if-has_snapshot.false) e.pending
-    snapshot c.keep.ensures.kept e.honest (subst (λ (l : Alive _). IsShown g.D.Device.honest g.D.Device.image l snapshot) (sym c.self.view_is) c.requires.shown) c.keep.ensures.frozen c.device.ensures.stands h)
+    snapshot c.keep.ensures.kept e.honest (is_shown g.D.Device.honest g.D.Device.image c.self.inside.live snapshot
+    (subst (λ (l : Alive _). IsSettled l.kept l.holdings snapshot) (sym c.self.view_is) c.requires.settled) c.keeps_metadata.ensures.shown) c.keep.ensures.frozen c.device.ensures.stands h)
 
 -- ---- what it wrote
 
