@@ -194,7 +194,7 @@ fn mend_volume<D: Device>(
     requires pending { pending_of volume.old.queue ≡ [] }
     requires idle { IsIdle volume.old.holdings }
     requires mounted { D.honest volume.old.device → IsMountable volume.old.kept.geometry (D.image volume.old.device) }
-    requires geometry { checked.now.frozen.geometry ≡ volume.old.kept.geometry }
+    requires kept { volume.old.kept ≡ checked.now.frozen }
     requires loaded { D.honest volume.old.device → IsKeptOf checked.now.frozen (D.image volume.old.device) }
     ensures repaired { IfOk result (λ answer. D.honest volume.new.device
         → IsRepaired (D.image volume.old.device) answer.text.items answer.status (Mended volume.new) (D.image volume.new.device)) }

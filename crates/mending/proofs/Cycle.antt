@@ -11,7 +11,7 @@ use Rattle.findings.specs.declared.finding.Finding.{Finding}
 use Rattle.findings.specs.declared.repair.Repair.{Repair}
 use Rattle.model.specs.Layout.{Geometry}
 use Rattle.model.specs.View.{View}
-use Rattle.machine.specs.Command.{Answer, Check, Command, Done, Freeze, Image, Install, RepairAt, Release, Reply, Sync}
+use Rattle.machine.specs.Command.{Answer, Check, Command, Done, Freeze, Image, Install, RepairAt, Release, Sync}
 use Rattle.machine.specs.Runs.{IsTaken}
 use Rattle.machine.specs.State.{State}
 use Rattle.machine.specs.Step.{Run, Step}

@@ -1,5 +1,5 @@
 -- A volume that was just mounted may be mended once it is frozen and checked.
-use Rattle.std.proofs.Common.{◌≡◌, ◌↔◌, ℕ, Bool, true, false, eqb, List, [], ◌∷◌, length, Ok, Option, Some, None, inl, inr, refl, sym, ap, ◌∙◌, subst, arith}
+use Rattle.std.proofs.Common.{◌≡◌, ◌↔◌, ℕ, true, List, [], ◌∷◌, length, Ok, Option, Some, None, inl, inr, refl, sym, ap, ◌∙◌, subst, arith}
 use Rattle.std.specs.Prelude.{◌==◌, if◌then◌else◌, IsSome}
 use Rattle.std.specs.List.{list_all}
 use Rattle.std.proofs.lemmas.Bool.{cases_Bool, cond-false, eqb-true}
@@ -22,7 +22,7 @@ use Rattle.machine.specs.State.{State}
 use Rattle.machine.specs.Step.{Run}
 use Rattle.softdep.specs.Queued.{pending_of}
 use Rattle.live_states.specs.Holdings.{IsIdle, IsImageOf}
-use Rattle.snapshot.specs.Alive.{Alive, disk_of, state_of}
+use Rattle.snapshot.specs.Alive.{Alive, state_of}
 use Rattle.snapshot.specs.Asked.{check_of}
 use Rattle.snapshot.specs.Goes.{Freezes, IsBeside}
 use Rattle.snapshot.specs.Mounting.{IsMountable}

@@ -14,12 +14,14 @@ use Rattle.model.specs.View.{View}
 use Rattle.machine.proofs.Decisions.{any_none}
 use Rattle.machine.specs.Below.{any_below}
 use Rattle.machine.proofs.Tests.{and_true}
+use Rattle.machine.specs.Below.{any_below}
 use Rattle.machine.specs.Cells.{claims}
 use Rattle.machine.specs.Snapshot.{is_orphan, settled, without}
 use Rattle.machine.specs.State.{handle_count, mounted, open_at}
 use Rattle.softdep.specs.Queued.{pending_of}
 use Rattle.live_states.proofs.Standing.{idle_mounted}
-use Rattle.live_states.specs.Holdings.{Beside, IsIdle, IsImageOf}
+use Rattle.live_states.specs.Holdings.{Beside, Holdings, IsIdle, IsImageOf}
+use Rattle.live_states.specs.Snapshots.{IsSettled}
 use Rattle.live_states.specs.Volume.{state_over}
 use Rattle.snapshot.specs.Alive.{Alive, disk_of, state_of}
 use Rattle.snapshot.specs.Goes.{IsBeside}
@@ -58,6 +60,16 @@ pub settled_disk : {D : Type 0} (image : List (List ℕ)) (live : Alive D) → p
 settled_disk image live none idle =
     let disk = disk_of image live in
     ap (settled live.kept.geometry) (ap (λ q. state_over disk q live.holdings nothing_beside) none ∙ sym (idle_mounted disk live.holdings idle)) ∙ settled_mounted live.kept.geometry disk
+
+-- so what it keeps is what a check is to see
+pub settled_idle : (kept : Kept) (holdings : Holdings) → IsIdle holdings → IsSettled kept holdings kept
+settled_idle kept holdings idle old shows has =
+    let geo = kept.geometry in
+    let same : settled geo old ≡ old.view =
+    ap₂ (λ (o : ℕ → Option ℕ) (h : ℕ → Bool). settled geo (record old { opened = o; held = h })) has.opened has.held
+    ∙ ap (settled geo) (sym (idle_mounted old.view holdings idle)) ∙ settled_mounted geo old.view
+    in
+    subst (Shows kept) (sym same) shows
 
 -- ---- a check of the snapshot is one of its image
 

@@ -2,7 +2,7 @@
 //! volume is written; then a check of its device finds nothing.
 #![tactic(auto)]
 
-ghost use Rattle.std.specs.Prelude.{◌≡◌, [], IfErr, IfOk, IsOkUnless, IsSome, IsTrue, OnOk};
+ghost use Rattle.std.specs.Prelude.{◌≡◌, [], IfErr, IfOk, IsOkUnless, IsSome, IsTrue, OnOk, Some};
 ghost use Rattle.std.specs.Arc.{arc_value};
 ghost use Rattle.findings.specs.Findings.{AreFindings};
 ghost use Rattle.frozen.specs.Kept.{IsKeptOf};
@@ -66,7 +66,7 @@ pub fn mend<D: Device, G: Gate>(
 }
 
 /// Mends a volume that was just mounted as `mend` does, by a check of its image that was made before: that is not checked
-/// again. Refused as `mend`.
+/// again, and the snapshot that is mended is that image, of which nothing is copied and nothing compared. Refused as `mend`.
 pub fn mend_checked<D: Device>(
     alloc: Global,
     volume: &mut Volume<D>,
@@ -75,7 +75,8 @@ pub fn mend_checked<D: Device>(
     requires pending { pending_of volume.old.queue ≡ [] }
     requires idle { IsIdle volume.old.holdings }
     requires mounted { D.honest volume.old.device → IsMountable volume.old.kept.geometry (D.image volume.old.device) }
-    requires geometry { checked.now.frozen.geometry ≡ volume.old.kept.geometry }
+    // The check is of the very metadata that the volume was mounted with.
+    requires kept { volume.old.kept ≡ checked.now.frozen }
     requires loaded { D.honest volume.old.device → IsKeptOf checked.now.frozen (D.image volume.old.device) }
     // Where the device was honest, a check finds nothing on the image that it now holds.
     ensures clean { OnOk result (D.honest volume.new.device
@@ -90,8 +91,9 @@ pub fn mend_checked<D: Device>(
     mended_images_are_clean::<D>();
     fsck::damaged_where_a_rule_is_broken();
     snapshot::tells_its_image(checked);
-    volume.live();
-    volume.freeze(alloc)?;
+    volume.live().keeps_metadata();
+    let snapshot = checked.frozen().clone()?;
+    volume.freeze_as(snapshot)?;
     mend_frozen(alloc, volume, checked)?;
     Ok(())
 }
@@ -114,20 +116,21 @@ fn check_snapshot<D: Device, G: Gate>(
     fsck::check(rt, alloc, snapshot, workers, gate)
 }
 
-/// Mends a volume of which a snapshot stands, by a check of it: carries out each of its repairs, releases the snapshot, and
-/// writes all.
+/// Mends a volume by a check of the snapshot that stands: carries out each of its repairs, releases the snapshot, and writes
+/// all.
 fn mend_frozen<D: Device>(
     alloc: Global,
     volume: &mut Volume<D>,
     checked: &Checked,
 ) -> Result<(), Refusal>
+    requires { volume.old.holdings.snapshot ≡ Some checked.now.frozen }
     ensures mends { OnOk result (D.honest volume.new.device → MendsFrozen D.held D.image volume.old checked.now volume.new) }
     ensures error { IfErr result (λ r. D.honest volume.new.device → MayMend D.image volume.old checked.now → GivesOut r) }
     ensures honest { D.honest volume.new.device → D.honest volume.old.device }
 {
     snapshot::calls_join::<D>();
     findings::findings_are_unique();
-    volume.install(alloc, checked)?;
+    volume.install_own(alloc, checked)?;
     repair_all(alloc, volume, checked.repairs().len())?;
     volume.release(alloc)?;
     volume.apply(alloc, &Command::Sync)?;

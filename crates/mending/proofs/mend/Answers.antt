@@ -1,4 +1,4 @@
-use Rattle.std.proofs.Common.{◌≡◌, ◌∙◌, inl, refl, subst, sym}
+use Rattle.std.proofs.Common.{◌≡◌, ◌∙◌, Some, ap, inl, refl, subst, sym}
 use Rattle.std.specs.Arc.{arc_value}
 use Rattle.std.proofs.lemmas.Result.{err_from_is_err_and}
 use Rattle.fsck.specs.Checked.{CheckedImage, IsChecked}
@@ -36,6 +36,11 @@ returns-in_err-check_snapshot-clause-error g c =
     let beside = c.live.ensures.balance (c.freeze.ensures.honest honest) in
     let is = alone (image old.device) old beside.beside c.requires.idle.snapshot beside.is in
     inl (c.in_err-check_snapshot.ensures.error (some_snapshot _ _ (c.in_ok-freeze.ensures.frozen honest nothing_beside is).1.is.belongs)))
+
+pub mend_frozen-requires : goal.mend_frozen-requires
+mend_frozen-requires g c =
+    let of = c.in_ok-check_snapshot.ensures.checked in
+    subst (λ (x : CheckedImage). c.freeze.new.self.holdings.snapshot ≡ Some x.frozen) (sym (c.deref.ensures ∙ c.in_ok-checked.ensures.ok)) (of.stands ∙ ap Some (sym of.checked_is))
 
 pub returns-in_err-mend_frozen-clause-error : goal.returns-in_err-mend_frozen-clause-error
 returns-in_err-mend_frozen-clause-error g c =

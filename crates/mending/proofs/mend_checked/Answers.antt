@@ -1,30 +1,49 @@
-use Rattle.std.proofs.Common.{◌≡◌, refl}
+use Rattle.std.proofs.Common.{◌≡◌, ◌∙◌, Some, ap, refl, subst, sym}
 use Rattle.std.specs.Arc.{arc_value}
 use Rattle.std.proofs.lemmas.Result.{err_from_is_err_and}
+use Rattle.frozen.specs.Kept.{KeepsMetadata, Kept}
 use Rattle.fsck.specs.Checked.{CheckedImage}
 use Rattle.machine.specs.Snapshot.{settled}
-use Rattle.snapshot.specs.Alive.{state_of}
+use Rattle.live_states.specs.Holdings.{Holdings}
+use Rattle.live_states.specs.Snapshots.{IsSettled}
+use Rattle.snapshot.specs.Alive.{Alive, state_of}
 use Rattle.snapshot.specs.Asked.{check_of}
 use Rattle.mending.proofs.MayMend.{may_mend, of_loaded}
 use Rattle.mending.proofs.Ended.{Ended, checked_before, ends}
 use Rattle.snapshot.proofs.Refusals.{may_freeze, refused_so}
 use Rattle.machine.specs.Command.{Freeze}
 use Rattle.mending.proofs.Joining.{joins_of, nothing_beside}
-use Rattle.mending.proofs.Seen.{alone}
+use Rattle.mending.proofs.Seen.{alone, settled_idle}
 use Rattle.mending.proofs.mend_checked.Goals as goal
 
-pub returns-in_err-freeze-clause-error : goal.returns-in_err-freeze-clause-error
-returns-in_err-freeze-clause-error g c =
-    let p = err_from_is_err_and c.from_residual.result c.from_residual.ensures.1 in
+-- the snapshot is what the volume keeps
+pub freeze_as-requires-clause-settled : goal.freeze_as-requires-clause-settled
+freeze_as-requires-clause-settled g c =
+    let old = c.args.volume.now in
+    let same : old.kept ≡ arc_value c.in_ok-snapshot.snapshot = c.requires.kept ∙ sym (c.in_ok-snapshot.ensures.cases ∙ c.frozen.ensures) in
+    subst (IsSettled old.kept old.holdings) same (settled_idle old.kept old.holdings c.requires.idle)
+
+pub freeze_as-requires-clause-whole : goal.freeze_as-requires-clause-whole
+freeze_as-requires-clause-whole g c =
+    let same : c.args.volume.now.kept ≡ arc_value c.in_ok-snapshot.snapshot = c.requires.kept ∙ sym (c.in_ok-snapshot.ensures.cases ∙ c.frozen.ensures) in
+    (ap (λ (k : Kept). k.geometry) (sym same), subst KeepsMetadata (ap (λ (l : Alive g.row.D.Denot). l.kept) c.live.ensures.live ∙ same) c.keeps_metadata.ensures.whole)
+
+pub mend_frozen-requires : goal.mend_frozen-requires
+mend_frozen-requires g c =
+    ap (λ (h : Holdings). h.snapshot) c.in_ok-freeze_as.ensures.keeps.1 ∙ ap Some (c.in_ok-snapshot.ensures.cases ∙ c.frozen.ensures)
+
+pub returns-in_err-freeze_as-clause-error : goal.returns-in_err-freeze_as-clause-error
+returns-in_err-freeze_as-clause-error g c =
+    let p = err_from_is_err_and c.from_residual-in_err-freeze_as.result c.from_residual-in_err-freeze_as.ensures.1 in
     rw (p.1, p.2) (λ honest.
     let held = g.D.Device.held in
     let image = g.D.Device.image in
     let old = c.args.volume.now in
-    let new = c.freeze.new.self in
-    let beside = c.live.ensures.balance (c.freeze.ensures.honest honest) in
+    let new = c.freeze_as.new.self in
+    let beside = c.live.ensures.balance (c.freeze_as.ensures.honest honest) in
     let is = alone (image old.device) old beside.beside c.requires.idle.snapshot beside.is in
     refused_so (held old.device) (image old.device) old (held new.device) (image new.device) new nothing_beside is Freeze
-    (may_freeze old.kept.geometry (state_of (image old.device) old nothing_beside) refl) tt _ (c.in_err-freeze.ensures.refused honest))
+    (may_freeze old.kept.geometry (state_of (image old.device) old nothing_beside) refl) tt _ (c.in_err-freeze_as.ensures.refused honest))
 
 pub returns-in_err-mend_frozen-clause-error : goal.returns-in_err-mend_frozen-clause-error
 returns-in_err-mend_frozen-clause-error g c =
@@ -33,20 +52,20 @@ returns-in_err-mend_frozen-clause-error g c =
     let held = g.D.Device.held in
     let image = g.D.Device.image in
     let v0 = c.args.volume.now in
-    let v1 = c.freeze.new.self in
+    let v1 = c.freeze_as.new.self in
     let v2 = c.mend_frozen.new.volume in
     let checked : CheckedImage = c.args.checked.now in
-    let snapshot = arc_value c.in_ok-freeze.field-0 in
+    let snapshot = arc_value c.in_ok-snapshot.snapshot in
     let h1 = c.mend_frozen.ensures.honest honest in
-    let h0 = c.freeze.ensures.honest h1 in
+    let h0 = c.freeze_as.ensures.honest h1 in
     let beside = c.live.ensures.balance h0 in
     let is = alone (image v0.device) v0 beside.beside c.requires.idle.snapshot beside.is in
-    let freezes = c.in_ok-freeze.ensures.frozen h1 in
+    let freezes = c.in_ok-freeze_as.ensures.frozen h1 in
     let found = checked_before (joins_of c.calls_join.ensures) (held v0.device) (held v1.device) (held v2.device) (image v0.device) (image v1.device) (image v2.device) v0 v1 v2 checked
-    c.requires.pending c.requires.idle c.requires.geometry (c.requires.loaded h0) c.tells_its_image.ensures in
+    c.requires.pending c.requires.idle (sym (ap (λ (k : Kept). k.geometry) c.requires.kept)) (c.requires.loaded h0) c.tells_its_image.ensures in
     c.in_err-mend_frozen.ensures.error honest
     (may_mend image c.damaged_where_a_rule_is_broken.ensures (held v0.device) (held v1.device) (image v0.device) v0 v1 snapshot checked c.requires.pending c.requires.idle (c.requires.mounted h0) is freezes found
-    (of_loaded image c.damaged_where_a_rule_is_broken.ensures (held v0.device) (held v1.device) (image v0.device) v0 v1 snapshot checked c.requires.pending c.requires.idle (c.requires.mounted h0) is freezes found c.requires.geometry (c.requires.loaded h0))))
+    (of_loaded image c.damaged_where_a_rule_is_broken.ensures (held v0.device) (held v1.device) (image v0.device) v0 v1 snapshot checked c.requires.pending c.requires.idle (c.requires.mounted h0) is freezes found (sym (ap (λ (k : Kept). k.geometry) c.requires.kept)) (c.requires.loaded h0))))
 
 pub returns : goal.returns
 returns g c =
@@ -54,20 +73,20 @@ returns g c =
     let image = g.D.Device.image in
     let honest = g.D.Device.honest in
     let v0 = c.args.volume.now in
-    let v1 = c.freeze.new.self in
+    let v1 = c.freeze_as.new.self in
     let v2 = c.mend_frozen.new.volume in
     let checked : CheckedImage = c.args.checked.now in
     let check = check_of v1.kept.geometry checked in
-    let first : honest v2.device → honest v0.device = λ h2. c.freeze.ensures.honest (c.mend_frozen.ensures.honest h2) in
+    let first : honest v2.device → honest v0.device = λ h2. c.freeze_as.ensures.honest (c.mend_frozen.ensures.honest h2) in
     let ended : honest v2.device → Ended (held v0.device) (image v0.device) v0 check _ checked (held v2.device) (image v2.device) v2 = λ h2.
     let h1 = c.mend_frozen.ensures.honest h2 in
-    let h0 = c.freeze.ensures.honest h1 in
+    let h0 = c.freeze_as.ensures.honest h1 in
     let beside = c.live.ensures.balance h0 in
     let is = alone (image v0.device) v0 beside.beside c.requires.idle.snapshot beside.is in
-    ends (joins_of c.calls_join.ensures) (held v0.device) (held v1.device) (held v2.device) (image v0.device) (image v1.device) (image v2.device) v0 v1 v2 (arc_value c.in_ok-freeze.field-0) checked
+    ends (joins_of c.calls_join.ensures) (held v0.device) (held v1.device) (held v2.device) (image v0.device) (image v1.device) (image v2.device) v0 v1 v2 (arc_value c.in_ok-snapshot.snapshot) checked
     c.requires.pending c.requires.idle is
-    (checked_before (joins_of c.calls_join.ensures) (held v0.device) (held v1.device) (held v2.device) (image v0.device) (image v1.device) (image v2.device) v0 v1 v2 checked c.requires.pending c.requires.idle c.requires.geometry (c.requires.loaded h0) c.tells_its_image.ensures)
-    (c.in_ok-freeze.ensures.frozen h1) (c.in_ok-mend_frozen.ensures.mends h2)
+    (checked_before (joins_of c.calls_join.ensures) (held v0.device) (held v1.device) (held v2.device) (image v0.device) (image v1.device) (image v2.device) v0 v1 v2 checked c.requires.pending c.requires.idle (sym (ap (λ (k : Kept). k.geometry) c.requires.kept)) (c.requires.loaded h0) c.tells_its_image.ensures)
+    (c.in_ok-freeze_as.ensures.frozen h1) (c.in_ok-mend_frozen.ensures.mends h2)
     in
     record {
       clean = λ h2.

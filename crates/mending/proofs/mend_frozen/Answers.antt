@@ -1,4 +1,4 @@
-use Rattle.std.proofs.Common.{◌≡◌, ◌∙◌, ap, length, refl, subst, sym, Some}
+use Rattle.std.proofs.Common.{◌∙◌, ap, length, refl, subst, sym, Some}
 use Rattle.std.proofs.lemmas.Result.{err_from_is_err_and}
 use Rattle.machine.specs.Command.{Install, Release, Sync}
 use Rattle.live_states.specs.Holdings.{Beside}
@@ -10,18 +10,18 @@ use Rattle.snapshot.proofs.Refusals.{may_install, may_release, may_sync, refused
 use Rattle.mending.proofs.Planned.{installed}
 use Rattle.mending.proofs.mend_frozen.Goals as goal
 
-pub returns-in_err-install-clause-error : goal.returns-in_err-install-clause-error
-returns-in_err-install-clause-error g c =
+pub returns-in_err-install_own-clause-error : goal.returns-in_err-install_own-clause-error
+returns-in_err-install_own-clause-error g c =
     let p = err_from_is_err_and c.from_residual.result c.from_residual.ensures.1 in
     rw (p.1, p.2) (λ honest may.
     let held = g.D.Device.held in
     let image = g.D.Device.image in
     let old = c.args.volume.now in
-    let new = c.install.new.self in
+    let new = c.install_own.new.self in
     let b : Beside = record { frozen = Some may.view } in
     let check = check_of old.kept.geometry c.args.checked.now in
     refused_so (held old.device) (image old.device) old (held new.device) (image new.device) new b may.is (Install check)
-    (may_install old.kept.geometry (state_of (image old.device) old b) check may.view refl may.none may.soft) (may.view, refl, may.same) _ (c.in_err-install.ensures.refused honest))
+    (may_install old.kept.geometry (state_of (image old.device) old b) check may.view refl may.none may.soft) (may.view, refl, may.same) _ (c.in_err-install_own.ensures.refused honest))
 
 pub returns-in_err-repair_all-clause-error : goal.returns-in_err-repair_all-clause-error
 returns-in_err-repair_all-clause-error g c =
@@ -29,9 +29,9 @@ returns-in_err-repair_all-clause-error g c =
     rw (p.1, p.2) (λ honest may.
     let image = g.D.Device.image in
     let old = c.args.volume.now in
-    let mid = c.install.new.self in
+    let mid = c.install_own.new.self in
     let b : Beside = record { frozen = Some may.view } in
-    let two = c.in_ok-install.ensures.installed (subst g.D.Device.honest c.repair_all.ensures.device honest) b may.is in
+    let two = c.in_ok-install_own.ensures.installed (subst g.D.Device.honest c.repair_all.ensures.device honest) b may.is in
     c.in_err-repair_all.ensures.error honest (record {
       beside = b;
       is = two.is;
@@ -49,7 +49,7 @@ returns-in_err-release-clause-error g c =
     let new = c.release.new.self in
     let b : Beside = record { frozen = Some may.view } in
     let h3 = c.release.ensures.honest honest in
-    let two = c.in_ok-install.ensures.installed (subst g.D.Device.honest c.repair_all.ensures.device h3) b may.is in
+    let two = c.in_ok-install_own.ensures.installed (subst g.D.Device.honest c.repair_all.ensures.device h3) b may.is in
     let three = c.in_ok-repair_all.ensures.repaired h3 b two.is in
     refused_so (held old.device) (image old.device) old (held new.device) (image new.device) new b three.is Release
     (may_release old.kept.geometry (state_of (image old.device) old b) may.view refl) tt _ (c.in_err-release.ensures.refused honest))
@@ -65,7 +65,7 @@ returns-in_err-apply-clause-error g c =
     let b : Beside = record { frozen = Some may.view } in
     let h4 = c.apply.ensures.honest honest in
     let h3 = c.release.ensures.honest h4 in
-    let two = c.in_ok-install.ensures.installed (subst g.D.Device.honest c.repair_all.ensures.device h3) b may.is in
+    let two = c.in_ok-install_own.ensures.installed (subst g.D.Device.honest c.repair_all.ensures.device h3) b may.is in
     let three = c.in_ok-repair_all.ensures.repaired h3 b two.is in
     let four = c.in_ok-release.ensures.released h4 b three.is in
     refused_too (held old.device) (image old.device) old (held new.device) (image new.device) new nothing_beside four.is Sync
@@ -77,7 +77,7 @@ returns g c =
     let image = g.D.Device.image in
     let honest = g.D.Device.honest in
     let v1 = c.args.volume.now in
-    let v2 = c.install.new.self in
+    let v2 = c.install_own.new.self in
     let v3 = c.repair_all.new.volume in
     let v4 = c.release.new.self in
     let v5 = c.apply.new.self in
@@ -90,7 +90,7 @@ returns g c =
           subst (λ n. Mends beside (held v1.device) (image v1.device) v1 (check_of v1.kept.geometry checked) n (held v5.device) (image v5.device) v5) (ap length c.repairs.ensures.repairs)
           (then_mends (joins_of c.calls_join.ensures) (held v1.device) (held v2.device) (held v3.device) (held v4.device) (held v5.device)
           (image v1.device) (image v2.device) (image v3.device) (image v4.device) (image v5.device) v1 v2 v3 v4 v5 beside (check_of v1.kept.geometry checked) _ c.in_ok-apply.field-0 is
-          (c.in_ok-install.ensures.installed h2) (c.in_ok-repair_all.ensures.repaired h3) (c.in_ok-release.ensures.released h4) (c.in_ok-apply.ensures.applied h5));
+          (c.in_ok-install_own.ensures.installed h2) (c.in_ok-repair_all.ensures.repaired h3) (c.in_ok-release.ensures.released h4) (c.in_ok-apply.ensures.applied h5));
       error = tt;
-      honest = λ h5. subst honest c.install.ensures.device (subst honest c.repair_all.ensures.device (c.release.ensures.honest (c.apply.ensures.honest h5)));
+      honest = λ h5. subst honest c.install_own.ensures.device (subst honest c.repair_all.ensures.device (c.release.ensures.honest (c.apply.ensures.honest h5)));
     }

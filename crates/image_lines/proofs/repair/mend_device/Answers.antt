@@ -1,7 +1,7 @@
 use Rattle.std.proofs.Common.{◌≡◌, ◌∙◌, sym, ap, subst, inl}
 use Rattle.std.proofs.lemmas.Result.{err_from_is_err_and}
 use Rattle.findings.specs.declared.verdicts.Verdict.TheVariants.{Damaged, Soft}
-use Rattle.frozen.specs.Kept.{IsKeptOf, Kept}
+use Rattle.frozen.specs.Kept.{IsKeptOf}
 use Rattle.snapshot.specs.Alive.{Alive}
 use Rattle.snapshot.specs.Mounting.{IsMountable}
 use Rattle.image_lines.specs.Repaired.{IsRepaired}
@@ -21,9 +21,8 @@ mend_volume-requires-clause-mounted g c =
     subst (λ (v : Alive g.row.D.Denot). honest v.device → IsMountable v.kept.geometry (image v.device)) (sym c.new-volume.ensures)
     (subst (λ d. honest d → IsMountable live.kept.geometry (image d)) (sym mounted.device) mounted.mounted)
 
-pub mend_volume-requires-clause-geometry : goal.mend_volume-requires-clause-geometry
-mend_volume-requires-clause-geometry g c =
-    sym (ap (λ (v : Alive g.row.D.Denot). v.kept.geometry) c.new-volume.ensures ∙ ap (λ (k : Kept). k.geometry) c.in_ok-mount_checked.ensures.kept)
+pub mend_volume-requires-clause-kept : goal.mend_volume-requires-clause-kept
+mend_volume-requires-clause-kept g c = ap (λ (v : Alive g.row.D.Denot). v.kept) c.new-volume.ensures ∙ c.in_ok-mount_checked.ensures.kept
 
 pub mend_volume-requires-clause-loaded : goal.mend_volume-requires-clause-loaded
 mend_volume-requires-clause-loaded g c =

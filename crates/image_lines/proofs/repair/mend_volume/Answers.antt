@@ -1,5 +1,6 @@
-use Rattle.std.proofs.Common.{inl, refl, subst}
+use Rattle.std.proofs.Common.{ap, inl, refl, subst, sym}
 use Rattle.std.proofs.lemmas.Result.{err_from_is_err_and, IfErr-weaker}
+use Rattle.frozen.specs.Kept.{Kept}
 use Rattle.fsck.specs.Checked.{IsChecked}
 use Rattle.model.specs.Image.{image_view}
 use Rattle.image_lines.proofs.RepairLemmas.{mended_well, of_both}
@@ -20,7 +21,7 @@ returns-clause-repaired g c =
     let first = c.mend_checked.ensures.honest h in
     mended_well old new (image old.device) (image old.device) (image new.device) told.text.items told.status checked checked
     c.damaged_where_a_rule_is_broken.ensures refl (c.requires.mounted first)
-    (subst (λ geo. IsChecked geo (image_view geo (image old.device)) checked) c.requires.geometry (c.a_checked_image_is_the_images.ensures (image old.device) checked (c.requires.loaded first) c.tells_its_image.ensures))
+    (subst (λ geo. IsChecked geo (image_view geo (image old.device)) checked) (sym (ap (λ (k : Kept). k.geometry) c.requires.kept)) (c.a_checked_image_is_the_images.ensures (image old.device) checked (c.requires.loaded first) c.tells_its_image.ensures))
     refl text status (c.in_ok-mend_checked.ensures.framed h) (c.in_ok-mend_checked.ensures.clean h)) c.told_of_repairs.ensures.text c.told_of_repairs.ensures.status
 
 pub returns-clause-error : goal.returns-clause-error
