@@ -1,20 +1,20 @@
-//! What a mounted volume has besides its image: the handles that are open, the blocks that are held for a snapshot, the
-//! metadata that the snapshot keeps, and the repairs of a check that was installed.
+//! What a mounted volume has besides its image: the handles that are open, the blocks that are held for snapshots, the
+//! metadata that the snapshots keep, and the repairs of a check that was installed.
 #![tactic(auto)]
 
-ghost use Rattle.std.specs.Prelude.{◌≡◌, ◌<◌, None, Some, IfErr, IfOk, IsTrue, MatchOption, OnErr, OnOk, false, is_some, length, replicate, slice_index_or, slice_set, true};
+ghost use Rattle.std.specs.Prelude.{◌≡◌, ◌<◌, ◌≤◌, None, Some, IfErr, IfOk, MatchOption, OnErr, OnOk, false, length, not, slice_set, true};
 ghost use Rattle.std.specs.Arc.{arc_value};
 ghost use Rattle.std.specs.List.{All};
 ghost use Rattle.std.specs.Option.{option_copied, option_map};
-ghost use Rattle.findings.specs.Numbers.{found_below};
 ghost use Rattle.model.specs.Layout.{Geometry as Numbers, block_count};
 ghost use Rattle.frozen.specs.Kept.{frozen_view};
 ghost use Rattle.marks.specs.Marks.{IsNextMarked, NothingMarkedFrom};
 ghost use Rattle.machine.specs.Causes.{refusal_of};
 ghost use Rattle.machine.specs.Command.{RepairAt};
+ghost use Rattle.machine.specs.Standing.{image_at, latest_at, others, too_many};
 ghost use Rattle.machine.specs.State.{State};
-ghost use Rattle.live_states.specs.Holdings.{Has, IsIdle, Repairs as Listed, is_kept_by, is_open_by, with_done, with_held};
-ghost use Rattle.live_states.specs.Snapshots.{IsToDo, held_blocks, installing, keeping, let_go as without_snapshot};
+ghost use Rattle.live_states.specs.Holdings.{Has, IsIdle, Repairs as Listed, is_kept_by, is_open_by, kept_by, with_done, with_held};
+ghost use Rattle.live_states.specs.Snapshots.{IsToDo, installing, keeping, let_go as without_snapshot, let_go_blocks, places, unmarked};
 ghost use Rattle.live_holdings.specs.Handles.{IsFreeHandle, IsOpened, NoFreeHandle, closed, handle_at, without};
 ghost use Rattle.live_holdings.specs.Left.{IsLeft, why_not_left};
 
@@ -30,6 +30,9 @@ use std::sync::Arc;
 /// How many handles may be open at once.
 const HANDLES: u32 = 1024;
 
+/// How many snapshots may stand at once.
+pub const MOST_SNAPSHOTS: usize = 4;
+
 /// What a mounted volume has besides its image.
 #[derive(Drop)]
 pub struct Holdings {
@@ -37,10 +40,19 @@ pub struct Holdings {
     handles: Vec<Option<u32>>,
     /// Whether each block is held.
     held: Marks,
-    /// The metadata of the snapshot, where one stands.
-    snapshot: Option<Arc<Frozen>>,
+    /// The snapshots that stand, the newest first. There is room for as many as may.
+    snapshots: Vec<Standing>,
+    /// How many freezes there were.
+    freezes: u64,
     /// The repairs of a check, where it was installed.
     repairs: Option<Repairs>,
+}
+
+/// A snapshot that stands: the number of its freeze, and the metadata that it keeps.
+#[derive(Drop)]
+struct Standing {
+    number: u64,
+    frozen: Arc<Frozen>,
 }
 
 /// The repairs of a check, and whether each is done.
@@ -48,6 +60,16 @@ pub struct Holdings {
 struct Repairs {
     list: Vec<Repair>,
     done: Vec<bool>,
+}
+
+impl Model for Standing {
+    ghost use Rattle.std.specs.Arc.{arc_value};
+    ghost use Rattle.frozen.specs.Kept.{Kept};
+    ghost use Rattle.machine.specs.Standing.{Standing as Snapshot};
+
+    ghost Value = { Snapshot Kept };
+
+    ghost view = { λ standing. record { number = standing.number; image = arc_value standing.frozen } };
 }
 
 impl Model for Repairs {
@@ -62,20 +84,19 @@ impl Model for Repairs {
 }
 
 impl Model for Holdings {
-    ghost use Rattle.std.specs.Prelude.{◌≤◌, length};
-    ghost use Rattle.std.specs.Arc.{arc_value};
-    ghost use Rattle.std.specs.Option.{option_map};
+    ghost use Rattle.std.specs.Prelude.{◌≤◌, length, vec_capacity};
     ghost use Rattle.live_states.specs.Holdings.{Holdings as Held};
 
     ghost Value = { Held };
 
-    ghost view = { λ holdings. record { opened = holdings.handles.items; held = holdings.held; snapshot = option_map arc_value holdings.snapshot; repairs = holdings.repairs } };
+    ghost view = { λ holdings. record { opened = holdings.handles.items; held = holdings.held; snapshots = record { standing = holdings.snapshots.items; freezes = holdings.freezes }; repairs = holdings.repairs } };
 
-    ghost invariant = { λ holdings. length holdings.handles.items ≤ 1024 };
+    ghost invariant = { λ holdings. (length holdings.handles.items ≤ 1024) × (4 ≤ vec_capacity holdings.snapshots) };
 }
 
 impl Holdings {
-    /// Nothing is open, held or installed, and no snapshot stands. Takes memory, an eighth of a byte for each address and little more.
+    /// Nothing is open, held or installed, and no snapshot was made. Takes memory, an eighth of a byte for each address and
+    /// little more.
     pub fn new(alloc: Global, geometry: &Geometry) -> Result<Holdings, AllocError>
         ensures idle { IfOk result IsIdle }
         ensures blocks { IfOk result (λ holdings. length holdings.held ≡ block_count geometry.now) }
@@ -83,7 +104,8 @@ impl Holdings {
         Ok(Holdings {
             handles: Vec::new(alloc),
             held: Marks::new(alloc, geometry.blocks())?,
-            snapshot: None,
+            snapshots: Vec::with_capacity(alloc, MOST_SNAPSHOTS)?,
+            freezes: 0,
             repairs: None,
         })
     }
@@ -112,14 +134,28 @@ impl Holdings {
         false
     }
 
-    /// Whether the snapshot keeps a block.
+    /// Whether a snapshot keeps a block.
     pub fn keeps(&self, address: u32) -> bool
         ensures { result ≡ is_kept_by self.now address }
     {
-        match &self.snapshot {
-            Some(frozen) => is_marked(frozen, address),
-            None => false,
+        for standing in &self.snapshots {
+            if is_marked(&standing.frozen, address) {
+                return true;
+            }
         }
+        false
+    }
+
+    /// Whether some other snapshot keeps a block.
+    fn is_kept_besides(&self, number: u64, address: u32) -> bool
+        ensures { result ≡ kept_by (others self.now.snapshots.standing number) address }
+    {
+        for standing in &self.snapshots {
+            if standing.number != number && is_marked(&standing.frozen, address) {
+                return true;
+            }
+        }
+        false
     }
 
     /// The inode that a handle is open on, if it is open.
@@ -179,13 +215,6 @@ impl Holdings {
         }
     }
 
-    /// The blocks that are held, the least first.
-    pub fn held_blocks(&self, alloc: Global) -> Result<Vec<u32>, AllocError>
-        ensures { IfOk result (λ blocks. blocks.items ≡ held_blocks self.now) }
-    {
-        marked(alloc, &self.held)
-    }
-
     /// The least block from this address on that is held; `None` where there is none.
     pub fn next_held(&self, from: u32) -> Option<u32>
         ensures next { MatchOption result (NothingMarkedFrom self.now.held from) (IsNextMarked self.now.held from) }
@@ -195,18 +224,59 @@ impl Holdings {
         self.held.next(from)
     }
 
-    /// Whether a snapshot stands.
-    pub fn has_snapshot(&self) -> bool
-        ensures { result ≡ is_some self.now.snapshot }
+    /// The blocks that are held, and that no snapshot but this one keeps, the least first.
+    pub fn held_alone(&self, alloc: Global, number: u64) -> Result<Vec<u32>, AllocError>
+        ensures { IfOk result (λ blocks. blocks.items ≡ let_go_blocks self.now number) }
     {
-        self.snapshot.is_some()
+        let mut blocks = Vec::new(alloc);
+        let mut from = 0;
+        while let Some(block) = self.next_held(from) {
+            if !self.is_kept_besides(number, block) {
+                blocks.push(block)?;
+            }
+            from = block + 1;
+        }
+        Ok(blocks)
     }
 
-    /// The metadata of the snapshot, where one stands.
-    pub fn snapshot(&self) -> Option<&Arc<Frozen>>
-        ensures { option_map arc_value (option_copied result) ≡ self.now.snapshot }
+    /// Whether one more snapshot may stand: fewer than four do, and there is a number for it.
+    pub fn may_freeze(&self) -> bool
+        ensures { result ≡ not (too_many self.now.snapshots) }
     {
-        self.snapshot.as_ref()
+        self.snapshots.len() < MOST_SNAPSHOTS && self.freezes < u64::MAX
+    }
+
+    /// The metadata of the snapshot of this number, where it stands.
+    pub fn snapshot(&self, number: u64) -> Option<&Arc<Frozen>>
+        ensures { option_map arc_value (option_copied result) ≡ image_at self.now.snapshots.standing number }
+    {
+        for standing in &self.snapshots {
+            if standing.number == number {
+                return Some(&standing.frozen);
+            }
+        }
+        None
+    }
+
+    /// The metadata of the snapshot of the latest freeze, where it stands.
+    pub fn latest(&self) -> Option<&Arc<Frozen>>
+        ensures { option_map arc_value (option_copied result) ≡ latest_at self.now.snapshots.standing self.now.snapshots.freezes }
+    {
+        let number = self.freezes.checked_sub(1)?;
+        self.snapshot(number)
+    }
+
+    /// The numbers of the snapshots that stand, the oldest first, and then empty places.
+    pub fn standing(&self) -> [Option<u64>; MOST_SNAPSHOTS]
+        requires { length self.now.snapshots.standing ≤ 4 }
+        ensures { result ≡ places self.now.snapshots.standing }
+    {
+        let mut numbers = [None; MOST_SNAPSHOTS];
+        let count = self.snapshots.len();
+        for place in 0..count {
+            numbers[place] = Some(self.snapshots[count - 1 - place].number);
+        }
+        numbers
     }
 
     /// How many repairs the check has that was installed; `None` where none was.
@@ -216,20 +286,28 @@ impl Holdings {
         self.repairs.as_ref().map(|repairs| repairs.list.len())
     }
 
-    /// Keeps the metadata of a snapshot. The repairs of an older check are dropped.
-    pub fn keep(&mut self, snapshot: Arc<Frozen>)
-        ensures { self.new ≡ keeping self.old (arc_value snapshot) }
+    /// Keeps the metadata of one more snapshot, and gives its number. The repairs of an older check are dropped.
+    pub fn keep(&mut self, frozen: Arc<Frozen>) -> u64
+        requires room { too_many self.old.snapshots ≡ false }
+        ensures kept { self.new ≡ keeping self.old (arc_value frozen) }
+        ensures number { result ≡ self.old.snapshots.freezes }
     {
-        self.snapshot = Some(snapshot);
+        let number = self.freezes;
+        self.snapshots
+            .insert(0, Standing { number, frozen })
+            .unwrap();
+        self.freezes += 1;
         self.repairs = None;
+        number
     }
 
-    /// The snapshot ends, and nothing is held for it.
-    pub fn let_go(&mut self)
-        ensures { self.new ≡ without_snapshot self.old }
+    /// The snapshot of this number ends, and these blocks, which were held for it alone, are held no more.
+    pub fn let_go(&mut self, number: u64, blocks: &[u32])
+        requires { blocks.now ≡ let_go_blocks self.old number }
+        ensures { self.new ≡ without_snapshot self.old number }
     {
-        unmark_all(&mut self.held);
-        self.snapshot = None;
+        unmark(&mut self.held, blocks);
+        self.snapshots.retain(|standing| standing.number != number);
     }
 
     /// Installs the repairs of a check, none of them done.
@@ -290,29 +368,13 @@ impl Repairs {
     }
 }
 
-/// The marked numbers, the least first.
-fn marked(alloc: Global, marks: &Marks) -> Result<Vec<u32>, AllocError>
-    ensures { IfOk result (λ numbers. numbers.items ≡ found_below (λ n. slice_index_or marks.now n false) (λ n. n) (length marks.now)) }
+/// Takes the marks of these numbers away.
+fn unmark(marks: &mut Marks, numbers: &[u32])
+    requires { All (λ n. n < length marks.old) numbers.now }
+    ensures { marks.new ≡ unmarked numbers.now marks.old }
 {
-    marks.count();
-    let mut numbers = Vec::new(alloc);
-    let mut from = 0;
-    while let Some(number) = marks.next(from) {
-        numbers.push(number)?;
-        from = number + 1;
-    }
-    Ok(numbers)
-}
-
-/// Takes all marks away.
-fn unmark_all(marks: &mut Marks)
-    ensures { marks.new ≡ replicate (length marks.old) false }
-{
-    marks.count();
-    let mut from = 0;
-    while let Some(number) = marks.next(from) {
-        marks.unmark(number);
-        from = number + 1;
+    for number in numbers {
+        marks.unmark(*number);
     }
 }
 
