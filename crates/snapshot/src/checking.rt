@@ -22,10 +22,11 @@ use same_metadata::have_same_metadata;
 use std::alloc::Global;
 
 impl<D: Device> Volume<D> {
-    /// Takes the repairs of a check of the snapshot that stands, none of them done. Refused with `NoSnapshot`, with
-    /// `PlanStands` where a check of the snapshot was installed before, with `PlanNotSoft` where the image that was checked
-    /// is damaged, with `ForeignPlan` where that image is another one than the snapshot's: its geometry, a record, a bit, or a byte of
-    /// an indirect block or a directory's block differs; and with `NoMemory`.
+    /// Takes the repairs of a check of the snapshot of the latest freeze, none of them done. Refused with `NoSnapshot` where
+    /// that one stands no more, whatever else stands, with `PlanStands` where a check of it was installed before, with
+    /// `PlanNotSoft` where the image that was checked is damaged, with `ForeignPlan` where that image is another one than the
+    /// snapshot's: its geometry, a record, a bit, or a byte of an indirect block or a directory's block differs; and with
+    /// `NoMemory`.
     pub fn install(&mut self, alloc: Global, checked: &Checked) -> Result<(), Refusal>
         ensures installed { OnOk result (D.honest self.new.device → GotReply D.held D.image self.old (asks_install self.old checked.now) (Ok Done) self.new) }
         ensures refused { IfErr result (λ r. D.honest self.new.device → GotReply D.held D.image self.old (asks_install self.old checked.now) (Err r) self.new) }
@@ -64,7 +65,7 @@ fn may_install<D: Device>(live: &Live<D>, checked: &Checked) -> Result<(), Refus
     ensures refused { IfErr result (λ r. (old : State) → Has live.now.holdings old
         → FirstRefusal live.now.kept.geometry old (asks_install live.now checked.now) r) }
 {
-    let Some(snapshot) = live.snapshot() else {
+    let Some(snapshot) = live.latest() else {
         return Err(Refusal::NoSnapshot);
     };
     if live.repair_count().is_some() {
