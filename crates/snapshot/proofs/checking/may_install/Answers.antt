@@ -16,34 +16,34 @@ use Rattle.live_states.specs.Holdings.{Has, Holdings}
 use Rattle.live_states.specs.Snapshots.{AreRepairsOf, IsInstallable, installing}
 use Rattle.live.specs.Alive.{IsSnapshotOf}
 use Rattle.snapshot.specs.Asked.{check_of}
-use Rattle.snapshot.proofs.Installs.{foreign, installable, is_some_of, none_of, not_some_of, refused_damaged, refused_foreign, refused_none, refused_planned, repairs_named}
+use Rattle.snapshot.proofs.Installs.{foreign, installable, is_some_of, latest_of, none_of, not_some_of, refused_damaged, refused_foreign, refused_none, refused_planned, repairs_named}
 use Rattle.snapshot.proofs.checking.may_install.Goals as goal
 
 pub returns-in_default-clause-refused : goal.returns-in_default-clause-refused
 returns-in_default-clause-refused g c =
     let live = c.args.live.now in
     refused_none live.kept live.holdings (check_of live.kept.geometry c.args.checked.now)
-    (ap is_some (sym c.snapshot.ensures.snapshot ∙ ap (λ o. option_map arc_value (option_copied o)) c.in_default.is))
+    (ap is_some (sym c.latest.ensures.snapshot ∙ ap (λ o. option_map arc_value (option_copied o)) c.in_default.is))
 
 pub returns-then-is_some-clause-refused : goal.returns-then-is_some-clause-refused
 returns-then-is_some-clause-refused g c =
     let live = c.args.live.now in
     refused_planned live.kept live.holdings (check_of live.kept.geometry c.args.checked.now)
-    (ap is_some (sym c.snapshot.ensures.snapshot ∙ ap (λ o. option_map arc_value (option_copied o)) c.in-Some.is))
+    (ap is_some (sym c.latest.ensures.snapshot ∙ ap (λ o. option_map arc_value (option_copied o)) c.in-Some.is))
     (is_some_of live.holdings.repairs c.repair_count.result c.repair_count.ensures (sym c.is_some.ensures ∙ c.if-is_some.true))
 
 pub returns-then-not-is_mendable-clause-refused : goal.returns-then-not-is_mendable-clause-refused
 returns-then-not-is_mendable-clause-refused g c =
     let live = c.args.live.now in
     refused_damaged live.kept live.holdings (check_of live.kept.geometry c.args.checked.now)
-    (ap is_some (sym c.snapshot.ensures.snapshot ∙ ap (λ o. option_map arc_value (option_copied o)) c.in-Some.is))
+    (ap is_some (sym c.latest.ensures.snapshot ∙ ap (λ o. option_map arc_value (option_copied o)) c.in-Some.is))
     (not_some_of live.holdings.repairs c.repair_count.result c.repair_count.ensures (sym c.is_some.ensures ∙ c.if-is_some.false))
     (sym c.is_mendable.ensures ∙ c.if-not-is_mendable.true)
 
 -- the snapshot that stands
-module _ (kept : Kept) (holdings : Holdings) (checked : CheckedImage) (snapshot : Option Kept) (s : Kept) (told : snapshot ≡ holdings.snapshot) (is : snapshot ≡ Some s) (whole : IsSnapshotOf kept.geometry holdings.snapshot)
+module _ (kept : Kept) (holdings : Holdings) (checked : CheckedImage) (snapshot : Option Kept) (s : Kept) (told : snapshot ≡ latest_of holdings) (is : snapshot ≡ Some s) (whole : IsSnapshotOf kept.geometry latest_of holdings)
     (image : IsChecked checked.frozen.geometry (frozen_view checked.frozen) checked) where
-  stands : holdings.snapshot ≡ Some s
+  stands : latest_of holdings ≡ Some s
   stands = sym told ∙ is
 
   whole' : (s.geometry ≡ kept.geometry) × KeepsMetadata s
@@ -71,13 +71,13 @@ returns-then-not-have_same_metadata-clause-refused g c =
     let live = c.args.live.now in
     let checked = c.args.checked.now in
     let s = arc_value c.in-Some.snapshot.now in
-    let frozen = option_map arc_value (option_copied c.snapshot.result) in
+    let frozen = option_map arc_value (option_copied c.latest.result) in
     let is : frozen ≡ Some s = ap (λ o. option_map arc_value (option_copied o)) c.in-Some.is in
     let unplanned = not_some_of live.holdings.repairs c.repair_count.result c.repair_count.ensures (sym c.is_some.ensures ∙ c.if-is_some.false) in
     let soft = sym c.is_mendable.ensures ∙ c.if-not-is_mendable.false in
     let one : c.deref.result.now ≡ s = c.deref.ensures in
     let other : c.deref-2.result.now ≡ checked.frozen = c.deref-2.ensures ∙ c.frozen.ensures in
-    refuses_foreign live.kept live.holdings checked frozen s c.snapshot.ensures.snapshot is c.snapshot.ensures.whole c.tells_its_image.ensures unplanned soft
+    refuses_foreign live.kept live.holdings checked frozen s c.latest.ensures.snapshot is c.latest.ensures.whole c.tells_its_image.ensures unplanned soft
     (λ alike. both_ways c.have_same_metadata.result c.if-not-have_same_metadata.true (c.have_same_metadata.ensures.1 (subst (λ k. AreAlike k c.deref-2.result.now) (sym one) (subst (AreAlike s) (sym other) alike))))
 
 pub returns-clause-installable : goal.returns-clause-installable
@@ -85,13 +85,13 @@ returns-clause-installable g c =
     let live = c.args.live.now in
     let checked = c.args.checked.now in
     let s = arc_value c.in-Some.snapshot.now in
-    let frozen = option_map arc_value (option_copied c.snapshot.result) in
+    let frozen = option_map arc_value (option_copied c.latest.result) in
     let is : frozen ≡ Some s = ap (λ o. option_map arc_value (option_copied o)) c.in-Some.is in
     let unplanned = not_some_of live.holdings.repairs c.repair_count.result c.repair_count.ensures (sym c.is_some.ensures ∙ c.if-is_some.false) in
     let soft = sym c.is_mendable.ensures ∙ c.if-not-is_mendable.false in
     let one : c.deref.result.now ≡ s = c.deref.ensures in
     let other : c.deref-2.result.now ≡ checked.frozen = c.deref-2.ensures ∙ c.frozen.ensures in
-    may_be live.kept live.holdings checked frozen s c.snapshot.ensures.snapshot is c.snapshot.ensures.whole c.tells_its_image.ensures unplanned soft
+    may_be live.kept live.holdings checked frozen s c.latest.ensures.snapshot is c.latest.ensures.whole c.tells_its_image.ensures unplanned soft
     (subst (AreAlike s) other (subst (λ k. AreAlike k c.deref-2.result.now) one (c.have_same_metadata.ensures.0 c.if-not-have_same_metadata.false)))
 
 pub returns-clause-named : goal.returns-clause-named
@@ -99,11 +99,11 @@ returns-clause-named g c =
     let live = c.args.live.now in
     let checked = c.args.checked.now in
     let s = arc_value c.in-Some.snapshot.now in
-    let frozen = option_map arc_value (option_copied c.snapshot.result) in
+    let frozen = option_map arc_value (option_copied c.latest.result) in
     let is : frozen ≡ Some s = ap (λ o. option_map arc_value (option_copied o)) c.in-Some.is in
     let unplanned = not_some_of live.holdings.repairs c.repair_count.result c.repair_count.ensures (sym c.is_some.ensures ∙ c.if-is_some.false) in
     let soft = sym c.is_mendable.ensures ∙ c.if-not-is_mendable.false in
     let one : c.deref.result.now ≡ s = c.deref.ensures in
     let other : c.deref-2.result.now ≡ checked.frozen = c.deref-2.ensures ∙ c.frozen.ensures in
-    are_named live.kept live.holdings checked frozen s c.snapshot.ensures.snapshot is c.snapshot.ensures.whole c.tells_its_image.ensures unplanned soft
+    are_named live.kept live.holdings checked frozen s c.latest.ensures.snapshot is c.latest.ensures.whole c.tells_its_image.ensures unplanned soft
     (subst (AreAlike s) other (subst (λ k. AreAlike k c.deref-2.result.now) one (c.have_same_metadata.ensures.0 c.if-not-have_same_metadata.false)))
