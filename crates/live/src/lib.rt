@@ -20,6 +20,5 @@ mod runs;
 mod snapshots;
 
 pub use live::{Live, NotMounted};
-pub use live_holdings::MOST_SNAPSHOTS;
 pub use looking::Status;
 pub use runs::{each_stop_of_a_run_is_safe, mountable_images_mount, mounted_volumes_begin};

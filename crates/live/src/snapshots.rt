@@ -28,7 +28,6 @@ use device::Device;
 use findings::Repair;
 use frozen::Frozen;
 use layout::{BLOCK_BYTES, Block, Geometry, Refusal};
-use live_holdings::MOST_SNAPSHOTS;
 use live_plans::Plan;
 use std::alloc::{AllocError, Global};
 use std::sync::Arc;
@@ -67,7 +66,7 @@ impl<D: Device> Live<D> {
     }
 
     /// The numbers of the snapshots that are kept, in ascending order, and then empty places.
-    pub fn standing(&self) -> [Option<u64>; MOST_SNAPSHOTS]
+    pub fn standing(&self) -> [Option<u64>; 4]
         ensures numbers { result ≡ places self.now.holdings.snapshots.standing }
         ensures ascending { Ascend result }
     {

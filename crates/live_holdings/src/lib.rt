@@ -31,7 +31,7 @@ use std::sync::Arc;
 const HANDLES: u32 = 1024;
 
 /// How many snapshots may stand at once.
-pub const MOST_SNAPSHOTS: usize = 4;
+const MOST_SNAPSHOTS: usize = 4;
 
 /// What a mounted volume has besides its image.
 #[derive(Drop)]
@@ -267,7 +267,7 @@ impl Holdings {
     }
 
     /// The numbers of the snapshots that stand, the oldest first, and then empty places.
-    pub fn standing(&self) -> [Option<u64>; MOST_SNAPSHOTS]
+    pub fn standing(&self) -> [Option<u64>; 4]
         requires { length self.now.snapshots.standing ≤ 4 }
         ensures { result ≡ places self.now.snapshots.standing }
     {

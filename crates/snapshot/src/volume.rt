@@ -6,7 +6,7 @@ ghost use Rattle.live.specs.Places.{Ascend};
 ghost use Rattle.snapshot.specs.Goes.{HasBeside};
 
 use device::Device;
-use live::{Live, MOST_SNAPSHOTS};
+use live::Live;
 use std::marker::Model;
 
 /// A mounted volume of which snapshots are taken. Where its device was honest so far, it is in balance: everything that is
@@ -46,7 +46,7 @@ impl<D: Device> Volume<D> {
     }
 
     /// The numbers of the snapshots that stand, in ascending order, and then empty places.
-    pub fn standing(&self) -> [Option<u64>; MOST_SNAPSHOTS]
+    pub fn standing(&self) -> [Option<u64>; 4]
         ensures numbers { result ≡ places self.now.holdings.snapshots.standing }
         ensures ascending { Ascend result }
     {

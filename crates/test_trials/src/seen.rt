@@ -3,7 +3,7 @@ use device::Device;
 use frozen::Frozen;
 use layout::Refusal;
 use same_metadata::have_same_metadata;
-use snapshot::{MOST_SNAPSHOTS, Volume};
+use snapshot::Volume;
 use std::alloc::Global;
 
 /// What users see of a volume but for the bytes of files: its metadata, how many blocks are free, which snapshots stand, and
@@ -12,7 +12,7 @@ use std::alloc::Global;
 pub struct Seen {
     view: Frozen,
     unmarked: u32,
-    standing: [Option<u64>; MOST_SNAPSHOTS],
+    standing: [Option<u64>; 4],
     repairs: Option<usize>,
 }
 

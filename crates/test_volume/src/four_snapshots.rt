@@ -4,7 +4,7 @@ use crate::volumes::on_mounted;
 use device::MemDevice;
 use fsck::check_one;
 use layout::Refusal;
-use snapshot::{Answer, MOST_SNAPSHOTS, Reply, Volume};
+use snapshot::{Answer, Reply, Volume};
 use std::process::Abort;
 use std::test::Fail;
 use std::thread::Threads;
@@ -18,7 +18,7 @@ enum Row {
     /// Which of blocks 4 to 11 are marked, the least one in the lowest bit.
     Marks(u8),
     /// Which snapshots stand.
-    Stand([Option<u64>; MOST_SNAPSHOTS]),
+    Stand([Option<u64>; 4]),
 }
 
 /// A file is written between freezes, and each of its blocks is held as long as a snapshot has it.
