@@ -1,6 +1,5 @@
 -- The value of a mounted volume, what its users see, and how commands are answered.
 use Rattle.std.specs.Prelude.{◌≡◌, ◌≤◌, ℕ, Bool, false, List, Option, Some, None, length, Ok, Err}
-use Rattle.std.specs.List.{All}
 use Rattle.model.specs.Image.{IsImage, image_view}
 use Rattle.model.specs.Layout.{Geometry, block_count}
 use Rattle.model.specs.View.{View}
@@ -9,7 +8,7 @@ use Rattle.ordering.specs.Cuts.{users_view}
 use Rattle.ordering.specs.Ghosts.{at_rest}
 use Rattle.machine.specs.Causes.{FirstRefusal}
 use Rattle.machine.specs.Command.{Answer, Command}
-use Rattle.machine.specs.Standing.{AreNumbered, Snapshots, Standing}
+use Rattle.machine.specs.Standing.{AreNumbered, Snapshots, image_at}
 use Rattle.machine.specs.State.{State}
 use Rattle.machine.specs.Step.{Step}
 use Rattle.plans_data.specs.Carried.{Stands}
@@ -19,7 +18,7 @@ use Rattle.courses.specs.Serves.{Serves}
 use Rattle.frozen.specs.Kept.{Kept, KeepsMetadata}
 use Rattle.metadata.specs.Shown.{Shows}
 use Rattle.softdep.specs.Queued.{Queued, pending_of}
-use Rattle.live_states.specs.Holdings.{AreImagesOf, Beside, Holdings, held_by}
+use Rattle.live_states.specs.Holdings.{Beside, Holdings, AreImagesOf, held_by}
 use Rattle.live_states.specs.Planned.{safe_after}
 use Rattle.live_states.specs.Snapshots.{AreRepairsOf}
 use Rattle.live_states.specs.Volume.{IsAlive, state_over}
@@ -31,14 +30,14 @@ pub record Alive (D : Type 0) : Type 0 where
   pub kept : Kept
   pub holdings : Holdings
 
--- a snapshot that is kept is all metadata of an image of this geometry
+-- a snapshot that is kept, if it is, is all metadata of an image of this geometry
 abbrev pub IsSnapshotOf : Geometry → Option Kept → Type 0
 IsSnapshotOf geo None = Unit {0}
 IsSnapshotOf geo (Some snapshot) = (snapshot.geometry ≡ geo) × KeepsMetadata snapshot
 
--- Each snapshot that is kept is, and they are numbered.
+-- So is each that stands, and their numbers are those of freezes.
 pub record AreSnapshotsOf (geo : Geometry) (snapshots : Snapshots Kept) : Type 0 where
-  pub whole : All (λ (k : Standing Kept). (k.image.geometry ≡ geo) × KeepsMetadata k.image) snapshots.standing
+  pub images : (s : ℕ) (snapshot : Kept) → image_at snapshots.standing s ≡ Some snapshot → (snapshot.geometry ≡ geo) × KeepsMetadata snapshot
   pub numbered : AreNumbered snapshots
 
 -- where it is honest, the device holds an image of the volume, which can be loaded, and the metadata in memory is what users see over it where it is honest; each block can be held, and what is to be repaired and the snapshots are of the volume

@@ -1,37 +1,36 @@
 //! What a mounted volume has besides its image: the handles that are open, the blocks that are held for snapshots, the
-//! metadata that the snapshots keep, and the repairs of a check that was installed.
+//! metadata that each snapshot keeps, and the repairs of a check that was installed.
 #![tactic(auto)]
 
-ghost use Rattle.std.specs.Prelude.{◌≡◌, ◌<◌, ◌≤◌, None, Some, IfErr, IfOk, MatchOption, OnErr, OnOk, false, length, not, slice_set, true};
+mod standing;
+
+ghost use Rattle.std.specs.Prelude.{◌≡◌, ◌<◌, ◌≤◌, Some, IfErr, IfOk, MatchOption, OnErr, OnOk, false, length, not, slice_set, true};
 ghost use Rattle.std.specs.Arc.{arc_value};
 ghost use Rattle.std.specs.List.{All};
 ghost use Rattle.std.specs.Option.{option_copied, option_map};
 ghost use Rattle.model.specs.Layout.{Geometry as Numbers, block_count};
-ghost use Rattle.frozen.specs.Kept.{frozen_view};
 ghost use Rattle.marks.specs.Marks.{IsNextMarked, NothingMarkedFrom};
 ghost use Rattle.machine.specs.Causes.{refusal_of};
 ghost use Rattle.machine.specs.Command.{RepairAt};
 ghost use Rattle.machine.specs.Standing.{image_at, latest_at, others, too_many};
 ghost use Rattle.machine.specs.State.{State};
-ghost use Rattle.live_states.specs.Holdings.{Has, IsIdle, Repairs as Listed, is_kept_by, is_open_by, kept_by, with_done, with_held};
-ghost use Rattle.live_states.specs.Snapshots.{IsToDo, installing, keeping, let_go as without_snapshot, let_go_blocks, places, unmarked};
+ghost use Rattle.live_states.specs.Holdings.{Has, IsIdle, Repairs as Listed, is_kept_by, is_open_by, with_done, with_held};
+ghost use Rattle.live_states.specs.Snapshots.{IsToDo, installing, keeping, let_go, let_go_blocks, places, unmarked};
+ghost use Rattle.live_holdings.specs.Alone.{alone_below};
 ghost use Rattle.live_holdings.specs.Handles.{IsFreeHandle, IsOpened, NoFreeHandle, closed, handle_at, without};
 ghost use Rattle.live_holdings.specs.Left.{IsLeft, why_not_left};
 
-use cgmaps::{Map, bit_of};
 use findings::Repair;
 use frozen::Frozen;
 use layout::{Geometry, Refusal};
 use marks::Marks;
+use standing::Snapshots;
 use std::alloc::{AllocError, Global};
 use std::marker::Model;
 use std::sync::Arc;
 
 /// How many handles may be open at once.
 const HANDLES: u32 = 1024;
-
-/// How many snapshots may stand at once.
-const MOST_SNAPSHOTS: usize = 4;
 
 /// What a mounted volume has besides its image.
 #[derive(Drop)]
@@ -40,19 +39,10 @@ pub struct Holdings {
     handles: Vec<Option<u32>>,
     /// Whether each block is held.
     held: Marks,
-    /// The snapshots that stand, the newest first. There is room for as many as may.
-    snapshots: Vec<Standing>,
-    /// How many freezes there were.
-    freezes: u64,
+    /// The snapshots that stand.
+    snapshots: Snapshots,
     /// The repairs of a check, where it was installed.
     repairs: Option<Repairs>,
-}
-
-/// A snapshot that stands: the number of its freeze, and the metadata that it keeps.
-#[derive(Drop)]
-struct Standing {
-    number: u64,
-    frozen: Arc<Frozen>,
 }
 
 /// The repairs of a check, and whether each is done.
@@ -60,16 +50,6 @@ struct Standing {
 struct Repairs {
     list: Vec<Repair>,
     done: Vec<bool>,
-}
-
-impl Model for Standing {
-    ghost use Rattle.std.specs.Arc.{arc_value};
-    ghost use Rattle.frozen.specs.Kept.{Kept};
-    ghost use Rattle.machine.specs.Standing.{Standing as Snapshot};
-
-    ghost Value = { Snapshot Kept };
-
-    ghost view = { λ standing. record { number = standing.number; image = arc_value standing.frozen } };
 }
 
 impl Model for Repairs {
@@ -84,18 +64,18 @@ impl Model for Repairs {
 }
 
 impl Model for Holdings {
-    ghost use Rattle.std.specs.Prelude.{◌≤◌, length, vec_capacity};
+    ghost use Rattle.std.specs.Prelude.{◌≤◌, length};
     ghost use Rattle.live_states.specs.Holdings.{Holdings as Held};
 
     ghost Value = { Held };
 
-    ghost view = { λ holdings. record { opened = holdings.handles.items; held = holdings.held; snapshots = record { standing = holdings.snapshots.items; freezes = holdings.freezes }; repairs = holdings.repairs } };
+    ghost view = { λ holdings. record { opened = holdings.handles.items; held = holdings.held; snapshots = holdings.snapshots; repairs = holdings.repairs } };
 
-    ghost invariant = { λ holdings. (length holdings.handles.items ≤ 1024) × (4 ≤ vec_capacity holdings.snapshots) };
+    ghost invariant = { λ holdings. length holdings.handles.items ≤ 1024 };
 }
 
 impl Holdings {
-    /// Nothing is open, held or installed, and no snapshot was made. Takes memory, an eighth of a byte for each address and
+    /// Nothing is open, held or installed, and no snapshot stands. Takes memory, an eighth of a byte for each address and
     /// little more.
     pub fn new(alloc: Global, geometry: &Geometry) -> Result<Holdings, AllocError>
         ensures idle { IfOk result IsIdle }
@@ -104,8 +84,7 @@ impl Holdings {
         Ok(Holdings {
             handles: Vec::new(alloc),
             held: Marks::new(alloc, geometry.blocks())?,
-            snapshots: Vec::with_capacity(alloc, MOST_SNAPSHOTS)?,
-            freezes: 0,
+            snapshots: Snapshots::new(alloc)?,
             repairs: None,
         })
     }
@@ -138,24 +117,7 @@ impl Holdings {
     pub fn keeps(&self, address: u32) -> bool
         ensures { result ≡ is_kept_by self.now address }
     {
-        for standing in &self.snapshots {
-            if is_marked(&standing.frozen, address) {
-                return true;
-            }
-        }
-        false
-    }
-
-    /// Whether some other snapshot keeps a block.
-    fn is_kept_besides(&self, number: u64, address: u32) -> bool
-        ensures { result ≡ kept_by (others self.now.snapshots.standing number) address }
-    {
-        for standing in &self.snapshots {
-            if standing.number != number && is_marked(&standing.frozen, address) {
-                return true;
-            }
-        }
-        false
+        self.snapshots.keep(address)
     }
 
     /// The inode that a handle is open on, if it is open.
@@ -215,6 +177,13 @@ impl Holdings {
         }
     }
 
+    /// The held blocks that no snapshot keeps but that of this number, the least first.
+    pub fn held_alone(&self, alloc: Global, number: u64) -> Result<Vec<u32>, AllocError>
+        ensures { IfOk result (λ blocks. blocks.items ≡ let_go_blocks self.now number) }
+    {
+        marked_alone(alloc, &self.held, &self.snapshots, number)
+    }
+
     /// The least block from this address on that is held; `None` where there is none.
     pub fn next_held(&self, from: u32) -> Option<u32>
         ensures next { MatchOption result (NothingMarkedFrom self.now.held from) (IsNextMarked self.now.held from) }
@@ -224,59 +193,33 @@ impl Holdings {
         self.held.next(from)
     }
 
-    /// The blocks that are held, and that no snapshot but this one keeps, the least first.
-    pub fn held_alone(&self, alloc: Global, number: u64) -> Result<Vec<u32>, AllocError>
-        ensures { IfOk result (λ blocks. blocks.items ≡ let_go_blocks self.now number) }
-    {
-        let mut blocks = Vec::new(alloc);
-        let mut from = 0;
-        while let Some(block) = self.next_held(from) {
-            if !self.is_kept_besides(number, block) {
-                blocks.push(block)?;
-            }
-            from = block + 1;
-        }
-        Ok(blocks)
-    }
-
-    /// Whether one more snapshot may stand: fewer than four do, and there is a number for it.
+    /// Whether one more snapshot may begin: fewer than four stand, and a number is left for it.
     pub fn may_freeze(&self) -> bool
         ensures { result ≡ not (too_many self.now.snapshots) }
     {
-        self.snapshots.len() < MOST_SNAPSHOTS && self.freezes < u64::MAX
+        self.snapshots.has_room()
     }
 
-    /// The metadata of the snapshot of this number, where it stands.
+    /// The metadata of the snapshot with this number, where it stands.
     pub fn snapshot(&self, number: u64) -> Option<&Arc<Frozen>>
         ensures { option_map arc_value (option_copied result) ≡ image_at self.now.snapshots.standing number }
     {
-        for standing in &self.snapshots {
-            if standing.number == number {
-                return Some(&standing.frozen);
-            }
-        }
-        None
+        self.snapshots.image(number)
     }
 
-    /// The metadata of the snapshot of the latest freeze, where it stands.
+    /// The metadata of the latest freeze's snapshot, where it stands.
     pub fn latest(&self) -> Option<&Arc<Frozen>>
         ensures { option_map arc_value (option_copied result) ≡ latest_at self.now.snapshots.standing self.now.snapshots.freezes }
     {
-        let number = self.freezes.checked_sub(1)?;
-        self.snapshot(number)
+        self.snapshots.latest()
     }
 
-    /// The numbers of the snapshots that stand, the oldest first, and then empty places.
+    /// The numbers of the snapshots that stand, ascending, empty places last.
     pub fn standing(&self) -> [Option<u64>; 4]
         requires { length self.now.snapshots.standing ≤ 4 }
         ensures { result ≡ places self.now.snapshots.standing }
     {
-        let mut numbers = [None; MOST_SNAPSHOTS];
-        let count = self.snapshots.len();
-        for place in 0..count {
-            numbers[place] = Some(self.snapshots[count - 1 - place].number);
-        }
-        numbers
+        self.snapshots.numbers()
     }
 
     /// How many repairs the check has that was installed; `None` where none was.
@@ -286,28 +229,24 @@ impl Holdings {
         self.repairs.as_ref().map(|repairs| repairs.list.len())
     }
 
-    /// Keeps the metadata of one more snapshot, and gives its number. The repairs of an older check are dropped.
-    pub fn keep(&mut self, frozen: Arc<Frozen>) -> u64
-        requires room { too_many self.old.snapshots ≡ false }
-        ensures kept { self.new ≡ keeping self.old (arc_value frozen) }
+    /// Keeps the metadata of one more snapshot, where there is room, and gives its number. The repairs of an older check
+    /// are dropped.
+    pub fn keep(&mut self, snapshot: Arc<Frozen>) -> u64
+        requires { too_many self.old.snapshots ≡ false }
+        ensures kept { self.new ≡ keeping self.old (arc_value snapshot) }
         ensures number { result ≡ self.old.snapshots.freezes }
     {
-        let number = self.freezes;
-        self.snapshots
-            .insert(0, Standing { number, frozen })
-            .unwrap();
-        self.freezes += 1;
         self.repairs = None;
-        number
+        self.snapshots.begin(snapshot)
     }
 
-    /// The snapshot of this number ends, and these blocks, which were held for it alone, are held no more.
+    /// The snapshot with this number ends, and the blocks that are held for it alone are so no more.
     pub fn let_go(&mut self, number: u64, blocks: &[u32])
         requires { blocks.now ≡ let_go_blocks self.old number }
-        ensures { self.new ≡ without_snapshot self.old number }
+        ensures { self.new ≡ let_go self.old number }
     {
         unmark(&mut self.held, blocks);
-        self.snapshots.retain(|standing| standing.number != number);
+        self.snapshots.end(number);
     }
 
     /// Installs the repairs of a check, none of them done.
@@ -368,6 +307,27 @@ impl Repairs {
     }
 }
 
+/// The marked numbers that no snapshot keeps but that of this number, the least first.
+fn marked_alone(
+    alloc: Global,
+    marks: &Marks,
+    snapshots: &Snapshots,
+    number: u64,
+) -> Result<Vec<u32>, AllocError>
+    ensures { IfOk result (λ blocks. blocks.items ≡ alone_below marks.now (others snapshots.now.standing number) (length marks.now)) }
+{
+    marks.count();
+    let mut blocks = Vec::new(alloc);
+    let mut from = 0;
+    while let Some(block) = marks.next(from) {
+        if !snapshots.keep_besides(number, block) {
+            blocks.push(block)?;
+        }
+        from = block + 1;
+    }
+    Ok(blocks)
+}
+
 /// Takes the marks of these numbers away.
 fn unmark(marks: &mut Marks, numbers: &[u32])
     requires { All (λ n. n < length marks.old) numbers.now }
@@ -375,15 +335,5 @@ fn unmark(marks: &mut Marks, numbers: &[u32])
 {
     for number in numbers {
         marks.unmark(*number);
-    }
-}
-
-/// Whether a data block is marked.
-fn is_marked(frozen: &Frozen, address: u32) -> bool
-    ensures { result ≡ (frozen_view frozen.now).block_marked address }
-{
-    match frozen.geometry().place_of(address) {
-        Some(place) => bit_of(frozen.maps_of(place.group), Map::Blocks, place.bit),
-        None => false,
     }
 }
