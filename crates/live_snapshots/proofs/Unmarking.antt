@@ -116,9 +116,9 @@ module _ (geo : Geometry) (h : ℕ) where
   pub unmarked_none : (gone : ℕ → Bool) (old : List ℕ) → ((a : ℕ) → gone a ≡ false) → IsUnmarked geo h gone old old
   unmarked_none gone old none = record {
     view = λ blocks e. ap (view_of geo) (fun_ext (λ a. elim (cases_eq a h) [
-        | inl is ↦ ap (put_at blocks h old) is ∙ put_here blocks h old ∙ sym e ∙ ap blocks (sym is)
-        | inr d ↦ put_there blocks h a old d
-      ])) ∙ ap (λ (f : ℕ → Bool). record (view_of geo blocks) { block_marked = f }) (fun_ext (λ a. sym (ap (λ b. (view_of geo blocks).block_marked a && not b) (none a) ∙ and_true ((view_of geo blocks).block_marked a))));
+      | inl is ↦ ap (put_at blocks h old) is ∙ put_here blocks h old ∙ sym e ∙ ap blocks (sym is)
+      | inr d ↦ put_there blocks h a old d
+    ])) ∙ ap (λ (f : ℕ → Bool). record (view_of geo blocks) { block_marked = f }) (fun_ext (λ a. sym (ap (λ b. (view_of geo blocks).block_marked a && not b) (none a) ∙ and_true ((view_of geo blocks).block_marked a))));
     group_block = λ g e is. is;
   }
 
@@ -141,7 +141,7 @@ module _ (geo : Geometry) (h : ℕ) where
 -- the next bit, and the first one
 module _ (geo : Geometry) (holdings : Holdings) (n g : ℕ) (at : group_of_address geo n ≡ g) (mid new : List ℕ)
     (put : (blocks : ℕ → List ℕ) → blocks (group_block geo (group_of_address geo n)) ≡ mid
-      → view_of geo (put_at blocks (group_block geo (group_of_address geo n)) new) ≡ updated (view_of geo blocks) (SetBlock n false))
+    → view_of geo (put_at blocks (group_block geo (group_of_address geo n)) new) ≡ updated (view_of geo blocks) (SetBlock n false))
     (maps : (k : ℕ) → group_block geo (group_of_address geo n) ≡ group_block geo k → IsGroupBlock k mid → IsGroupBlock k new) where
   abbrev home : ℕ
   home = group_block geo g
