@@ -1,5 +1,5 @@
 -- What a volume goes through by a command that writes all that is pending first.
-use Rattle.std.proofs.Common.{◌≡◌, ◌⊎◌, ℕ, true, false, List, [], Bor, Ok, Err, Result, IfErr, OnErr, OnOk, Option, Some, None, ◌∷◌, is_some, inl, refl, sym, ap₂, subst}
+use Rattle.std.proofs.Common.{◌≡◌, ◌⊎◌, ◌∙◌, ℕ, true, false, List, [], Bor, Ok, Err, Result, IfErr, OnErr, OnOk, Option, Some, None, ◌∷◌, is_some, inl, refl, sym, ap₂, subst}
 use Rattle.std.specs.Option.{option_copied, option_map}
 use Rattle.layout.specs.declared.refusal.Refusal.{Refusal}
 use Rattle.layout.specs.declared.refusal.Refusal.TheVariants.{NoMemory, Device}
