@@ -11,7 +11,7 @@ use Rattle.live_states.specs.Holdings.{Holdings}
 use Rattle.live_states.proofs.Loading.{of_an_image}
 use Rattle.live_states.proofs.Standing.{loaded}
 use Rattle.live_states.specs.Snapshots.{AreRepairsOf}
-use Rattle.live.specs.Alive.{IsLive, IsSnapshotOf}
+use Rattle.live.specs.Alive.{IsLive, AreSnapshotsOf}
 use Rattle.live.specs.Mounting.{BreaksRule, IsFresh, IsMountable}
 
 -- what follows from two clauses on a result
@@ -69,6 +69,6 @@ module _ (honest : Type 0) (image : List (List ℕ)) (kept : Kept) (of : honest 
           };
           marks = subst (λ n. block_count kept.geometry ≤ n) (sym fresh.marks) (omega arith);
           repairs = subst (AreRepairsOf kept.geometry) (sym idle.repairs) tt;
-          snapshot = subst (IsSnapshotOf kept.geometry) (sym idle.snapshot) tt;
+          snapshots = subst (AreSnapshotsOf kept.geometry) (sym idle.snapshots) tt;
           framed = λ h. (of h).is_image;
         }))
