@@ -22,11 +22,11 @@ use Rattle.softdep.specs.Queued.{Queued, pending_of}
 use Rattle.softdep.specs.Syncing.{images_of}
 use Rattle.courses.specs.Serves.{IsBeginning, IsSafeService, Serves, Service, Starts, CarriesOut as ServesOne, Refuses as RefusesOne, Flushed}
 use Rattle.courses.proofs.ServiceLemmas.{image_begins, service_safe}
-use Rattle.live_states.specs.Holdings.{Beside, Holdings, IsIdle, AreImagesOf}
+use Rattle.live_states.specs.Holdings.{AreImagesOf, Beside, Holdings, IsIdle, nothing_beside}
 use Rattle.live_states.specs.Planned.{safe_after}
 use Rattle.live_states.specs.Volume.{state_over}
 use Rattle.live_states.proofs.Planning.{nothing_safe, still_nothing}
-use Rattle.live_states.proofs.Standing.{idle_mounted, nothing_beside}
+use Rattle.live_states.proofs.Standing.{idle_mounted}
 use Rattle.live.specs.Alive.{Alive, AnswersBeside, disk_of, state_of}
 use Rattle.live.specs.Mounting.{IsMountable}
 use Rattle.live.specs.Runs.{Begins, CarriesOut, Flushes, Lives, Refuses}
