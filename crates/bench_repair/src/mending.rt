@@ -30,10 +30,10 @@ fn mend_volume(
     volume: &mut Volume<MemDevice>,
     workers: u32,
 ) -> Result<usize> {
-    let frozen = freeze(rt, volume)?;
+    let (number, frozen) = freeze(rt, volume)?;
     inspect(rt, volume, &frozen, workers)?;
     let repairs = repair(rt, volume)?;
-    end(rt, volume)?;
+    end(rt, volume, number)?;
     Ok(repairs)
 }
 
@@ -44,15 +44,15 @@ fn tell(rt: &(impl Clock + Eprint), step: &str, start: &Instant) -> Result<()> {
     Ok(())
 }
 
-/// Freezes the volume.
+/// Freezes the volume, and gives the snapshot's number and its metadata.
 fn freeze(
     rt: &(impl AllocGlobal + Clock + Eprint),
     volume: &mut Volume<MemDevice>,
-) -> Result<Arc<Frozen>> {
+) -> Result<(u64, Arc<Frozen>)> {
     let start = Instant::now(rt)?;
-    let frozen = volume.freeze(rt.alloc())?;
+    let made = volume.freeze(rt.alloc())?;
     tell(rt, "freezing", &start)?;
-    Ok(frozen)
+    Ok(made)
 }
 
 /// Checks what was frozen, and installs the check.
@@ -90,10 +90,14 @@ fn repair(
     Ok(repairs)
 }
 
-/// Releases the snapshot, and syncs.
-fn end(rt: &(impl AllocGlobal + Clock + Eprint), volume: &mut Volume<MemDevice>) -> Result<()> {
+/// Releases the snapshot of this number, and syncs.
+fn end(
+    rt: &(impl AllocGlobal + Clock + Eprint),
+    volume: &mut Volume<MemDevice>,
+    number: u64,
+) -> Result<()> {
     let start = Instant::now(rt)?;
-    volume.release(rt.alloc())?;
+    volume.release(rt.alloc(), number)?;
     tell(rt, "releasing", &start)?;
     let start = Instant::now(rt)?;
     volume.apply(rt.alloc(), &Command::Sync)?;

@@ -12,16 +12,16 @@ pub fn write_reply(text: &mut String, reply: &Reply) -> Result<(), AllocError> {
     }
 }
 
-/// Writes an answer behind a text: `ok` alone where there is nothing to tell, and of an image; else
-/// - `ok NUMBER`
+/// Writes an answer behind a text: `ok` alone where there is nothing to tell; else
+/// - `ok NUMBER`; of a snapshot that began, its number
 /// - `ok HEX`: bytes, each in two digits
 /// - `ok NAME=NUMBER NAME=NUMBER`: the names in a directory, and the numbers that they stand for; in a name a byte that is
 ///   not from 33 to 126, or is `%`, stands as `%` and two digits
 /// - `ok number NUMBER KIND links LINKS size SIZE`, where the kind is `file` or `directory`
 pub fn write_answer(text: &mut String, answer: &Answer) -> Result<(), AllocError> {
     match answer {
-        Answer::Done | Answer::Image(_) => write!(text, "ok"),
-        Answer::Number(number) => write!(text, "ok {number}"),
+        Answer::Done => write!(text, "ok"),
+        Answer::Number(number) | Answer::Image(number, _) => write!(text, "ok {number}"),
         Answer::Bytes(bytes) => write_bytes(text, bytes.as_slice()),
         Answer::Names(names) => write_names(text, names.as_slice()),
         Answer::Status(status) => write_status(text, status),

@@ -14,9 +14,10 @@
 //! - `truncate HANDLE SIZE`: the file has this size, which is no larger.
 //! - `list PATH`: the names in a directory.
 //! - `stat PATH`: what a path leads to.
-//! - `freeze`: a snapshot begins.
-//! - `snapread INODE INDEX`: the bytes that a file had in its block of this index when the snapshot began.
-//! - `release`: the snapshot ends.
+//! - `freeze`: a snapshot begins. Its answer is the snapshot's number.
+//! - `snapread SNAPSHOT INODE INDEX`: the bytes that a file had in its block of this index when the snapshot of this number
+//!   began.
+//! - `release SNAPSHOT`: the snapshot of this number ends.
 //! - `repair PLACE`: the repair of this place in the check that is installed is carried out.
 //! - `flush ADDRESS`: what is pending of a block goes to the device, as far as it may. Its answer counts the updates.
 //! - `sync`: all that is pending goes to the device.
@@ -42,7 +43,6 @@ pub fn parse_command(alloc: Global, line: &[u8]) -> Result<Option<Command>, Allo
 fn of_no_word(name: &[u8]) -> Option<Command> {
     match name {
         b"freeze" => Some(Command::Freeze),
-        b"release" => Some(Command::Release),
         b"sync" => Some(Command::Sync),
         _ => None,
     }
@@ -66,6 +66,7 @@ fn of_a_word(alloc: Global, name: &[u8], word: &[u8]) -> Result<Option<Command>,
 fn of_a_number(name: &[u8], number: u32) -> Option<Command> {
     match name {
         b"close" => Some(Command::Close(number)),
+        b"release" => Some(Command::Release(u64::from(number))),
         b"repair" => Some(Command::Repair(number)),
         b"flush" => Some(Command::Flush(number)),
         _ => None,
@@ -99,15 +100,11 @@ fn of_two_numbers(name: &[u8], first: u32, second: u32) -> Option<Command> {
             handle: first,
             size: second,
         }),
-        b"snapread" => Some(Command::SnapRead {
-            inode: first,
-            index: second,
-        }),
         _ => None,
     }
 }
 
-/// The command of this name that has three words, if these are words for it: it writes a piece.
+/// The command of this name that has three words, if there is one and these are words for it.
 fn of_three_words(alloc: Global, name: &[u8], words: &[u8]) -> Result<Option<Command>, AllocError> {
     match (name, leading_numbers(words)) {
         (b"write", Some((handle, index, piece))) if is_one_word(piece) => Ok(Some(
@@ -117,6 +114,13 @@ fn of_three_words(alloc: Global, name: &[u8], words: &[u8]) -> Result<Option<Com
                 piece: piece.to_vec(alloc)?,
             },
         )),
+        (b"snapread", Some((snapshot, inode, word))) => Ok(number(word).map(|index| {
+            Command::SnapRead {
+                snapshot: u64::from(snapshot),
+                inode,
+                index,
+            }
+        })),
         _ => Ok(None),
     }
 }

@@ -1,5 +1,5 @@
 -- A service shows in the blocks of files what users asked for.
-use Rattle.std.proofs.Common.{◌≡◌, ℕ, Bool, false, List, [], ◌∷◌, ◌++◌, ◌⊎◌, inl, inr, refl, sym, ◌∙◌, subst, slice_index}
+use Rattle.std.proofs.Common.{◌≡◌, ℕ, Bool, List, [], ◌∷◌, ◌++◌, ◌⊎◌, inl, inr, refl, sym, ◌∙◌, subst, slice_index}
 use Rattle.model.specs.Layout.{Geometry}
 use Rattle.model.specs.View.{View}
 use Rattle.ordering.specs.Cuts.{Cell, Pending, seen, rest}
@@ -8,12 +8,13 @@ use Rattle.queue_model.specs.Files.{Written, generation, shown, IsFileBlock}
 use Rattle.queue_model.specs.Flush.{ready}
 use Rattle.queue_model.specs.Sync.{Flushes, Stops, Goes}
 use Rattle.queue_model.proofs.FlushLemmas.{ready_closed}
+use Rattle.machine.specs.Snapshot.{held_still}
 use Rattle.machine.specs.State.{State}
 use Rattle.machine.specs.Command.{Command, Answer, Reply}
 use Rattle.machine.specs.Causes.{Accepts}
 use Rattle.plans_data.specs.Now.{now}
 use Rattle.plans_data.specs.Carried.{Stands}
-use Rattle.plans_data.specs.Lists.{held_below}
+use Rattle.plans_data.specs.Lists.{let_go_below}
 use Rattle.plans_data.proofs.Plans.{plan_release}
 use Rattle.plans_naming.proofs.UnlinkLast.{now_is}
 use Rattle.courses.specs.Bytes.{AsksWrite, IsOwnService, Recorded, WasWritten, IsOwnByte}
@@ -85,13 +86,13 @@ module _ (geo : Geometry) (mounted : View) (h : List Written) (cut : List Bool) 
     serving command answer disk' q' new safe' later accepts (FlushesSome a some) l = puts _ _ disk q old.held safe images (home_of geo) a (nothing command l)
     serving command answer disk' q' new safe' later accepts (SyncsAll blocks d syncs) l = flushes _ _ (home_of geo) disk q blocks d [] syncs old.held safe images (nothing command l)
     serving command answer disk' q' new safe' later accepts (Freezes blocks d syncs) l = flushes _ _ (home_of geo) disk q blocks d [] syncs old.held safe images (nothing command l)
-    serving command answer disk' q' new safe' later accepts (Releases blocks d n syncs few) l =
+    serving command answer disk' q' new safe' later accepts (Releases r blocks d n syncs few) l =
         let session = stores geo disk0 q0 old0 safe0 (home_of geo) disk q blocks d [] syncs old safe commands replies images (service_session geo mounted h cut disk0 q0 old0 safe0 begin disk q old safe commands replies images service) in
         let s = session_stands geo mounted h cut disk0 q0 old0 safe0 begin d [] old safe commands replies _ session in
         let is : now d [] old ≡ old = now_is d [] old s.same in
         let t = subst (λ x. Stands geo d [] x safe) (sym is) s in
         let f = flushes (λ h'. Recorded mounted h h' service) (λ h' b n g k piece. WasWritten mounted h h' n g k piece service b) (home_of geo) disk q blocks d [] syncs old.held safe images l in (
-          EndsSnapshot old (λ a. false) (held_below old n) f.0 refl (plan_release geo t.geometry (now d [] old) t.balance n few),
+          EndsSnapshot old (held_still old r) (let_go_below old r n) f.0 refl (plan_release geo t.geometry (now d [] old) t.balance r n few),
           f.1,
           λ h' wrote. let r = f.2 wrote.0 wrote.1 in ((wrote.0, r.0, wrote.2), λ m g k piece w. inl (r.1 m g k piece w)),
         )

@@ -82,7 +82,7 @@ module _ (geo : Geometry) (mounted : View) (h : List Written) (cut : List Bool) 
   serving_spares disk q old safe command answer disk' q' new safe' later same (FlushesSome a some) f spares t = t
   serving_spares disk q old safe command answer disk' q' new safe' later same (SyncsAll blocks d syncs) f spares t = t
   serving_spares disk q old safe command answer disk' q' new safe' later same (Freezes blocks d syncs) f spares t = t
-  serving_spares disk q old safe command answer disk' q' new safe' later same (Releases blocks d n syncs few) f spares t = t
+  serving_spares disk q old safe command answer disk' q' new safe' later same (Releases r blocks d n syncs few) f spares t = t
 
   service_served : (disk : View) (q : List Pending) (new : State) (safe : ℕ → Bool) (commands : List Command) (replies : List Reply) (images : List View) → Service geo disk0 q0 old0 safe0 disk q new safe commands replies images
       → IsServed geo disk0 q0 old0 safe0 disk q new safe commands replies images

@@ -19,7 +19,7 @@ use Rattle.machine.specs.Step.{Effect}
 use Rattle.machine.proofs.AllSteps.{run_keeps}
 use Rattle.plans_data.specs.Now.{now}
 use Rattle.plans_data.specs.Carried.{Stands}
-use Rattle.plans_data.specs.Lists.{held_below}
+use Rattle.plans_data.specs.Lists.{let_go_below}
 use Rattle.plans_data.specs.Release.{releasing}
 use Rattle.plans_data.proofs.Plans.{plan_release}
 use Rattle.plans_data.proofs.CarriedRepairs.{release_steps_on}
@@ -44,8 +44,8 @@ quiet_keeps geo old (Read h k) _ new t e = absurd e
 quiet_keeps geo old (ListNames p) (Listed names) new t e = (ap (λ (s : State). s.view) e.1, ap (λ (s : State). s.held) e.1)
 quiet_keeps geo old (ListNames p) _ new t e = absurd e
 quiet_keeps geo old (Stat p) answer new t e = (ap (λ (s : State). s.view) e.1, ap (λ (s : State). s.held) e.1)
-quiet_keeps geo old (SnapRead i k) (Bytes bytes) new t e = (ap (λ (s : State). s.view) e.3, ap (λ (s : State). s.held) e.3)
-quiet_keeps geo old (SnapRead i k) _ new t e = absurd e
+quiet_keeps geo old (SnapRead s i k) (Bytes bytes) new t e = (ap (λ (s : State). s.view) e.3, ap (λ (s : State). s.held) e.3)
+quiet_keeps geo old (SnapRead s i k) _ new t e = absurd e
 quiet_keeps geo old (Install check) Done new t e = (ap (λ (s : State). s.view) e.whole, ap (λ (s : State). s.held) e.whole)
 quiet_keeps geo old (Install check) _ new t e = absurd e
 quiet_keeps geo old _ answer new t e = absurd (both_ways false refl t)
@@ -94,17 +94,17 @@ module _ (geo : Geometry) (mounted : View) (h : List Written) (cut : List Bool) 
 
   module _ (disk : View) (q : List Pending) (old : State) (safe : ℕ → Bool) (commands : List Command) (replies : List Reply) (images : List View) (session : Session geo disk0 q0 old0 safe0 disk q old safe commands replies images) where
     -- a snapshot ends with nothing pending
-    forgets : (disk' : View) (later : List View) (n : ℕ) → Session geo disk0 q0 old0 safe0 disk' [] old safe commands replies later → Accepts geo old Release → ((a : ℕ) → IsTrue (old.held a) → a < n)
-        → Session geo disk0 q0 old0 safe0 disk' (releasing (held_below old n) []) (released old) safe (commands ++ Release ∷ []) (replies ++ Ok Done ∷ []) later
-    forgets disk' later n session' accepts few =
+    forgets : (disk' : View) (later : List View) (r n : ℕ) → Session geo disk0 q0 old0 safe0 disk' [] old safe commands replies later → Accepts geo old (Release r) → ((a : ℕ) → IsTrue (old.held a) → a < n)
+        → Session geo disk0 q0 old0 safe0 disk' (releasing (let_go_below old r n) []) (released old r) safe (commands ++ Release r ∷ []) (replies ++ Ok Done ∷ []) later
+    forgets disk' later r n session' accepts few =
         let t = now disk' [] old in
         let s = session_stands disk' [] old safe commands replies later session' in
         let is : t ≡ old = now_is disk' [] old s.same in
         let stands : Stands geo disk' [] t safe = subst (λ x. Stands geo disk' [] x safe) (sym is) s in
-        let accepted : Accepts geo t Release = subst (λ x. Accepts geo x Release) (sym is) accepts in
-        subst (λ x. Session geo disk0 q0 old0 safe0 disk' (releasing (held_below old n) []) (released x) safe (commands ++ Release ∷ []) (replies ++ Ok Done ∷ []) later) is
-        (Forgets (released t) (held_below old n) (subst (λ x. Session geo disk0 q0 old0 safe0 disk' [] x safe commands replies later) (sym is) session') (accepted, refl)
-        (plan_release geo stands.geometry t stands.balance n few) (ap (λ (x : State). x.view) (release_steps_on geo disk' t safe stands accepted n few).1))
+        let accepted : Accepts geo t (Release r) = subst (λ x. Accepts geo x (Release r)) (sym is) accepts in
+        subst (λ x. Session geo disk0 q0 old0 safe0 disk' (releasing (let_go_below old r n) []) (released x r) safe (commands ++ Release r ∷ []) (replies ++ Ok Done ∷ []) later) is
+        (Forgets r (released t r) (let_go_below old r n) (subst (λ x. Session geo disk0 q0 old0 safe0 disk' [] x safe commands replies later) (sym is) session') (accepted, refl)
+        (plan_release geo stands.geometry t stands.balance r n few) (ap (λ (x : State). x.view) (release_steps_on geo disk' t safe stands r accepted n few).1))
 
     -- by a plan
     pub performs : (command : Command) (answer : Answer) (file : ℕ) (plan : List Pending) (new : State) (safe' : ℕ → Bool) → Accepts geo old command → IsDoneBy geo disk q old safe command answer file plan new safe'
@@ -127,5 +127,5 @@ module _ (geo : Geometry) (mounted : View) (h : List Written) (cut : List Bool) 
         Answers Sync (Ok Done) old (stores geo disk0 q0 old0 safe0 (home_of geo) disk q blocks d [] syncs old safe commands replies images session) (accepts, refl) refl refl
     serves command answer disk' q' new safe' later accepts (Freezes blocks d syncs) =
         Answers Freeze _ (frozen geo old) (stores geo disk0 q0 old0 safe0 (home_of geo) disk q blocks d [] syncs old safe commands replies images session) (accepts, (refl, refl)) refl refl
-    serves command answer disk' q' new safe' later accepts (Releases blocks d n syncs few) =
-        forgets d (flush_images (home_of geo) disk q blocks [] ++ images) n (stores geo disk0 q0 old0 safe0 (home_of geo) disk q blocks d [] syncs old safe commands replies images session) accepts few
+    serves command answer disk' q' new safe' later accepts (Releases r blocks d n syncs few) =
+        forgets d (flush_images (home_of geo) disk q blocks [] ++ images) r n (stores geo disk0 q0 old0 safe0 (home_of geo) disk q blocks d [] syncs old safe commands replies images session) accepts few

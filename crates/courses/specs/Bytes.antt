@@ -7,7 +7,7 @@ use Rattle.ordering.specs.Cuts.{Pending, IsClosed, seen, users_view}
 use Rattle.machine.specs.State.{State}
 use Rattle.machine.specs.Command.{Command, Write, Answer, Reply}
 use Rattle.machine.specs.Causes.{file_of}
-use Rattle.plans_data.specs.Lists.{held_below}
+use Rattle.plans_data.specs.Lists.{let_go_below}
 use Rattle.plans_data.specs.Release.{releasing}
 use Rattle.queue_model.specs.History.{Holds}
 use Rattle.queue_model.specs.Files.{Written, updates, generation, shown, IsFileBlock}
@@ -20,7 +20,7 @@ use Rattle.courses.specs.Serves.{Serves, ByPlan, Releases, Service, Starts, Carr
 abbrev pub Records : {geo : Geometry} {disk : View} {q : List Pending} {old : State} {safe : ℕ → Bool} {command : Command} {answer : Answer} {disk' : View} {q' : List Pending} {new : State} {safe' : ℕ → Bool} {later : List View}
     → View → List Written → List Written → Serves geo disk q old safe command answer disk' q' new safe' later → Type 0
 Records {geo = geo} {q = q} mounted before h' (ByPlan command answer file plan new safe' done rest) = Named geo mounted file before q h' plan
-Records {geo = geo} {old = old} mounted before h' (Releases blocks disk' n syncs few) = Named geo mounted 0 before [] h' (releasing (held_below old n) [])
+Records {geo = geo} {old = old} mounted before h' (Releases s blocks disk' n syncs few) = Named geo mounted 0 before [] h' (releasing (let_go_below old s n) [])
 Records mounted before h' _ = h' ≡ before
 
 -- What was written in a service, after what was written before it.

@@ -52,7 +52,7 @@ pub record InNewBlock (geo : Geometry) (view : View) (path : List ℕ) (number b
   pub blocks_first : HasBlocks geo view (holder geo view path) after
   pub only : All (IsBeforeEntry geo view (holder geo view path) number) after
 
--- The last link of an inode goes that is not open, and these are its blocks, but for those that the snapshot keeps.
+-- The last link of an inode goes that is not open, and these are its blocks, but for those that a snapshot keeps.
 pub record GoesWith (geo : Geometry) (old : State) (number : ℕ) (blocks : List ℕ) : Type 0 where
   pub closed : IsFalse (is_open old number)
   pub given_up : AreGivenUp geo old number free_inode blocks
@@ -105,7 +105,7 @@ pub data IsDoneBy (geo : Geometry) (disk : View) (q : List Pending) (old : State
       → ((users_view disk q).inode (number_at geo (users_view disk q) p)).links ≡ 2 → GoesWith geo (now disk q old) (number_at geo (users_view disk q) p) blocks
       → IsDoneBy geo disk q old safe (Rmdir p) Done (number_at geo (users_view disk q) p) (remove_plan_last geo (users_view disk q) p blocks after q)
       (becomes disk (remove_plan_last geo (users_view disk q) p blocks after q) (held_with geo (now disk q old) (number_at geo (users_view disk q) p) free_inode) old) safe
-  -- a block of a file is written in place, after the last one, or elsewhere where the snapshot keeps it
+  -- a block of a file is written in place, after the last one, or elsewhere where a snapshot keeps it
   WritesInPlace : (h k : ℕ) (piece bytes : List ℕ) → IsOverwritten piece (seen geo (users_view disk q) (file_of old h) k) bytes
       → k < blocks_of ((users_view disk q).inode (file_of old h)).size → IsFalse (is_kept old (block_of geo (users_view disk q) (file_of old h) k))
       → IsDoneBy geo disk q old safe (Write h k piece) Done (file_of old h)

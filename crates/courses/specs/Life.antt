@@ -21,7 +21,7 @@ pub data Life (geo : Geometry) (disk0 : View) (q0 : List Pending) (held0 safe0 :
   -- a closed cut of what is pending is written
   Puts : {disk : View} {q : List Pending} {held safe : ℕ → Bool} {images : List View} (cut : List Bool) → Life geo disk0 q0 held0 safe0 disk q held safe images
       → IsClosed q cut → Life geo disk0 q0 held0 safe0 (seen disk q cut) (rest q cut) held safe (seen disk q cut ∷ images)
-  -- with nothing pending a snapshot ends, and what is held for it alone is let go
+  -- with nothing pending a snapshot ends, and what no other one has marked is let go
   Releases : {disk : View} {held safe : ℕ → Bool} {images : List View} (old : State) (held' : ℕ → Bool) (blocks : List ℕ) → Life geo disk0 q0 held0 safe0 disk [] held safe images
       → old.held ≡ held → MayRelease geo (now disk [] old) held' blocks → Life geo disk0 q0 held0 safe0 disk (releasing blocks []) held' safe images
 

@@ -14,7 +14,7 @@ use Rattle.machine.specs.Causes.{Accepts}
 use Rattle.machine.specs.Step.{Effect, Step, Run}
 use Rattle.plans_data.specs.Carried.{Stands}
 use Rattle.plans_data.specs.Release.{releasing}
-use Rattle.plans_data.specs.Lists.{held_below}
+use Rattle.plans_data.specs.Lists.{let_go_below}
 use Rattle.queue_model.specs.Blocks.{home_of}
 use Rattle.queue_model.specs.Course.{IsSafeImage}
 use Rattle.queue_model.specs.Files.{Written, updates}
@@ -30,7 +30,7 @@ is_quiet (Open p) = true
 is_quiet (Read h k) = true
 is_quiet (ListNames p) = true
 is_quiet (Stat p) = true
-is_quiet (SnapRead i k) = true
+is_quiet (SnapRead s i k) = true
 is_quiet (Install check) = true
 is_quiet _ = false
 
@@ -53,11 +53,11 @@ pub data Serves (geo : Geometry) (disk : View) (q : List Pending) (old : State) 
       → Serves geo disk q old safe (Flush a) (Number (taken (ready (home_of geo) a q))) (seen disk q (ready (home_of geo) a q)) (rest q (ready (home_of geo) a q)) old safe (seen disk q (ready (home_of geo) a q) ∷ [])
   -- by flushes of the least block with a ready update, until nothing is pending
   SyncsAll : (blocks : List ℕ) (disk' : View) → Syncs (home_of geo) disk q blocks disk' → Serves geo disk q old safe Sync Done disk' [] old safe (flush_images (home_of geo) disk q blocks [])
-  -- and then by a snapshot, or by its end, which clears the bits of what was held
+  -- and then by a snapshot, or by the end of one, which clears the bits of what is let go
   Freezes : (blocks : List ℕ) (disk' : View) → Syncs (home_of geo) disk q blocks disk'
-      → Serves geo disk q old safe Freeze (Image (settled geo old)) disk' [] (frozen geo old) safe (flush_images (home_of geo) disk q blocks [])
-  Releases : (blocks : List ℕ) (disk' : View) (n : ℕ) → Syncs (home_of geo) disk q blocks disk' → ((a : ℕ) → IsTrue (old.held a) → a < n)
-      → Serves geo disk q old safe Release Done disk' (releasing (held_below old n) []) (released old) safe (flush_images (home_of geo) disk q blocks [])
+      → Serves geo disk q old safe Freeze (Image old.snapshots.freezes (settled geo old)) disk' [] (frozen geo old) safe (flush_images (home_of geo) disk q blocks [])
+  Releases : (s : ℕ) (blocks : List ℕ) (disk' : View) (n : ℕ) → Syncs (home_of geo) disk q blocks disk' → ((a : ℕ) → IsTrue (old.held a) → a < n)
+      → Serves geo disk q old safe (Release s) Done disk' (releasing (let_go_below old s n) []) (released old s) safe (flush_images (home_of geo) disk q blocks [])
 
 -- Where a volume may begin: it stands, at a good moment since mount.
 pub record IsBeginning (geo : Geometry) (mounted : View) (h : List Written) (cut : List Bool) (disk : View) (q : List Pending) (old : State) (safe : ℕ → Bool) : Type 0 where

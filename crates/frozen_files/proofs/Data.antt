@@ -1,4 +1,4 @@
--- The commands that change data, and repairs, leave a block of the snapshot's files as it is.
+-- The commands that change data, and repairs, leave a block of a snapshot's files as it is.
 use Rattle.std.proofs.Common.{◌≡◌, ◌<◌, ◌≤◌, ◌+◌, ◌*◌, ℕ, Bool, true, false, ◌||◌, eqb, ltb, leb, max, List, length, ◌⊎◌, inl, inr, refl, sym, ap, ◌∙◌, subst, arith, IsTrue, IsFalse, Option, Some, None}
 use Rattle.std.specs.Prelude.{is_none, unwrap_or}
 use Rattle.std.specs.Option.{option_and_then}
@@ -13,7 +13,7 @@ use Rattle.model.proofs.UseLemmas.{use_from, claim_from}
 use Rattle.findings.specs.declared.repair.Repair.{Repair}
 use Rattle.findings.specs.declared.repair.Repair.TheVariants.{DropInode, LowerCount, FreeBlock, FreeNumber}
 use Rattle.layout.specs.declared.refusal.Refusal.TheVariants.{BadHandle, BadPiece, BadIndex, TooBig, AlreadyDone}
-use Rattle.machine.specs.State.{State, Plan, is_kept, open_at}
+use Rattle.machine.specs.State.{State, Plan, is_kept, open_at, latest}
 use Rattle.machine.specs.Command.{Write, Truncate, RepairAt}
 use Rattle.machine.specs.Causes.{causes, refusal_of, file_of, not_open}
 use Rattle.machine.specs.Below.{when}
@@ -156,7 +156,7 @@ module _ (geo : Geometry) (g : IsGeometry geo) (old new : State) (b : Balance ge
   owed k c none =
       let q = quiet (causes geo old (RepairAt k)) none in
       let not_done = when_none (c.plan.done k) AlreadyDone (sym (ap (option_and_then (λ (plan : Plan). when (plan.done k) AlreadyDone)) c.planned) ∙ q.1.1.0) in
-      subst (λ x. OwesBy geo old x old.frozen c.repair) (sym c.planned) (k, c.stands, not_done)
+      subst (λ x. OwesBy geo old x (latest old) c.repair) (sym c.planned) (k, c.stands, not_done)
 
   repaired_holds : (Owes geo old (FreeBlock a) → ⊥) → (r : Repair) → Owes geo old r → Holding (repaired geo old r)
   repaired_holds none (DropInode i) o = relinked_holds geo a content old begin i 0

@@ -52,7 +52,7 @@ file_claims geo w i n sound file few k c m =
     })
 
 module _ (geo : Geometry) (a : ℕ) (content : List ℕ) where
-  -- blocks are let go, but none that the snapshot keeps
+  -- blocks are let go, but none that a snapshot keeps
   pub lets_go_holds : (s : State) → IsTrue (is_kept s a) → (i : ℕ) (w : View) → w.bytes a ≡ content → IsTrue (w.block_marked a) → ((j k : ℕ) → IsMetadata geo w j k a → ⊥) → Holds geo a content (lets_go geo s i w)
   lets_go_holds s kept i w bytes mark other = record {
     kept = kept;

@@ -1,4 +1,4 @@
--- The commands that change names leave a block of the snapshot's files as it is.
+-- The commands that change names leave a block of a snapshot's files as it is.
 use Rattle.std.proofs.Common.{◌≡◌, ◌<◌, ◌+◌, ◌/◌, ℕ, true, ◌&&◌, List, [], ◌∷◌, ◌⊎◌, inl, inr, refl, sym, ap, ◌∙◌, subst, arith, IsTrue, IsFalse, None}
 use Rattle.std.specs.Prelude.{replicate}
 use Rattle.model.specs.Layout.{Geometry, IsGeometry, is_number}

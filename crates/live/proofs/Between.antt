@@ -6,7 +6,7 @@ use Rattle.model.specs.View.{View}
 use Rattle.machine.specs.Command.{Answer, Command}
 use Rattle.frozen.specs.Kept.{Kept}
 use Rattle.softdep.specs.Queued.{Queued, pending_of}
-use Rattle.live_states.specs.Holdings.{Beside, Holdings, IsImageOf}
+use Rattle.live_states.specs.Holdings.{Beside, Holdings, AreImagesOf}
 use Rattle.live_states.specs.Planned.{AreSeen, Seen}
 use Rattle.live.specs.Alive.{Alive, Answers, AnswersBeside, disk_of}
 
@@ -24,7 +24,7 @@ module _ {D : Type 0} (image image' : List (List ℕ)) (old mid : Alive D) (same
     IsAnswered i q k h = AnswersBeside beside i (record { device = old.device; queue = q; kept = k; holdings = h }) command answer image'' new later
 
     over_device : AnswersBeside beside image' mid command answer image'' new later → IsAnswered image' mid.queue mid.kept mid.holdings
-    over_device a = record { geometry = a.geometry; snapshot = a.snapshot; step = a.step; serves = a.serves }
+    over_device a = record { geometry = a.geometry; snapshots = a.snapshots; step = a.step; serves = a.serves }
 
     answered_beside : AnswersBeside beside image' mid command answer image'' new later → AnswersBeside beside image old command answer image'' new later
     answered_beside a =
@@ -35,4 +35,4 @@ module _ {D : Type 0} (image image' : List (List ℕ)) (old mid : Alive D) (same
 
   pub answered : (command : Command) (answer : Answer) (image'' : List (List ℕ)) (new : Alive D) (later : List View) → Answers image' mid command answer image'' new later → Answers image old command answer image'' new later
   answered command answer image'' new later answers beside belongs =
-      answered_beside command answer image'' new later beside (answers beside (subst (λ (h : Holdings). IsImageOf h.snapshot beside.frozen) (sym holdings) belongs))
+      answered_beside command answer image'' new later beside (answers beside (subst (λ (h : Holdings). AreImagesOf h.snapshots beside.snapshots) (sym holdings) belongs))

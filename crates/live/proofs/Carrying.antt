@@ -25,7 +25,7 @@ use Rattle.live_states.specs.Volume.{IsVolume, state_over}
 use Rattle.live_states.proofs.Planning.{is_served, keeps', planned_with, steps, volume'}
 use Rattle.live_states.proofs.Standing.{left_alone}
 use Rattle.live_holdings.proofs.Tables.{holding_length}
-use Rattle.live.specs.Alive.{Answers, IsLive, IsSnapshotOf}
+use Rattle.live.specs.Alive.{Answers, IsLive, AreSnapshotsOf}
 use Rattle.live.specs.Ended.{ended}
 use Rattle.live.specs.declared.ending.Ending.{Ending}
 use Rattle.live.specs.declared.ending.Ending.TheVariants.{Handle, Nothing, Repair}
@@ -104,7 +104,7 @@ module _ (honest : Type 0) (image : List (List ℕ)) (queue : Queued) (kept : Ke
       };
       marks = subst (λ n. n ≤ length holdings'.held) (ap block_count (sym geometry')) (subst (λ n. block_count kept.geometry ≤ n) (sym marks) live.marks);
       repairs = subst (λ geo. AreRepairsOf geo holdings'.repairs) (sym geometry') repairs;
-      snapshot = subst (λ geo. IsSnapshotOf geo holdings'.snapshot) (sym geometry') (subst (IsSnapshotOf kept.geometry) (sym planned.snapshot) live.snapshot);
+      snapshots = subst (λ geo. AreSnapshotsOf geo holdings'.snapshots) (sym geometry') (subst (AreSnapshotsOf kept.geometry) (sym planned.snapshots) live.snapshots);
       framed = λ h. subst (λ geo. IsImage geo image) (sym geometry') (live.framed h);
     }
       where
@@ -131,7 +131,7 @@ module _ (honest : Type 0) (image : List (List ℕ)) (queue : Queued) (kept : Ke
         let volume = live.alive.true h in
         record {
           geometry = geometry';
-          snapshot = (planned_with kept holdings seen command answer draft holdings' planned).snapshot;
+          snapshots = (planned_with kept holdings seen command answer draft holdings' planned).snapshots;
           step = λ stands. said (λ d q. Step kept.geometry old command (Ok answer) (state_over d q holdings' beside))
               (steps kept holdings (pending_of queue) disk volume seen command answer draft holdings' planned sees beside belongs stands);
           serves = λ safe stands.

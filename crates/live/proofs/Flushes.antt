@@ -65,7 +65,7 @@ live_after honest honest' image image' queue queue' kept holdings live same coun
   };
   marks = live.marks;
   repairs = live.repairs;
-  snapshot = live.snapshot;
+  snapshots = live.snapshots;
   framed = λ h. frame h (live.framed (back h));
 }
 
@@ -82,7 +82,7 @@ still_live honest honest' image image' queue queue' kept holdings live same_queu
       };
       marks = live.marks;
       repairs = live.repairs;
-      snapshot = live.snapshot;
+      snapshots = live.snapshots;
       framed = λ h. live.framed (back h);
     }))
 
@@ -112,7 +112,7 @@ module _ (kept : Kept) (holdings : Holdings) (disk : View) (q : List Pending) (a
     old = state_over disk q holdings beside
 
     abbrev as_seen : View → State
-    as_seen view = record { view = view; opened = opened_by holdings; held = held_by holdings; frozen = beside.frozen; plan = plan_by holdings }
+    as_seen view = record { view = view; opened = opened_by holdings; held = held_by holdings; snapshots = beside.snapshots; plan = plan_by holdings }
 
     same_state : state_over (seen disk q cut) (rest q cut) holdings beside ≡ old
     same_state = ap as_seen (users_flushed disk q cut closed)
@@ -162,7 +162,7 @@ module _ {D : Type 0} (device device' : D) (image image' : List (List ℕ)) (hel
       → Answers image before (Flush a) (Number n) image' behind later
   answered n later serves beside belongs = record {
     geometry = refl;
-    snapshot = refl;
+    snapshots = refl;
     step = λ stands. said kept holdings d p a (image_view kept.geometry image') (pending_of queue') view pending
         (λ e r. Step kept.geometry (state_over d p holdings beside) (Flush a) (Ok (Number n)) (state_over e r holdings beside))
         (accepts_flush kept.geometry (state_over d p holdings beside) a low, same_state kept holdings d p a beside);
@@ -219,7 +219,7 @@ module _ (image image' : List (List ℕ)) (held held' : List (List (List ℕ))) 
     },
     λ beside belongs. record {
       geometry = refl;
-      snapshot = refl;
+      snapshots = refl;
       step = λ stands. (accepts_sync kept.geometry (old beside), ap (λ p. state_over disk' p holdings beside) none ∙ state_none beside);
       serves = λ safe stands.
           subst (λ p. Serves kept.geometry disk (pending_of queue) (old beside) safe Sync Done disk' p (state_over disk' p holdings beside) safe (flush_images (home_of kept.geometry) disk (pending_of queue) are.blocks [])) (sym none)
@@ -238,7 +238,7 @@ module _ (image image' : List (List ℕ)) (held held' : List (List (List ℕ))) 
       old beside = state_over disk (pending_of queue) holdings beside
 
       as_seen : Beside → View → State
-      as_seen beside view = record { view = view; opened = opened_by holdings; held = held_by holdings; frozen = beside.frozen; plan = plan_by holdings }
+      as_seen beside view = record { view = view; opened = opened_by holdings; held = held_by holdings; snapshots = beside.snapshots; plan = plan_by holdings }
 
       state_none : (beside : Beside) → state_over disk' [] holdings beside ≡ old beside
       state_none beside = ap (as_seen beside) (subst (λ geo. image_view geo image' ≡ users_view (image_view geo image) (pending_of queue)) same view)

@@ -42,7 +42,7 @@ module _ (honest : Type 0) (image : List (List ℕ)) (queue : Queued) (kept : Ke
     };
     marks = live.marks;
     repairs = live.repairs;
-    snapshot = live.snapshot;
+    snapshots = live.snapshots;
     framed = live.framed;
   }
 
@@ -56,7 +56,7 @@ answers_with image image' old mid new command answer later queue holdings geomet
     let P : Queued → Holdings → _ → Type 0 = λ q h g. Step geo (state_of image old beside) command (Ok answer) (state_over (image_view g image') (pending_of q) h beside) in
     record {
       geometry = subst (λ g. g ≡ geo) (sym geometry) is.geometry;
-      snapshot = subst (λ (h : Holdings). h.snapshot ≡ old.holdings.snapshot) (sym holdings) is.snapshot;
+      snapshots = subst (λ (h : Holdings). h.snapshots ≡ old.holdings.snapshots) (sym holdings) is.snapshots;
       step = λ stands. subst (λ q. P q new.holdings new.kept.geometry) (sym queue) (subst (λ h. P mid.queue h new.kept.geometry) (sym holdings) (subst (P mid.queue mid.holdings) (sym geometry) (is.step stands)));
       serves = λ safe stands.
           let S : Queued → Holdings → _ → Type 0 = λ q h g. Serves geo (disk_of image old) (pending_of old.queue) (state_of image old beside) safe command answer

@@ -10,4 +10,5 @@ mod Mounting
 mod Quietly
 mod RunLemmas
 mod Views
+mod Whole
 mod SnapshotLemmas

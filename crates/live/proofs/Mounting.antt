@@ -11,8 +11,9 @@ use Rattle.live_states.specs.Holdings.{Holdings}
 use Rattle.live_states.proofs.Loading.{of_an_image}
 use Rattle.live_states.proofs.Standing.{loaded}
 use Rattle.live_states.specs.Snapshots.{AreRepairsOf}
-use Rattle.live.specs.Alive.{IsLive, IsSnapshotOf}
+use Rattle.live.specs.Alive.{IsLive, AreSnapshotsOf}
 use Rattle.live.specs.Mounting.{BreaksRule, IsFresh, IsMountable}
+use Rattle.live.proofs.Whole.{none_kept}
 
 -- what follows from two clauses on a result
 pub with_both : {T E : Type 0} (r : Result T E) (P Q R : T → Type 0) → IfOk r P → IfOk r Q → ((t : T) → P t → Q t → R t) → IfOk r R
@@ -69,6 +70,6 @@ module _ (honest : Type 0) (image : List (List ℕ)) (kept : Kept) (of : honest 
           };
           marks = subst (λ n. block_count kept.geometry ≤ n) (sym fresh.marks) (omega arith);
           repairs = subst (AreRepairsOf kept.geometry) (sym idle.repairs) tt;
-          snapshot = subst (IsSnapshotOf kept.geometry) (sym idle.snapshot) tt;
+          snapshots = subst (AreSnapshotsOf kept.geometry) (sym idle.snapshots) (none_kept kept.geometry);
           framed = λ h. (of h).is_image;
         }))

@@ -17,7 +17,7 @@ use Rattle.live_states.specs.Planned.{AreSeen, IsQuietlyDone, Seen, safe_after}
 use Rattle.live_states.specs.Snapshots.{AreRepairsOf}
 use Rattle.live_states.specs.Volume.{state_over}
 use Rattle.live_states.proofs.Quiet.{quiet_serves, quiet_step, quiet_volume}
-use Rattle.live.specs.Alive.{Answers, IsLive, IsSnapshotOf}
+use Rattle.live.specs.Alive.{Answers, IsLive, AreSnapshotsOf}
 
 pub none_seen : (view : View) → AreSeen [] view
 none_seen view = All-nil (λ (s : Seen). view.bytes s.address ≡ s.bytes)
@@ -40,7 +40,7 @@ module _ (honest : Type 0) (image : List (List ℕ)) (queue : Queued) (kept : Ke
     };
     marks = subst (λ (held : List Bool). block_count kept.geometry ≤ length held) (sym done.held) live.marks;
     repairs = repairs;
-    snapshot = subst (IsSnapshotOf kept.geometry) (sym done.snapshot) live.snapshot;
+    snapshots = subst (AreSnapshotsOf kept.geometry) (sym done.snapshots) live.snapshots;
     framed = live.framed;
   }
     where
@@ -59,7 +59,7 @@ module _ (honest : Type 0) (image : List (List ℕ)) (queue : Queued) (kept : Ke
       let volume = live.alive.true h in
       record {
         geometry = refl;
-        snapshot = done.snapshot;
+        snapshots = done.snapshots;
         step = λ stands. subst (λ i. Step kept.geometry old command (Ok answer) (state_over (image_view kept.geometry i) q holdings' beside)) (sym same)
             (quiet_step kept holdings q disk volume seen command answer holdings' done sees beside belongs);
         serves = λ safe stands.

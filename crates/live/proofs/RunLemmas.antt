@@ -22,16 +22,16 @@ use Rattle.softdep.specs.Queued.{Queued, pending_of}
 use Rattle.softdep.specs.Syncing.{images_of}
 use Rattle.courses.specs.Serves.{IsBeginning, IsSafeService, Serves, Service, Starts, CarriesOut as ServesOne, Refuses as RefusesOne, Flushed}
 use Rattle.courses.proofs.ServiceLemmas.{image_begins, service_safe}
-use Rattle.live_states.specs.Holdings.{Beside, Holdings, IsIdle, IsImageOf}
+use Rattle.live_states.specs.Holdings.{AreImagesOf, Beside, Holdings, IsIdle, nothing_beside}
 use Rattle.live_states.specs.Planned.{safe_after}
 use Rattle.live_states.specs.Volume.{state_over}
 use Rattle.live_states.proofs.Planning.{nothing_safe, still_nothing}
-use Rattle.live_states.proofs.Standing.{idle_mounted, nothing_beside}
+use Rattle.live_states.proofs.Standing.{idle_mounted}
 use Rattle.live.specs.Alive.{Alive, AnswersBeside, disk_of, state_of}
 use Rattle.live.specs.Mounting.{IsMountable}
 use Rattle.live.specs.Runs.{Begins, CarriesOut, Flushes, Lives, Refuses}
 
-module _ {D : Type 0} (beside : Beside) (image0 : List (List ℕ)) (live0 : Alive D) (belongs : IsImageOf live0.holdings.snapshot beside.frozen)
+module _ {D : Type 0} (beside : Beside) (image0 : List (List ℕ)) (live0 : Alive D) (belongs : AreImagesOf live0.holdings.snapshots beside.snapshots)
     (mounted : View) (h : List Written) (cut : List Bool) where
   abbrev geo : Geometry
   geo = live0.kept.geometry
@@ -55,7 +55,7 @@ module _ {D : Type 0} (beside : Beside) (image0 : List (List ℕ)) (live0 : Aliv
 
     pub record Served (image : List (List ℕ)) (live : Alive D) (commands : List Command) (replies : List Reply) (images : List View) : Type 0 where
       pub geometry : live.kept.geometry ≡ geo
-      pub snapshot : live.holdings.snapshot ≡ live0.holdings.snapshot
+      pub snapshots : live.holdings.snapshots ≡ live0.holdings.snapshots
       pub quiet : Quiet image live commands replies images
       pub safe : ℕ → Bool
       pub safely : Safe image live commands replies images safe
@@ -63,8 +63,8 @@ module _ {D : Type 0} (beside : Beside) (image0 : List (List ℕ)) (live0 : Aliv
     -- ---- a command
 
     module _ (image : List (List ℕ)) (live : Alive D) (commands : List Command) (replies : List Reply) (images : List View) (so_far : Served image live commands replies images) where
-      there : IsImageOf live.holdings.snapshot beside.frozen
-      there = subst (λ s. IsImageOf s beside.frozen) (sym so_far.snapshot) belongs
+      there : AreImagesOf live.holdings.snapshots beside.snapshots
+      there = subst (λ s. AreImagesOf s beside.snapshots) (sym so_far.snapshots) belongs
 
       stands : Stands geo (disk_at image) (pending_of live.queue) (state_at image live) nothing_safe
       stands = (service_safe geo mounted h cut (disk_at image0) (pending_of live0.queue) (state_at image0 live0) nothing_safe begins (disk_at image) (pending_of live.queue) (state_at image live) nothing_safe commands replies images so_far.quiet).stands
@@ -100,7 +100,7 @@ module _ {D : Type 0} (beside : Beside) (image0 : List (List ℕ)) (live0 : Aliv
         carried : Served image' live' (commands ++ command ∷ []) (replies ++ Ok answer ∷ []) (later ++ images)
         carried = record {
           geometry = geometry';
-          snapshot = answers.snapshot ∙ so_far.snapshot;
+          snapshots = answers.snapshots ∙ so_far.snapshots;
           quiet = ServesOne command answer (disk_at image') (pending_of live'.queue) (state_at image' live') nothing_safe later so_far.quiet step.0
               (subst (λ s. Serves geo (disk_at image) (pending_of live.queue) (state_at image live) nothing_safe command answer (disk_at image') (pending_of live'.queue) (state_at image' live') s later)
               (still_nothing geo (users_view (disk_at image) (pending_of live.queue)) command) (serves nothing_safe stands));
@@ -116,7 +116,7 @@ module _ {D : Type 0} (beside : Beside) (image0 : List (List ℕ)) (live0 : Aliv
           let here = subst (λ g. Step g (state_over (image_view g image) (pending_of live.queue) live.holdings beside) command (Err r) (state_over (image_view g image) (pending_of live.queue) live.holdings beside)) so_far.geometry step in
           record {
             geometry = so_far.geometry;
-            snapshot = so_far.snapshot;
+            snapshots = so_far.snapshots;
             quiet = RefusesOne command r so_far.quiet here;
             safe = so_far.safe;
             safely = RefusesOne command r so_far.safely here;
@@ -131,7 +131,7 @@ module _ {D : Type 0} (beside : Beside) (image0 : List (List ℕ)) (live0 : Aliv
 
     same_users : (disk : View) (q : List Pending) (holdings : Holdings) (a : ℕ)
         → state_over (seen disk q (ready (home_of geo) a q)) (rest q (ready (home_of geo) a q)) holdings beside ≡ state_over disk q holdings beside
-    same_users disk q holdings a = ap (λ view. record { view = view; opened = (state_over disk q holdings beside).opened; held = (state_over disk q holdings beside).held; frozen = beside.frozen; plan = (state_over disk q holdings beside).plan })
+    same_users disk q holdings a = ap (λ view. record { view = view; opened = (state_over disk q holdings beside).opened; held = (state_over disk q holdings beside).held; snapshots = beside.snapshots; plan = (state_over disk q holdings beside).plan })
         (users_flushed disk q (ready (home_of geo) a q) (ready_closed (home_of geo) a q))
 
     flushed_all : (safe1 : ℕ → Bool) (safe : ℕ → Bool) (holdings : Holdings) (commands : List Command) (replies : List Reply) (blocks : List ℕ) (disk : View) (q : List Pending) (images : List View) (disk' : View) (q' : List Pending)
@@ -155,7 +155,7 @@ module _ {D : Type 0} (beside : Beside) (image0 : List (List ℕ)) (live0 : Aliv
         → Served image live commands replies images → Served image live' commands replies images
     as_it_was image live live' commands replies images queue kept holdings s = record {
       geometry = ap (λ (k : Kept). k.geometry) kept ∙ s.geometry;
-      snapshot = ap (λ (held : Holdings). held.snapshot) holdings ∙ s.snapshot;
+      snapshots = ap (λ (held : Holdings). held.snapshots) holdings ∙ s.snapshots;
       quiet = subst (λ held. Within nothing_safe nothing_safe image live'.queue held commands replies images) (sym holdings) (subst (λ q. Within nothing_safe nothing_safe image q live.holdings commands replies images) (sym queue) s.quiet);
       safe = s.safe;
       safely = subst (λ held. Within safe0 s.safe image live'.queue held commands replies images) (sym holdings) (subst (λ q. Within safe0 s.safe image q live.holdings commands replies images) (sym queue) s.safely);
@@ -175,7 +175,7 @@ module _ {D : Type 0} (beside : Beside) (image0 : List (List ℕ)) (live0 : Aliv
           → Served image' live' commands replies (reverse (images_of (home_of live.kept.geometry) (image_view live.kept.geometry image) (pending_of live.queue) blocks) ++ images)
       flushed_on kept holdings = record {
         geometry = ap (λ (k : Kept). k.geometry) kept ∙ so_far.geometry;
-        snapshot = ap (λ (held : Holdings). held.snapshot) holdings ∙ so_far.snapshot;
+        snapshots = ap (λ (held : Holdings). held.snapshots) holdings ∙ so_far.snapshots;
         quiet = subst (λ held. Within nothing_safe nothing_safe image' live'.queue held commands replies (reverse (images_of (home_of live.kept.geometry) (image_view live.kept.geometry image) (pending_of live.queue) blocks) ++ images))
             (sym holdings) (since nothing_safe nothing_safe so_far.quiet);
         safe = so_far.safe;
@@ -187,7 +187,7 @@ module _ {D : Type 0} (beside : Beside) (image0 : List (List ℕ)) (live0 : Aliv
 
     pub served : (image : List (List ℕ)) (live : Alive D) (commands : List Command) (replies : List Reply) (images : List View) → Lives beside image0 live0 image live commands replies images
         → Served image live commands replies images
-    served image live commands replies images Begins = record { geometry = refl; snapshot = refl; quiet = Starts; safe = safe0; safely = Starts }
+    served image live commands replies images Begins = record { geometry = refl; snapshots = refl; quiet = Starts; safe = safe0; safely = Starts }
     served image live cs rs im (CarriesOut {image = i} {live = l} {commands = commands} {replies = replies} {images = images} command answer image' live' later lives answers) =
         let so_far = served i l commands replies images lives in
         carried i l commands replies images so_far command answer image' live' later (answers beside (there i l commands replies images so_far))

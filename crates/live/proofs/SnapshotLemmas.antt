@@ -1,7 +1,6 @@
--- A volume with a snapshot, and when it has ended.
-use Rattle.std.proofs.Common.{◌≡◌, ◌<◌, ◌≤◌, ◌+◌, ℕ, zero, suc, add-one, arith, Bool, true, false, ◌&&◌, All, List, [], ◌∷◌, length, map, take, None, Some, IsSome, IsTrue, refl, sym, ap, ap₂, ◌∙◌, subst, slice_index_or}
+-- A volume once a snapshot begins, and once one ends.
+use Rattle.std.proofs.Common.{◌≡◌, ◌<◌, ◌≤◌, ◌+◌, ℕ, zero, suc, add-one, arith, false, not, ◌&&◌, All, List, [], ◌∷◌, length, map, take, IsSome, IsTrue, refl, sym, ap, ap₂, ◌∙◌, subst, slice_index_or}
 use Rattle.std.proofs.lemmas.Bool.{and_parts}
-use Rattle.std.proofs.lemmas.List.{length-replicate}
 use Rattle.std.proofs.lemmas.List.Elements.{All-contains_itself, All-weaker}
 use Rattle.std.specs.List.{Contains}
 use Rattle.findings.proofs.FoundBelow.{found_members}
@@ -10,6 +9,8 @@ use Rattle.model.specs.Image.{IsImage, image_view}
 use Rattle.model.specs.Layout.{block_count, is_data_address}
 use Rattle.model.specs.View.{View}
 use Rattle.ordering.specs.Cuts.{Pending, users_view}
+use Rattle.live_holdings.proofs.Tables.{unmarked_length}
+use Rattle.machine.specs.Standing.{ended, image_at, others, too_many}
 use Rattle.machine.specs.Snapshot.{released}
 use Rattle.plans_data.specs.Release.{releasing}
 use Rattle.updates.specs.Values.{written}
@@ -19,15 +20,15 @@ use Rattle.metadata.specs.declared.staged.Staged.{Staged}
 use Rattle.metadata.specs.Staged.{IsStaged, after, changes}
 use Rattle.softdep.specs.Queued.{Queued, pending_of}
 use Rattle.live_states.specs.Drafts.{Draft, over}
-use Rattle.live_states.specs.Holdings.{Beside, Holdings, held_by}
-use Rattle.live_states.specs.Snapshots.{AreRepairsOf, IsSettled, held_blocks, keeping, let_go}
+use Rattle.live_states.specs.Holdings.{AreImagesOf, Beside, Holdings, held_by, kept_by}
+use Rattle.live_states.specs.Snapshots.{AreRepairsOf, IsSettled, keeping, let_go, let_go_blocks}
 use Rattle.live_states.specs.Volume.{IsVolume, state_over}
 use Rattle.live_states.proofs.SnapshotEnds.{let_go_keeps, let_go_state, let_go_volume}
 use Rattle.live_states.proofs.Snapshots.{kept_volume}
-use Rattle.live_states.proofs.Standing.{nothing_beside}
-use Rattle.live.specs.Alive.{IsLive}
+use Rattle.live.specs.Alive.{AreSnapshotsOf, IsLive}
 use Rattle.live.specs.Issued.{IsIssued}
 use Rattle.live.proofs.Carrying.{issued_geometry}
+use Rattle.live.proofs.Whole.{whole_begun, whole_ended}
 
 -- ---- the updates of its end
 
@@ -51,19 +52,19 @@ module _ (kept : Kept) (holdings : Holdings) (q : List Pending) (disk : View) (v
       let marked = (volume.beginning.stands.balance.held_block a t).1 in
       (and_parts (is_data_address kept.geometry a) _ (subst (λ b. IsTrue b) (sym (volume.shows.block_marked a)) marked)).0
 
-  pub held_are_data : (blocks : List ℕ) → blocks ≡ held_blocks holdings → All (λ a. IsTrue (is_data_address kept.geometry a)) blocks
-  held_are_data blocks e = subst (All (λ a. IsTrue (is_data_address kept.geometry a))) (sym e)
-      (All-weaker (Contains (held_blocks holdings)) (λ a. IsTrue (is_data_address kept.geometry a)) (λ a c. let found = found_members (held_by holdings) (λ b. b) (length holdings.held) a c in subst (λ b. IsTrue (is_data_address kept.geometry b)) found.is (held_is_data found.number found.passes))
-      (held_blocks holdings) (All-contains_itself (held_blocks holdings)))
+  pub held_are_data : (s : ℕ) (blocks : List ℕ) → blocks ≡ let_go_blocks holdings s → All (λ a. IsTrue (is_data_address kept.geometry a)) blocks
+  held_are_data s blocks e = subst (All (λ a. IsTrue (is_data_address kept.geometry a))) (sym e)
+      (All-weaker (Contains (let_go_blocks holdings s)) (λ a. IsTrue (is_data_address kept.geometry a)) (λ a c. let found = found_members (λ b. held_by holdings b && not (kept_by (others holdings.snapshots.standing s) b)) (λ b. b) (length holdings.held) a c in subst (λ b. IsTrue (is_data_address kept.geometry b)) found.is (held_is_data found.number (and_parts (held_by holdings found.number) _ found.passes).0))
+      (let_go_blocks holdings s) (All-contains_itself (let_go_blocks holdings s)))
 
 -- ---- it begins
 
 module _ (honest : Type 0) (image : List (List ℕ)) (queue : Queued) (kept : Kept) (holdings : Holdings) (live : IsLive honest image queue kept holdings) (none : pending_of queue ≡ []) where
-  module _ (unkept : holdings.snapshot ≡ None) (snapshot : Kept) (settles : IsSettled kept holdings snapshot) (whole : (snapshot.geometry ≡ kept.geometry) × KeepsMetadata snapshot) where
+  module _ (room : too_many holdings.snapshots ≡ false) (snapshot : Kept) (settles : IsSettled kept holdings snapshot) (whole : (snapshot.geometry ≡ kept.geometry) × KeepsMetadata snapshot) where
     keeps_over : (disk : View) → IsVolume kept holdings (pending_of queue) disk → IsVolume kept (keeping holdings snapshot) (pending_of queue) disk
     keeps_over disk volume =
         subst (λ q. IsVolume kept (keeping holdings snapshot) q disk) (sym none)
-        (kept_volume kept holdings disk (subst (λ q. IsVolume kept holdings q disk) none volume) unkept snapshot settles)
+        (kept_volume kept holdings disk (subst (λ q. IsVolume kept holdings q disk) none volume) room snapshot settles)
 
     pub live_kept : IsLive honest image queue kept (keeping holdings snapshot)
     live_kept = record {
@@ -77,16 +78,16 @@ module _ (honest : Type 0) (image : List (List ℕ)) (queue : Queued) (kept : Ke
       };
       marks = live.marks;
       repairs = tt;
-      snapshot = whole;
+      snapshots = whole_begun kept.geometry holdings.snapshots live.snapshots snapshot room whole;
       framed = live.framed;
     }
 
   -- ---- it ends
 
-  module _ (stands : IsSome holdings.snapshot) (draft : Draft) (list : over [] draft.updates ≡ releasing (held_blocks holdings) []) where
+  module _ (s : ℕ) (stands : IsSome (image_at holdings.snapshots.standing s)) (draft : Draft) (list : over [] draft.updates ≡ releasing (let_go_blocks holdings s) []) where
     pub metadata_then : (staged : Staged) → IsStaged kept (changes draft.updates) staged → KeepsMetadata (after kept staged)
     metadata_then staged is =
-        let_go_keeps kept holdings live.alive.disk live.alive.keeps (subst (λ q. IsVolume kept holdings q live.alive.disk) none live.alive.some) stands draft.updates list staged is
+        let_go_keeps kept holdings live.alive.disk live.alive.keeps (subst (λ q. IsVolume kept holdings q live.alive.disk) none live.alive.some) s stands draft.updates list staged is
 
     module _ (queue' : Queued) (kept' : Kept) (is : IsIssued draft queue kept queue' kept') where
       pub pending_then : pending_of queue' ≡ over [] draft.updates
@@ -95,13 +96,13 @@ module _ (honest : Type 0) (image : List (List ℕ)) (queue : Queued) (kept : Ke
       geometry' : kept'.geometry ≡ kept.geometry
       geometry' = ap (λ (k : Kept). k.geometry) is.metadata ∙ same_geometry kept is.staged.blocks.items
 
-      ends_over : (disk : View) → IsVolume kept holdings (pending_of queue) disk → IsVolume kept' (let_go holdings) (pending_of queue') disk
+      ends_over : (disk : View) → IsVolume kept holdings (pending_of queue) disk → IsVolume kept' (let_go holdings s) (pending_of queue') disk
       ends_over disk volume =
-          subst (λ k. IsVolume k (let_go holdings) (pending_of queue') disk) (sym is.metadata)
-          (subst (λ q. IsVolume (after kept is.staged) (let_go holdings) q disk) (sym pending_then)
-          (let_go_volume kept holdings disk live.alive.keeps (subst (λ q. IsVolume kept holdings q disk) none volume) stands draft.updates list is.staged is.is_staged))
+          subst (λ k. IsVolume k (let_go holdings s) (pending_of queue') disk) (sym is.metadata)
+          (subst (λ q. IsVolume (after kept is.staged) (let_go holdings s) q disk) (sym pending_then)
+          (let_go_volume kept holdings disk live.alive.keeps (subst (λ q. IsVolume kept holdings q disk) none volume) s stands draft.updates list is.staged is.is_staged))
 
-      pub live_let_go : IsLive honest image queue' kept' (let_go holdings)
+      pub live_let_go : IsLive honest image queue' kept' (let_go holdings s)
       live_let_go = record {
         geometry = ap (λ (q : Queued). q.geometry) is.queued ∙ issued_geometry queue (map written draft.updates) ∙ live.geometry ∙ sym geometry';
         alive = record {
@@ -109,19 +110,20 @@ module _ (honest : Type 0) (image : List (List ℕ)) (queue : Queued) (kept : Ke
           keeps = subst KeepsMetadata (sym is.metadata) (metadata_then is.staged is.is_staged);
           disk = live.alive.disk;
           some = ends_over live.alive.disk live.alive.some;
-          true = λ h. subst (λ geo. IsVolume kept' (let_go holdings) (pending_of queue') (image_view geo image)) (sym geometry') (ends_over (image_view kept.geometry image) (live.alive.true h));
+          true = λ h. subst (λ geo. IsVolume kept' (let_go holdings s) (pending_of queue') (image_view geo image)) (sym geometry') (ends_over (image_view kept.geometry image) (live.alive.true h));
         };
-        marks = subst (λ n. n ≤ length (let_go holdings).held) (ap block_count (sym geometry')) (subst (λ n. block_count kept.geometry ≤ n) (sym (length-replicate {A = Bool} (length holdings.held) false)) live.marks);
+        marks = subst (λ n. n ≤ length (let_go holdings s).held) (ap block_count (sym geometry')) (subst (λ n. block_count kept.geometry ≤ n) (sym (unmarked_length (let_go_blocks holdings s) holdings.held)) live.marks);
         repairs = subst (λ geo. AreRepairsOf geo holdings.repairs) (sym geometry') live.repairs;
-        snapshot = tt;
+        snapshots = subst (λ geo. AreSnapshotsOf geo (ended holdings.snapshots s)) (sym geometry') (whole_ended kept.geometry holdings.snapshots live.snapshots s);
         framed = λ h. subst (λ geo. IsImage geo image) (sym geometry') (live.framed h);
       }
 
       -- users see what the machine has then
-      pub released_then : honest → (beside : Beside)
-          → state_over (image_view kept'.geometry image) (pending_of queue') (let_go holdings) nothing_beside ≡ released (state_over (image_view kept.geometry image) (pending_of queue) holdings beside)
-      released_then h beside =
+      pub released_then : honest → (beside : Beside) → AreImagesOf holdings.snapshots beside.snapshots
+          → state_over (image_view kept'.geometry image) (pending_of queue') (let_go holdings s) (record { snapshots = ended beside.snapshots s })
+          ≡ released (state_over (image_view kept.geometry image) (pending_of queue) holdings beside) s
+      released_then h beside images =
           let disk = image_view kept.geometry image in
-          ap₂ (λ geo q. state_over (image_view geo image) q (let_go holdings) nothing_beside) geometry' pending_then
-          ∙ let_go_state kept holdings disk live.alive.keeps (subst (λ q. IsVolume kept holdings q disk) none (live.alive.true h)) stands draft.updates list is.staged is.is_staged
-          ∙ ap (λ q. released (state_over disk q holdings beside)) (sym none)
+          ap₂ (λ geo q. state_over (image_view geo image) q (let_go holdings s) (record { snapshots = ended beside.snapshots s })) geometry' pending_then
+          ∙ let_go_state kept holdings disk live.alive.keeps (subst (λ q. IsVolume kept holdings q disk) none (live.alive.true h)) s stands draft.updates list is.staged is.is_staged beside images
+          ∙ ap (λ q. released (state_over disk q holdings beside) s) (sym none)

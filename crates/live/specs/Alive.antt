@@ -8,6 +8,7 @@ use Rattle.ordering.specs.Cuts.{users_view}
 use Rattle.ordering.specs.Ghosts.{at_rest}
 use Rattle.machine.specs.Causes.{FirstRefusal}
 use Rattle.machine.specs.Command.{Answer, Command}
+use Rattle.machine.specs.Standing.{AreNumbered, Snapshots, image_at}
 use Rattle.machine.specs.State.{State}
 use Rattle.machine.specs.Step.{Step}
 use Rattle.plans_data.specs.Carried.{Stands}
@@ -17,7 +18,7 @@ use Rattle.courses.specs.Serves.{Serves}
 use Rattle.frozen.specs.Kept.{Kept, KeepsMetadata}
 use Rattle.metadata.specs.Shown.{Shows}
 use Rattle.softdep.specs.Queued.{Queued, pending_of}
-use Rattle.live_states.specs.Holdings.{Beside, Holdings, IsImageOf, held_by}
+use Rattle.live_states.specs.Holdings.{Beside, Holdings, AreImagesOf, held_by}
 use Rattle.live_states.specs.Planned.{safe_after}
 use Rattle.live_states.specs.Snapshots.{AreRepairsOf}
 use Rattle.live_states.specs.Volume.{IsAlive, state_over}
@@ -29,18 +30,23 @@ pub record Alive (D : Type 0) : Type 0 where
   pub kept : Kept
   pub holdings : Holdings
 
--- a snapshot that is kept is all metadata of an image of this geometry
+-- a snapshot that is kept, if it is, is all metadata of an image of this geometry
 abbrev pub IsSnapshotOf : Geometry → Option Kept → Type 0
 IsSnapshotOf geo None = Unit {0}
 IsSnapshotOf geo (Some snapshot) = (snapshot.geometry ≡ geo) × KeepsMetadata snapshot
 
--- where it is honest, the device holds an image of the volume, which can be loaded, and the metadata in memory is what users see over it where it is honest; each block can be held, and what is to be repaired and the snapshot are of the volume
+-- So is each that stands, and their numbers are those of freezes.
+pub record AreSnapshotsOf (geo : Geometry) (snapshots : Snapshots Kept) : Type 0 where
+  pub images : (s : ℕ) (snapshot : Kept) → image_at snapshots.standing s ≡ Some snapshot → (snapshot.geometry ≡ geo) × KeepsMetadata snapshot
+  pub numbered : AreNumbered snapshots
+
+-- where it is honest, the device holds an image of the volume, which can be loaded, and the metadata in memory is what users see over it where it is honest; each block can be held, and what is to be repaired and the snapshots are of the volume
 pub record IsLive (honest : Type 0) (image : List (List ℕ)) (queue : Queued) (kept : Kept) (holdings : Holdings) : Type 0 where
   pub geometry : queue.geometry ≡ kept.geometry
   pub alive : IsAlive honest image (pending_of queue) kept holdings
   pub marks : block_count kept.geometry ≤ length holdings.held
   pub repairs : AreRepairsOf kept.geometry holdings.repairs
-  pub snapshot : IsSnapshotOf kept.geometry holdings.snapshot
+  pub snapshots : AreSnapshotsOf kept.geometry holdings.snapshots
   pub framed : honest → IsImage kept.geometry image
 
 -- what an image holds that the device of a volume has, and what its users see over it, whatever stands beside the volume
@@ -53,7 +59,7 @@ state_of image live beside = state_over (disk_of image live) (pending_of live.qu
 -- Over images old and new of its device a volume answered a command so, where it stands with this beside it: by a step of the machine, and, whichever files no stop is to lose, by the updates of its plan, or by flushes that left these images on the device.
 pub record AnswersBeside {D : Type 0} (beside : Beside) (image : List (List ℕ)) (old : Alive D) (command : Command) (answer : Answer) (image' : List (List ℕ)) (new : Alive D) (later : List View) : Type 0 where
   pub geometry : new.kept.geometry ≡ old.kept.geometry
-  pub snapshot : new.holdings.snapshot ≡ old.holdings.snapshot
+  pub snapshots : new.holdings.snapshots ≡ old.holdings.snapshots
   pub step : Stands old.kept.geometry (disk_of image old) (pending_of old.queue) (state_of image old beside) (λ f. false)
       → Step old.kept.geometry (state_of image old beside) command (Ok answer) (state_of image' new beside)
   pub serves : (safe : ℕ → Bool) → Stands old.kept.geometry (disk_of image old) (pending_of old.queue) (state_of image old beside) safe
@@ -62,11 +68,11 @@ pub record AnswersBeside {D : Type 0} (beside : Beside) (image : List (List ℕ)
 
 -- And so whatever stands beside it that belongs to it.
 abbrev pub Answers : {D : Type 0} → List (List ℕ) → Alive D → Command → Answer → List (List ℕ) → Alive D → List View → Type 0
-Answers image old command answer image' new later = (beside : Beside) → IsImageOf old.holdings.snapshot beside.frozen → AnswersBeside beside image old command answer image' new later
+Answers image old command answer image' new later = (beside : Beside) → AreImagesOf old.holdings.snapshots beside.snapshots → AnswersBeside beside image old command answer image' new later
 
 -- It may refuse a command so, and stays as it is.
 abbrev pub MayRefuse : {D : Type 0} → List (List ℕ) → Alive D → Command → Refusal → Type 0
-MayRefuse image live command r = (beside : Beside) → IsImageOf live.holdings.snapshot beside.frozen → Step live.kept.geometry (state_of image live beside) command (Err r) (state_of image live beside)
+MayRefuse image live command r = (beside : Beside) → AreImagesOf live.holdings.snapshots beside.snapshots → Step live.kept.geometry (state_of image live beside) command (Err r) (state_of image live beside)
 
 -- What was written since some mount led to what is on the device and to what is pending, at a good moment.
 pub record HasBegun {D : Type 0} (image : List (List ℕ)) (live : Alive D) : Type 0 where
@@ -78,7 +84,7 @@ pub record HasBegun {D : Type 0} (image : List (List ℕ)) (live : Alive D) : Ty
 -- The volume stands, with something beside it that belongs to it, over an image that can be loaded, and was mounted once.
 pub record StandsSo {D : Type 0} (image : List (List ℕ)) (live : Alive D) : Type 0 where
   pub beside : Beside
-  pub belongs : IsImageOf live.holdings.snapshot beside.frozen
+  pub belongs : AreImagesOf live.holdings.snapshots beside.snapshots
   pub stands : Stands live.kept.geometry (disk_of image live) (pending_of live.queue) (state_of image live beside) (λ f. false)
   pub framed : IsImage live.kept.geometry image
   pub begun : HasBegun image live

@@ -1,6 +1,6 @@
 //! What holds of a mounted volume over a whole run of calls: laws, without code.
 
-ghost use Rattle.std.specs.Prelude.{◌≡◌, ◌⊎◌, ℕ, Bool, false, None, List, [], IsTrue};
+ghost use Rattle.std.specs.Prelude.{◌≡◌, ◌⊎◌, ℕ, Bool, false, List, [], IsTrue};
 ghost use Rattle.layout.specs.declared.refusal.Refusal.{Refusal};
 ghost use Rattle.layout.specs.declared.refusal.Refusal.TheVariants.{Device as DeviceRefusal, NoMemory};
 ghost use Rattle.model.specs.Image.{image_view};
@@ -11,7 +11,7 @@ ghost use Rattle.machine.specs.Command.{Command, Reply};
 ghost use Rattle.queue_model.specs.Files.{Written};
 ghost use Rattle.courses.specs.Serves.{IsBeginning, IsSafeService, Service};
 ghost use Rattle.softdep.specs.Queued.{pending_of};
-ghost use Rattle.live_states.specs.Holdings.{Beside, IsIdle, IsImageOf};
+ghost use Rattle.live_states.specs.Holdings.{AreImagesOf, Beside, IsIdle, nothing_beside};
 ghost use Rattle.live_states.specs.Volume.{state_over};
 ghost use Rattle.live.specs.Alive.{Alive, disk_of, state_of};
 ghost use Rattle.live.specs.Mounting.{IsMountable, MountRefuses};
@@ -23,7 +23,7 @@ use device::Device;
 pub fn mounted_volumes_begin<D: Device>()
     ensures { (image : List (List ℕ)) (live : Alive D) → IsMountable live.kept.geometry image → pending_of live.queue ≡ [] → IsIdle live.holdings
         → (safe : ℕ → Bool) → ((f : ℕ) → IsTrue (safe f) → IsReachable live.kept.geometry (disk_of image live) f × (((disk_of image live).inode f).mode ≡ 1))
-        → IsBeginning live.kept.geometry (disk_of image live) [] [] (disk_of image live) (pending_of live.queue) (state_of image live (record { frozen = None })) safe }
+        → IsBeginning live.kept.geometry (disk_of image live) [] [] (disk_of image live) (pending_of live.queue) (state_of image live nothing_beside) safe }
 {}
 
 /// An image of a volume that obeys the rules is mounted: it is refused for want of memory and for a fault of the device alone.
@@ -37,7 +37,7 @@ pub fn mountable_images_mount<D: Device>()
 /// grow, each obeys the rules and holds in each block of a file what that very file wrote, or had at first; and a file
 /// that no stop was to lose, and of which no unlink took a name, is reachable in each.
 pub fn each_stop_of_a_run_is_safe<D: Device>()
-    ensures { (beside : Beside) (image0 : List (List ℕ)) (live0 : Alive D) → IsImageOf live0.holdings.snapshot beside.frozen
+    ensures { (beside : Beside) (image0 : List (List ℕ)) (live0 : Alive D) → AreImagesOf live0.holdings.snapshots beside.snapshots
         → (mount : View) (h : List Written) (cut : List Bool) (safe0 : ℕ → Bool)
         → IsBeginning live0.kept.geometry mount h cut (disk_of image0 live0) (pending_of live0.queue) (state_of image0 live0 beside) (λ f. false)
         → IsBeginning live0.kept.geometry mount h cut (disk_of image0 live0) (pending_of live0.queue) (state_of image0 live0 beside) safe0

@@ -1,4 +1,4 @@
-ghost use Rattle.std.specs.Prelude.{◌≡◌, [], ◌⊎◌, ◌≤◌, IfErr, IfOk, IsErrOf, IsOkUnless, IsSome, IsTrue, None, OnErr, OnOk, Some, length};
+ghost use Rattle.std.specs.Prelude.{◌≡◌, [], ◌⊎◌, ◌≤◌, IfErr, IfOk, IsErrOf, IsOkUnless, IsSome, IsTrue, OnErr, OnOk, false, length, not};
 ghost use Rattle.std.specs.Arc.{arc_value};
 ghost use Rattle.std.specs.List.{All};
 ghost use Rattle.std.specs.Option.{option_copied, option_map};
@@ -7,16 +7,18 @@ ghost use Rattle.frozen.specs.Kept.{KeepsMetadata};
 ghost use Rattle.layout.specs.declared.refusal.Refusal.TheVariants.{BadIndex, Device as DeviceRefusal};
 ghost use Rattle.machine.specs.Command.{Check, Done, Install};
 ghost use Rattle.machine.specs.Snapshot.{frozen, released, settled};
+ghost use Rattle.machine.specs.Standing.{begun, ended, image_at, latest_at, too_many};
 ghost use Rattle.metadata.specs.Shown.{Shows};
 ghost use Rattle.model.specs.Image.{block_at};
 ghost use Rattle.model.specs.Layout.{block_count, is_data_address};
 ghost use Rattle.plans_data.specs.Release.{releasing};
 ghost use Rattle.softdep.specs.Queued.{pending_of};
 ghost use Rattle.live_states.specs.Drafts.{over};
-ghost use Rattle.live_states.specs.Holdings.{Beside, IsImageOf, Repairs};
+ghost use Rattle.live_states.specs.Holdings.{AreImagesOf, Beside, Repairs};
 ghost use Rattle.live_states.specs.Planned.{IsQuietlyDone};
-ghost use Rattle.live_states.specs.Snapshots.{AreRepairsOf, IsSettled, held_blocks, installing, keeping, let_go};
+ghost use Rattle.live_states.specs.Snapshots.{AreRepairsOf, IsSettled, installing, keeping, let_go, let_go_blocks, places};
 ghost use Rattle.live.specs.Alive.{IsSnapshotOf, state_of};
+ghost use Rattle.live.specs.Places.{Ascend};
 ghost use Rattle.live.specs.Seen.{seen_of, Answered};
 
 use crate::Live;
@@ -31,7 +33,7 @@ use std::alloc::{AllocError, Global};
 use std::sync::Arc;
 use updates::Change;
 
-/// The file that updates name which are none's: those that clear the bits of blocks that were held.
+/// The file that updates name which are none's: those that clear the bits of blocks that are held no more.
 const NO_FILE: u32 = 0;
 
 impl<D: Device> Live<D> {
@@ -52,11 +54,11 @@ impl<D: Device> Live<D> {
     }
 
     /// The metadata of the image that a check is to see: that of users, without the open files that have no name, and with
-    /// the blocks unmarked that are held for a snapshot. The blocks of metadata that do not differ are shared. Refused with
+    /// the blocks unmarked that are held for snapshots. The blocks of metadata that do not differ are shared. Refused with
     /// `NoMemory` alone.
     pub fn view(&self, alloc: Global) -> Result<Frozen, Refusal>
         ensures settled { IfOk result (IsSettled self.now.kept self.now.holdings) }
-        ensures shown { IfOk result (λ view. D.honest self.now.device → (beside : Beside) → IsImageOf self.now.holdings.snapshot beside.frozen
+        ensures shown { IfOk result (λ view. D.honest self.now.device → (beside : Beside) → AreImagesOf self.now.holdings.snapshots beside.snapshots
             → Shows view (settled self.now.kept.geometry (state_of (D.image self.now.device) self.now beside))) }
         ensures metadata { IfOk result KeepsMetadata }
         ensures geometry { IfOk result (λ view. view.geometry ≡ self.now.kept.geometry) }
@@ -65,12 +67,35 @@ impl<D: Device> Live<D> {
         Ok(live_snapshots::settled(alloc, &self.metadata, &self.holdings)?)
     }
 
-    /// The metadata of the snapshot that is kept, where one is.
-    pub fn snapshot(&self) -> Option<&Arc<Frozen>>
-        ensures snapshot { option_map arc_value (option_copied result) ≡ self.now.holdings.snapshot }
-        ensures whole { IsSnapshotOf self.now.kept.geometry self.now.holdings.snapshot }
+    /// Whether one more snapshot may be kept: fewer than four are, and there is a number for it.
+    pub fn may_freeze(&self) -> bool
+        ensures { result ≡ not (too_many self.now.holdings.snapshots) }
     {
-        self.holdings.snapshot()
+        self.holdings.may_freeze()
+    }
+
+    /// The numbers of the snapshots that are kept, in ascending order, and then empty places.
+    pub fn standing(&self) -> [Option<u64>; 4]
+        ensures numbers { result ≡ places self.now.holdings.snapshots.standing }
+        ensures ascending { Ascend result }
+    {
+        self.holdings.standing()
+    }
+
+    /// The metadata of the snapshot of this number, where it is kept.
+    pub fn snapshot(&self, number: u64) -> Option<&Arc<Frozen>>
+        ensures snapshot { option_map arc_value (option_copied result) ≡ image_at self.now.holdings.snapshots.standing number }
+        ensures whole { IsSnapshotOf self.now.kept.geometry (image_at self.now.holdings.snapshots.standing number) }
+    {
+        self.holdings.snapshot(number)
+    }
+
+    /// The metadata of the snapshot of the latest freeze, where it is kept.
+    pub fn latest(&self) -> Option<&Arc<Frozen>>
+        ensures snapshot { option_map arc_value (option_copied result) ≡ latest_at self.now.holdings.snapshots.standing self.now.holdings.snapshots.freezes }
+        ensures whole { IsSnapshotOf self.now.kept.geometry (latest_at self.now.holdings.snapshots.standing self.now.holdings.snapshots.freezes) }
+    {
+        self.holdings.latest()
     }
 
     /// How many repairs the check has that is installed; `None` where none is.
@@ -96,21 +121,23 @@ impl<D: Device> Live<D> {
         Ok(bytes)
     }
 
-    /// Keeps a snapshot of what a check is to see: from now on no block of it is changed or given out. Nothing may be
-    /// pending, and no other snapshot may stand. The repairs of an older check are dropped.
-    pub fn keep(&mut self, snapshot: Arc<Frozen>)
+    /// Keeps a snapshot of what a check is to see, and gives its number: from now on no block of it is changed or given out.
+    /// Nothing may be pending, and there has to be room for one more. The repairs of an older check are dropped.
+    pub fn keep(&mut self, snapshot: Arc<Frozen>) -> u64
         requires pending { pending_of self.old.queue ≡ [] }
-        requires none { self.old.holdings.snapshot ≡ None }
+        requires room { too_many self.old.holdings.snapshots ≡ false }
         requires settled { IsSettled self.old.kept self.old.holdings (arc_value snapshot) }
         requires whole { ((arc_value snapshot).geometry ≡ self.old.kept.geometry) × KeepsMetadata (arc_value snapshot) }
         ensures kept { self.new ≡ record self.old { holdings = keeping self.old.holdings (arc_value snapshot) } }
+        ensures number { result ≡ self.old.holdings.snapshots.freezes }
         ensures frozen { (beside : Beside) → let old = state_of (D.image self.old.device) self.old beside in
-            state_of (D.image self.new.device) self.new (record { frozen = Some (settled self.old.kept.geometry old) }) ≡ frozen self.old.kept.geometry old }
+            state_of (D.image self.new.device) self.new (record { snapshots = begun beside.snapshots (settled self.old.kept.geometry old) })
+            ≡ frozen self.old.kept.geometry old }
     {
-        self.holdings.keep(snapshot);
+        self.holdings.keep(snapshot)
     }
 
-    /// Installs the repairs of a check of the snapshot that stands, of which none is done yet.
+    /// Installs the repairs of a check of the snapshot of the latest freeze, of which none is done yet.
     pub fn install(&mut self, alloc: Global, repairs: Vec<Repair>) -> Result<(), Refusal>
         requires check { (check : Check) × IsQuietlyDone self.old.kept self.old.holdings [] (Install check) Done (installing self.old.holdings repairs.items) }
         requires repairs { AreRepairsOf self.old.kept.geometry (installing self.old.holdings repairs.items).repairs }
@@ -124,20 +151,21 @@ impl<D: Device> Live<D> {
         Ok(())
     }
 
-    /// Ends the snapshot: what was held for it is free. Nothing may be pending, and a snapshot has to stand.
-    pub fn end_keep(&mut self, alloc: Global) -> Result<(), Refusal>
+    /// Ends the snapshot of this number: what was held for it alone is free. Nothing may be pending, and it has to be kept.
+    pub fn end_keep(&mut self, alloc: Global, number: u64) -> Result<(), Refusal>
         requires pending { pending_of self.old.queue ≡ [] }
-        requires stands { IsSome self.old.holdings.snapshot }
-        ensures released { OnOk result (D.honest self.old.device → (beside : Beside)
-            → state_of (D.image self.new.device) self.new (record { frozen = None }) ≡ released (state_of (D.image self.old.device) self.old beside)) }
-        ensures pending { OnOk result (pending_of self.new.queue ≡ releasing (held_blocks self.old.holdings) []) }
-        ensures holdings { OnOk result (self.new.holdings ≡ let_go self.old.holdings) }
+        requires stands { IsSome (image_at self.old.holdings.snapshots.standing number) }
+        ensures released { OnOk result (D.honest self.old.device → (beside : Beside) → AreImagesOf self.old.holdings.snapshots beside.snapshots
+            → state_of (D.image self.new.device) self.new (record { snapshots = ended beside.snapshots number })
+            ≡ released (state_of (D.image self.old.device) self.old beside) number) }
+        ensures pending { OnOk result (pending_of self.new.queue ≡ releasing (let_go_blocks self.old.holdings number) []) }
+        ensures holdings { OnOk result (self.new.holdings ≡ let_go self.old.holdings number) }
         ensures geometry { OnOk result (self.new.kept.geometry ≡ self.old.kept.geometry) }
         ensures device { self.new.device ≡ self.old.device }
         ensures untouched { OnErr result (self.new ≡ self.old) }
         ensures error { IsOkUnless result Refusal.NoMemory }
     {
-        let blocks = self.holdings.held_blocks(alloc)?;
+        let blocks = self.holdings.held_alone(alloc, number)?;
         let geometry = self.metadata.frozen().geometry();
         let plan = clearing(alloc, geometry, blocks.as_slice())?;
         issue(
@@ -147,7 +175,7 @@ impl<D: Device> Live<D> {
             plan,
             &mut self.spares,
         )?;
-        self.holdings.let_go();
+        self.holdings.let_go(number, blocks.as_slice());
         Ok(())
     }
 
@@ -170,7 +198,7 @@ impl<D: Device> Live<D> {
     }
 }
 
-/// The updates that clear the bits of these blocks, which were held for a snapshot.
+/// The updates that clear the bits of these blocks, which are held no more.
 fn clearing(alloc: Global, geometry: Geometry, blocks: &[u32]) -> Result<Plan, AllocError>
     requires { All (λ a. IsTrue (is_data_address geometry a)) blocks.now }
     ensures geometry { IfOk result (λ plan. plan.geometry ≡ geometry) }

@@ -116,7 +116,7 @@ module _ (frozen kept : Kept) (same : frozen ≡ kept) (keeps : KeepsMetadata ke
       pub to_file : (h : ℕ) → IsFreeHandle holdings h → (after : Holdings) → IsOpened holdings h i after → IsQuietlyDone kept holdings [] (Open path) (Number h) after
       to_file h free after opened = record {
         quiet = refl;
-        snapshot = opened.snapshot;
+        snapshots = opened.snapshots;
         held = opened.held;
         accepted = λ old shows has. (stays old shows ∙ ap (λ c. option_or c None) (some_free holdings old has h free), tt);
         effect = λ old shows has sees. record {

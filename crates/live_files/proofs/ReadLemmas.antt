@@ -77,7 +77,7 @@ module _ (kept : Kept) (holdings : Holdings) (h k : ℕ) where
             → IsQuietlyDone kept holdings (record { address = a; bytes = bytes } ∷ []) (Read h k) (Bytes (take count bytes)) holdings
         reads count e = record {
           quiet = refl;
-          snapshot = refl;
+          snapshots = refl;
           held = refl;
           accepted = λ old shows has. (accepted old shows has, tt);
           effect = λ old shows has sees. (

@@ -9,6 +9,7 @@ use Rattle.model.proofs.Places.{put_here, put_there}
 use Rattle.machine.specs.Below.{any_below}
 use Rattle.machine.proofs.Decisions.{any_here, any_none}
 use Rattle.live_states.specs.Holdings.{holding}
+use Rattle.live_states.specs.Snapshots.{unmarked}
 
 -- a table with another entry
 pub table_set : (l : List (Option ℕ)) (h : ℕ) (o : Option ℕ) → h < length l → (λ g. slice_index_or (slice_set l h o) g None) ≡ put_at (λ g. slice_index_or l g None) h o
@@ -76,3 +77,16 @@ holding_more (b ∷ blocks) (suc k) held low = holding_more blocks k (slice_set 
 
 pub holding_next : (blocks : List ℕ) (k : ℕ) (held : List Bool) → k < length blocks → holding (take (k + 1) blocks) held ≡ slice_set (holding (take k blocks) held) (slice_index_or blocks k 0) true
 holding_next blocks k held low = ap (λ n. holding (take n blocks) held) (add-one k) ∙ holding_more blocks k held low
+
+-- and one less at a time
+pub unmarked_length : (blocks : List ℕ) (held : List Bool) → length (unmarked blocks held) ≡ length held
+unmarked_length [] held = refl
+unmarked_length (a ∷ blocks) held = unmarked_length blocks (slice_set held a false) ∙ length-set held a false
+
+unmarked_more : (blocks : List ℕ) (k : ℕ) (held : List Bool) → k < length blocks → unmarked (take (suc k) blocks) held ≡ slice_set (unmarked (take k blocks) held) (slice_index_or blocks k 0) false
+unmarked_more [] k held low = absurd (omega (arith, low))
+unmarked_more (b ∷ blocks) zero held low = refl
+unmarked_more (b ∷ blocks) (suc k) held low = unmarked_more blocks k (slice_set held b false) (omega (arith, low))
+
+pub unmarked_next : (blocks : List ℕ) (k : ℕ) (held : List Bool) → k < length blocks → unmarked (take (k + 1) blocks) held ≡ slice_set (unmarked (take k blocks) held) (slice_index_or blocks k 0) false
+unmarked_next blocks k held low = ap (λ n. unmarked (take n blocks) held) (add-one k) ∙ unmarked_more blocks k held low

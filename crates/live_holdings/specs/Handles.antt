@@ -21,7 +21,7 @@ NoFreeHandle holdings = (h : ℕ) → h < handle_count → IsSome (opened_by hol
 pub record IsOpened (old : Holdings) (h i : ℕ) (new : Holdings) : Type 0 where
   pub opened : opened_by new ≡ put_at (opened_by old) h (Some i)
   pub held : new.held ≡ old.held
-  pub snapshot : new.snapshot ≡ old.snapshot
+  pub snapshots : new.snapshots ≡ old.snapshots
   pub repairs : new.repairs ≡ old.repairs
 
 -- what is left when this handle is closed, where there is one

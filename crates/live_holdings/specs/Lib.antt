@@ -1,2 +1,4 @@
+pub mod Alone
 pub mod Handles
 pub mod Left
+pub mod Numbers

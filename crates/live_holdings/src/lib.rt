@@ -1,28 +1,30 @@
-//! What a mounted volume has besides its image: the handles that are open, the blocks that are held for a snapshot, the
-//! metadata that the snapshot keeps, and the repairs of a check that was installed.
+//! What a mounted volume has besides its image: the handles that are open, the blocks that are held for snapshots, the
+//! metadata that each snapshot keeps, and the repairs of a check that was installed.
 #![tactic(auto)]
 
-ghost use Rattle.std.specs.Prelude.{◌≡◌, ◌<◌, None, Some, IfErr, IfOk, IsTrue, MatchOption, OnErr, OnOk, false, is_some, length, replicate, slice_index_or, slice_set, true};
+mod standing;
+
+ghost use Rattle.std.specs.Prelude.{◌≡◌, ◌<◌, ◌≤◌, Some, IfErr, IfOk, MatchOption, OnErr, OnOk, false, length, not, slice_set, true};
 ghost use Rattle.std.specs.Arc.{arc_value};
 ghost use Rattle.std.specs.List.{All};
 ghost use Rattle.std.specs.Option.{option_copied, option_map};
-ghost use Rattle.findings.specs.Numbers.{found_below};
 ghost use Rattle.model.specs.Layout.{Geometry as Numbers, block_count};
-ghost use Rattle.frozen.specs.Kept.{frozen_view};
 ghost use Rattle.marks.specs.Marks.{IsNextMarked, NothingMarkedFrom};
 ghost use Rattle.machine.specs.Causes.{refusal_of};
 ghost use Rattle.machine.specs.Command.{RepairAt};
+ghost use Rattle.machine.specs.Standing.{image_at, latest_at, others, too_many};
 ghost use Rattle.machine.specs.State.{State};
 ghost use Rattle.live_states.specs.Holdings.{Has, IsIdle, Repairs as Listed, is_kept_by, is_open_by, with_done, with_held};
-ghost use Rattle.live_states.specs.Snapshots.{IsToDo, held_blocks, installing, keeping, let_go as without_snapshot};
+ghost use Rattle.live_states.specs.Snapshots.{IsToDo, installing, keeping, let_go, let_go_blocks, places, unmarked};
+ghost use Rattle.live_holdings.specs.Alone.{alone_below};
 ghost use Rattle.live_holdings.specs.Handles.{IsFreeHandle, IsOpened, NoFreeHandle, closed, handle_at, without};
 ghost use Rattle.live_holdings.specs.Left.{IsLeft, why_not_left};
 
-use cgmaps::{Map, bit_of};
 use findings::Repair;
 use frozen::Frozen;
 use layout::{Geometry, Refusal};
 use marks::Marks;
+use standing::Snapshots;
 use std::alloc::{AllocError, Global};
 use std::marker::Model;
 use std::sync::Arc;
@@ -37,8 +39,8 @@ pub struct Holdings {
     handles: Vec<Option<u32>>,
     /// Whether each block is held.
     held: Marks,
-    /// The metadata of the snapshot, where one stands.
-    snapshot: Option<Arc<Frozen>>,
+    /// The snapshots that stand.
+    snapshots: Snapshots,
     /// The repairs of a check, where it was installed.
     repairs: Option<Repairs>,
 }
@@ -63,19 +65,18 @@ impl Model for Repairs {
 
 impl Model for Holdings {
     ghost use Rattle.std.specs.Prelude.{◌≤◌, length};
-    ghost use Rattle.std.specs.Arc.{arc_value};
-    ghost use Rattle.std.specs.Option.{option_map};
     ghost use Rattle.live_states.specs.Holdings.{Holdings as Held};
 
     ghost Value = { Held };
 
-    ghost view = { λ holdings. record { opened = holdings.handles.items; held = holdings.held; snapshot = option_map arc_value holdings.snapshot; repairs = holdings.repairs } };
+    ghost view = { λ holdings. record { opened = holdings.handles.items; held = holdings.held; snapshots = holdings.snapshots; repairs = holdings.repairs } };
 
     ghost invariant = { λ holdings. length holdings.handles.items ≤ 1024 };
 }
 
 impl Holdings {
-    /// Nothing is open, held or installed, and no snapshot stands. Takes memory, an eighth of a byte for each address and little more.
+    /// Nothing is open, held or installed, and no snapshot stands. Takes memory, an eighth of a byte for each address and
+    /// little more.
     pub fn new(alloc: Global, geometry: &Geometry) -> Result<Holdings, AllocError>
         ensures idle { IfOk result IsIdle }
         ensures blocks { IfOk result (λ holdings. length holdings.held ≡ block_count geometry.now) }
@@ -83,7 +84,7 @@ impl Holdings {
         Ok(Holdings {
             handles: Vec::new(alloc),
             held: Marks::new(alloc, geometry.blocks())?,
-            snapshot: None,
+            snapshots: Snapshots::new(alloc)?,
             repairs: None,
         })
     }
@@ -112,14 +113,11 @@ impl Holdings {
         false
     }
 
-    /// Whether the snapshot keeps a block.
+    /// Whether a snapshot keeps a block.
     pub fn keeps(&self, address: u32) -> bool
         ensures { result ≡ is_kept_by self.now address }
     {
-        match &self.snapshot {
-            Some(frozen) => is_marked(frozen, address),
-            None => false,
-        }
+        self.snapshots.keep(address)
     }
 
     /// The inode that a handle is open on, if it is open.
@@ -179,11 +177,11 @@ impl Holdings {
         }
     }
 
-    /// The blocks that are held, the least first.
-    pub fn held_blocks(&self, alloc: Global) -> Result<Vec<u32>, AllocError>
-        ensures { IfOk result (λ blocks. blocks.items ≡ held_blocks self.now) }
+    /// The held blocks that no snapshot keeps but that of this number, the least first.
+    pub fn held_alone(&self, alloc: Global, number: u64) -> Result<Vec<u32>, AllocError>
+        ensures { IfOk result (λ blocks. blocks.items ≡ let_go_blocks self.now number) }
     {
-        marked(alloc, &self.held)
+        marked_alone(alloc, &self.held, &self.snapshots, number)
     }
 
     /// The least block from this address on that is held; `None` where there is none.
@@ -195,18 +193,33 @@ impl Holdings {
         self.held.next(from)
     }
 
-    /// Whether a snapshot stands.
-    pub fn has_snapshot(&self) -> bool
-        ensures { result ≡ is_some self.now.snapshot }
+    /// Whether one more snapshot may begin: fewer than four stand, and a number is left for it.
+    pub fn may_freeze(&self) -> bool
+        ensures { result ≡ not (too_many self.now.snapshots) }
     {
-        self.snapshot.is_some()
+        self.snapshots.has_room()
     }
 
-    /// The metadata of the snapshot, where one stands.
-    pub fn snapshot(&self) -> Option<&Arc<Frozen>>
-        ensures { option_map arc_value (option_copied result) ≡ self.now.snapshot }
+    /// The metadata of the snapshot with this number, where it stands.
+    pub fn snapshot(&self, number: u64) -> Option<&Arc<Frozen>>
+        ensures { option_map arc_value (option_copied result) ≡ image_at self.now.snapshots.standing number }
     {
-        self.snapshot.as_ref()
+        self.snapshots.image(number)
+    }
+
+    /// The metadata of the latest freeze's snapshot, where it stands.
+    pub fn latest(&self) -> Option<&Arc<Frozen>>
+        ensures { option_map arc_value (option_copied result) ≡ latest_at self.now.snapshots.standing self.now.snapshots.freezes }
+    {
+        self.snapshots.latest()
+    }
+
+    /// The numbers of the snapshots that stand, ascending, empty places last.
+    pub fn standing(&self) -> [Option<u64>; 4]
+        requires { length self.now.snapshots.standing ≤ 4 }
+        ensures { result ≡ places self.now.snapshots.standing }
+    {
+        self.snapshots.numbers()
     }
 
     /// How many repairs the check has that was installed; `None` where none was.
@@ -216,20 +229,24 @@ impl Holdings {
         self.repairs.as_ref().map(|repairs| repairs.list.len())
     }
 
-    /// Keeps the metadata of a snapshot. The repairs of an older check are dropped.
-    pub fn keep(&mut self, snapshot: Arc<Frozen>)
-        ensures { self.new ≡ keeping self.old (arc_value snapshot) }
+    /// Keeps the metadata of one more snapshot, where there is room, and gives its number. The repairs of an older check
+    /// are dropped.
+    pub fn keep(&mut self, snapshot: Arc<Frozen>) -> u64
+        requires { too_many self.old.snapshots ≡ false }
+        ensures kept { self.new ≡ keeping self.old (arc_value snapshot) }
+        ensures number { result ≡ self.old.snapshots.freezes }
     {
-        self.snapshot = Some(snapshot);
         self.repairs = None;
+        self.snapshots.begin(snapshot)
     }
 
-    /// The snapshot ends, and nothing is held for it.
-    pub fn let_go(&mut self)
-        ensures { self.new ≡ without_snapshot self.old }
+    /// The snapshot with this number ends, and the blocks that are held for it alone are so no more.
+    pub fn let_go(&mut self, number: u64, blocks: &[u32])
+        requires { blocks.now ≡ let_go_blocks self.old number }
+        ensures { self.new ≡ let_go self.old number }
     {
-        unmark_all(&mut self.held);
-        self.snapshot = None;
+        unmark(&mut self.held, blocks);
+        self.snapshots.end(number);
     }
 
     /// Installs the repairs of a check, none of them done.
@@ -290,38 +307,33 @@ impl Repairs {
     }
 }
 
-/// The marked numbers, the least first.
-fn marked(alloc: Global, marks: &Marks) -> Result<Vec<u32>, AllocError>
-    ensures { IfOk result (λ numbers. numbers.items ≡ found_below (λ n. slice_index_or marks.now n false) (λ n. n) (length marks.now)) }
+/// The marked numbers that no snapshot keeps but that of this number, the least first.
+fn marked_alone(
+    alloc: Global,
+    marks: &Marks,
+    snapshots: &Snapshots,
+    number: u64,
+) -> Result<Vec<u32>, AllocError>
+    ensures { IfOk result (λ blocks. blocks.items ≡ alone_below marks.now (others snapshots.now.standing number) (length marks.now)) }
 {
     marks.count();
-    let mut numbers = Vec::new(alloc);
+    let mut blocks = Vec::new(alloc);
     let mut from = 0;
-    while let Some(number) = marks.next(from) {
-        numbers.push(number)?;
-        from = number + 1;
+    while let Some(block) = marks.next(from) {
+        if !snapshots.keep_besides(number, block) {
+            blocks.push(block)?;
+        }
+        from = block + 1;
     }
-    Ok(numbers)
+    Ok(blocks)
 }
 
-/// Takes all marks away.
-fn unmark_all(marks: &mut Marks)
-    ensures { marks.new ≡ replicate (length marks.old) false }
+/// Takes the marks of these numbers away.
+fn unmark(marks: &mut Marks, numbers: &[u32])
+    requires { All (λ n. n < length marks.old) numbers.now }
+    ensures { marks.new ≡ unmarked numbers.now marks.old }
 {
-    marks.count();
-    let mut from = 0;
-    while let Some(number) = marks.next(from) {
-        marks.unmark(number);
-        from = number + 1;
-    }
-}
-
-/// Whether a data block is marked.
-fn is_marked(frozen: &Frozen, address: u32) -> bool
-    ensures { result ≡ (frozen_view frozen.now).block_marked address }
-{
-    match frozen.geometry().place_of(address) {
-        Some(place) => bit_of(frozen.maps_of(place.group), Map::Blocks, place.bit),
-        None => false,
+    for number in numbers {
+        marks.unmark(*number);
     }
 }

@@ -28,7 +28,7 @@ impl Model for Plan {
     ghost invariant = { λ plan. AreOf plan.geometry plan.file plan.updates.items };
 }
 
-/// What carries out a command: its updates, and the blocks that are held for the snapshot once they are issued.
+/// What carries out a command: its updates, and the blocks that are held for a snapshot once they are issued.
 #[derive(Drop)]
 pub struct Planned {
     pub plan: Plan,

@@ -1,4 +1,4 @@
--- What goes is what the law of given-up blocks asks for, and what the snapshot keeps of it is held.
+-- What goes is what the law of given-up blocks asks for, and what a snapshot keeps of it is held.
 use Rattle.std.proofs.Common.{◌≡◌, ◌<◌, ◌≤◌, ℕ, Bool, true, false, not, ◌&&◌, ◌||◌, eqb, List, [], ◌∷◌, length, Option, Some, None, refl, sym, ap, ◌∙◌, subst, inl, inr, IsTrue, IsFalse, arith, Contains, is_some, eq-eqb, ne_eqb, ltb, leb, ltb-true, le-ltb, lt-ltb, set as slice_set, get_or-set_same, get_or-set_other, length-set, slice_index_or}
 use mathlib.Core.Path.{fun_ext}
 use Rattle.std.specs.List.{All}
@@ -26,7 +26,7 @@ use Rattle.plans_data.proofs.Numbers.{sound_file}
 use Rattle.plans_data.proofs.Clearing.{among, among_contains, contains_among}
 use Rattle.plans_data.proofs.Used.{Direct, Last, Middle, Uses, used, uses}
 use Rattle.frozen.specs.Kept.{Kept, frozen_view}
-use Rattle.live_states.specs.Holdings.{Has, Holdings, IsImageOf, held_by, holding, is_kept_by, with_held}
+use Rattle.live_states.specs.Holdings.{Has, Holdings, held_by, holding, is_kept_by, with_held}
 use Rattle.live_states.proofs.Standing.{kept_same}
 use Rattle.live_removals.specs.Blocks.{freed, goes_at, gone, held_back, is_loose, stays}
 use Rattle.live_removals.proofs.Clearing.{goes_from}

@@ -101,7 +101,7 @@ module _ (kept : Kept) (holdings : Holdings) (h n : ℕ) (at : handle_at holding
     st = now disk q old
 
     st_has : Has holdings st
-    st_has = record { opened = has.opened; held = has.held; frozen = has.frozen; plan = has.plan }
+    st_has = record { opened = has.opened; held = has.held; snapshots = has.snapshots; plan = has.plan }
 
     balance : Balance kept.geometry st
     balance = subst (λ v. Balance kept.geometry (record old { view = v })) (sym stands.same) stands.balance
@@ -214,7 +214,7 @@ module _ (kept : Kept) (holdings : Holdings) (h n : ℕ) (at : handle_at holding
     pub close_planned : ((view : View) → Shows kept view → LetsGo kept.geometry view holdings h n draft holds) → IsPlannedWith kept holdings [] (Close h) Done draft (with_held (closed holdings h) holds)
     close_planned lets_go = record {
       geometry = lets_go_geometry volume.volume.old.view draft holds (lets_go volume.volume.old.view volume.volume.shows);
-      snapshot = refl;
+      snapshots = refl;
       accepted = λ old shows has. close_accepted kept.geometry holdings h old has n at;
       done = λ disk q old safe stands shows has sees. close_done disk q old safe stands has wide draft holds (lets_go (users_view disk q) (shown disk q old safe stands shows));
     }
@@ -223,7 +223,7 @@ module _ (kept : Kept) (holdings : Holdings) (h n : ℕ) (at : handle_at holding
         → IsPlannedWith kept holdings [] (Truncate h size) Done draft (with_held holdings holds)
     truncate_planned size small shortens = record {
       geometry = (shortens volume.volume.old.view volume.volume.shows).updates.geometry;
-      snapshot = refl;
+      snapshots = refl;
       accepted = λ old shows has. truncate_accepted kept.geometry holdings h old has size n at (subst (λ (i : Inode). size ≤ i.size) (shows.inode n) small);
       done = λ disk q old safe stands shows has sees.
           let seen = shown disk q old safe stands shows in

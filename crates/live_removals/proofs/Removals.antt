@@ -103,7 +103,7 @@ module _ (decided : StaysOrGoes) (kept : Kept) (holdings : Holdings) (path : Lis
         let n = number_at kept.geometry view path in
         let after = removed.after in
         let st = now disk q old in
-        let st_has : Has holdings st = record { opened = has.opened; held = has.held; frozen = has.frozen; plan = has.plan } in
+        let st_has : Has holdings st = record { opened = has.opened; held = has.held; snapshots = has.snapshots; plan = has.plan } in
         let can = accepted_remove kept.geometry st on.balance stands.geometry path accepts after own.needs in
         let last = goes_closed st n (view.inode n).links 2 (subst (λ m. (view.inode m).links ≤ 2) (sym on.number) few) (closed after own.needs)
         (decided kept.geometry st on.balance.rules n (block_of kept.geometry view n 0) (holder kept.geometry view path) (slot_at kept.geometry view path) (entry_block kept.geometry view path) (name_in path) after can) in
@@ -130,7 +130,7 @@ module _ (kept : Kept) (path : List ℕ) (ps : List (List ℕ)) (found : Found) 
       → IsPlannedWith kept holdings [] (Rmdir path) Done draft (with_held holdings holds)
   rmdir_planned decided draft holdings wide holds removed = record {
     geometry = let r = removed volume.old.view volume.shows in r.lowers.geometry ∙ leaves_geometry kept.geometry volume.old.view holdings found 2 r.after r.left holds r.leaves;
-    snapshot = refl;
+    snapshots = refl;
     accepted = λ old shows has. accepted old shows;
     done = λ disk q old safe stands shows has sees.
         let on = on_volume kept path ps found keeps is (λ view shown. (at view shown).at) disk q old safe stands shows in

@@ -76,7 +76,7 @@ module _ (decided : StaysOrGoes) (kept : Kept) (holdings : Holdings) (path : Lis
     done_by (Goes few goes held) =
         let n = number_at kept.geometry view path in
         let st = now disk q old in
-        let st_has : Has holdings st = record { opened = has.opened; held = has.held; frozen = has.frozen; plan = has.plan } in
+        let st_has : Has holdings st = record { opened = has.opened; held = has.held; snapshots = has.snapshots; plan = has.plan } in
         let can = accepted_unlink kept.geometry st on.balance stands.geometry path accepts in
         let last = goes_closed st n (view.inode n).links 1 (subst (λ m. (view.inode m).links ≤ 1) (sym on.number) few) (subst (λ m. IsFalse (is_open old m)) (sym on.number) closed)
         (decided kept.geometry st on.balance.rules n (holder kept.geometry view path) (slot_at kept.geometry view path) (entry_block kept.geometry view path) (name_in path) can) in
@@ -124,7 +124,7 @@ module _ (kept : Kept) (holdings : Holdings) (path : List ℕ) (ps : List (List 
       → IsPlannedWith kept holdings [] (Unlink path) Done draft (with_held holdings holds)
   unlink_planned decided wide closed holds unlinked = record {
     geometry = leaves_geometry kept.geometry volume.old.view holdings found 1 [] draft holds (unlinked volume.old.view volume.shows);
-    snapshot = refl;
+    snapshots = refl;
     accepted = λ old shows has. accepted old shows;
     done = λ disk q old safe stands shows has sees.
         let on = there disk q old safe stands shows in
@@ -134,7 +134,7 @@ module _ (kept : Kept) (holdings : Holdings) (path : List ℕ) (ps : List (List 
   pub unnamed_planned : StaysOrGoes → is_open_by holdings found.number ≡ true → ((view : View) → Shows kept view → Unnamed kept.geometry view found draft) → IsPlannedWith kept holdings [] (Unlink path) Done draft holdings
   unnamed_planned decided open_now unnamed = record {
     geometry = let u = unnamed volume.old.view volume.shows in u.lowers.geometry ∙ u.empties.geometry;
-    snapshot = refl;
+    snapshots = refl;
     accepted = λ old shows has. accepted old shows;
     done = λ disk q old safe stands shows has sees.
         let on = there disk q old safe stands shows in

@@ -31,11 +31,11 @@ gone_below which geo view n left end = found_below (goes_at which geo view n lef
 abbrev pub gone : (ℕ → Bool) → Geometry → View → ℕ → ℕ → List ℕ
 gone which geo view n left = gone_below which geo view n left (indirect_position + 1)
 
--- a block that the snapshot does not keep
+-- a block that no snapshot keeps
 abbrev pub is_loose : Holdings → ℕ → Bool
 is_loose holdings a = not (is_kept_by holdings a)
 
--- what is freed, and what the snapshot keeps, so that it is held
+-- what is freed, and what a snapshot keeps, so that it is held
 abbrev pub freed : Geometry → View → Holdings → ℕ → ℕ → List ℕ
 freed geo view holdings n left = gone (is_loose holdings) geo view n left
 

@@ -103,7 +103,7 @@ pub(crate) fn lower(
 }
 
 /// Adds the updates that free a number, after the last updates of these cells, and then its bit and all blocks that it
-/// claims. Gives those that the snapshot keeps: they are held.
+/// claims. Gives those that a snapshot keeps: they are held.
 pub fn free(
     alloc: Global,
     frozen: &Frozen,
@@ -134,7 +134,7 @@ pub fn free(
 }
 
 /// Adds the updates that clear the bits of the blocks that a number claims and no longer has where so many are left, each
-/// after the last update of its record. Gives those that the snapshot keeps: they are held, and their bits stay.
+/// after the last update of its record. Gives those that a snapshot keeps: they are held, and their bits stay.
 pub(crate) fn give_up(
     alloc: Global,
     frozen: &Frozen,
@@ -168,7 +168,7 @@ pub(crate) fn give_up(
 }
 
 /// Adds the update that clears the bit of the block that a number claims at a position, after the last update of its
-/// record; or adds the block to these, where the snapshot keeps it.
+/// record; or adds the block to these, where a snapshot keeps it.
 fn give_up_at(
     alloc: Global,
     frozen: &Frozen,

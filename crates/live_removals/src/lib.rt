@@ -9,7 +9,7 @@
 //! the slot too. A file without links goes with its last handle. A file that is truncated gets its record first, and after
 //! it the bits of the blocks behind its end are cleared.
 //!
-//! A block that the snapshot keeps is not cleared: it is held, until the snapshot ends.
+//! A block that a snapshot keeps is not cleared: it is held, until no snapshot that stands keeps it.
 //!
 //! A plan is made on the metadata of the volume that is held in memory, and changes nothing.
 #![tactic(auto)]

@@ -21,7 +21,7 @@ use metadata::Metadata;
 use plans_naming::accepted_removals;
 use std::alloc::{AllocError, Global};
 
-/// The plan by which a directory without names goes, with its name; of its blocks those are held that the snapshot keeps.
+/// The plan by which a directory without names goes, with its name; of its blocks those are held that a snapshot keeps.
 /// Refused in this order with `BadName` where the bytes are no path, with `IsRoot` for `/`, with why the path leads
 /// nowhere, with `NotDirectory` where it leads to a file, and with `NotEmpty` where the directory has a name besides its
 /// dots. At any time it may be refused with `NoMemory`.

@@ -20,7 +20,7 @@ use std::alloc::{AllocError, Global};
 use updates::Change;
 
 /// The plan by which a handle is closed, and with its last one a file that has no names goes; of its blocks those are held
-/// that the snapshot keeps. A file that stays needs no updates. Refused with `BadHandle` where the handle is not open. At
+/// that a snapshot keeps. A file that stays needs no updates. Refused with `BadHandle` where the handle is not open. At
 /// any time it may be refused with `NoMemory`.
 pub fn close(
     alloc: Global,
@@ -41,7 +41,7 @@ pub fn close(
 }
 
 /// The plan by which an open file gets a size that is no larger than its own; of the blocks behind it those are held that
-/// the snapshot keeps. Refused with `BadHandle` where the handle is not open, and then with `BadIndex` where the size is
+/// a snapshot keeps. Refused with `BadHandle` where the handle is not open, and then with `BadIndex` where the size is
 /// larger. At any time it may be refused with `NoMemory`.
 pub fn truncate(
     alloc: Global,

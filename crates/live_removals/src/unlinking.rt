@@ -22,7 +22,7 @@ use plans_naming::accepted_unlinks;
 use std::alloc::{AllocError, Global};
 
 /// The plan by which the name of a file goes, and with its last one a file that is not open; of its blocks those are held
-/// that the snapshot keeps. Refused in this order with `BadName` where the bytes are no path, with `IsRoot` for `/`, with
+/// that a snapshot keeps. Refused in this order with `BadName` where the bytes are no path, with `IsRoot` for `/`, with
 /// why the path leads nowhere, and with `IsDirectory` where it leads to a directory. At any time it may be refused with
 /// `NoMemory`.
 pub fn unlink(

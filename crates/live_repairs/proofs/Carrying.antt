@@ -63,7 +63,7 @@ module _ (geo : Geometry) (disk : View) (q : List Pending) (old : State) (safe :
   st = now disk q old
 
   st_has : Has holdings st
-  st_has = record { opened = has.opened; held = has.held; frozen = has.frozen; plan = has.plan }
+  st_has = record { opened = has.opened; held = has.held; snapshots = has.snapshots; plan = has.plan }
 
   balance : Balance geo st
   balance = subst (λ v. Balance geo (record old { view = v })) (sym stands.same) stands.balance
@@ -139,7 +139,7 @@ module _ (kept : Kept) (holdings : Holdings) (k : ℕ) (r : Repair) (to_do : IsT
         let there = volume.volume in
         (carries kept.geometry there.disk there.pending there.old there.safe there.stands holdings volume.has wide draft holds r
         (is (users_view there.disk there.pending) (subst (λ v. Shows kept v) (sym there.stands.same) there.shows))).geometry;
-    snapshot = refl;
+    snapshots = refl;
     accepted = λ old shows has. repair_accepted holdings k r to_do kept.geometry old has;
     done = λ disk q old safe stands shows has sees. repair_done disk q old safe stands has (is (users_view disk q) (subst (λ v. Shows kept v) (sym stands.same) shows));
   }

@@ -2,7 +2,7 @@
 //!
 //! An inode that nothing reaches loses its links, and one that is named less often than it counts loses those that are too
 //! many. Where none is left and no handle is open on it, it is freed with its number and its blocks, of which those that
-//! the snapshot keeps are held. A block or a number that is marked and used by nothing is unmarked.
+//! a snapshot keeps are held. A block or a number that is marked and used by nothing is unmarked.
 #![tactic(auto)]
 
 mod relinking;

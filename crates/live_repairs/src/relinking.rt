@@ -43,7 +43,7 @@ pub fn lower_count(
 }
 
 /// The plan by which an inode has this number of links. Where that is 0 and no handle is open on it, it is freed with its
-/// number and its blocks, of which those are held that the snapshot keeps.
+/// number and its blocks, of which those are held that a snapshot keeps.
 fn relink(
     alloc: Global,
     metadata: &Metadata,

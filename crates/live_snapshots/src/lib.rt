@@ -1,6 +1,6 @@
 //! The image that a check is to see: that of users, without the open files that have no name any more, and without the
-//! bits of the blocks that are held for a snapshot. Such a file goes with its last handle, and such a block with its
-//! snapshot, so that a check would find a leak where there is none.
+//! bits of the blocks that are held for snapshots. Such a file goes with its last handle, and such a block with the last
+//! snapshot that keeps it, so that a check would find a leak where there is none.
 //!
 //! It is made from the metadata of the volume that is held in memory, and changes nothing. What it keeps it shares with the
 //! volume, but for the blocks that differ.

@@ -1,4 +1,4 @@
--- A check of the snapshot is installed.
+-- A check of the snapshot of the latest freeze is installed.
 use Rattle.std.proofs.Common.{◌≡◌, ℕ, Bool, false, List, [], Option, Some, None, length, refl, sym, ap, ap₂, ◌∙◌, subst, is_none, is_some, not, replicate}
 use Rattle.std.specs.List.{list_all}
 use Rattle.std.specs.Option.{option_map, option_or}
@@ -10,22 +10,24 @@ use Rattle.machine.specs.Below.{when}
 use Rattle.machine.specs.Causes.{Accepts, causes, refusal_of}
 use Rattle.machine.specs.Command.{Check, Done, Install}
 use Rattle.machine.specs.Snapshot.{Installs}
-use Rattle.machine.specs.State.{Plan, State}
+use Rattle.machine.specs.Standing.{latest_at}
+use Rattle.machine.specs.State.{Plan, State, latest}
 use Rattle.frozen.specs.Kept.{Kept}
 use Rattle.metadata.specs.Shown.{Shows}
 use Rattle.live_states.specs.Holdings.{Has, Holdings, IsImageOf, going_on, plan_of}
 use Rattle.live_states.specs.Planned.{IsQuietlyDone}
 use Rattle.live_states.specs.Snapshots.{IsInstallable, installing}
+use Rattle.live_states.proofs.Images.{same_latest}
 use Rattle.live_states.proofs.SnapshotEnds.{none_marked}
 
--- the image of the snapshot that stands
-pub record StandsAs (snapshot : Kept) (frozen : Option View) : Type 0 where
+-- the image of a snapshot that stands
+pub record StandsAs (snapshot : Kept) (stood : Option View) : Type 0 where
   pub image : View
-  pub is : frozen ≡ Some image
+  pub is : stood ≡ Some image
   pub shows : Shows snapshot image
 
-stands_as : (kept : Option Kept) (snapshot : Kept) (frozen : Option View) → kept ≡ Some snapshot → IsImageOf kept frozen → StandsAs snapshot frozen
-stands_as kept snapshot frozen e is = by frozen (subst (λ s. IsImageOf s frozen) e is)
+stands_as : (kept : Option Kept) (snapshot : Kept) (stood : Option View) → kept ≡ Some snapshot → IsImageOf kept stood → StandsAs snapshot stood
+stands_as kept snapshot stood e is = by stood (subst (λ s. IsImageOf s stood) e is)
   where
     by : (o : Option View) → IsImageOf (Some snapshot) o → StandsAs snapshot o
     by None t = absurd t
@@ -33,8 +35,8 @@ stands_as kept snapshot frozen e is = by frozen (subst (λ s. IsImageOf s frozen
 
 module _ (kept : Kept) (holdings : Holdings) (check : Check) (list : List Repair) (is : IsInstallable kept holdings check list) where
   module _ (old : State) (has : Has holdings old) where
-    there : StandsAs is.snapshot old.frozen
-    there = stands_as holdings.snapshot is.snapshot old.frozen is.stands has.frozen
+    there : StandsAs is.snapshot (latest old)
+    there = stands_as (latest_at holdings.snapshots.standing holdings.snapshots.freezes) is.snapshot (latest old) is.stands (same_latest holdings.snapshots old.snapshots has.snapshots)
 
     unplanned : old.plan ≡ None
     unplanned = has.plan ∙ ap (option_map plan_of) is.none
@@ -63,7 +65,7 @@ module _ (kept : Kept) (holdings : Holdings) (check : Check) (list : List Repair
   pub installed_quietly : IsQuietlyDone kept holdings [] (Install check) Done (installing holdings list)
   installed_quietly = record {
     quiet = refl;
-    snapshot = refl;
+    snapshots = refl;
     held = refl;
     accepted = λ old shows has. accepted old has;
     effect = λ old shows has sees. installs old has;

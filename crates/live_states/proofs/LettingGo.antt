@@ -1,5 +1,5 @@
 -- A volume stays one without a block in memory that a file holds data in.
-use Rattle.std.proofs.Common.{◌≡◌, ◌<◌, ℕ, List, IsFalse, IsTrue, true, false, sym, ap, ◌∙◌, subst, arith}
+use Rattle.std.proofs.Common.{◌≡◌, ◌<◌, ℕ, List, IsFalse, true, false, sym, ap, ◌∙◌, arith}
 use Rattle.model.specs.Layout.{Geometry}
 use Rattle.model.specs.Rules.{ObeysRules}
 use Rattle.model.specs.Uses.{IsClaim, indirect_position, is_directory_at}
@@ -41,7 +41,7 @@ module _ (kept : Kept) (holdings : Holdings) (q : List Pending) (disk : View) (k
   pub volume_without : IsVolume (without_block kept a) holdings q disk
   volume_without = record {
     beside = volume.beside;
-    frozen = volume.frozen;
+    snapshots = volume.snapshots;
     mount = volume.mount;
     history = volume.history;
     cut = volume.cut;

@@ -1,3 +1,4 @@
+pub mod Images
 pub mod Installing
 pub mod LettingGo
 pub mod Loading

@@ -19,7 +19,7 @@ use Rattle.metadata.specs.Staged.{IsStaged, after, changes}
 use Rattle.kept_claims.specs.Claims.{IsMetadataClaim, GivesBytes}
 use Rattle.kept_claims.proofs.Commands.{plans_give}
 use Rattle.live_states.specs.Drafts.{Draft, over}
-use Rattle.live_states.specs.Holdings.{Beside, Has, Holdings, IsImageOf}
+use Rattle.live_states.specs.Holdings.{Beside, Has, Holdings, AreImagesOf}
 use Rattle.live_states.specs.Planned.{AreSeen, IsPlannedFor, IsPlannedWith, Seen, safe_after}
 use Rattle.live_states.specs.Volume.{IsVolume, state_over}
 use Rattle.live_states.proofs.Staging.{keeps' as keeps_staged, over_after, same, shows'}
@@ -45,8 +45,8 @@ still_nothing geo view (Truncate h n) = refl
 still_nothing geo view (ListNames p) = refl
 still_nothing geo view (Stat p) = refl
 still_nothing geo view Freeze = refl
-still_nothing geo view (SnapRead i k) = refl
-still_nothing geo view Release = refl
+still_nothing geo view (SnapRead s i k) = refl
+still_nothing geo view (Release s) = refl
 still_nothing geo view (Install check) = refl
 still_nothing geo view (RepairAt k) = refl
 still_nothing geo view (Flush a) = refl
@@ -61,7 +61,7 @@ module _ (kept : Kept) (holdings : Holdings) (q : List Pending) (disk : View) (v
   abbrev q' : List Pending
   q' = over q draft.updates
 
-  module _ (beside : Beside) (frozen : IsImageOf holdings.snapshot beside.frozen) where
+  module _ (beside : Beside) (images : AreImagesOf holdings.snapshots beside.snapshots) where
     abbrev old : State
     old = state_over disk q holdings beside
 
@@ -69,10 +69,10 @@ module _ (kept : Kept) (holdings : Holdings) (q : List Pending) (disk : View) (v
     new = state_over disk q' holdings' beside
 
     accepts : Accepts geo old command
-    accepts = planned.accepted old volume.shows (has disk q holdings beside frozen)
+    accepts = planned.accepted old volume.shows (has disk q holdings beside images)
 
     abbrev done : (safe : ℕ → Bool) → Stands geo disk q old safe → IsDoneBy geo disk q old safe command answer draft.file q' new (safe_after geo (users_view disk q) command safe)
-    done safe stands = planned.done disk q old safe stands volume.shows (has disk q holdings beside frozen) sees
+    done safe stands = planned.done disk q old safe stands volume.shows (has disk q holdings beside images) sees
 
     pub serves : (safe : ℕ → Bool) (stands : Stands geo disk q old safe) → LeavesTheRest (done safe stands) → Serves geo disk q old safe command answer disk q' new (safe_after geo (users_view disk q) command safe) []
     serves safe stands rest = ByPlan command answer draft.file q' new (safe_after geo (users_view disk q) command safe) (done safe stands) rest
@@ -88,19 +88,19 @@ module _ (kept : Kept) (holdings : Holdings) (q : List Pending) (disk : View) (v
       pub step : Step geo old command (Ok answer) new
       step = let run = safely.run in subst (Step geo old command (Ok answer)) (sym run.2) run.1
 
-  abbrev since : IsSafeService geo volume.mount volume.history volume.cut disk q (old volume.beside volume.frozen) nothing_safe disk q' (new volume.beside volume.frozen)
-      (safe' volume.beside volume.frozen) (command ∷ []) (Ok answer ∷ []) []
-  since = safely volume.beside volume.frozen volume.beginning.stands
+  abbrev since : IsSafeService geo volume.mount volume.history volume.cut disk q (old volume.beside volume.snapshots) nothing_safe disk q' (new volume.beside volume.snapshots)
+      (safe' volume.beside volume.snapshots) (command ∷ []) (Ok answer ∷ []) []
+  since = safely volume.beside volume.snapshots volume.beginning.stands
 
-  begins : IsBeginning geo volume.mount since.lived.h' since.lived.cut' disk q' (new volume.beside volume.frozen) nothing_safe
-  begins = subst (IsBeginning geo volume.mount since.lived.h' since.lived.cut' disk q' (new volume.beside volume.frozen)) (still_nothing geo (users_view disk q) command)
+  begins : IsBeginning geo volume.mount since.lived.h' since.lived.cut' disk q' (new volume.beside volume.snapshots) nothing_safe
+  begins = subst (IsBeginning geo volume.mount since.lived.h' since.lived.cut' disk q' (new volume.beside volume.snapshots)) (still_nothing geo (users_view disk q) command)
       (record { stands = since.stands; moment = since.lived.moment })
 
   -- what claims on metadata there are then
   claimed_before : (i k a : ℕ) → IsMetadataClaim geo (users_view disk q') i k a → IsMetadataClaim geo (users_view disk q) i k a ⊎ GivesBytes (over [] draft.updates) a
   claimed_before =
-      plans_give geo disk q (old volume.beside volume.frozen) nothing_safe volume.beginning.stands command answer draft.file q' (new volume.beside volume.frozen)
-      (safe_after geo (users_view disk q) command nothing_safe) (accepts volume.beside volume.frozen) (done volume.beside volume.frozen nothing_safe volume.beginning.stands) (over [] draft.updates) (over_after q draft.updates)
+      plans_give geo disk q (old volume.beside volume.snapshots) nothing_safe volume.beginning.stands command answer draft.file q' (new volume.beside volume.snapshots)
+      (safe_after geo (users_view disk q) command nothing_safe) (accepts volume.beside volume.snapshots) (done volume.beside volume.snapshots nothing_safe volume.beginning.stands) (over [] draft.updates) (over_after q draft.updates)
 
   module _ (keeps : KeepsMetadata kept) (staged : Staged) (is : IsStaged kept (changes draft.updates) staged) where
     pub keeps' : KeepsMetadata (after kept staged)
@@ -109,11 +109,11 @@ module _ (kept : Kept) (holdings : Holdings) (q : List Pending) (disk : View) (v
     pub volume' : IsVolume (after kept staged) holdings' q' disk
     volume' = record {
       beside = volume.beside;
-      frozen = subst (λ s. IsImageOf s volume.beside.frozen) (sym planned.snapshot) volume.frozen;
+      snapshots = subst (λ s. AreImagesOf s volume.beside.snapshots) (sym planned.snapshots) volume.snapshots;
       mount = volume.mount;
       history = since.lived.h';
       cut = since.lived.cut';
-      beginning = subst (λ g. IsBeginning g volume.mount since.lived.h' since.lived.cut' disk q' (new volume.beside volume.frozen) nothing_safe)
+      beginning = subst (λ g. IsBeginning g volume.mount since.lived.h' since.lived.cut' disk q' (new volume.beside volume.snapshots) nothing_safe)
           (sym (same kept q disk draft.updates keeps volume.shows claimed_before staged is)) begins;
       shows = shows' kept q disk draft.updates keeps volume.shows claimed_before staged is;
     }
@@ -136,7 +136,7 @@ leaves kept holdings seen _ answer draft holdings' planned disk q old safe stand
 
 module _ (kept : Kept) (holdings : Holdings) (q : List Pending) (disk : View) (volume : IsVolume kept holdings q disk)
     (seen : List Seen) (command : Command) (answer : Answer) (draft : Draft) (holdings' : Holdings) (planned : IsPlannedFor kept holdings seen command answer draft holdings')
-    (sees : AreSeen seen (users_view disk q)) (beside : Beside) (frozen : IsImageOf holdings.snapshot beside.frozen) where
+    (sees : AreSeen seen (users_view disk q)) (beside : Beside) (images : AreImagesOf holdings.snapshots beside.snapshots) where
   abbrev plain : IsPlannedWith kept holdings seen command answer draft holdings'
   plain = planned_with kept holdings seen command answer draft holdings' planned
 
@@ -147,10 +147,10 @@ module _ (kept : Kept) (holdings : Holdings) (q : List Pending) (disk : View) (v
   behind = state_over disk (over q draft.updates) holdings' beside
 
   pub steps : Stands kept.geometry disk q before nothing_safe → Step kept.geometry before command (Ok answer) behind
-  steps stands = step kept holdings q disk volume seen command answer draft holdings' plain sees beside frozen stands
+  steps stands = step kept holdings q disk volume seen command answer draft holdings' plain sees beside images stands
 
   pub is_served : (safe : ℕ → Bool) → Stands kept.geometry disk q before safe
       → Serves kept.geometry disk q before safe command answer disk (over q draft.updates) behind (safe_after kept.geometry (users_view disk q) command safe) []
   is_served safe stands =
-      serves kept holdings q disk volume seen command answer draft holdings' plain sees beside frozen safe stands
-      (leaves kept holdings seen command answer draft holdings' planned disk q before safe stands volume.shows (has disk q holdings beside frozen) sees)
+      serves kept holdings q disk volume seen command answer draft holdings' plain sees beside images safe stands
+      (leaves kept holdings seen command answer draft holdings' planned disk q before safe stands volume.shows (has disk q holdings beside images) sees)

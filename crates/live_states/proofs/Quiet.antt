@@ -10,7 +10,7 @@ use Rattle.machine.specs.Step.{Effect, Step}
 use Rattle.courses.specs.Serves.{IsBeginning, IsSafeService, Quietly, Serves, Starts, CarriesOut, is_quiet}
 use Rattle.courses.proofs.ServiceLemmas.{service_safe}
 use Rattle.frozen.specs.Kept.{Kept}
-use Rattle.live_states.specs.Holdings.{Beside, Holdings, IsImageOf}
+use Rattle.live_states.specs.Holdings.{Beside, Holdings, AreImagesOf}
 use Rattle.live_states.specs.Planned.{AreSeen, IsQuietlyDone, Seen, safe_after}
 use Rattle.live_states.specs.Volume.{IsVolume, state_over}
 use Rattle.live_states.proofs.Standing.{has}
@@ -31,8 +31,8 @@ same_safe geo view (Truncate h n) safe t = refl
 same_safe geo view (ListNames p) safe t = refl
 same_safe geo view (Stat p) safe t = refl
 same_safe geo view Freeze safe t = refl
-same_safe geo view (SnapRead i k) safe t = refl
-same_safe geo view Release safe t = refl
+same_safe geo view (SnapRead s i k) safe t = refl
+same_safe geo view (Release s) safe t = refl
 same_safe geo view (Install check) safe t = refl
 same_safe geo view (RepairAt k) safe t = refl
 same_safe geo view (Flush a) safe t = refl
@@ -44,7 +44,7 @@ module _ (kept : Kept) (holdings : Holdings) (q : List Pending) (disk : View) (v
   abbrev geo : Geometry
   geo = kept.geometry
 
-  module _ (beside : Beside) (frozen : IsImageOf holdings.snapshot beside.frozen) where
+  module _ (beside : Beside) (images : AreImagesOf holdings.snapshots beside.snapshots) where
     abbrev old : State
     old = state_over disk q holdings beside
 
@@ -52,10 +52,10 @@ module _ (kept : Kept) (holdings : Holdings) (q : List Pending) (disk : View) (v
     new = state_over disk q holdings' beside
 
     accepts : Accepts geo old command
-    accepts = done.accepted old volume.shows (has disk q holdings beside frozen)
+    accepts = done.accepted old volume.shows (has disk q holdings beside images)
 
     effect : Effect geo old command answer new
-    effect = done.effect old volume.shows (has disk q holdings beside frozen) sees
+    effect = done.effect old volume.shows (has disk q holdings beside images) sees
 
     pub quiet_step : Step geo old command (Ok answer) new
     quiet_step = (accepts, effect)
@@ -71,14 +71,14 @@ module _ (kept : Kept) (holdings : Holdings) (q : List Pending) (disk : View) (v
   nothing_safe f = false
 
   abbrev before : State
-  before = old volume.beside volume.frozen
+  before = old volume.beside volume.snapshots
 
   abbrev behind : State
-  behind = new volume.beside volume.frozen
+  behind = new volume.beside volume.snapshots
 
   safely : IsSafeService geo volume.mount volume.history volume.cut disk q before nothing_safe disk q behind nothing_safe (command ∷ []) (Ok answer ∷ []) []
   safely = service_safe geo volume.mount volume.history volume.cut disk q before nothing_safe volume.beginning disk q behind nothing_safe (command ∷ []) (Ok answer ∷ []) []
-      (CarriesOut command answer disk q behind nothing_safe [] Starts (accepts volume.beside volume.frozen) (serves_same volume.beside volume.frozen nothing_safe))
+      (CarriesOut command answer disk q behind nothing_safe [] Starts (accepts volume.beside volume.snapshots) (serves_same volume.beside volume.snapshots nothing_safe))
 
   begins : IsBeginning geo volume.mount safely.lived.h' safely.lived.cut' disk q behind nothing_safe
   begins = record { stands = safely.stands; moment = safely.lived.moment }
@@ -86,7 +86,7 @@ module _ (kept : Kept) (holdings : Holdings) (q : List Pending) (disk : View) (v
   pub quiet_volume : IsVolume kept holdings' q disk
   quiet_volume = record {
     beside = volume.beside;
-    frozen = subst (λ s. IsImageOf s volume.beside.frozen) (sym done.snapshot) volume.frozen;
+    snapshots = subst (λ s. AreImagesOf s volume.beside.snapshots) (sym done.snapshots) volume.snapshots;
     mount = volume.mount;
     history = safely.lived.h';
     cut = safely.lived.cut';

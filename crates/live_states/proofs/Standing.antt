@@ -1,7 +1,7 @@
 -- A volume stands, and goes on standing where a closed part of what is pending is written.
-use Rattle.std.proofs.Common.{◌≡◌, ℕ, Bool, true, false, List, [], ◌∷◌, Option, Some, None, IsFalse, refl, sym, ap, ap₂, ◌∙◌, subst}
+use Rattle.std.proofs.Common.{◌≡◌, ℕ, Bool, true, false, List, [], ◌∷◌, Option, None, refl, sym, ap, ap₂, ◌∙◌, subst}
 use Rattle.std.specs.Prelude.{slice_index_or}
-use Rattle.std.specs.Option.{option_map, option_map_or}
+use Rattle.std.specs.Option.{option_map}
 use mathlib.Core.Path.{fun_ext}
 use Rattle.model.specs.Image.{image_view}
 use Rattle.model.specs.Rules.{ObeysRules}
@@ -12,6 +12,7 @@ use Rattle.ordering.proofs.CutLemmas.{nothing, nothing_closed, nothing_seen}
 use Rattle.ordering.proofs.Flushes.{flush_agrees, users_flushed}
 use Rattle.ordering.specs.Ghosts.{at_rest}
 use Rattle.machine.specs.Command.{Answer, Command}
+use Rattle.machine.specs.Standing.{none_yet}
 use Rattle.machine.specs.State.{Plan, State, is_kept, is_open, mounted}
 use Rattle.machine.specs.Balance.{Balance}
 use Rattle.courses.specs.Done.{IsDoneBy}
@@ -23,12 +24,13 @@ use Rattle.frozen.specs.Kept.{Kept, KeepsMetadata, IsKeptOf, frozen_view}
 use Rattle.metadata.specs.Shown.{Shows}
 use Rattle.metadata.proofs.ShownLemmas.{shows_image}
 use Rattle.live_states.specs.Drafts.{Draft, over}
-use Rattle.live_states.specs.Holdings.{Beside, Has, Holdings, IsIdle, IsImageOf, Repairs, going_on, held_by, is_kept_by, is_open_by, opened_by, plan_by, plan_of}
+use Rattle.live_states.specs.Holdings.{Beside, Has, Holdings, IsIdle, AreImagesOf, Repairs, going_on, held_by, nothing_beside, is_kept_by, is_open_by, opened_by, plan_by, plan_of}
 use Rattle.live_states.specs.Planned.{IsOfVolume, IsOfVolumeWith, IsPlanned, IsPlannedWith, safe_after}
 use Rattle.live_states.specs.Volume.{IsVolume, state_over}
+use Rattle.live_states.proofs.Images.{same_kept}
 
-pub has : (disk : View) (q : List Pending) (holdings : Holdings) (beside : Beside) → IsImageOf holdings.snapshot beside.frozen → Has holdings (state_over disk q holdings beside)
-has disk q holdings beside frozen = record { opened = refl; held = refl; frozen = frozen; plan = refl }
+pub has : (disk : View) (q : List Pending) (holdings : Holdings) (beside : Beside) → AreImagesOf holdings.snapshots beside.snapshots → Has holdings (state_over disk q holdings beside)
+has disk q holdings beside images = record { opened = refl; held = refl; snapshots = images; plan = refl }
 
 pub stands_so : (kept : Kept) (holdings : Holdings) (q : List Pending) (disk : View) → IsVolume kept holdings q disk → IsOfVolume kept
 stands_so kept holdings q disk volume = record {
@@ -42,7 +44,7 @@ stands_so kept holdings q disk volume = record {
 
 pub stands_with : (kept : Kept) (holdings : Holdings) (q : List Pending) (disk : View) → IsVolume kept holdings q disk → IsOfVolumeWith kept holdings
 unfolding stands_so
-stands_with kept holdings q disk volume = record { volume = stands_so kept holdings q disk volume; has = has disk q holdings volume.beside volume.frozen }
+stands_with kept holdings q disk volume = record { volume = stands_so kept holdings q disk volume; has = has disk q holdings volume.beside volume.snapshots }
 
 -- what is open and held is as it was
 pub as_it_was : (old : State) (holdings : Holdings) (view : View) → Has holdings old → record old { view = view } ≡ going_on old holdings view
@@ -50,15 +52,9 @@ as_it_was old holdings view has =
     ap₂ (λ (o : ℕ → Option ℕ) (h : ℕ → Bool). record old { view = view; opened = o; held = h }) has.opened has.held
     ∙ ap (λ (p : Option Plan). record old { view = view; opened = opened_by holdings; held = held_by holdings; plan = p }) has.plan
 
--- the snapshot keeps the same blocks as in the state
+-- the snapshots keep the same blocks as in the state
 pub kept_same : (holdings : Holdings) (old : State) → Has holdings old → (a : ℕ) → is_kept old a ≡ is_kept_by holdings a
-kept_same holdings old has a = by holdings.snapshot old.frozen has.frozen
-  where
-    by : (s : Option Kept) (o : Option View) → IsImageOf s o → option_map_or (λ (v : View). v.block_marked a) o false ≡ option_map_or (λ (kept : Kept). (frozen_view kept).block_marked a) s false
-    by None None t = refl
-    by (Some kept) (Some view) t = sym (t.block_marked a)
-    by None (Some view) t = absurd t
-    by (Some kept) None t = absurd t
+kept_same holdings old has a = same_kept holdings.snapshots.standing old.snapshots.standing has.snapshots.1 a
 
 -- an inode is open by these handles, or not
 pub same_open : (holdings : Holdings) (old : State) → Has holdings old → (i : ℕ) → is_open old i ≡ is_open_by holdings i
@@ -67,23 +63,19 @@ same_open holdings old has i = ap (λ (o : ℕ → Option ℕ). is_open (record 
 pub left_alone : (kept : Kept) (command : Command) (answer : Answer) (draft : Draft) → IsPlanned kept command answer draft → (holdings : Holdings) → IsPlannedWith kept holdings [] command answer draft holdings
 left_alone kept command answer draft planned holdings = record {
   geometry = planned.geometry;
-  snapshot = refl;
+  snapshots = refl;
   accepted = λ old shows has. planned.accepted old shows;
   done = λ disk q old safe stands shows has sees.
       subst (λ new. IsDoneBy kept.geometry disk q old safe command answer draft.file (over q draft.updates) new (safe_after kept.geometry old.view command safe))
       (as_it_was old holdings (users_view disk (over q draft.updates)) has) (planned.done disk q old safe stands shows);
 }
 
--- nothing beside an image
-abbrev pub nothing_beside : Beside
-nothing_beside = record { frozen = None }
-
 -- an idle volume is as it is mounted
 pub idle_mounted : (disk : View) (holdings : Holdings) → IsIdle holdings → mounted disk ≡ state_over disk [] holdings nothing_beside
 idle_mounted disk holdings idle =
-    ap₂ (λ (o : ℕ → Option ℕ) (h : ℕ → Bool). record { view = disk; opened = o; held = h; frozen = None; plan = None })
+    ap₂ (λ (o : ℕ → Option ℕ) (h : ℕ → Bool). record { view = disk; opened = o; held = h; snapshots = none_yet; plan = None })
     (fun_ext (λ h. ap (λ (l : List (Option ℕ)). slice_index_or l h None) (sym idle.opened))) (fun_ext (λ a. sym (idle.held a)))
-    ∙ ap (λ (r : Option Repairs). record { view = disk; opened = opened_by holdings; held = held_by holdings; frozen = None; plan = option_map plan_of r }) (sym idle.repairs)
+    ∙ ap (λ (r : Option Repairs). record { view = disk; opened = opened_by holdings; held = held_by holdings; snapshots = none_yet; plan = option_map plan_of r }) (sym idle.repairs)
 
 pub loaded : (kept : Kept) (image : List (List ℕ)) (holdings : Holdings) → KeepsMetadata kept → IsKeptOf kept image → ObeysRules kept.geometry (frozen_view kept) → IsIdle holdings
     → ObeysRules kept.geometry (image_view kept.geometry image) × IsVolume kept holdings [] (image_view kept.geometry image)
@@ -91,7 +83,7 @@ loaded kept image holdings keeps is obeys idle = (
   rules,
   record {
     beside = nothing_beside;
-    frozen = subst (λ s. IsImageOf s None) (sym idle.snapshot) tt;
+    snapshots = subst (λ s. AreImagesOf s none_yet) (sym idle.snapshots) (refl, tt);
     mount = image_view kept.geometry image;
     history = [];
     cut = [];
@@ -122,7 +114,7 @@ module _ (kept : Kept) (holdings : Holdings) (q : List Pending) (disk : View) (v
     held = held_by holdings
 
     abbrev as_seen : View → State
-    as_seen view = record { view = view; opened = opened_by holdings; held = held_by holdings; frozen = volume.beside.frozen; plan = plan_by holdings }
+    as_seen view = record { view = view; opened = opened_by holdings; held = held_by holdings; snapshots = volume.beside.snapshots; plan = plan_by holdings }
 
     lived : IsLived kept.geometry volume.mount volume.history volume.cut disk q held (λ f. false) (seen disk q cut) (rest q cut) held (λ f. false) (seen disk q cut ∷ []) (Puts cut Begins closed)
     lived = life_lived kept.geometry volume.mount volume.history volume.cut disk q held (λ f. false) begin.moment (seen disk q cut) (rest q cut) held (λ f. false) (seen disk q cut ∷ []) (Puts cut Begins closed)
@@ -130,7 +122,7 @@ module _ (kept : Kept) (holdings : Holdings) (q : List Pending) (disk : View) (v
     pub put : IsVolume kept holdings (rest q cut) (seen disk q cut)
     put = record {
       beside = volume.beside;
-      frozen = volume.frozen;
+      snapshots = volume.snapshots;
       mount = volume.mount;
       history = lived.h';
       cut = lived.cut';

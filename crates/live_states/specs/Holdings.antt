@@ -1,9 +1,11 @@
--- What a volume has besides its image: open handles, what its snapshot asks for, and the repairs of a check.
+-- What a volume has besides its image: open handles, what its snapshots ask for, and the repairs of a check.
 use Rattle.std.specs.Prelude.{◌≡◌, ℕ, Bool, true, false, List, [], ◌∷◌, Option, Some, None, slice_index_or, slice_set, nat_lt, ◌==◌, if◌then◌else◌}
+use Rattle.std.specs.List.{list_any}
 use Rattle.std.specs.Option.{option_map, option_map_or}
 use Rattle.findings.specs.declared.repair.Repair.{Repair}
 use Rattle.model.specs.View.{View}
 use Rattle.machine.specs.Below.{any_below}
+use Rattle.machine.specs.Standing.{Standing, Snapshots, none_yet}
 use Rattle.machine.specs.State.{State, Plan, handle_count}
 use Rattle.frozen.specs.Kept.{Kept, frozen_view}
 use Rattle.metadata.specs.Shown.{Shows}
@@ -13,16 +15,20 @@ pub record Repairs : Type 0 where
   pub list : List Repair
   pub done : List Bool
 
--- The inode that each handle is open on, whether each block is held, the metadata that the snapshot keeps, where one stands, and the repairs of a check that was installed.
+-- The inode that each handle is open on, whether each block is held, the metadata that each snapshot keeps, and the repairs of a check that was installed.
 pub record Holdings : Type 0 where
   pub opened : List (Option ℕ)
   pub held : List Bool
-  pub snapshot : Option Kept
+  pub snapshots : Snapshots Kept
   pub repairs : Option Repairs
 
--- What stands in no memory of the volume: the whole image of the snapshot.
+-- What stands in no memory of the volume: the whole images of the snapshots.
 pub record Beside : Type 0 where
-  pub frozen : Option View
+  pub snapshots : Snapshots View
+
+-- nothing beside an image
+abbrev pub nothing_beside : Beside
+nothing_beside = record { snapshots = none_yet }
 
 abbrev pub opened_by : Holdings → ℕ → Option ℕ
 opened_by holdings h = slice_index_or holdings.opened h None
@@ -40,9 +46,12 @@ plan_by holdings = option_map plan_of holdings.repairs
 abbrev pub is_open_by : Holdings → ℕ → Bool
 is_open_by holdings i = any_below handle_count (λ h. option_map_or (λ j. j == i) (if nat_lt h handle_count then opened_by holdings h else None) false)
 
--- the snapshot keeps block a
+-- one of these snapshots keeps block a
+abbrev pub kept_by : List (Standing Kept) → ℕ → Bool
+kept_by standing a = list_any (λ (k : Standing Kept). (frozen_view k.image).block_marked a) standing
+
 abbrev pub is_kept_by : Holdings → ℕ → Bool
-is_kept_by holdings a = option_map_or (λ kept. (frozen_view kept).block_marked a) holdings.snapshot false
+is_kept_by holdings a = kept_by holdings.snapshots.standing a
 
 -- these blocks are held too
 abbrev pub holding : List ℕ → List Bool → List Bool
@@ -62,20 +71,29 @@ IsImageOf None None = Unit {0}
 IsImageOf (Some kept) (Some view) = Shows kept view
 IsImageOf _ _ = ⊥
 
--- A state has these handles, held blocks, snapshot and repairs.
+-- The images of snapshots have this metadata, each the one of its number.
+abbrev pub AreImages : List (Standing Kept) → List (Standing View) → Type 0
+AreImages [] [] = Unit {0}
+AreImages (k ∷ ks) (x ∷ xs) = (x.number ≡ k.number) × Shows k.image x.image × AreImages ks xs
+AreImages _ _ = ⊥
+
+abbrev pub AreImagesOf : Snapshots Kept → Snapshots View → Type 0
+AreImagesOf kept images = (images.freezes ≡ kept.freezes) × AreImages kept.standing images.standing
+
+-- A state has these handles, held blocks, snapshots and repairs.
 pub record Has (holdings : Holdings) (old : State) : Type 0 where
   pub opened : old.opened ≡ opened_by holdings
   pub held : old.held ≡ held_by holdings
-  pub frozen : IsImageOf holdings.snapshot old.frozen
+  pub snapshots : AreImagesOf holdings.snapshots old.snapshots
   pub plan : old.plan ≡ plan_by holdings
 
--- the state in which users see this image, with these handles, held blocks and repairs, and the snapshot as it was
+-- the state in which users see this image, with these handles, held blocks and repairs, and the snapshots as they were
 abbrev pub going_on : State → Holdings → View → State
 going_on old holdings view = record old { view = view; opened = opened_by holdings; held = held_by holdings; plan = plan_by holdings }
 
--- nothing is open or held, no snapshot stands, and no check is installed
+-- nothing is open or held, there was no freeze yet, and no check is installed
 pub record IsIdle (holdings : Holdings) : Type 0 where
   pub opened : holdings.opened ≡ []
   pub held : (a : ℕ) → held_by holdings a ≡ false
-  pub snapshot : holdings.snapshot ≡ None
+  pub snapshots : holdings.snapshots ≡ none_yet
   pub repairs : holdings.repairs ≡ None

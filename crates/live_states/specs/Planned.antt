@@ -62,7 +62,7 @@ AreSeen seen view = All (λ (s : Seen). view.bytes s.address ≡ s.bytes) seen
 -- The same where this is open and held, and users see these blocks so; and then this is open and held.
 pub record IsPlannedWith (kept : Kept) (holdings : Holdings) (seen : List Seen) (command : Command) (answer : Answer) (draft : Draft) (holdings' : Holdings) : Type 0 where
   pub geometry : draft.geometry ≡ kept.geometry
-  pub snapshot : holdings'.snapshot ≡ holdings.snapshot
+  pub snapshots : holdings'.snapshots ≡ holdings.snapshots
   pub accepted : (old : State) → Shows kept old.view → Has holdings old → Accepts kept.geometry old command
   pub done : (disk : View) (q : List Pending) (old : State) (safe : ℕ → Bool) → Stands kept.geometry disk q old safe → Shows kept old.view → Has holdings old → AreSeen seen old.view
       → IsDoneBy kept.geometry disk q old safe command answer draft.file (over q draft.updates) (going_on old holdings' (users_view disk (over q draft.updates))) (safe_after kept.geometry old.view command safe)
@@ -88,7 +88,7 @@ IsRefusedWith kept holdings command r = (r ≡ NoMemory) ⊎ IsFirstCauseWith ke
 -- Where this is kept, open and held, and users see these blocks so, no cause refuses a command that leaves the image and what is held alone; this is its answer, and then this is open.
 pub record IsQuietlyDone (kept : Kept) (holdings : Holdings) (seen : List Seen) (command : Command) (answer : Answer) (holdings' : Holdings) : Type 0 where
   pub quiet : IsTrue (is_quiet command)
-  pub snapshot : holdings'.snapshot ≡ holdings.snapshot
+  pub snapshots : holdings'.snapshots ≡ holdings.snapshots
   pub held : holdings'.held ≡ holdings.held
   pub accepted : (old : State) → Shows kept old.view → Has holdings old → Accepts kept.geometry old command
   pub effect : (old : State) → Shows kept old.view → Has holdings old → AreSeen seen old.view → Effect kept.geometry old command answer (going_on old holdings' old.view)

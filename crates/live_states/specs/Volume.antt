@@ -9,17 +9,17 @@ use Rattle.machine.specs.State.{State}
 use Rattle.courses.specs.Serves.{IsBeginning}
 use Rattle.frozen.specs.Kept.{Kept, KeepsMetadata}
 use Rattle.metadata.specs.Shown.{Shows}
-use Rattle.live_states.specs.Holdings.{Beside, Holdings, IsImageOf, held_by, opened_by, plan_by}
+use Rattle.live_states.specs.Holdings.{Beside, Holdings, AreImagesOf, held_by, opened_by, plan_by}
 
 -- the state of a volume, as its users see it over a device with these updates pending
 abbrev pub state_over : View → List Pending → Holdings → Beside → State
 state_over disk q holdings beside =
-    record { view = users_view disk q; opened = opened_by holdings; held = held_by holdings; frozen = beside.frozen; plan = plan_by holdings }
+    record { view = users_view disk q; opened = opened_by holdings; held = held_by holdings; snapshots = beside.snapshots; plan = plan_by holdings }
 
 -- Over this device, with these updates pending, stands a volume that was mounted once and obeyed the rules then; this is its metadata in memory, and this is what it has besides.
 pub record IsVolume (kept : Kept) (holdings : Holdings) (q : List Pending) (disk : View) : Type 0 where
   pub beside : Beside
-  pub frozen : IsImageOf holdings.snapshot beside.frozen
+  pub snapshots : AreImagesOf holdings.snapshots beside.snapshots
   pub mount : View
   pub history : List Written
   pub cut : List Bool

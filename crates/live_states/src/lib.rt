@@ -3,7 +3,7 @@
 //! its users see.
 #![tactic(auto)]
 
-ghost use Rattle.std.specs.Prelude.{◌≡◌, ◌<◌, ℕ, Bool, false, List, [], None, Ok, IsFalse, IsSome, IsTrue, length};
+ghost use Rattle.std.specs.Prelude.{◌≡◌, ◌<◌, ℕ, Bool, false, List, [], Ok, IsFalse, IsSome, IsTrue, length};
 ghost use Rattle.model.specs.Image.{IsImage, image_view};
 ghost use Rattle.model.specs.Layout.{block_count};
 ghost use Rattle.model.specs.Rules.{ObeysRules};
@@ -12,6 +12,7 @@ ghost use Rattle.model.specs.View.{View};
 ghost use Rattle.ordering.specs.Cuts.{IsClosed, Pending, rest, seen, users_view};
 ghost use Rattle.machine.specs.Command.{Answer, Check, Command, Done, Install};
 ghost use Rattle.findings.specs.declared.repair.Repair.{Repair};
+ghost use Rattle.machine.specs.Standing.{image_at, too_many};
 ghost use Rattle.machine.specs.Step.{Step};
 ghost use Rattle.courses.specs.Serves.{Serves};
 ghost use Rattle.plans_data.specs.Carried.{Stands};
@@ -22,9 +23,9 @@ ghost use Rattle.frozen.specs.Kept.{IsKeptOf, Kept, KeepsMetadata, frozen_view};
 ghost use Rattle.metadata.specs.declared.staged.Staged.{Staged};
 ghost use Rattle.metadata.specs.Staged.{IsStaged, after, changes};
 ghost use Rattle.live_states.specs.Drafts.{Draft, over};
-ghost use Rattle.live_states.specs.Holdings.{Beside, Holdings, IsIdle, IsImageOf};
+ghost use Rattle.live_states.specs.Holdings.{AreImagesOf, Beside, Holdings, IsIdle};
 ghost use Rattle.live_states.specs.Planned.{AreSeen, IsOfVolume, IsOfVolumeWith, IsPlanned, IsPlannedFor, IsPlannedWith, IsQuietlyDone, Seen, safe_after};
-ghost use Rattle.live_states.specs.Snapshots.{IsInstallable, IsSettled, held_blocks, installing, keeping, let_go};
+ghost use Rattle.live_states.specs.Snapshots.{IsInstallable, IsSettled, installing, keeping, let_go, let_go_blocks};
 ghost use Rattle.live_states.specs.Volume.{IsVolume, state_over};
 
 /// The metadata of an image that obeys the rules is that of a volume over it, with nothing open, held or pending.
@@ -68,7 +69,7 @@ pub fn planned_commands_are_steps()
     ensures { (kept : Kept) (holdings : Holdings) (q : List Pending) (disk : View) → IsVolume kept holdings q disk
         → (seen : List Seen) (command : Command) (answer : Answer) (draft : Draft) (holdings' : Holdings)
         → IsPlannedFor kept holdings seen command answer draft holdings' → AreSeen seen (users_view disk q)
-        → (beside : Beside) → IsImageOf holdings.snapshot beside.frozen
+        → (beside : Beside) → AreImagesOf holdings.snapshots beside.snapshots
         → (Stands kept.geometry disk q (state_over disk q holdings beside) (λ f. false)
         → Step kept.geometry (state_over disk q holdings beside) command (Ok answer) (state_over disk (over q draft.updates) holdings' beside))
         × ((safe : ℕ → Bool) → Stands kept.geometry disk q (state_over disk q holdings beside) safe
@@ -108,27 +109,29 @@ pub fn quiet_commands_are_steps()
     ensures { (kept : Kept) (holdings : Holdings) (q : List Pending) (disk : View) → IsVolume kept holdings q disk
         → (seen : List Seen) (command : Command) (answer : Answer) (holdings' : Holdings)
         → IsQuietlyDone kept holdings seen command answer holdings' → AreSeen seen (users_view disk q)
-        → (beside : Beside) → IsImageOf holdings.snapshot beside.frozen
+        → (beside : Beside) → AreImagesOf holdings.snapshots beside.snapshots
         → Step kept.geometry (state_over disk q holdings beside) command (Ok answer) (state_over disk q holdings' beside)
         × ((safe : ℕ → Bool) → Serves kept.geometry disk q (state_over disk q holdings beside) safe command answer disk q (state_over disk q holdings' beside)
         (safe_after kept.geometry (users_view disk q) command safe) []) }
 {}
 
-/// A volume of which nothing is pending stays one where a snapshot of what a check is to see is kept.
+/// A volume of which nothing is pending stays one where one more snapshot may be kept, of what a check is to see.
 pub fn snapshots_keep_volumes()
-    ensures { (kept : Kept) (holdings : Holdings) (disk : View) → IsVolume kept holdings [] disk → holdings.snapshot ≡ None
+    ensures { (kept : Kept) (holdings : Holdings) (disk : View) → IsVolume kept holdings [] disk
+        → too_many holdings.snapshots ≡ false
         → (snapshot : Kept) → IsSettled kept holdings snapshot → IsVolume kept (keeping holdings snapshot) [] disk }
 {}
 
-/// And where the snapshot ends: the bits of the blocks that were held for it are cleared.
+/// And where a snapshot ends: the bits of the held blocks that no other one keeps are cleared.
 pub fn ends_of_snapshots_keep_volumes()
-    ensures { (kept : Kept) (holdings : Holdings) (disk : View) → KeepsMetadata kept → IsVolume kept holdings [] disk → IsSome holdings.snapshot
-        → (updates : List Update) → over [] updates ≡ releasing (held_blocks holdings) [] → (staged : Staged) → IsStaged kept (changes updates) staged
-        → IsVolume (after kept staged) (let_go holdings) (over [] updates) disk × KeepsMetadata (after kept staged) }
+    ensures { (kept : Kept) (holdings : Holdings) (disk : View) → KeepsMetadata kept → IsVolume kept holdings [] disk
+        → (s : ℕ) → IsSome (image_at holdings.snapshots.standing s)
+        → (updates : List Update) → over [] updates ≡ releasing (let_go_blocks holdings s) [] → (staged : Staged) → IsStaged kept (changes updates) staged
+        → IsVolume (after kept staged) (let_go holdings s) (over [] updates) disk × KeepsMetadata (after kept staged) }
 {}
 
-/// A check of the snapshot that stands, with nothing in it but what repairs mend, is installed, which leaves the image and
-/// what is held alone.
+/// A check of the snapshot of the latest freeze, with nothing in it but what repairs mend, is installed, which leaves the
+/// image and what is held alone.
 pub fn checks_are_installed_quietly()
     ensures { (kept : Kept) (holdings : Holdings) (check : Check) (list : List Repair) → IsInstallable kept holdings check list
         → IsQuietlyDone kept holdings [] (Install check) Done (installing holdings list) }

@@ -15,7 +15,7 @@ use Rattle.plans_data.proofs.Used.{Last, used, value_last}
 use Rattle.frozen.specs.Kept.{Kept, KeepsMetadata, frozen_view}
 use Rattle.metadata.specs.Shown.{Shows}
 use Rattle.metadata.proofs.ShownLemmas.{shows_metadata}
-use Rattle.live_states.specs.Holdings.{Has, Holdings, IsImageOf, is_kept_by}
+use Rattle.live_states.specs.Holdings.{Has, Holdings, is_kept_by}
 use Rattle.live_states.specs.Planned.{IsOfVolume, IsOfVolumeWith}
 use Rattle.live_holdings.specs.Handles.{handle_at}
 use Rattle.live_plans.proofs.FoundLemmas.{same_claim}

@@ -243,7 +243,7 @@ module _ (kept : Kept) (holdings : Holdings) (keeps : KeepsMetadata kept) (volum
   abbrev plan : IsPlannedWith kept holdings sight (Write h k piece) Done draft (with_held holdings blocks)
   plan = record {
     geometry = goes.geometry;
-    snapshot = refl;
+    snapshots = refl;
     accepted = write_accepted kept holdings h k piece i aimed.opened (good_if piece aimed.some aimed.few) near_enough aimed.near keeps (subst (λ j. blocks_needed kept holdings i j ≤ unmarked_blocks kept.geometry (frozen_view kept)) aimed.index aimed.enough);
     done = λ disk q old safe stands shows has sees. (does disk q old safe stands shows has sees).0;
   }

@@ -26,7 +26,7 @@ bytes_after place before piece = piece ++ drop (length piece) (bytes_under place
 abbrev pub grown_size : Kept → ℕ → ℕ → List ℕ → ℕ
 grown_size kept i k piece = max ((frozen_view kept).inode i).size (1024 * k + length piece)
 
--- the blocks that are held for the snapshot then
+-- the blocks that are held for snapshots then
 abbrev pub held_for : Place → List ℕ
 held_for (InPlace a) = []
 held_for (Behind b table) = []

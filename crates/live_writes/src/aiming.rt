@@ -21,11 +21,11 @@ use metadata::Metadata;
 /// Where the block of a write goes.
 #[derive(Clone, Copy, Debug, PartialEq, Eq)]
 pub enum Place {
-    /// Into this block of the file, which the snapshot does not keep.
+    /// Into this block of the file, which no snapshot keeps.
     InPlace { block: u32 },
     /// Into a new block behind the last one, with a new indirect block where one is needed and there was none.
     Behind { block: u32, table: Option<u32> },
-    /// Into a new block in the place of this old one, which the snapshot keeps.
+    /// Into a new block in the place of this old one, which a snapshot keeps.
     Elsewhere { old: u32, block: u32 },
 }
 
@@ -93,7 +93,7 @@ pub fn aim(
     Ok(Target { file, index, place })
 }
 
-/// Where the bytes of a block go that a file has: in place, or into the least free block where the snapshot keeps it.
+/// Where the bytes of a block go that a file has: in place, or into the least free block where a snapshot keeps it.
 /// Refused with `NoBlock`.
 fn place_over(
     metadata: &Metadata,

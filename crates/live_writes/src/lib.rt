@@ -2,7 +2,7 @@
 //! cells by which the command is carried out, in the order of their issue, each with the cells that have to reach the
 //! device before it.
 //!
-//! First it is settled where the block goes, which takes no memory. A block of the file that the snapshot does not keep
+//! First it is settled where the block goes, which takes no memory. A block of the file that no snapshot keeps
 //! gets its bytes in place; one that it keeps is left alone, and held for it: the file gets a free block instead. Behind
 //! the last block the file gets a free one, too, and at position 12 another one for the pointers. Then the updates are
 //! made: a new block's bit, its bytes, the pointer to it, and the record last, where it changes.

@@ -131,7 +131,7 @@ fn expect_held(
 }
 
 #[test]
-fn a_block_that_the_snapshot_keeps_is_held(rt: HostRuntime) -> Result<(), AllocError> {
+fn a_block_that_a_snapshot_keeps_is_held(rt: HostRuntime) -> Result<(), AllocError> {
     expect_held(&rt, &Place::Elsewhere { old: 5, block: 7 }, &[5])?;
     expect_held(&rt, &Place::InPlace { block: 5 }, &[])
 }

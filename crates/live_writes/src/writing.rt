@@ -61,7 +61,7 @@ pub fn write(
     Ok(Planned { plan, holds })
 }
 
-/// The blocks that are held for the snapshot once a block is written there: the old one, where it is kept.
+/// The blocks that are held for snapshots once a block is written there: the old one, where it is kept.
 pub(crate) fn held_blocks(alloc: Global, place: &Place) -> Result<Vec<u32>, AllocError>
     ensures { IfOk result (λ blocks. blocks.items ≡ held_for place.now) }
 {

@@ -16,7 +16,9 @@ use Rattle.findings.proofs.RepairLemmas.{repairs_where_soft}
 use Rattle.findings.proofs.Sorted.{Contains-here, Contains-there}
 use Rattle.findings.proofs.Soft.{soft_from_rules}
 use Rattle.layout.specs.declared.refusal.Refusal.TheVariants.{PlanStands}
-use Rattle.machine.specs.State.{State, Plan}
+use Rattle.model.specs.Rules.{ObeysRules}
+use Rattle.machine.specs.Whole.{HasWholeBlocks}
+use Rattle.machine.specs.State.{State, Plan, latest}
 use Rattle.machine.specs.Command.{Check, Install}
 use Rattle.machine.specs.Causes.{causes, refusal_of}
 use Rattle.machine.specs.Snapshot.{Installs}
@@ -26,6 +28,7 @@ use Rattle.machine.proofs.Debts.{already}
 use Rattle.machine.proofs.Walks.{quiet, when_none}
 use Rattle.machine.proofs.Ledger.{ledger, no_slack, replan, balance_by}
 use Rattle.machine.proofs.PlanLists.{found_at, contains_at, at_once, finding_of, repair_at}
+use Rattle.machine.proofs.Snapshots.{latest_number}
 
 -- ---- a repair mends one finding of an image
 
@@ -77,21 +80,24 @@ all_soft (f ∷ fs) h = and_from (is_soft f) (list_all is_soft fs) (h f (Contain
 
 -- ---- the plan
 
-module _ (geo : Geometry) (old : State) (b : Balance geo old) (image : View) (stands : old.frozen ≡ Some image) (none : old.plan ≡ None) (fs : List Finding) (found : AreFindings geo image fs) where
+module _ (geo : Geometry) (old : State) (b : Balance geo old) (image : View) (stands : latest old ≡ Some image) (none : old.plan ≡ None) (fs : List Finding) (found : AreFindings geo image fs) where
   abbrev plan : Plan
   plan = record { repairs = repairs_of fs; done = λ k. false }
 
+  image_right : ObeysRules geo image × HasWholeBlocks geo image
+  image_right = let s = latest_number old.snapshots.standing old.snapshots.freezes image stands in b.snapshot s.0 image s.2
+
   soft : list_all is_soft fs ≡ true
-  soft = all_soft fs (λ f c. soft_from_rules geo image (b.snapshot image stands).0 f ((found.exactly f).0 c))
+  soft = all_soft fs (λ f c. soft_from_rules geo image image_right.0 f ((found.exactly f).0 c))
 
   listed : repairs_of fs ≡ filter_map repair_of fs
   listed = repairs_where_soft fs soft
 
   owed : (r : Repair) → Mends geo image r → Owes geo old r
-  owed r m = subst (λ x. OwesBy geo old x old.frozen r) (sym none) (subst (λ y. OwesBy geo old None y r) (sym stands) m)
+  owed r m = subst (λ x. OwesBy geo old x (latest old) r) (sym none) (subst (λ y. OwesBy geo old None y r) (sym stands) m)
 
   mends : (r : Repair) → Owes geo old r → Mends geo image r
-  mends r o = subst (λ y. OwesBy geo old None y r) stands (subst (λ x. OwesBy geo old x old.frozen r) none o)
+  mends r o = subst (λ y. OwesBy geo old None y r) stands (subst (λ x. OwesBy geo old x (latest old) r) none o)
 
   finding_at : (k : ℕ) (r : Repair) → slice_get (repairs_of fs) k ≡ Some r → (f : Finding) × (slice_get fs k ≡ Some f) × (repair_of f ≡ Some r)
   finding_at k r e = finding_of fs soft k r (sym (ap (λ rs. slice_get rs k) listed) ∙ e)

@@ -29,6 +29,7 @@ pub mod Holders
 pub mod Renaming
 pub mod WholeBlocks
 mod Ledger
+pub mod Snapshots
 mod Evolves
 mod OtherLinks
 mod Relinking

@@ -8,7 +8,7 @@ use Rattle.model.specs.Cells.{put_at}
 use Rattle.findings.specs.declared.repair.Repair.{Repair}
 use Rattle.layout.specs.declared.refusal.Refusal.TheVariants.{AlreadyDone}
 use Rattle.machine.specs.Below.{when}
-use Rattle.machine.specs.State.{State, Plan}
+use Rattle.machine.specs.State.{State, Plan, latest}
 use Rattle.machine.specs.Command.{RepairAt, Done}
 use Rattle.machine.specs.Causes.{causes, refusal_of}
 use Rattle.machine.specs.Repairs.{CarriesOut}
@@ -27,7 +27,7 @@ module _ (geo : Geometry) (old new : State) (b : Balance geo old) (k : ℕ) (pla
 
   paid : CarriesOut geo old k new → IsFalse (plan.done k) → Owes geo old r × (Owes geo new r → ⊥)
   paid c open_yet = (
-    subst (λ p. OwesBy geo old p old.frozen r) (sym planned) (k, stands, open_yet),
+    subst (λ p. OwesBy geo old p (latest old) r) (sym planned) (k, stands, open_yet),
     (λ o. undone_other plan k r stands open_yet (subst (λ p. StandOnce p) planned b.once) r (now (subst (λ t. Owes geo t r) c.whole o)) refl),
   )
     where
@@ -39,5 +39,5 @@ module _ (geo : Geometry) (old new : State) (b : Balance geo old) (k : ℕ) (pla
 
 pub done_plan : (geo : Geometry) (state : State) (plan : Plan) → state.plan ≡ Some plan → ((k : ℕ) (r : Repair) → slice_get plan.repairs k ≡ Some r → IsTrue (plan.done k)) → OwesNothing geo state
 done_plan geo state plan planned all r o =
-    let u : IsUndone plan r = subst (λ p. OwesBy geo state p state.frozen r) planned o in
+    let u : IsUndone plan r = subst (λ p. OwesBy geo state p (latest state) r) planned o in
     both_ways (plan.done u.0) u.2 (all u.0 r u.1)

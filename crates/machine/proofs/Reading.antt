@@ -11,7 +11,7 @@ use Rattle.model.specs.Rules.{ObeysRules}
 use Rattle.model.proofs.UseLemmas.{use_from, claim_from}
 use Rattle.layout.specs.declared.refusal.Refusal.TheVariants.{BadIndex, NotFound}
 use Rattle.machine.specs.Below.{when}
-use Rattle.machine.specs.State.{State}
+use Rattle.machine.specs.State.{State, snapshot_at}
 use Rattle.machine.specs.Command.{Read, SnapRead, Bytes}
 use Rattle.machine.specs.Cells.{seen, block_of}
 use Rattle.machine.specs.Causes.{causes, file_of, is_used_number, past}
@@ -52,11 +52,11 @@ module _ (geo : Geometry) (old new : State) (b : Balance geo old) where
       let p = b.open_file (file_of old h) (h, opened_file old h q.0) in
       ap length s.1.0 ∙ seen_length geo old.view b.rules b.whole (file_of old h) k p.0 (leb-false (blocks_of (old.view.inode (file_of old h)).size) k (when_none (leb (blocks_of (old.view.inode (file_of old h)).size) k) BadIndex q.1.0))
 
-  pub snap_read_length : (i k : ℕ) (bytes : List ℕ) (image : View) → old.frozen ≡ Some image → Step geo old (SnapRead i k) (Ok (Bytes bytes)) new → length bytes ≡ min ((image.inode i).size - 1024 * k) 1024
+  pub snap_read_length : (n i k : ℕ) (bytes : List ℕ) (image : View) → snapshot_at old n ≡ Some image → Step geo old (SnapRead n i k) (Ok (Bytes bytes)) new → length bytes ≡ min ((image.inode i).size - 1024 * k) 1024
   unfolding causes
-  snap_read_length i k bytes image stands s =
-      let q = quiet (causes geo old (SnapRead i k)) s.0.0 in
-      let h = b.snapshot image stands in
+  snap_read_length n i k bytes image stands s =
+      let q = quiet (causes geo old (SnapRead n i k)) s.0.0 in
+      let h = b.snapshot n image stands in
       let same : s.1.0 ≡ image = some_view s.1.0 image (sym s.1.1 ∙ stands) in
       let is_used_here = used_number (when_none (not (is_used_number geo image i)) NotFound (sym (ap (option_and_then (λ w. when (not (is_used_number geo w i)) NotFound)) stands) ∙ q.1.0)) in
       let within = when_none (leb (blocks_of (image.inode i).size) k) BadIndex (sym (ap (option_and_then (λ w. past geo w i k)) stands) ∙ q.1.1.1.0) in

@@ -22,8 +22,8 @@ module _ (geo : Geometry) (s : State) (i n : ℕ) where
   pub relinked_plan : (relinked geo s i n).plan ≡ s.plan
   relinked_plan = shared (λ t. t.plan) s.plan refl refl
 
-  pub relinked_frozen : (relinked geo s i n).frozen ≡ s.frozen
-  relinked_frozen = shared (λ t. t.frozen) s.frozen refl refl
+  pub relinked_snapshots : (relinked geo s i n).snapshots ≡ s.snapshots
+  relinked_snapshots = shared (λ t. t.snapshots) s.snapshots refl refl
 
   pub relinked_opened : (relinked geo s i n).opened ≡ s.opened
   relinked_opened = shared (λ t. t.opened) s.opened refl refl

@@ -26,7 +26,7 @@ use Rattle.machine.proofs.Ledger.{Ledger, ledger, no_slack, Kept, kept_by}
 use Rattle.machine.proofs.GraftCount.{came_of}
 use Rattle.machine.proofs.EmptyingDirectory.{holder_apart, has_links, pruned_ledger}
 use Rattle.machine.proofs.Relinking.{relinked_ledger}
-use Rattle.machine.proofs.Relinked.{relinked_plan, relinked_frozen, relinked_other}
+use Rattle.machine.proofs.Relinked.{relinked_plan, relinked_snapshots, relinked_other}
 use Rattle.machine.proofs.SameFiles.{SameFile, then_file}
 use Rattle.machine.proofs.FileStays.{apart_from, entry_file, relinked_file, other_stays}
 use Rattle.machine.proofs.Unlinking.{once_here, once_there}
@@ -112,7 +112,7 @@ module _ (geo : Geometry) (old new : State) (b : Balance geo old) (p : List ℕ)
     removing : Kept geo old (removed geo old p)
     removing = kept_by geo old (removed geo old p) after
         (relinked_plan geo first d ((old.view.inode d).links - 1) ∙ relinked_plan geo (emptied geo old d s) i ((old.view.inode i).links - 2))
-        (relinked_frozen geo first d ((old.view.inode d).links - 1) ∙ relinked_frozen geo (emptied geo old d s) i ((old.view.inode i).links - 2))
+        (relinked_snapshots geo first d ((old.view.inode d).links - 1) ∙ relinked_snapshots geo (emptied geo old d s) i ((old.view.inode i).links - 2))
 
   -- what it may rely on
   allows : {A : Type 0} → refusal_of geo old (Rmdir p) ≡ None → (IsPlace geo old.view p → IsTrue (is_directory_at geo old.view i) → ((t j : ℕ) → 2 ≤ t → Names geo old.view i t j → ⊥) → A) → A

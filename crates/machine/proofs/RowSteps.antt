@@ -118,6 +118,6 @@ frozen_without = (refl, refl)
 abbrev pub kept : State
 kept = truncated small (frozen small written) 3 0
 
-pub block_held : (kept.held 5 ≡ true) × (kept.view.block_marked 5 ≡ true) × ((settled small kept).block_marked 5 ≡ false) × ((released kept).view.block_marked 5 ≡ false)
+pub block_held : (kept.held 5 ≡ true) × (kept.view.block_marked 5 ≡ true) × ((settled small kept).block_marked 5 ≡ false) × ((released kept 0).view.block_marked 5 ≡ false)
 unfolding any_below use_at claim_at claims
 block_held = (refl, refl, refl, refl)

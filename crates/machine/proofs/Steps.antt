@@ -1,7 +1,7 @@
 -- What opens, closes, freezes or repairs keeps the balance, and so does what changes nothing.
-use Rattle.std.proofs.Common.{◌≡◌, ◌≢◌, ℕ, Bool, true, false, not, ◌&&◌, eqb, List, [], ◌⊎◌, inl, inr, refl, sym, ap, ◌∙◌, subst, IsTrue, IsFalse, Option, Some, None, Ok, eqb-true, eq-eqb}
-use Rattle.std.specs.Prelude.{slice_get, is_none, is_some, unwrap_or}
-use Rattle.std.specs.Option.{option_and_then, option_map_or}
+use Rattle.std.proofs.Common.{◌≡◌, ◌≢◌, ◌↔◌, ℕ, Bool, true, false, not, ◌&&◌, eqb, List, [], ◌⊎◌, inl, inr, refl, sym, ap, ◌∙◌, subst, IsTrue, IsFalse, Option, Some, None, Ok, eqb-true, eq-eqb}
+use Rattle.std.specs.Prelude.{slice_get, is_none, unwrap_or}
+use Rattle.std.specs.Option.{option_and_then}
 use Rattle.std.proofs.lemmas.Bool.{cases_eq, cases_Bool, and_parts, and_from, both_ways, cond-true, cond-false}
 use Rattle.model.specs.Layout.{Geometry}
 use Rattle.model.specs.View.{View}
@@ -10,24 +10,25 @@ use Rattle.model.specs.Cells.{put_at}
 use Rattle.findings.specs.declared.repair.Repair.{Repair}
 use Rattle.findings.specs.declared.repair.Repair.TheVariants.{DropInode, LowerCount, FreeBlock, FreeNumber}
 use Rattle.model.specs.Rules.{ObeysRules}
-use Rattle.layout.specs.declared.refusal.Refusal.TheVariants.{AlreadyDone, IsDirectory, BadName, SnapshotStands}
+use Rattle.layout.specs.declared.refusal.Refusal.TheVariants.{AlreadyDone, IsDirectory, BadName}
 use Rattle.machine.specs.Below.{when}
-use Rattle.machine.specs.State.{State, Plan, open_at, is_open, IsOpen}
-use Rattle.machine.specs.Command.{Open, Close, Freeze, RepairAt}
+use Rattle.machine.specs.State.{State, Plan, open_at, is_open, IsOpen, is_kept, snapshot_at, latest}
+use Rattle.machine.specs.Command.{Open, Close, RepairAt}
 use Rattle.machine.specs.Paths.{parts, parts_of, target, number_at, is_part}
 use Rattle.machine.specs.Causes.{causes, refusal_of, file_of, bad_name}
 use Rattle.machine.specs.Effects.{Opens, closed}
 use Rattle.machine.specs.Snapshot.{settled, frozen}
 use Rattle.machine.specs.Repairs.{CarriesOut, repaired}
 use Rattle.machine.specs.Whole.{HasWholeBlocks}
-use Rattle.machine.specs.Balance.{Balance, Owes, OwesBy, IsUndone}
+use Rattle.machine.specs.Balance.{Balance, Owes, OwesBy, IsUndone, Mends}
 use Rattle.machine.specs.Debts.{MakesNoDebt}
-use Rattle.machine.proofs.Bools.{not_true}
+use Rattle.machine.proofs.Bools.{not_true, or_right}
 use Rattle.machine.proofs.Base.{base, settled_obeys}
 use Rattle.machine.proofs.Tests.{open_tested}
 use Rattle.machine.proofs.OpenHandles.{opened_file}
 use Rattle.machine.proofs.Walks.{quiet, when_none, no_error, parts_good, target_reachable}
 use Rattle.machine.proofs.Handles.{opened_kept, closed_kept}
+use Rattle.machine.proofs.Snapshots.{at_here, at_other}
 use Rattle.machine.proofs.Ledger.{Kept, ledger}
 use Rattle.machine.proofs.Debts.{already, found_before}
 use Rattle.machine.proofs.Shapes.{put_here, put_there}
@@ -92,25 +93,32 @@ module _ (geo : Geometry) (old new : State) (b : Balance geo old) where
 
   -- ---- freeze
 
-  pub freeze_keeps : refusal_of geo old Freeze ≡ None → new ≡ frozen geo old → Balance geo new
-  unfolding causes
-  freeze_keeps none e =
-      subst (λ s. Balance geo s) (sym e)
-      (base geo (frozen geo old) b.rules b.open_file (λ r. ((λ h. h), (λ h. h))) b.held_block
-      (λ a h. none_kept a old.frozen (when_none (is_some old.frozen) SnapshotStands (quiet (causes geo old Freeze) none).0) (b.held_for a h)) tt b.whole b.records
-      (λ image is. subst (λ v. ObeysRules geo v × HasWholeBlocks geo v) (some_view (settled geo old) image is)
-      (settled_obeys geo old b.rules b.open_file (λ a h. (b.held_block a h).0), b.whole)))
-    where
-      -- where no snapshot stands, nothing is kept
-      none_kept : {P : Type 0} (a : ℕ) (o : Option View) → is_some o ≡ false → IsTrue (option_map_or (λ (v : View). v.block_marked a) o false) → P
-      none_kept a None f t = absurd (both_ways false refl t)
-      none_kept a (Some v) f t = absurd (both_ways true f refl)
+  latest_frozen : latest (frozen geo old) ≡ Some (settled geo old)
+  latest_frozen = at_here old.snapshots.freezes (settled geo old) old.snapshots.standing
 
+  -- without a plan, what is owed is what a check of the image would find
+  frozen_owes : (r : Repair) → Owes geo (frozen geo old) r ↔ Mends geo (settled geo old) r
+  frozen_owes r = (subst (λ y. OwesBy geo (frozen geo old) None y r) latest_frozen, subst (λ y. OwesBy geo (frozen geo old) None y r) (sym latest_frozen))
+
+  settled_right : ObeysRules geo (settled geo old) × HasWholeBlocks geo (settled geo old)
+  settled_right = (settled_obeys geo old b.rules b.open_file (λ a h. (b.held_block a h).0), b.whole)
+
+  images_right : (s : ℕ) (image : View) → snapshot_at (frozen geo old) s ≡ Some image → ObeysRules geo image × HasWholeBlocks geo image
+  images_right s image is = elim (cases_eq old.snapshots.freezes s) [
+    | inl here ↦ subst (λ v. ObeysRules geo v × HasWholeBlocks geo v) (some_view (settled geo old) image (sym latest_frozen ∙ ap (snapshot_at (frozen geo old)) here ∙ is)) settled_right
+    | inr there ↦ b.snapshot s image (sym (at_other old.snapshots.freezes s (settled geo old) old.snapshots.standing there) ∙ is)
+  ]
+    where
       some_view : (v w : View) → Some v ≡ Some w → v ≡ w
       some_view v w e = cc
 
+  pub freeze_keeps : new ≡ frozen geo old → Balance geo new
+  freeze_keeps e =
+      subst (λ s. Balance geo s) (sym e)
+      (base geo (frozen geo old) b.rules b.open_file frozen_owes b.held_block (λ a h. or_right ((settled geo old).block_marked a) (is_kept old a) (b.held_for a h)) tt b.whole b.records images_right)
+
   pub freeze_debts : new ≡ frozen geo old → MakesNoDebt geo old new
-  freeze_debts e r o = found_before geo (Owes geo old) old (ledger geo old b) r (subst (λ t. Owes geo t r) e o)
+  freeze_debts e r o = found_before geo (Owes geo old) old (ledger geo old b) r ((frozen_owes r).0 (subst (λ t. Owes geo t r) e o))
 
   -- ---- the repairs
 
@@ -131,7 +139,7 @@ module _ (geo : Geometry) (old new : State) (b : Balance geo old) where
       by (FreeNumber i) e = number_freed geo old c.plan in_balance k undone i e
 
   pub repair_debts : (k : ℕ) → refusal_of geo old (RepairAt k) ≡ None → CarriesOut geo old k new → MakesNoDebt geo old new
-  repair_debts k none c r o = already (Owes geo old) r (subst (λ q. OwesBy geo old q old.frozen r) (sym c.planned) (was (subst (λ t. Owes geo t r) c.whole o)))
+  repair_debts k none c r o = already (Owes geo old) r (subst (λ q. OwesBy geo old q (latest old) r) (sym c.planned) (was (subst (λ t. Owes geo t r) c.whole o)))
     where
       was : IsUndone (record c.plan { done = put_at c.plan.done k true }) r → IsUndone c.plan r
       was u = (

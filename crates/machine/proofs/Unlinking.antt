@@ -24,7 +24,7 @@ use Rattle.machine.proofs.Renaming.{IsPlace, place_at}
 use Rattle.machine.proofs.Ledger.{Ledger, ledger, no_slack, Kept, kept_by}
 use Rattle.machine.proofs.Emptying.{emptied_ledger}
 use Rattle.machine.proofs.Relinking.{relinked_ledger}
-use Rattle.machine.proofs.Relinked.{relinked_plan, relinked_frozen}
+use Rattle.machine.proofs.Relinked.{relinked_plan, relinked_snapshots}
 use Rattle.machine.proofs.FileStays.{entry_file, relinked_file, Stays, then_stays, stays_or_gone}
 
 pub once_here : (i : ℕ) (name : List ℕ) → once (Good i name) i ≡ 1
@@ -67,7 +67,7 @@ module _ (geo : Geometry) (old new : State) (b : Balance geo old) (p : List ℕ)
 
     unlinking : Kept geo old (unlinked geo old p)
     unlinking = kept_by geo old (unlinked geo old p) after
-        (relinked_plan geo (emptied geo old d s) i ((old.view.inode i).links - 1)) (relinked_frozen geo (emptied geo old d s) i ((old.view.inode i).links - 1))
+        (relinked_plan geo (emptied geo old d s) i ((old.view.inode i).links - 1)) (relinked_snapshots geo (emptied geo old d s) i ((old.view.inode i).links - 1))
 
   -- what it may rely on
   allows : {A : Type 0} → refusal_of geo old (Unlink p) ≡ None → (IsPlace geo old.view p → IsFalse (is_directory_at geo old.view i) → A) → A

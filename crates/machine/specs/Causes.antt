@@ -11,9 +11,10 @@ use Rattle.model.specs.Reach.{slot_count}
 use Rattle.model.specs.Metadata.{SameMetadata}
 use Rattle.findings.specs.Findings.{is_soft}
 use Rattle.layout.specs.declared.refusal.Refusal.{Refusal}
-use Rattle.layout.specs.declared.refusal.Refusal.TheVariants.{NotFound, Exists, NotDirectory, IsDirectory, NotEmpty, BadName, NoInode, NoBlock, TooManyLinks, TooBig, BadHandle, BadIndex, BadPiece, SnapshotStands, NoSnapshot, ForeignPlan, AlreadyDone, PlanNotSoft, PlanStands, NoPlan, IsRoot, TooManyOpen}
+use Rattle.layout.specs.declared.refusal.Refusal.TheVariants.{NotFound, Exists, NotDirectory, IsDirectory, NotEmpty, BadName, NoInode, NoBlock, TooManyLinks, TooBig, BadHandle, BadIndex, BadPiece, TooManySnapshots, NoSnapshot, ForeignPlan, AlreadyDone, PlanNotSoft, PlanStands, NoPlan, IsRoot, TooManyOpen}
 use Rattle.machine.specs.Below.{any_below, when, first_of}
-use Rattle.machine.specs.State.{State, Plan, open_at, handle_count, is_kept}
+use Rattle.machine.specs.Standing.{too_many}
+use Rattle.machine.specs.State.{State, Plan, open_at, handle_count, is_kept, snapshot_at, latest}
 use Rattle.machine.specs.Command.{Command, Create, Mkdir, Link, Unlink, Rmdir, Rename, Open, Close, Read, Write, Truncate, ListNames, Stat, Freeze, SnapRead, Release, Install, RepairAt, Flush, Sync}
 use Rattle.machine.specs.Paths.{parts_of, parts, walk, target, holder, number_at}
 use Rattle.machine.specs.Room.{has_number, unmarked_blocks, blocks_to_append, blocks_to_enter, is_full}
@@ -72,9 +73,9 @@ past geo view i k = when (nat_le (blocks_of (view.inode i).size) k) BadIndex
 abbrev pub only : Bool → Option Refusal → Option Refusal
 only test cause = if test then cause else None
 
--- a cause in the snapshot, and in the plan, where one stands
-abbrev pub in_snapshot : (View → Option Refusal) → State → Option Refusal
-in_snapshot cause state = option_and_then cause state.frozen
+-- a cause in the image of a snapshot, and in the plan, where one stands
+abbrev pub in_image : (View → Option Refusal) → Option View → Option Refusal
+in_image cause image = option_and_then cause image
 
 abbrev pub in_plan : (Plan → Option Refusal) → State → Option Refusal
 in_plan cause state = option_and_then cause state.plan
@@ -91,7 +92,7 @@ file_of state h = unwrap_or (open_at state h) 0
 abbrev pub has_names : Geometry → View → ℕ → Bool
 has_names geo view d = any_below slot_count (λ s. nat_le 2 s && not (number_in (slot geo view d s) == 0))
 
--- how many blocks a write at index k of file i needs: none in place, one for a block that the snapshot keeps
+-- how many blocks a write at index k of file i needs: none in place, one for a block that a snapshot keeps
 abbrev pub blocks_to_write : Geometry → State → ℕ → ℕ → ℕ
 blocks_to_write geo state i k =
     if nat_lt k (blocks_of (state.view.inode i).size)
@@ -138,11 +139,13 @@ causes geo old (Write h k piece) =
 causes geo old (Truncate h n) = not_open old h ∷ when (nat_lt (old.view.inode (file_of old h)).size n) BadIndex ∷ []
 causes geo old (ListNames p) = bad_name p ∷ missing geo old.view p ∷ not_directory geo old.view (number_at geo old.view p) ∷ []
 causes geo old (Stat p) = bad_name p ∷ missing geo old.view p ∷ []
-causes geo old Freeze = when (is_some old.frozen) SnapshotStands ∷ []
-causes geo old (SnapRead i k) = when (is_none old.frozen) NoSnapshot ∷ in_snapshot (λ v. when (not (is_used_number geo v i)) NotFound) old ∷ in_snapshot (λ v. not_file geo v i) old ∷ in_snapshot (λ v. past geo v i k) old ∷ []
-causes geo old Release = when (is_none old.frozen) NoSnapshot ∷ []
+causes geo old Freeze = when (too_many old.snapshots) TooManySnapshots ∷ []
+causes geo old (SnapRead s i k) =
+    let o = snapshot_at old s in
+    when (is_none o) NoSnapshot ∷ in_image (λ v. when (not (is_used_number geo v i)) NotFound) o ∷ in_image (λ v. not_file geo v i) o ∷ in_image (λ v. past geo v i k) o ∷ []
+causes geo old (Release s) = when (is_none (snapshot_at old s)) NoSnapshot ∷ []
 causes geo old (Install check) =
-    when (is_none old.frozen) NoSnapshot ∷ when (is_some old.plan) PlanStands ∷ when (not (list_all is_soft check.findings)) PlanNotSoft ∷ []
+    when (is_none (latest old)) NoSnapshot ∷ when (is_some old.plan) PlanStands ∷ when (not (list_all is_soft check.findings)) PlanNotSoft ∷ []
 causes geo old (RepairAt k) =
     when (is_none old.plan) NoPlan ∷ in_plan (λ plan. when (nat_le (length plan.repairs) k) BadIndex) old ∷ in_plan (λ plan. when (plan.done k) AlreadyDone) old ∷ []
 causes geo old (Flush a) = when (nat_le (block_count geo) a) BadIndex ∷ []
@@ -152,9 +155,9 @@ causes geo old Sync = []
 abbrev pub refusal_of : Geometry → State → Command → Option Refusal
 refusal_of geo old command = first_of (causes geo old command)
 
--- A check that is to be installed belongs to the snapshot: both have the same metadata.
+-- A check that is to be installed belongs to the snapshot of the latest freeze: both have the same metadata.
 abbrev pub Belongs : Geometry → State → Command → Type 0
-Belongs geo old (Install check) = (frozen : View) × (old.frozen ≡ Some frozen) × SameMetadata geo frozen check.image
+Belongs geo old (Install check) = (image : View) × (latest old ≡ Some image) × SameMetadata geo image check.image
 Belongs geo old _ = Unit {0}
 
 -- r is the first cause that holds

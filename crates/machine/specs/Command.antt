@@ -9,7 +9,7 @@ pub record Check : Type 0 where
   pub image : View
   pub findings : List Finding
 
--- Paths and pieces are lists of bytes; handles, indices and numbers are as the caller gives them.
+-- Paths and pieces are lists of bytes; handles, indices and numbers are as the caller gives them. A read of a snapshot names it, an inode and a block; an end names the snapshot.
 pub data Command : Type 0 where
   Create : List ℕ → Command
   Mkdir : List ℕ → Command
@@ -25,8 +25,8 @@ pub data Command : Type 0 where
   ListNames : List ℕ → Command
   Stat : List ℕ → Command
   Freeze : Command
-  SnapRead : ℕ → ℕ → Command
-  Release : Command
+  SnapRead : ℕ → ℕ → ℕ → Command
+  Release : ℕ → Command
   Install : Check → Command
   RepairAt : ℕ → Command
   Flush : ℕ → Command
@@ -37,14 +37,14 @@ pub record Name : Type 0 where
   pub name : List ℕ
   pub number : ℕ
 
--- A status is the number, the mode (1 for a file, 2 for a directory), the links and the size.
+-- A status is the number, the mode (1 for a file, 2 for a directory), the links and the size; an image is that of a snapshot, with its number.
 pub data Answer : Type 0 where
   Done : Answer
   Number : ℕ → Answer
   Bytes : List ℕ → Answer
   Listed : List Name → Answer
   Status : ℕ → ℕ → ℕ → ℕ → Answer
-  Image : View → Answer
+  Image : ℕ → View → Answer
 
 abbrev pub Reply : Type 0
 Reply = Result Answer Refusal

@@ -15,7 +15,7 @@ use Rattle.machine.specs.Cells.{block_of, seen, claims, with_entry, IsEntryFor, 
 
 -- ---- what is given up
 
--- With its new view, the blocks that inode i claimed and no longer claims are held where the snapshot keeps them, and else unmarked.
+-- With its new view, the blocks that inode i claimed and no longer claims are held where a snapshot keeps them, and else unmarked.
 abbrev pub lets_go : Geometry → State → ℕ → View → State
 lets_go geo old i view =
     record old {
@@ -129,7 +129,7 @@ size_after view i k piece = max (view.inode i).size (1024 * k + length piece)
 
 -- Block k of file i is replaced by one with these bytes.
 pub data Stores (geo : Geometry) (old : State) (i k : ℕ) (bytes : List ℕ) (size : ℕ) (new : State) : Type 0 where
-  -- in place, where the snapshot does not keep it
+  -- in place, where no snapshot keeps it
   InPlace : k < blocks_of (old.view.inode i).size → IsFalse (is_kept old (block_of geo old.view i k))
       → new ≡ record old { view = updated_all old.view (SetBytes (block_of geo old.view i k) bytes ∷ SetInode i (record (old.view.inode i) { size = size }) ∷ []) }
       → Stores geo old i k bytes size new

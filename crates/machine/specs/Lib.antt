@@ -1,4 +1,5 @@
 pub mod Below
+pub mod Standing
 pub mod State
 pub mod Command
 pub mod Paths

@@ -6,7 +6,7 @@ use Rattle.model.specs.Fresh.{fresh_view}
 use Rattle.model.specs.Slots.{Empty, Good, slot}
 use Rattle.model.specs.Uses.{use_at, claim_at}
 use Rattle.model.specs.Reach.{sum_below}
-use Rattle.layout.specs.declared.refusal.Refusal.TheVariants.{NotFound, BadName, BadHandle, SnapshotStands, NoSnapshot, NoPlan, IsRoot}
+use Rattle.layout.specs.declared.refusal.Refusal.TheVariants.{NotFound, BadName, BadHandle, TooManySnapshots, NoSnapshot, NoPlan, IsRoot}
 use Rattle.machine.specs.Below.{any_below, first_below}
 use Rattle.machine.specs.State.{State, mounted}
 use Rattle.machine.specs.Command.{Create, Rmdir, Close, Freeze, Release, RepairAt}
@@ -48,7 +48,7 @@ pub repair_none : refusal_of small fresh (RepairAt 0) ≡ Some NoPlan
 unfolding causes
 repair_none = refl
 
-pub release_none : refusal_of small fresh Release ≡ Some NoSnapshot
+pub release_none : refusal_of small fresh (Release 0) ≡ Some NoSnapshot
 unfolding causes
 release_none = refl
 
@@ -56,9 +56,13 @@ pub freeze_first : refusal_of small fresh Freeze ≡ None
 unfolding causes
 freeze_first = refl
 
-pub freeze_again : refusal_of small (frozen small fresh) Freeze ≡ Some SnapshotStands
+pub freeze_again : refusal_of small (frozen small fresh) Freeze ≡ None
 unfolding causes
 freeze_again = refl
+
+pub freeze_fifth : refusal_of small (frozen small (frozen small (frozen small (frozen small fresh)))) Freeze ≡ Some TooManySnapshots
+unfolding causes
+freeze_fifth = refl
 
 pub root_holds : walk small (fresh_view small) 2 (codes "a" ∷ []) ≡ Ok 2
 unfolding walk

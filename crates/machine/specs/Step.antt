@@ -3,7 +3,7 @@ use Rattle.std.specs.Prelude.{◌≡◌, List, [], ◌∷◌, Some, Ok, Err, ◌
 use Rattle.model.specs.Layout.{Geometry}
 use Rattle.model.specs.View.{View}
 use Rattle.layout.specs.declared.refusal.Refusal.TheVariants.{NoMemory, Device}
-use Rattle.machine.specs.State.{State}
+use Rattle.machine.specs.State.{State, snapshot_at}
 use Rattle.machine.specs.Command.{Command, Create, Mkdir, Link, Unlink, Rmdir, Rename, Open, Close, Read, Write, Truncate, ListNames, Stat, Freeze, SnapRead, Release, Install, RepairAt, Flush, Sync, Answer, Done, Number, Bytes, Listed, Image, Reply}
 use Rattle.machine.specs.Paths.{number_at}
 use Rattle.machine.specs.Causes.{FirstRefusal, Accepts, file_of}
@@ -28,9 +28,9 @@ Effect geo old (Write h k piece) Done new = Writes geo old (file_of old h) k pie
 Effect geo old (Truncate h n) Done new = new ≡ truncated geo old (file_of old h) n
 Effect geo old (ListNames p) (Listed names) new = (names ≡ names_below geo old.view (number_at geo old.view p) slot_count) × (new ≡ old)
 Effect geo old (Stat p) answer new = (answer ≡ status old.view (number_at geo old.view p)) × (new ≡ old)
-Effect geo old Freeze answer new = (answer ≡ Image (settled geo old)) × (new ≡ frozen geo old)
-Effect geo old (SnapRead i k) (Bytes bytes) new = (image : View) × (old.frozen ≡ Some image) × (bytes ≡ seen geo image i k) × (new ≡ old)
-Effect geo old Release Done new = new ≡ released old
+Effect geo old Freeze answer new = (answer ≡ Image old.snapshots.freezes (settled geo old)) × (new ≡ frozen geo old)
+Effect geo old (SnapRead s i k) (Bytes bytes) new = (image : View) × (snapshot_at old s ≡ Some image) × (bytes ≡ seen geo image i k) × (new ≡ old)
+Effect geo old (Release s) Done new = new ≡ released old s
 Effect geo old (Install check) Done new = Installs geo old new
 Effect geo old (RepairAt k) Done new = CarriesOut geo old k new
 Effect geo old (Flush a) (Number n) new = new ≡ old

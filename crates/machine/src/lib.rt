@@ -1,7 +1,7 @@
 //! What the mounted volume does: its state as users see it, the commands, when each is refused and what each changes.
 #![tactic(auto)]
 
-ghost use Rattle.std.specs.Prelude.{slice_get, length, take, drop, ◌++◌, min, ◌-◌, ◌*◌, ◌≡◌, ◌⊎◌, ◌↔◌, ℕ, List, [], ◌∷◌, Some, Ok, Err, codes, IsTrue, IsFalse};
+ghost use Rattle.std.specs.Prelude.{slice_get, length, take, drop, ◌++◌, min, ◌-◌, ◌*◌, ◌<◌, ◌≤◌, suc, ◌≡◌, ◌⊎◌, ◌↔◌, ℕ, List, [], ◌∷◌, Some, None, Ok, Err, codes, IsTrue, IsFalse};
 ghost use Rattle.machine.specs.Paths.{IsPath, parts_of};
 ghost use Rattle.machine.specs.Rows.{small, fresh};
 ghost use Rattle.machine.specs.Command.{Freeze, Release, Install, Image, RepairAt, SnapRead, Create, Open, Write, Truncate, Read, Unlink, Number, Done, Bytes};
@@ -10,7 +10,8 @@ ghost use Rattle.model.specs.View.{View};
 ghost use Rattle.model.specs.Image.{IsImage, image_view};
 ghost use Rattle.model.specs.Rules.{ObeysRules};
 ghost use Rattle.layout.specs.declared.refusal.Refusal.{Refusal};
-ghost use Rattle.machine.specs.State.{Plan, State, mounted, open_at};
+ghost use Rattle.machine.specs.Standing.{AreNumbered};
+ghost use Rattle.machine.specs.State.{Plan, State, mounted, open_at, snapshot_at, latest};
 ghost use Rattle.machine.specs.Command.{Check, Command, Reply};
 ghost use Rattle.machine.specs.Causes.{FirstRefusal, Accepts, Belongs, file_of};
 ghost use Rattle.machine.specs.Step.{Step, Run};
@@ -28,7 +29,7 @@ ghost use Rattle.machine.specs.Cells.{seen};
 ghost use Rattle.machine.specs.Whole.{HasWholeBlocks, HasWholeRecords};
 
 /// A command has at most one refusal, and none where it is accepted; and one or the other where it is known whether
-/// the check that it brings belongs to the snapshot.
+/// the check that it brings belongs to the snapshot of the latest freeze.
 pub fn refusals_are_decided()
     ensures unique { (geo : Geometry) (old : State) (command : Command) (r q : Refusal)
         → FirstRefusal geo old command r → FirstRefusal geo old command q → r ≡ q }
@@ -112,57 +113,74 @@ pub fn whole_cycles_end_exact()
 /// freeze. It is so from any state in balance, from whatever a mounted image that obeys the rules comes to, and as one run.
 pub fn checks_carried_out_end_exact()
     ensures cycle { (geo : Geometry) → IsGeometry geo
-        → (old frozen ready planned new : State) (image : View) (check : Check) (findings : List Finding) (first second : List Command) (replies answers : List Reply)
-        → Balance geo old → Step geo old Freeze (Ok (Image image)) frozen → Run geo frozen first replies ready → (IsTaken Freeze first replies → ⊥)
+        → (old frozen ready planned new : State) (s : ℕ) (image : View) (check : Check) (findings : List Finding)
+        (first second : List Command) (replies answers : List Reply)
+        → Balance geo old → Step geo old Freeze (Ok (Image s image)) frozen → Run geo frozen first replies ready → (IsTaken Freeze first replies → ⊥)
         → Step geo ready (Install check) (Ok Done) planned → Run geo planned second answers new → (IsTaken Freeze second answers → ⊥)
         → AreFindings geo image findings → ((k : ℕ) (r : Repair) → slice_get (repairs_of findings) k ≡ Some r → IsTaken (RepairAt k) second answers)
         → OwesNothing geo new × Exact geo new }
-    ensures mounted { (geo : Geometry) (volume : List (List ℕ)) (old frozen ready planned new : State) (image : View) (check : Check)
+    ensures mounted { (geo : Geometry) (volume : List (List ℕ)) (old frozen ready planned new : State) (s : ℕ) (image : View) (check : Check)
         (findings : List Finding) (before first second : List Command) (earlier replies answers : List Reply)
         → IsImage geo volume → ObeysRules geo (image_view geo volume) → Run geo (mounted (image_view geo volume)) before earlier old
-        → Step geo old Freeze (Ok (Image image)) frozen → Run geo frozen first replies ready → (IsTaken Freeze first replies → ⊥)
+        → Step geo old Freeze (Ok (Image s image)) frozen → Run geo frozen first replies ready → (IsTaken Freeze first replies → ⊥)
         → Step geo ready (Install check) (Ok Done) planned → Run geo planned second answers new → (IsTaken Freeze second answers → ⊥)
         → AreFindings geo image findings → ((k : ℕ) (r : Repair) → slice_get (repairs_of findings) k ≡ Some r → IsTaken (RepairAt k) second answers)
         → OwesNothing geo new × Exact geo new }
-    ensures in_one_run { (geo : Geometry) (volume : List (List ℕ)) (new : State) (image : View) (check : Check) (findings : List Finding)
+    ensures in_one_run { (geo : Geometry) (volume : List (List ℕ)) (new : State) (s : ℕ) (image : View) (check : Check) (findings : List Finding)
         (before first second : List Command) (earlier replies answers : List Reply)
         → IsImage geo volume → ObeysRules geo (image_view geo volume) → length earlier ≡ length before → length replies ≡ length first
-        → Run geo (mounted (image_view geo volume)) (before ++ (Freeze ∷ (first ++ (Install check ∷ second)))) (earlier ++ (Ok (Image image) ∷ (replies ++ (Ok Done ∷ answers)))) new
+        → Run geo (mounted (image_view geo volume)) (before ++ (Freeze ∷ (first ++ (Install check ∷ second))))
+        (earlier ++ (Ok (Image s image) ∷ (replies ++ (Ok Done ∷ answers)))) new
         → (IsTaken Freeze first replies → ⊥) → (IsTaken Freeze second answers → ⊥)
         → AreFindings geo image findings → ((k : ℕ) (r : Repair) → slice_get (repairs_of findings) k ≡ Some r → IsTaken (RepairAt k) second answers)
         → OwesNothing geo new × Exact geo new }
 {}
 
-/// A freeze answers with the image that it keeps; the image stays until the next freeze or release, and a read of the
-/// snapshot shows the bytes of that image.
+/// A freeze answers with the image that it keeps, under its number; the image stays, over later freezes and the ends of
+/// other snapshots too, until this one is released, and a read of it shows the bytes of that image.
 pub fn snapshots_show_the_frozen_image()
-    ensures begins { (geo : Geometry) (old new : State) (image : View) → Step geo old Freeze (Ok (Image image)) new → new.frozen ≡ Some image }
-    ensures stays { (geo : Geometry) (old new : State) (commands : List Command) (replies : List Reply) → Run geo old commands replies new
-        → (IsTaken Freeze commands replies → ⊥) → (IsTaken Release commands replies → ⊥) → new.frozen ≡ old.frozen }
-    ensures read { (geo : Geometry) (old mid new : State) (commands : List Command) (replies : List Reply) (image : View) (i k : ℕ) (bytes : List ℕ)
-        → old.frozen ≡ Some image → Run geo old commands replies mid → (IsTaken Freeze commands replies → ⊥) → (IsTaken Release commands replies → ⊥)
-        → Step geo mid (SnapRead i k) (Ok (Bytes bytes)) new → bytes ≡ seen geo image i k }
+    ensures begins { (geo : Geometry) (old new : State) (s : ℕ) (image : View) → Step geo old Freeze (Ok (Image s image)) new
+        → (snapshot_at new s ≡ Some image) × (latest new ≡ Some image) }
+    ensures stays { (geo : Geometry) (old new : State) (commands : List Command) (replies : List Reply) (s : ℕ) → s < old.snapshots.freezes
+        → Run geo old commands replies new → (IsTaken (Release s) commands replies → ⊥) → snapshot_at new s ≡ snapshot_at old s }
+    ensures read { (geo : Geometry) (old mid new : State) (commands : List Command) (replies : List Reply) (s : ℕ) (image : View) (i k : ℕ) (bytes : List ℕ)
+        → s < old.snapshots.freezes → snapshot_at old s ≡ Some image → Run geo old commands replies mid → (IsTaken (Release s) commands replies → ⊥)
+        → Step geo mid (SnapRead s i k) (Ok (Bytes bytes)) new → bytes ≡ seen geo image i k }
+{}
+
+/// Each freeze has a number of its own: the number of freezes before it. So a number that stands no more does not stand
+/// again, and the numbers of those that stand fall from the newest on.
+pub fn snapshots_are_numbered()
+    ensures answer { (geo : Geometry) (old new : State) (s : ℕ) (image : View) → Step geo old Freeze (Ok (Image s image)) new
+        → (s ≡ old.snapshots.freezes) × (new.snapshots.freezes ≡ suc s) }
+    ensures grows { (geo : Geometry) (old new : State) (commands : List Command) (replies : List Reply) → Run geo old commands replies new
+        → old.snapshots.freezes ≤ new.snapshots.freezes }
+    ensures gone { (geo : Geometry) (old new : State) (commands : List Command) (replies : List Reply) (s : ℕ) → s < old.snapshots.freezes
+        → snapshot_at old s ≡ None → Run geo old commands replies new → snapshot_at new s ≡ None }
+    ensures kept { (geo : Geometry) (old new : State) (commands : List Command) (replies : List Reply) → AreNumbered old.snapshots
+        → Run geo old commands replies new → AreNumbered new.snapshots }
 {}
 
 /// A snapshot shows each inode and its bytes as users saw them when it began, in its image and in whatever is read of it
 /// later; but for an inode that was open without links, which no name leads to.
 pub fn snapshots_show_what_users_saw()
-    ensures image { (geo : Geometry) (old new : State) (image : View) (i : ℕ) → Step geo old Freeze (Ok (Image image)) new → IsFalse (is_orphan old i)
+    ensures image { (geo : Geometry) (old new : State) (s : ℕ) (image : View) (i : ℕ) → Step geo old Freeze (Ok (Image s image)) new → IsFalse (is_orphan old i)
         → (image.inode i ≡ old.view.inode i) × ((k : ℕ) → seen geo image i k ≡ seen geo old.view i k) }
-    ensures read { (geo : Geometry) (old frozen mid new : State) (commands : List Command) (replies : List Reply) (image : View) (i k : ℕ) (bytes : List ℕ)
-        → Step geo old Freeze (Ok (Image image)) frozen → IsFalse (is_orphan old i)
-        → Run geo frozen commands replies mid → (IsTaken Freeze commands replies → ⊥) → (IsTaken Release commands replies → ⊥)
-        → Step geo mid (SnapRead i k) (Ok (Bytes bytes)) new → bytes ≡ seen geo old.view i k }
+    ensures read { (geo : Geometry) (old frozen mid new : State) (commands : List Command) (replies : List Reply)
+        (s : ℕ) (image : View) (i k : ℕ) (bytes : List ℕ)
+        → Step geo old Freeze (Ok (Image s image)) frozen → IsFalse (is_orphan old i)
+        → Run geo frozen commands replies mid → (IsTaken (Release s) commands replies → ⊥)
+        → Step geo mid (SnapRead s i k) (Ok (Bytes bytes)) new → bytes ≡ seen geo old.view i k }
     ensures named { (geo : Geometry) (state : State) (i : ℕ) → Balance geo state → IsReachable geo state.view i → IsFalse (is_orphan state i) }
 {}
 
-/// In balance, a read gives as many bytes as the file has in that block, and a read of the snapshot as many as the
+/// In balance, a read gives as many bytes as the file has in that block, and a read of a snapshot as many as the
 /// file had there.
 pub fn reads_give_what_the_file_has()
     ensures file { (geo : Geometry) (old new : State) (h k : ℕ) (bytes : List ℕ) → Balance geo old → Step geo old (Read h k) (Ok (Bytes bytes)) new
         → length bytes ≡ min ((old.view.inode (file_of old h)).size - 1024 * k) 1024 }
-    ensures snapshot { (geo : Geometry) (old new : State) (image : View) (i k : ℕ) (bytes : List ℕ) → Balance geo old → old.frozen ≡ Some image
-        → Step geo old (SnapRead i k) (Ok (Bytes bytes)) new → length bytes ≡ min ((image.inode i).size - 1024 * k) 1024 }
+    ensures snapshot { (geo : Geometry) (old new : State) (s : ℕ) (image : View) (i k : ℕ) (bytes : List ℕ) → Balance geo old → snapshot_at old s ≡ Some image
+        → Step geo old (SnapRead s i k) (Ok (Bytes bytes)) new → length bytes ≡ min ((image.inode i).size - 1024 * k) 1024 }
 {}
 
 /// A write changes what is seen of its own file alone, and of that only its own block, where the piece is seen, and

@@ -8,6 +8,7 @@ use Rattle.fsck.specs.Checked.{CheckedImage, IsChecked}
 use Rattle.model.specs.Metadata.{SameMetadata}
 use Rattle.model.specs.View.{View}
 use Rattle.machine.specs.Command.{Answer, Check, Command, Done, Install, Release, RepairAt, Reply, Sync}
+use Rattle.machine.specs.Standing.{begun, latest_at}
 use Rattle.machine.specs.State.{Plan, State}
 use Rattle.live_states.specs.Holdings.{Beside}
 use Rattle.snapshot.specs.Alive.{Alive, state_of}
@@ -32,23 +33,23 @@ Repairs held image old n held' image' new = (beside : Beside) → IsBeside image
 abbrev pub Repaired : {D : Type 0} → (D → List (List (List ℕ))) → (D → List (List ℕ)) → Alive D → ℕ → Alive D → Type 0
 Repaired held_of image_of old n new = Repairs (held_of old.device) (image_of old.device) old n (held_of new.device) (image_of new.device) new
 
--- what is asked of a volume with a snapshot once that is checked, and the replies, for a check of n repairs
-abbrev pub then_asked : ℕ → List Command
-then_asked n = (repairs_below n ++ Release ∷ []) ++ Sync ∷ []
+-- what is asked of a volume with snapshot s once that is checked, and the replies, for a check of n repairs
+abbrev pub then_asked : ℕ → ℕ → List Command
+then_asked s n = (repairs_below n ++ Release s ∷ []) ++ Sync ∷ []
 
 abbrev pub then_replied : ℕ → Answer → List Reply
 then_replied n answer = (all_done n ++ Ok Done ∷ []) ++ Ok answer ∷ []
 
--- From a volume with this beside it: a check was installed, so many repairs were carried out, the snapshot ended, and all was written.
-pub record Mends {D : Type 0} (beside : Beside) (held : List (List (List ℕ))) (image : List (List ℕ)) (old : Alive D) (check : Check) (n : ℕ) (held' : List (List (List ℕ))) (image' : List (List ℕ)) (new : Alive D) : Type 0 where
+-- From a volume with this beside it: a check was installed, so many repairs were carried out, snapshot s ended, and all was written.
+pub record Mends {D : Type 0} (beside : Beside) (held : List (List (List ℕ))) (image : List (List ℕ)) (old : Alive D) (s : ℕ) (check : Check) (n : ℕ) (held' : List (List (List ℕ))) (image' : List (List ℕ)) (new : Alive D) : Type 0 where
   pub beside' : Beside
   pub answer : Answer
-  pub goes : Goes beside held image old (Install check ∷ then_asked n) (Ok Done ∷ then_replied n answer) beside' held' image' new
+  pub goes : Goes beside held image old (Install check ∷ then_asked s n) (Ok Done ∷ then_replied n answer) beside' held' image' new
 
 -- So it was with all repairs of a check, whatever stands beside the volume.
-abbrev pub MendsFrozen : {D : Type 0} → (D → List (List (List ℕ))) → (D → List (List ℕ)) → Alive D → CheckedImage → Alive D → Type 0
-MendsFrozen held_of image_of old checked new = (beside : Beside) → IsBeside (image_of old.device) old beside
-    → Mends beside (held_of old.device) (image_of old.device) old (check_of old.kept.geometry checked) (length checked.repairs) (held_of new.device) (image_of new.device) new
+abbrev pub MendsFrozen : {D : Type 0} → (D → List (List (List ℕ))) → (D → List (List ℕ)) → Alive D → ℕ → CheckedImage → Alive D → Type 0
+MendsFrozen held_of image_of old s checked new = (beside : Beside) → IsBeside (image_of old.device) old beside
+    → Mends beside (held_of old.device) (image_of old.device) old s (check_of old.kept.geometry checked) (length checked.repairs) (held_of new.device) (image_of new.device) new
 
 -- A plan of so many repairs or more stands, of which those from n on are not done.
 pub record IsPlanned (state : State) (n count : ℕ) : Type 0 where
@@ -63,20 +64,24 @@ pub record HasPlan {D : Type 0} (image_of : D → List (List ℕ)) (live : Alive
   pub is : IsBeside (image_of live.device) live beside
   pub is_planned : IsPlanned (state_of (image_of live.device) live beside) 0 count
 
--- A snapshot of a volume stands and no plan, and this is a check of the snapshot, which repairs mend.
-pub record MayMend {D : Type 0} (image_of : D → List (List ℕ)) (live : Alive D) (checked : CheckedImage) : Type 0 where
+-- what stands beside a volume whose snapshot s has this image, where it is that of the latest freeze, and no other one stands
+abbrev pub one_beside : ℕ → View → Beside
+one_beside s view = record { snapshots = begun (record { standing = []; freezes = s }) view }
+
+-- Snapshot s of a volume stands, which is that of the latest freeze, and no plan, and this is a check of the snapshot, which repairs mend.
+pub record MayMend {D : Type 0} (image_of : D → List (List ℕ)) (live : Alive D) (s : ℕ) (checked : CheckedImage) : Type 0 where
   pub view : View
-  pub is : IsBeside (image_of live.device) live (record { frozen = Some view })
-  pub none : (state_of (image_of live.device) live (record { frozen = Some view })).plan ≡ None
+  pub is : IsBeside (image_of live.device) live (one_beside s view)
+  pub none : (state_of (image_of live.device) live (one_beside s view)).plan ≡ None
   pub same : SameMetadata live.kept.geometry view (check_of live.kept.geometry checked).image
   pub found : AreFindings live.kept.geometry view checked.findings
   pub soft : list_all is_soft checked.findings ≡ true
   pub repairs : checked.repairs ≡ repairs_of checked.findings
 
--- The snapshot that a volume keeps was checked: all metadata of an image of its geometry.
+-- The snapshot of the latest freeze was checked, which a volume keeps: all metadata of an image of its geometry.
 pub record IsSnapshotChecked {D : Type 0} (live : Alive D) (checked : CheckedImage) : Type 0 where
   pub snapshot : Kept
-  pub stands : live.holdings.snapshot ≡ Some snapshot
+  pub stands : latest_at live.holdings.snapshots.standing live.holdings.snapshots.freezes ≡ Some snapshot
   pub geometry : snapshot.geometry ≡ live.kept.geometry
   pub metadata : KeepsMetadata snapshot
   pub checked_is : checked.frozen ≡ snapshot

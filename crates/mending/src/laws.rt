@@ -1,13 +1,13 @@
 //! What holds of a volume that is mended: a law, without code.
 
-ghost use Rattle.std.specs.Prelude.{◌≡◌, ℕ, List, [], ◌∷◌, ◌++◌, None, Ok, length};
+ghost use Rattle.std.specs.Prelude.{◌≡◌, ℕ, List, [], ◌∷◌, ◌++◌, Ok, length};
 ghost use Rattle.findings.specs.Findings.{AreFindings};
 ghost use Rattle.findings.specs.Report.{repairs_of};
 ghost use Rattle.findings.specs.declared.finding.Finding.{Finding};
 ghost use Rattle.machine.specs.Command.{Answer, Check, Done, Freeze, Image, Install, Release, Sync};
 ghost use Rattle.model.specs.View.{View};
 ghost use Rattle.softdep.specs.Queued.{pending_of};
-ghost use Rattle.live_states.specs.Holdings.{Beside, IsIdle};
+ghost use Rattle.live_states.specs.Holdings.{Beside, IsIdle, nothing_beside};
 ghost use Rattle.snapshot.specs.Alive.{Alive, disk_of};
 ghost use Rattle.snapshot.specs.Mounting.{IsMountable};
 ghost use Rattle.snapshot.specs.Goes.{Goes, IsBeside};
@@ -19,12 +19,12 @@ use device::Device;
 /// else, leave a device on whose image a check finds nothing.
 pub fn mended_images_are_clean<D: Device>()
     ensures { (beside' : Beside) (held held' : List (List (List ℕ))) (image image' : List (List ℕ)) (old new : Alive D)
-        → (frozen : View) (check : Check) (findings : List Finding) (n : ℕ) (answer : Answer)
-        → IsMountable old.kept.geometry image → pending_of old.queue ≡ [] → IsIdle old.holdings → IsBeside image old (record { frozen = None })
+        → (number : ℕ) (frozen : View) (check : Check) (findings : List Finding) (n : ℕ) (answer : Answer)
+        → IsMountable old.kept.geometry image → pending_of old.queue ≡ [] → IsIdle old.holdings → IsBeside image old nothing_beside
         → AreFindings old.kept.geometry frozen findings → length (repairs_of findings) ≡ n
-        → Goes (record { frozen = None }) held image old
-        (Freeze ∷ Install check ∷ ((repairs_below n ++ Release ∷ []) ++ Sync ∷ []))
-        (Ok (Image frozen) ∷ Ok Done ∷ ((all_done n ++ Ok Done ∷ []) ++ Ok answer ∷ [])) beside' held' image' new
+        → Goes nothing_beside held image old
+        (Freeze ∷ Install check ∷ ((repairs_below n ++ Release number ∷ []) ++ Sync ∷ []))
+        (Ok (Image number frozen) ∷ Ok Done ∷ ((all_done n ++ Ok Done ∷ []) ++ Ok answer ∷ [])) beside' held' image' new
         → AreFindings new.kept.geometry (disk_of image' new) [] }
 {
     snapshot::mounted_volumes_begin::<D>();

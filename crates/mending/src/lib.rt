@@ -9,6 +9,7 @@ ghost use Rattle.frozen.specs.Kept.{IsKeptOf};
 ghost use Rattle.frozen.specs.Loading.{GivesOut};
 ghost use Rattle.fsck.specs.Checked.{IsChecked};
 ghost use Rattle.live_states.specs.Holdings.{IsIdle};
+ghost use Rattle.machine.specs.Standing.{latest_at};
 ghost use Rattle.model.specs.Image.{IsImage};
 ghost use Rattle.snapshot.specs.Mounting.{IsMountable};
 ghost use Rattle.snapshot.specs.Alive.{disk_of};
@@ -59,9 +60,9 @@ pub fn mend<D: Device, G: Gate>(
     mended_images_are_clean::<D>();
     fsck::damaged_where_a_rule_is_broken();
     volume.live();
-    volume.freeze(alloc)?;
+    let (number, _) = volume.freeze(alloc)?;
     let checked = Arc::new(alloc, check_snapshot(rt, alloc, volume, workers, gate)?)?;
-    mend_frozen(alloc, volume, &checked)?;
+    mend_frozen(alloc, volume, number, &checked)?;
     Ok(checked)
 }
 
@@ -93,12 +94,12 @@ pub fn mend_checked<D: Device>(
     snapshot::tells_its_image(checked);
     volume.live().keeps_metadata();
     let snapshot = checked.frozen().clone()?;
-    volume.freeze_as(snapshot)?;
-    mend_frozen(alloc, volume, checked)?;
+    let number = volume.freeze_as(snapshot)?;
+    mend_frozen(alloc, volume, number, checked)?;
     Ok(())
 }
 
-/// Checks the snapshot that stands.
+/// Checks the snapshot of the latest freeze.
 fn check_snapshot<D: Device, G: Gate>(
     rt: &(impl Threads + Sync),
     alloc: Global,
@@ -108,31 +109,32 @@ fn check_snapshot<D: Device, G: Gate>(
 ) -> Result<Checked, Refusal>
     requires { IsTrue (may_work workers) }
     ensures checked { IfOk result (IsSnapshotChecked volume.now) }
-    ensures error { IsSome volume.now.holdings.snapshot → IsOkUnless result Refusal.NoMemory }
+    ensures error { IsSome (latest_at volume.now.holdings.snapshots.standing volume.now.holdings.snapshots.freezes) → IsOkUnless result Refusal.NoMemory }
 {
-    let Some(snapshot) = volume.live().snapshot() else {
+    let Some(snapshot) = volume.live().latest() else {
         return Err(Refusal::NoSnapshot);
     };
     fsck::check(rt, alloc, snapshot, workers, gate)
 }
 
-/// Mends a volume by a check of the snapshot that stands: carries out each of its repairs, releases the snapshot, and writes
-/// all.
+/// Mends a volume by a check of the snapshot of this number, which is that of the latest freeze and stands: carries out each
+/// of its repairs, releases the snapshot, and writes all.
 fn mend_frozen<D: Device>(
     alloc: Global,
     volume: &mut Volume<D>,
+    number: u64,
     checked: &Checked,
 ) -> Result<(), Refusal>
-    requires { volume.old.holdings.snapshot ≡ Some checked.now.frozen }
-    ensures mends { OnOk result (D.honest volume.new.device → MendsFrozen D.held D.image volume.old checked.now volume.new) }
-    ensures error { IfErr result (λ r. D.honest volume.new.device → MayMend D.image volume.old checked.now → GivesOut r) }
+    requires { latest_at volume.old.holdings.snapshots.standing volume.old.holdings.snapshots.freezes ≡ Some checked.now.frozen }
+    ensures mends { OnOk result (D.honest volume.new.device → MendsFrozen D.held D.image volume.old number checked.now volume.new) }
+    ensures error { IfErr result (λ r. D.honest volume.new.device → MayMend D.image volume.old number checked.now → GivesOut r) }
     ensures honest { D.honest volume.new.device → D.honest volume.old.device }
 {
     snapshot::calls_join::<D>();
     findings::findings_are_unique();
     volume.install_own(alloc, checked)?;
     repair_all(alloc, volume, checked.repairs().len())?;
-    volume.release(alloc)?;
+    volume.release(alloc, number)?;
     volume.apply(alloc, &Command::Sync)?;
     Ok(())
 }

@@ -1,5 +1,5 @@
--- Each repair of the plan that no cause refuses is carried out by its updates, and so is the snapshot's end.
-use Rattle.std.proofs.Common.{◌≡◌, ℕ, ◌<◌, Bool, true, false, List, [], refl, sym, ap, ◌∙◌, subst, IsTrue, Some, None, Ok, slice_get}
+-- Each repair of the plan that no cause refuses is carried out by its updates, and so is the end of a snapshot.
+use Rattle.std.proofs.Common.{◌≡◌, ℕ, ◌<◌, Bool, true, List, [], refl, sym, ap, ◌∙◌, subst, IsTrue, Some, Ok, slice_get}
 use Rattle.std.specs.Option.{option_and_then}
 use Rattle.model.specs.Layout.{Geometry}
 use Rattle.model.specs.View.{View, free_inode}
@@ -7,12 +7,13 @@ use Rattle.model.specs.Cells.{put_at}
 use Rattle.findings.specs.declared.repair.Repair.{Repair}
 use Rattle.findings.specs.declared.repair.Repair.TheVariants.{DropInode, LowerCount, FreeBlock, FreeNumber}
 use Rattle.layout.specs.declared.refusal.Refusal.TheVariants.{AlreadyDone}
-use Rattle.machine.specs.State.{State, Plan}
+use Rattle.machine.specs.Standing.{ended}
+use Rattle.machine.specs.State.{State, Plan, latest}
 use Rattle.machine.specs.Below.{when}
 use Rattle.machine.specs.Command.{Done, RepairAt, Release}
 use Rattle.machine.specs.Causes.{Accepts, causes}
 use Rattle.machine.specs.Repairs.{repaired}
-use Rattle.machine.specs.Snapshot.{released}
+use Rattle.machine.specs.Snapshot.{released, held_still}
 use Rattle.machine.specs.Step.{Step}
 use Rattle.machine.specs.Balance.{Owes, OwesBy}
 use Rattle.machine.proofs.AllSteps.{step_keeps}
@@ -24,7 +25,7 @@ use Rattle.plans_data.specs.Now.{now, becomes}
 use Rattle.plans_data.specs.Carried.{Stands, IsCarriedOut}
 use Rattle.plans_data.specs.Freeing.{HeldAreUnclaimed}
 use Rattle.plans_data.specs.Issues.{Issues}
-use Rattle.plans_data.specs.Lists.{given_up_with, held_below}
+use Rattle.plans_data.specs.Lists.{given_up_with, let_go_below}
 use Rattle.plans_data.specs.Plans.{named_by}
 use Rattle.plans_data.specs.Relink.{MayRepair, repairing, held_after, inode_of, open_of}
 use Rattle.plans_data.specs.Release.{MayRelease, releasing}
@@ -58,7 +59,7 @@ module _ (geo : Geometry) (disk : View) (q : List Pending) (old : State) (safe :
   unfolding causes
   owed =
       let undone = when_none (plan.done k) AlreadyDone (sym (ap (option_and_then (λ (p : Plan). when (p.done k) AlreadyDone)) planned) ∙ (quiet (causes geo old (RepairAt k)) accepted.0).1.1.0) in
-      subst (λ p. OwesBy geo old p old.frozen r) (sym planned) (k, lists, undone)
+      subst (λ p. OwesBy geo old p (latest old) r) (sym planned) (k, lists, undone)
 
   may_repair : (t : Repair) → Owes geo old t → MayRepair geo old t (given_up_with geo old (named_by t) free_inode)
   may_repair (DropInode n) o = plan_drop geo stands.geometry old stands.balance n o
@@ -83,34 +84,34 @@ module _ (geo : Geometry) (disk : View) (q : List Pending) (old : State) (safe :
       (subst (λ v. Issues geo disk q (at_rest old.held safe) (repairs v) (at_rest (held_then v) safe)) stands.same
       (repair_issues geo disk q old safe (gone (users_view disk q)) stands.agree r may))
 
--- ---- the snapshot's end
+-- ---- the end of a snapshot
 
-module _ (geo : Geometry) (disk : View) (old : State) (safe : ℕ → Bool) (stands : Stands geo disk [] old safe) (accepted : Accepts geo old Release) (n : ℕ) (few : (a : ℕ) → IsTrue (old.held a) → a < n) where
+module _ (geo : Geometry) (disk : View) (old : State) (safe : ℕ → Bool) (stands : Stands geo disk [] old safe) (s : ℕ) (accepted : Accepts geo old (Release s)) (n : ℕ) (few : (a : ℕ) → IsTrue (old.held a) → a < n) where
   abbrev unmarked : List Pending
-  unmarked = releasing (held_below old n) []
+  unmarked = releasing (let_go_below old s n) []
 
   abbrev new : State
-  new = becomes disk unmarked (λ a. false) (record old { frozen = None })
+  new = becomes disk unmarked (held_still old s) (record old { snapshots = ended old.snapshots s })
 
-  abbrev none : Ghost
-  none = at_rest (λ a. false) safe
+  abbrev left : Ghost
+  left = at_rest (held_still old s) safe
 
-  may : MayRelease geo (now disk [] old) (λ a. false) (held_below old n)
-  may = let m = plan_release geo stands.geometry old stands.balance n few in record { all = m.all; still = m.still; unclaimed = subst (λ v. HeldAreUnclaimed geo (record old { view = v })) (sym stands.same) m.unclaimed }
+  may : MayRelease geo (now disk [] old) (held_still old s) (let_go_below old s n)
+  may = let m = plan_release geo stands.geometry old stands.balance s n few in record { all = m.all; still = m.still; unclaimed = subst (λ v. HeldAreUnclaimed geo (record old { view = v })) (sym stands.same) m.unclaimed }
 
-  pub release_steps_on : Step geo old Release (Ok Done) new
-  release_steps_on = (accepted, subst (λ v. new ≡ released (record old { view = v })) stands.same (release_releases geo disk old (held_below old n) may))
+  pub release_steps_on : Step geo old (Release s) (Ok Done) new
+  release_steps_on = (accepted, subst (λ v. new ≡ released (record old { view = v }) s) stands.same (release_releases geo disk old s (let_go_below old s n) may))
 
-  pub release_leads : Comes_to geo disk [] (at_rest old.held safe) → Comes_to geo disk unmarked none
-  release_leads = release_comes geo disk old safe (λ a. false) (held_below old n) may
+  pub release_leads : Comes_to geo disk [] (at_rest old.held safe) → Comes_to geo disk unmarked left
+  release_leads = release_comes geo disk old safe (held_still old s) (let_go_below old s n) may
 
   pub release_stands : Stands geo disk unmarked new safe
   release_stands =
-      let settled = release_agrees geo disk old safe (λ a. false) (held_below old n) may stands.agree in
-      let chain = release_issues geo disk old safe (λ a. false) (held_below old n) may stands.agree in record {
+      let settled = release_agrees geo disk old safe (held_still old s) (let_go_below old s n) may stands.agree in
+      let chain = release_issues geo disk old safe (held_still old s) (let_go_below old s n) may stands.agree in record {
         geometry = stands.geometry;
         same = refl;
-        balance = step_keeps geo stands.geometry old new Release (Ok Done) stands.balance release_steps_on;
-        agree = issues_agree geo disk [] none unmarked none chain settled;
-        files = λ f t. safe_modes geo disk [] none unmarked none chain settled f t ∙ ap (λ (v : View). (v.inode f).mode) stands.same ∙ stands.files f t;
+        balance = step_keeps geo stands.geometry old new (Release s) (Ok Done) stands.balance release_steps_on;
+        agree = issues_agree geo disk [] left unmarked left chain settled;
+        files = λ f t. safe_modes geo disk [] left unmarked left chain settled f t ∙ ap (λ (v : View). (v.inode f).mode) stands.same ∙ stands.files f t;
       }

@@ -9,7 +9,7 @@ mod AppendSlot
 mod AppendTable
 pub mod Append
 pub mod Clearing
-mod LetsGo
+pub mod LetsGo
 pub mod Freeing
 pub mod Swept
 pub mod Blocks
@@ -26,7 +26,7 @@ pub mod Repairing
 pub mod Releasing
 pub mod Accepted
 mod FewerSafe
-mod Lists
+pub mod Lists
 pub mod Plans
 pub mod Room
 mod Tables

@@ -11,17 +11,18 @@ use Rattle.machine.specs.Causes.{Accepts, file_of}
 use Rattle.machine.specs.Cells.{block_of, seen}
 use Rattle.machine.specs.Effects.{IsOverwritten}
 use Rattle.machine.specs.Room.{IsFreeBlock}
+use Rattle.machine.specs.Snapshot.{held_still}
 use Rattle.machine.specs.Balance.{Balance, Owes}
 use Rattle.plans_data.specs.Append.{InRecord, InTable, InNewTable, IsKeptIn, sized}
 use Rattle.plans_data.specs.Grounds.{IsWritable}
-use Rattle.plans_data.specs.Lists.{given_up_with, held_below}
+use Rattle.plans_data.specs.Lists.{given_up_with, let_go_below}
 use Rattle.plans_data.specs.Plans.{IsChoice, holder_of, holder_in_use}
 use Rattle.plans_data.specs.Relink.{MayClose, MayRepair}
 use Rattle.plans_data.specs.Release.{MayRelease}
 use Rattle.plans_data.specs.Truncate.{MayTruncate}
 use Rattle.plans_data.specs.Write.{IsWrite, IsMovedIn, MayWriteInPlace, MayWriteAppended, MayWriteMoved}
 use Rattle.plans_data.proofs.Accepted.{balance_held, balance_whole, accepted_write, accepted_truncate, accepted_close, owed_drop, owed_lower, owed_block, owed_number}
-use Rattle.plans_data.proofs.Lists.{given_up_are, held_are}
+use Rattle.plans_data.proofs.Lists.{given_up_are, let_go_are, let_go_parts}
 
 module _ (geo : Geometry) (ok : IsGeometry geo) (old : State) (bal : Balance geo old) where
   module _ (h k : ℕ) (piece : List ℕ) (accepted : Accepts geo old (Write h k piece)) (bytes : List ℕ)
@@ -110,9 +111,12 @@ module _ (geo : Geometry) (ok : IsGeometry geo) (old : State) (bal : Balance geo
   pub plan_number : (n : ℕ) (blocks : List ℕ) → Owes geo old (FreeNumber n) → MayRepair geo old (FreeNumber n) blocks
   plan_number n blocks o = owed_number geo old bal n o
 
-  pub plan_release : (n : ℕ) → ((a : ℕ) → IsTrue (old.held a) → a < n) → MayRelease geo old (λ a. false) (held_below old n)
-  plan_release n few = record {
-    all = λ a. ((λ c. ((held_are old n few a).0 c, refl)), (λ h. (held_are old n few a).1 h.0));
-    still = λ a t. absurd (both_ways false refl t);
+  pub plan_release : (s n : ℕ) → ((a : ℕ) → IsTrue (old.held a) → a < n) → MayRelease geo old (held_still old s) (let_go_below old s n)
+  plan_release s n few = record {
+    all = λ a. (
+      (λ c. (let_go_parts old s a).0 ((let_go_are old s n few a).0 c)),
+      (λ h. (let_go_are old s n few a).1 ((let_go_parts old s a).1 h)),
+    );
+    still = λ a t. (and_parts (old.held a) _ t).0;
     unclaimed = (balance_held geo old bal).1;
   }

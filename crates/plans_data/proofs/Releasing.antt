@@ -1,5 +1,5 @@
 -- Held blocks are unmarked, with nothing pending before.
-use Rattle.std.proofs.Common.{◌≡◌, ℕ, Bool, true, false, not, ◌&&◌, ◌||◌, cond, eqb, List, [], ◌∷◌, inl, inr, refl, sym, ap, ◌∙◌, subst, IsTrue, IsFalse, None, eq-eqb}
+use Rattle.std.proofs.Common.{◌≡◌, ℕ, Bool, true, false, not, ◌&&◌, ◌||◌, cond, eqb, List, [], ◌∷◌, inl, inr, refl, sym, ap, ◌∙◌, subst, IsTrue, IsFalse, eq-eqb}
 use mathlib.Core.Path.{fun_ext}
 use Rattle.std.proofs.lemmas.Bool.{cases_Bool, and_parts, and_from, both_ways, or_left, or_right}
 use Rattle.model.specs.Layout.{Geometry}
@@ -7,8 +7,9 @@ use Rattle.model.specs.View.{View}
 use Rattle.model.specs.Cells.{SetBlock, updated}
 use Rattle.model.specs.Uses.{use_at, claim_at, IsClaimed}
 use Rattle.model.specs.Slots.{slot}
-use Rattle.machine.specs.State.{State}
-use Rattle.machine.specs.Snapshot.{released}
+use Rattle.machine.specs.Standing.{others, ended}
+use Rattle.machine.specs.State.{State, keeps}
+use Rattle.machine.specs.Snapshot.{released, held_still}
 use Rattle.machine.proofs.Tests.{and_true}
 use Rattle.ordering.specs.Cuts.{Pending, users_view}
 use Rattle.ordering.specs.Ghosts.{Ghost, at_rest}
@@ -56,11 +57,16 @@ release_unmarks geo disk old held blocks may =
     (λ t. let c = (may.all a).0 (among_contains a blocks t) in and_from (old.held a) (not (held a)) c.0 (ap not c.1))
     (λ t. let p = and_parts (old.held a) (not (held a)) t in contains_among a blocks ((may.all a).1 (p.0, true_not (held a) p.1))))))
 
-pub release_releases : (geo : Geometry) (disk : View) (old : State) (blocks : List ℕ) → MayRelease geo (now disk [] old) (λ a. false) blocks
-    → becomes disk (releasing blocks []) (λ a. false) (record old { frozen = None }) ≡ released (now disk [] old)
-release_releases geo disk old blocks may =
-    ap (λ v. record old { view = v; held = λ a. false; frozen = None }) (release_unmarks geo disk old (λ a. false) blocks may)
-    ∙ ap (λ f. record old { view = record disk { block_marked = f }; held = λ a. false; frozen = None }) (fun_ext (λ a. ap (λ t. disk.block_marked a && not t) (and_true (old.held a))))
+pub release_releases : (geo : Geometry) (disk : View) (old : State) (s : ℕ) (blocks : List ℕ) → MayRelease geo (now disk [] old) (held_still old s) blocks
+    → becomes disk (releasing blocks []) (held_still old s) (record old { snapshots = ended old.snapshots s }) ≡ released (now disk [] old) s
+release_releases geo disk old s blocks may =
+    ap (λ v. record old { view = v; held = held_still old s; snapshots = ended old.snapshots s }) (release_unmarks geo disk old (held_still old s) blocks may)
+    ∙ ap (λ f. record old { view = record disk { block_marked = f }; held = held_still old s; snapshots = ended old.snapshots s })
+    (fun_ext (λ a. ap (λ t. disk.block_marked a && not t) (not_still (old.held a) (keeps (others old.snapshots.standing s) a))))
+  where
+    not_still : (h k : Bool) → (h && not (h && k)) ≡ (h && not k)
+    not_still true k = refl
+    not_still false k = refl
 
 -- ---- the chain
 

@@ -1,6 +1,6 @@
 //! The commands that change data: what no cause refuses is carried out by its updates, and the volume stands as before.
 
-ghost use Rattle.std.specs.Prelude.{◌≡◌, ℕ, Bool, List, [], Ok, Some, None, ◌<◌, ◌≤◌, false, true, slice_get, IsTrue, IsFalse};
+ghost use Rattle.std.specs.Prelude.{◌≡◌, ℕ, Bool, List, [], Ok, Some, ◌<◌, ◌≤◌, true, slice_get, IsTrue, IsFalse};
 ghost use Rattle.model.specs.Layout.{Geometry};
 ghost use Rattle.model.specs.View.{View, free_inode};
 ghost use Rattle.model.specs.Cells.{put_at};
@@ -8,10 +8,12 @@ ghost use Rattle.model.specs.Uses.{blocks_of};
 ghost use Rattle.findings.specs.declared.repair.Repair.{Repair};
 ghost use Rattle.machine.specs.Command.{Write, Truncate, Close, RepairAt, Release, Done};
 ghost use Rattle.machine.specs.Step.{Step};
+ghost use Rattle.machine.specs.Standing.{ended};
 ghost use Rattle.machine.specs.State.{State, Plan, is_open, is_kept};
 ghost use Rattle.machine.specs.Cells.{block_of, seen};
 ghost use Rattle.machine.specs.Room.{IsFreeBlock};
 ghost use Rattle.machine.specs.Causes.{Accepts, file_of};
+ghost use Rattle.machine.specs.Snapshot.{held_still};
 ghost use Rattle.machine.specs.Effects.{IsOverwritten, size_after};
 ghost use Rattle.ordering.specs.Cuts.{Pending};
 ghost use Rattle.ordering.specs.Ghosts.{at_rest};
@@ -25,9 +27,9 @@ ghost use Rattle.plans_data.specs.Truncate.{truncation};
 ghost use Rattle.plans_data.specs.Relink.{closing, repairing, goes_away, held_if, held_after, inode_of, open_of, without_handle};
 ghost use Rattle.plans_data.specs.Release.{releasing};
 ghost use Rattle.plans_data.specs.Plans.{IsChoice, holder_of, holder_in_use, named_by};
-ghost use Rattle.plans_data.specs.Lists.{given_up_with, held_below};
+ghost use Rattle.plans_data.specs.Lists.{given_up_with, let_go_below};
 
-/// A write that no cause refuses is carried out: in place, after the last block, or elsewhere where the snapshot keeps the
+/// A write that no cause refuses is carried out: in place, after the last block, or elsewhere where a snapshot keeps the
 /// block.
 pub fn writes_are_carried_out()
     ensures in_place { (geo : Geometry) (disk : View) (q : List Pending) (old : State) (safe : ℕ → Bool) → Stands geo disk q old safe
@@ -71,16 +73,18 @@ pub fn repairs_are_carried_out()
         IsCarriedOut geo disk q old (RepairAt k) Done p (record (becomes disk p (held_after geo old r) old) { plan = Some (record plan { done = put_at plan.done k true }) }) safe safe }
 {}
 
-/// With nothing pending a release that no cause refuses is carried out too: what is held is let go, which is no update,
-/// and then its blocks are unmarked.
+/// With nothing pending a release that no cause refuses is carried out too: what no other snapshot has marked is let go,
+/// which is no update, and then its blocks are unmarked.
 pub fn a_release_is_carried_out()
     ensures step { (geo : Geometry) (disk : View) (old : State) (safe : ℕ → Bool) → Stands geo disk [] old safe
-        → Accepts geo old Release → (n : ℕ) → ((a : ℕ) → IsTrue (old.held a) → a < n)
-        → Step geo old Release (Ok Done) (becomes disk (releasing (held_below old n) []) (λ a. false) (record old { frozen = None })) }
+        → (s : ℕ) → Accepts geo old (Release s) → (n : ℕ) → ((a : ℕ) → IsTrue (old.held a) → a < n)
+        → Step geo old (Release s) (Ok Done)
+        (becomes disk (releasing (let_go_below old s n) []) (held_still old s) (record old { snapshots = ended old.snapshots s })) }
     ensures comes { (geo : Geometry) (disk : View) (old : State) (safe : ℕ → Bool) → Stands geo disk [] old safe
-        → Accepts geo old Release → (n : ℕ) → ((a : ℕ) → IsTrue (old.held a) → a < n)
-        → Comes_to geo disk [] (at_rest old.held safe) → Comes_to geo disk (releasing (held_below old n) []) (at_rest (λ a. false) safe) }
+        → (s : ℕ) → Accepts geo old (Release s) → (n : ℕ) → ((a : ℕ) → IsTrue (old.held a) → a < n)
+        → Comes_to geo disk [] (at_rest old.held safe) → Comes_to geo disk (releasing (let_go_below old s n) []) (at_rest (held_still old s) safe) }
     ensures stands { (geo : Geometry) (disk : View) (old : State) (safe : ℕ → Bool) → Stands geo disk [] old safe
-        → Accepts geo old Release → (n : ℕ) → ((a : ℕ) → IsTrue (old.held a) → a < n)
-        → Stands geo disk (releasing (held_below old n) []) (becomes disk (releasing (held_below old n) []) (λ a. false) (record old { frozen = None })) safe }
+        → (s : ℕ) → Accepts geo old (Release s) → (n : ℕ) → ((a : ℕ) → IsTrue (old.held a) → a < n)
+        → Stands geo disk (releasing (let_go_below old s n) [])
+        (becomes disk (releasing (let_go_below old s n) []) (held_still old s) (record old { snapshots = ended old.snapshots s })) safe }
 {}

@@ -1,6 +1,6 @@
 //! Whoever knows the balance and that a command is not refused has what its updates ask for.
 
-ghost use Rattle.std.specs.Prelude.{◌≡◌, ℕ, false, List, ◌<◌, ◌≤◌, ◌-◌, ◌↔◌, replicate, IsTrue, IsFalse};
+ghost use Rattle.std.specs.Prelude.{◌≡◌, ℕ, List, ◌<◌, ◌≤◌, ◌-◌, ◌↔◌, replicate, IsTrue, IsFalse};
 ghost use Rattle.std.specs.List.{Contains};
 ghost use Rattle.model.specs.Layout.{Geometry, IsGeometry};
 ghost use Rattle.model.specs.View.{View, Inode, free_inode};
@@ -13,7 +13,7 @@ ghost use Rattle.machine.specs.Cells.{block_of, seen, with_pointer};
 ghost use Rattle.machine.specs.Room.{IsFreeBlock};
 ghost use Rattle.machine.specs.Causes.{Accepts, file_of};
 ghost use Rattle.machine.specs.Effects.{IsOverwritten, truncated, closed};
-ghost use Rattle.machine.specs.Snapshot.{released};
+ghost use Rattle.machine.specs.Snapshot.{held_still, let_go_of};
 ghost use Rattle.plans_data.specs.Append.{IsWhole, IsNewTable, sized};
 ghost use Rattle.plans_data.specs.Freeing.{AreGivenUp, HeldAreUnclaimed};
 ghost use Rattle.plans_data.specs.Grounds.{IsFile, IsWritable, HasFew};
@@ -22,7 +22,7 @@ ghost use Rattle.plans_data.specs.Truncate.{MayTruncate};
 ghost use Rattle.plans_data.specs.Relink.{MayClose, MayRepair};
 ghost use Rattle.plans_data.specs.Release.{MayRelease};
 ghost use Rattle.plans_data.specs.Plans.{IsChoice, holder_of, holder_in_use};
-ghost use Rattle.plans_data.specs.Lists.{given_up_with, held_below};
+ghost use Rattle.plans_data.specs.Lists.{given_up_with, let_go_below};
 
 /// Where the volume is in balance, the commands that no cause refuses, and the repairs that are owed, find what their
 /// updates ask for of the inode.
@@ -42,7 +42,7 @@ pub fn accepted_commands_find_their_grounds()
     ensures number { (geo : Geometry) (old : State) → Balance geo old → (n : ℕ) → Owes geo old (FreeNumber n) → (old.view.inode n).mode ≡ 0 }
 {}
 
-/// A command that no cause refuses has a plan, and so does each repair that is owed, and the snapshot's end.
+/// A command that no cause refuses has a plan, and so does each repair that is owed, and the end of a snapshot.
 pub fn accepted_commands_have_plans()
     ensures in_place { (geo : Geometry) → IsGeometry geo → (old : State) → Balance geo old → (h k : ℕ) (piece : List ℕ) → Accepts geo old (Write h k piece)
         → (bytes : List ℕ) → IsOverwritten piece (seen geo old.view (file_of old h) k) bytes
@@ -70,8 +70,8 @@ pub fn accepted_commands_have_plans()
         → MayRepair geo old (FreeBlock a) blocks }
     ensures number { (geo : Geometry) → IsGeometry geo → (old : State) → Balance geo old → (n : ℕ) (blocks : List ℕ)
         → Owes geo old (FreeNumber n) → MayRepair geo old (FreeNumber n) blocks }
-    ensures released { (geo : Geometry) → IsGeometry geo → (old : State) → Balance geo old → (n : ℕ) → ((a : ℕ) → IsTrue (old.held a) → a < n)
-        → MayRelease geo old (λ a. false) (held_below old n) }
+    ensures released { (geo : Geometry) → IsGeometry geo → (old : State) → Balance geo old → (s n : ℕ) → ((a : ℕ) → IsTrue (old.held a) → a < n)
+        → MayRelease geo old (held_still old s) (let_go_below old s n) }
 {}
 
 /// A write that no cause refuses finds the unmarked blocks that it needs, and zeroes with the pointer will do as its new
@@ -90,8 +90,10 @@ pub fn accepted_writes_have_room()
         → IsNewTable geo view b x (with_pointer (replicate 1024 0) 0 b) }
 {}
 
-/// The blocks that an inode gives up are found by a loop over its positions, and the held ones by a loop over addresses.
+/// The blocks that an inode gives up are found by a loop over its positions, and those that the end of a snapshot lets go by a loop
+/// over addresses.
 pub fn given_up_blocks_are_found()
     ensures given_up { (geo : Geometry) (old : State) (n : ℕ) (new : Inode) → AreGivenUp geo old n new (given_up_with geo old n new) }
-    ensures held { (old : State) (n : ℕ) → ((a : ℕ) → IsTrue (old.held a) → a < n) → (a : ℕ) → Contains (held_below old n) a ↔ IsTrue (old.held a) }
+    ensures let_go { (old : State) (s n : ℕ) → ((a : ℕ) → IsTrue (old.held a) → a < n) → (a : ℕ)
+        → Contains (let_go_below old s n) a ↔ IsTrue (let_go_of old s a) }
 {}

@@ -2,19 +2,20 @@
 //! kinds, after which users see what the command is to show them.
 #![tactic(auto)]
 
-ghost use Rattle.std.specs.Prelude.{◌≡◌, ℕ, Bool, false, not, ◌&&◌, List, [], ◌∷◌, None, IsTrue, IsFalse};
+ghost use Rattle.std.specs.Prelude.{◌≡◌, ℕ, Bool, false, not, ◌&&◌, List, [], ◌∷◌, IsTrue, IsFalse};
 ghost use Rattle.model.specs.Layout.{Geometry};
 ghost use Rattle.model.specs.View.{View, free_inode};
 ghost use Rattle.model.specs.Cells.{SetInode, SetNumber, updated_all};
 ghost use Rattle.model.specs.Rules.{ObeysRules};
 ghost use Rattle.model.specs.Uses.{IsClaim};
 ghost use Rattle.findings.specs.declared.repair.Repair.{Repair};
+ghost use Rattle.machine.specs.Standing.{ended};
 ghost use Rattle.machine.specs.State.{State, is_open};
 ghost use Rattle.machine.specs.Cells.{Places, block_of};
 ghost use Rattle.machine.specs.Causes.{file_of};
 ghost use Rattle.machine.specs.Effects.{Writes, lets_go, relinked, truncated, closed, size_after};
 ghost use Rattle.machine.specs.Repairs.{repaired};
-ghost use Rattle.machine.specs.Snapshot.{released};
+ghost use Rattle.machine.specs.Snapshot.{released, held_still};
 ghost use Rattle.ordering.specs.Cuts.{Cell, Record, Block, Pending, EachCut, users_view};
 ghost use Rattle.ordering.specs.Ghosts.{Ghost, Gone, at_rest};
 ghost use Rattle.ordering.specs.Agrees.{AllAgree};
@@ -82,7 +83,7 @@ pub fn an_appended_block_gives_credit()
         → IsClaim geo view m j b → IsTrue (set (Record n))) }
 {}
 
-/// A number is freed with its blocks, as the machine says, by updates of their kinds; what the snapshot keeps is held.
+/// A number is freed with its blocks, as the machine says, by updates of their kinds; what a snapshot keeps is held.
 pub fn a_number_is_freed()
     ensures issues { (geo : Geometry) (disk : View) (q : List Pending) (old : State) (gone : Gone → Bool) (safe : ℕ → Bool) (n : ℕ)
         (blocks : List ℕ) (after : List Cell)
@@ -123,7 +124,7 @@ pub fn a_file_is_extended()
         → Issues geo disk q (at_rest old.held safe) (appended n ((users_view disk q).inode n) k b bytes (size_after (users_view disk q) n k piece) holder q) (at_rest old.held safe) }
 {}
 
-/// A block of a file that the snapshot keeps is written elsewhere, as the machine says, by updates of their kinds; the
+/// A block of a file that a snapshot keeps is written elsewhere, as the machine says, by updates of their kinds; the
 /// old block is held.
 pub fn a_kept_block_moves()
     ensures writes { (geo : Geometry) (disk : View) (q : List Pending) (old : State) (safe : ℕ → Bool) (n k b : ℕ) (piece bytes : List ℕ)
@@ -136,7 +137,7 @@ pub fn a_kept_block_moves()
         → Issues geo disk q (at_rest old.held safe) (relocated n ((users_view disk q).inode n) k b bytes (size_after (users_view disk q) n k piece) holder q) (at_rest (held_besides geo (now disk q old) n k) safe) }
 {}
 
-/// A file is truncated, as the machine says, by updates of their kinds; what the snapshot keeps is held.
+/// A file is truncated, as the machine says, by updates of their kinds; what a snapshot keeps is held.
 pub fn a_file_is_truncated()
     ensures truncates { (geo : Geometry) (disk : View) (q : List Pending) (old : State) (safe : ℕ → Bool) (n size : ℕ) (blocks : List ℕ)
         → MayTruncate geo (now disk q old) n size blocks → AllAgree geo disk q (at_rest old.held safe)
@@ -181,8 +182,8 @@ pub fn a_repair_is_made()
 pub fn the_snapshot_ends()
     ensures unmarks { (geo : Geometry) (disk : View) (old : State) (held : ℕ → Bool) (blocks : List ℕ) → MayRelease geo (now disk [] old) held blocks
         → users_view disk (releasing blocks []) ≡ record disk { block_marked = λ a. disk.block_marked a && not (old.held a && not (held a)) } }
-    ensures releases { (geo : Geometry) (disk : View) (old : State) (blocks : List ℕ) → MayRelease geo (now disk [] old) (λ a. false) blocks
-        → becomes disk (releasing blocks []) (λ a. false) (record old { frozen = None }) ≡ released (now disk [] old) }
+    ensures releases { (geo : Geometry) (disk : View) (old : State) (s : ℕ) (blocks : List ℕ) → MayRelease geo (now disk [] old) (held_still old s) blocks
+        → becomes disk (releasing blocks []) (held_still old s) (record old { snapshots = ended old.snapshots s }) ≡ released (now disk [] old) s }
     ensures forgets { (geo : Geometry) (disk : View) (old : State) (safe held : ℕ → Bool) (blocks : List ℕ) → MayRelease geo (now disk [] old) held blocks
         → AllAgree geo disk [] (at_rest old.held safe) → AllAgree geo disk [] (at_rest held safe) }
     ensures issues { (geo : Geometry) (disk : View) (old : State) (safe held : ℕ → Bool) (blocks : List ℕ) → MayRelease geo (now disk [] old) held blocks

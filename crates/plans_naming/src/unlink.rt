@@ -33,7 +33,7 @@ pub fn unlink_one_of_several()
         (unlinking i ((users_view disk q).inode i) block ((users_view disk q).bytes block) s q) (at_rest held (safe_but i safe)) }
 {}
 
-/// Where the last link goes and the file is not open, the file goes too, with its blocks; those that the snapshot keeps
+/// Where the last link goes and the file is not open, the file goes too, with its blocks; those that a snapshot keeps
 /// are held.
 pub fn unlink_the_last_of_a_closed_file()
     ensures seen { (geo : Geometry) (old : State) (path : List ℕ) (block : ℕ) (name : List ℕ) (blocks : List ℕ)

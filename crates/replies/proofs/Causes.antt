@@ -7,7 +7,7 @@ use Rattle.model.specs.View.{View}
 use Rattle.model.specs.Uses.{is_directory_at}
 use Rattle.layout.specs.declared.refusal.Refusal.{Refusal}
 use Rattle.layout.specs.declared.refusal.Refusal.TheVariants.{Device, ForeignPlan, NoMemory, NotDirectory, NotFound, TraceFull}
-use Rattle.machine.specs.State.{State}
+use Rattle.machine.specs.State.{State, snapshot_at}
 use Rattle.machine.specs.Below.{when, first_of}
 use Rattle.machine.specs.Paths.{walk, target, lookup, last_part, parts}
 use Rattle.machine.specs.Command.{Command, Create, Mkdir, Link, Unlink, Rmdir, Rename, Open, Close, Read, Write, Truncate, ListNames, Stat, Freeze, SnapRead, Release, Install, RepairAt, Flush, Sync}
@@ -158,9 +158,9 @@ all_inner geo old (Truncate h n) = (tested _ _ refl, (tested _ _ refl, tt))
 all_inner geo old (ListNames p) = (tested _ _ refl, (inner_missing geo old.view p, (tested _ _ refl, tt)))
 all_inner geo old (Stat p) = (tested _ _ refl, (inner_missing geo old.view p, tt))
 all_inner geo old Freeze = (tested _ _ refl, tt)
-all_inner geo old (SnapRead i k) =
-    (tested _ _ refl, (inner_in old.frozen _ (λ v. tested _ _ refl), (inner_in old.frozen _ (λ v. tested _ _ refl), (inner_in old.frozen _ (λ v. tested _ _ refl), tt))))
-all_inner geo old Release = (tested _ _ refl, tt)
+all_inner geo old (SnapRead s i k) =
+    (tested _ _ refl, (inner_in (snapshot_at old s) _ (λ v. tested _ _ refl), (inner_in (snapshot_at old s) _ (λ v. tested _ _ refl), (inner_in (snapshot_at old s) _ (λ v. tested _ _ refl), tt))))
+all_inner geo old (Release s) = (tested _ _ refl, tt)
 all_inner geo old (Install check) = (tested _ _ refl, (tested _ _ refl, (tested _ _ refl, tt)))
 all_inner geo old (RepairAt k) = (tested _ _ refl, (inner_in old.plan _ (λ plan. tested _ _ refl), (inner_in old.plan _ (λ plan. tested _ _ refl), tt)))
 all_inner geo old (Flush a) = (tested _ _ refl, tt)

@@ -16,10 +16,10 @@ pub copied_keeps : (geo : Geometry) (old new : State) (command : Command) (reply
 copied_keeps geo old new command (Ok Done) c s = absurd c
 copied_keeps geo old new command (Ok (Number n)) c s = absurd c
 copied_keeps geo old new command (Ok (Status i mode links size)) c s = absurd c
-copied_keeps geo old new command (Ok (Image view)) c s = absurd c
+copied_keeps geo old new command (Ok (Image n view)) c s = absurd c
 copied_keeps geo old new command (Err r) c s = absurd c
 copied_keeps geo old new (Read h k) (Ok (Bytes bytes)) c s = s.1.1
-copied_keeps geo old new (SnapRead i k) (Ok (Bytes bytes)) c s = s.1.3
+copied_keeps geo old new (SnapRead n i k) (Ok (Bytes bytes)) c s = s.1.3
 copied_keeps geo old new (Stat p) (Ok (Bytes bytes)) c s = s.1.1
 copied_keeps geo old new (ListNames p) (Ok (Listed names)) c s = s.1.1
 copied_keeps geo old new (Stat p) (Ok (Listed names)) c s = s.1.1
@@ -80,7 +80,7 @@ module _ (geo : Geometry) (disk0 : View) (q0 : List Pending) (old0 : State) (saf
   refused_instead disk q old safe images command answer disk' q' new safe' later refused accepts copied (FlushesSome a some) = absurd copied
   refused_instead disk q old safe images command answer disk' q' new safe' later refused accepts copied (SyncsAll blocks d syncs) = absurd copied
   refused_instead disk q old safe images command answer disk' q' new safe' later refused accepts copied (Freezes blocks d syncs) = absurd copied
-  refused_instead disk q old safe images command answer disk' q' new safe' later refused accepts copied (Releases blocks d n syncs below) = absurd copied
+  refused_instead disk q old safe images command answer disk' q' new safe' later refused accepts copied (Releases r blocks d n syncs below) = absurd copied
 
   lone_refused : (command : Command) (reply : Reply) → IsCopied reply → (disk : View) (q : List Pending) (new : State) (safe : ℕ → Bool) (commands : List Command) (replies : List Reply) (images : List View)
       → Service geo disk0 q0 old0 safe0 disk q new safe commands replies images → commands ≡ command ∷ [] → replies ≡ reply ∷ [] → Refused disk q new safe command images

@@ -4,7 +4,7 @@ use Rattle.std.specs.List.{count_by}
 use Rattle.std.proofs.lemmas.List.{map-append, length-append, length-map}
 use Rattle.std.proofs.lemmas.List.Sums.{sum_by-append, sum_by-cons}
 use Rattle.layout.specs.declared.refusal.Refusal.{Refusal}
-use Rattle.layout.specs.declared.refusal.Refusal.TheVariants.{Device, NoMemory, NoSnapshot, SnapshotStands, TraceFull}
+use Rattle.layout.specs.declared.refusal.Refusal.TheVariants.{Device, NoMemory, NoSnapshot, TooManySnapshots, TraceFull}
 use Rattle.model.specs.Layout.{Geometry}
 use Rattle.machine.specs.Command.{Command as Request, Reply as Response, Done as IsDone, Number as IsNumber, Bytes as AreBytes, Listed, Status as IsStatus, Image as IsImage}
 use Rattle.replies.specs.Replies.{IsCopied}
@@ -46,8 +46,8 @@ noted_so (Ok (Status status)) noted (Ok answer) n is =
     subst (λ a. IsNoted noted (Ok a)) (sym is) (subst (λ x. IsReply x (Ok (IsStatus status.number status.mode status.links status.size))) (sym n) refl)
 noted_so (Ok (Bytes bytes)) (Ok (Bytes copy)) (Ok answer) n is = subst (λ a. IsNoted (Ok (Bytes copy)) (Ok a)) (sym is) (ap AreBytes (sym n))
 noted_so (Ok (Names names)) (Ok (Names copy)) (Ok answer) n is = subst (λ a. IsNoted (Ok (Names copy)) (Ok a)) (sym is) (ap Listed (sym n))
-noted_so (Ok (Image frozen)) noted (Ok (IsImage view)) n is = subst (λ x. IsReply x (Ok IsDone)) (sym n) refl
-noted_so (Ok (Image frozen)) noted (Ok _) n is = absurd is
+noted_so (Ok (Image number frozen)) noted (Ok (IsImage k view)) n is = subst (λ x. IsReply x (Ok (IsNumber k))) (sym n) (ap IsNumber is.0)
+noted_so (Ok (Image number frozen)) noted (Ok _) n is = absurd is
 noted_so (Ok (Bytes bytes)) noted response n is = absurd n
 noted_so (Ok (Names names)) noted response n is = absurd n
 
@@ -124,9 +124,9 @@ module _ {D : Type 0} (honest : D → Type 0) (held_of : D → List (List (List 
   copied_writes (Truncate handle size) reply c w = w
   copied_writes (ListOf path) reply c w = w
   copied_writes (Stat path) reply c w = w
-  copied_writes Freeze reply c w = (w.0, λ e. let bad : Err NoMemory ≡ Err SnapshotStands = e in cc)
-  copied_writes (SnapRead inode index) reply c w = w
-  copied_writes Release reply c w = (w.0, λ e. let bad : Err NoMemory ≡ Err NoSnapshot = e in cc)
+  copied_writes Freeze reply c w = (w.0, λ e. let bad : Err NoMemory ≡ Err TooManySnapshots = e in cc)
+  copied_writes (SnapRead snapshot inode index) reply c w = w
+  copied_writes (Release number) reply c w = (w.0, λ e. let bad : Err NoMemory ≡ Err NoSnapshot = e in cc)
   copied_writes (Install checked) reply c w = w
   copied_writes (Repair place) reply c w = w
   copied_writes (Flush address) (Ok (Bytes bytes)) c w = absurd w
@@ -194,8 +194,8 @@ asks_so geo (Truncate handle size) = refl
 asks_so geo (ListOf path) = refl
 asks_so geo (Stat path) = refl
 asks_so geo Freeze = refl
-asks_so geo (SnapRead inode index) = refl
-asks_so geo Release = refl
+asks_so geo (SnapRead snapshot inode index) = refl
+asks_so geo (Release number) = refl
 asks_so geo (Install checked) = refl
 asks_so geo (Repair place) = refl
 asks_so geo (Flush address) = refl

@@ -9,11 +9,11 @@ use Rattle.snapshot.specs.declared.answer.Answer.TheVariants.{Done, Number, Byte
 use Rattle.snapshot.specs.Asked.{IsReply}
 use Rattle.shared.specs.declared.entry.Entry.{Entry}
 
--- A reply is noted as it is, its bytes and names in copies, but for the image of a freeze, which is noted as done.
+-- A reply is noted as it is, its bytes and names in copies, but for the image of a freeze, of which the number is noted.
 abbrev pub Notes : Result Answer Refusal → Result Answer Refusal → Type 0
 Notes (Ok (Bytes bytes)) (Ok (Bytes copy)) = copy.items ≡ bytes.items
 Notes (Ok (Names names)) (Ok (Names copy)) = map name_of copy.items ≡ map name_of names.items
-Notes (Ok (Image frozen)) noted = noted ≡ Ok Done
+Notes (Ok (Image number frozen)) noted = noted ≡ Ok (Number number)
 Notes (Ok Done) noted = noted ≡ Ok Done
 Notes (Ok (Number n)) noted = noted ≡ Ok (Number n)
 Notes (Ok (Status status)) noted = noted ≡ Ok (Status status)
@@ -22,7 +22,7 @@ Notes _ _ = ⊥
 
 -- and so a reply of the machine is noted
 abbrev pub noted_of : Response → Response
-noted_of (Ok (IsImage view)) = Ok IsDone
+noted_of (Ok (IsImage n view)) = Ok (IsNumber n)
 noted_of (Ok IsDone) = Ok IsDone
 noted_of (Ok (IsNumber n)) = Ok (IsNumber n)
 noted_of (Ok (AreBytes bytes)) = Ok (AreBytes bytes)

@@ -8,8 +8,8 @@ use live_paths::Named;
 use snapshot::{Answer, Command, Reply};
 use std::alloc::{AllocError, Global};
 
-/// A command that was carried out or refused, and what is noted of its reply: all but the image of a freeze, which is noted
-/// as done.
+/// A command that was carried out or refused, and what is noted of its reply: all but the image of a freeze, of which the
+/// number is noted.
 #[derive(Drop)]
 pub struct Entry {
     pub command: Command,
@@ -22,8 +22,8 @@ pub(crate) fn note(alloc: Global, reply: &Reply) -> Result<Reply, AllocError>
     ensures refused { OnErr result (HasBytesOrNames reply.now) }
 {
     Ok(match reply {
-        Ok(Answer::Done | Answer::Image(_)) => Ok(Answer::Done),
-        Ok(Answer::Number(number)) => Ok(Answer::Number(*number)),
+        Ok(Answer::Done) => Ok(Answer::Done),
+        Ok(Answer::Number(number) | Answer::Image(number, _)) => Ok(Answer::Number(*number)),
         Ok(Answer::Bytes(bytes)) => Ok(Answer::Bytes(bytes.clone()?)),
         Ok(Answer::Names(names)) => Ok(Answer::Names(copied(alloc, names.as_slice())?)),
         Ok(Answer::Status(status)) => Ok(Answer::Status(*status)),

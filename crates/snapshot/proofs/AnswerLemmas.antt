@@ -48,7 +48,7 @@ same_number (Number m) n e = let same : IsNumber n ≡ IsNumber m = e in cc
 same_number (Bytes bytes) n e = let bad : IsNumber n ≡ AreBytes bytes.items = e in cc
 same_number (Names names) n e = let bad : IsNumber n ≡ Listed _ = e in cc
 same_number (Status status) n e = let bad : IsNumber n ≡ IsStatus status.number status.mode status.links status.size = e in cc
-same_number (Image frozen) n e = absurd e
+same_number (Image number frozen) n e = absurd e
 
 module _ {D : Type 0} (held held' : List (List (List ℕ))) (image image' : List (List ℕ)) (old new : Alive D) (has : HasBeside image old) (a : ℕ) where
   abbrev Counts : Result Answer Refusal → Type 0

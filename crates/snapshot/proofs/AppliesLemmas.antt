@@ -6,6 +6,7 @@ use Rattle.layout.specs.declared.refusal.Refusal.{Refusal}
 use Rattle.model.specs.View.{View}
 use Rattle.machine.specs.Command.{Answer as Answered, Command as Request, Done as IsDone, Freeze, Image as IsImage, Release, Reply as Response}
 use Rattle.machine.specs.Snapshot.{settled}
+use Rattle.machine.specs.Standing.{begun as more, ended as fewer}
 use Rattle.frozen.specs.Kept.{Kept}
 use Rattle.courses.specs.Serves.{Starts}
 use Rattle.metadata.specs.Shown.{Shows}
@@ -50,30 +51,30 @@ module _ {D : Type 0} (honest : D → Type 0) (held_of : D → List (List (List 
     stays_done (Err r) reply told done refused h = refuses r reply told (refused h)
 
 -- a snapshot begins
-pub freezing : {D T : Type 0} (as_given : T → Answer) (kept_of : T → Kept) (stands_for : (t : T) (view : View) → Shows (kept_of t) view → StandsFor (as_given t) (IsImage view))
+pub freezing : {D T : Type 0} (as_given : T → Answer) (number_of : T → ℕ) (kept_of : T → Kept) (stands_for : (t : T) (view : View) → Shows (kept_of t) view → StandsFor (as_given t) (IsImage (number_of t) view))
     (honest : D → Type 0) (held_of : D → List (List (List ℕ))) (image_of : D → List (List ℕ)) (old new : Alive D) (command : Request) → command ≡ Freeze
     → (outcome : Result T Refusal) (reply : Result Answer Refusal) → MatchResult outcome (λ t. reply ≡ Ok (as_given t)) (λ r. reply ≡ Err r)
-    → IfOk outcome (λ t. honest new.device → Freezes (held_of old.device) (image_of old.device) old (kept_of t) (held_of new.device) (image_of new.device) new)
+    → IfOk outcome (λ t. honest new.device → Freezes (held_of old.device) (image_of old.device) old (number_of t) (kept_of t) (held_of new.device) (image_of new.device) new)
     → IfErr outcome (λ r. honest new.device → Replies (held_of old.device) (image_of old.device) old Freeze (Err r) (held_of new.device) (image_of new.device) new)
     → honest new.device → Applies (held_of old.device) (image_of old.device) old command reply (held_of new.device) (image_of new.device) new
-freezing as_given kept_of stands_for honest held_of image_of old new command asks (Ok t) reply told done refused h =
+freezing as_given number_of kept_of stands_for honest held_of image_of old new command asks (Ok t) reply told done refused h =
     by_request honest held_of image_of old new command Freeze asks (Ok (as_given t)) reply told
     (λ beside is.
     let begun = done h beside is in
     let image = settled old.kept.geometry (state_of (image_of old.device) old beside) in
-    (record { frozen = Some image }, Ok (IsImage image), stands_for t image begun.0, begun.1))
-freezing as_given kept_of stands_for honest held_of image_of old new command asks (Err r) reply told done refused h =
+    (record { snapshots = more beside.snapshots image }, Ok (IsImage (number_of t) image), stands_for t image begun.1, begun.2))
+freezing as_given number_of kept_of stands_for honest held_of image_of old new command asks (Err r) reply told done refused h =
     refuses honest held_of image_of old new command Freeze asks r reply told (refused h)
 
 -- and ends
-pub releasing : {D T : Type 0} (honest : D → Type 0) (held_of : D → List (List (List ℕ))) (image_of : D → List (List ℕ)) (old new : Alive D) (command : Request) → command ≡ Release
+pub releasing : {D T : Type 0} (honest : D → Type 0) (held_of : D → List (List (List ℕ))) (image_of : D → List (List ℕ)) (old new : Alive D) (command : Request) (s : ℕ) → command ≡ Release s
     → (outcome : Result T Refusal) (reply : Result Answer Refusal) → MatchResult outcome (λ _. reply ≡ Ok Done) (λ r. reply ≡ Err r)
-    → OnOk outcome (honest new.device → Releases (held_of old.device) (image_of old.device) old (held_of new.device) (image_of new.device) new)
-    → IfErr outcome (λ r. honest new.device → Replies (held_of old.device) (image_of old.device) old Release (Err r) (held_of new.device) (image_of new.device) new)
+    → OnOk outcome (honest new.device → Releases (held_of old.device) (image_of old.device) old s (held_of new.device) (image_of new.device) new)
+    → IfErr outcome (λ r. honest new.device → Replies (held_of old.device) (image_of old.device) old (Release s) (Err r) (held_of new.device) (image_of new.device) new)
     → honest new.device → Applies (held_of old.device) (image_of old.device) old command reply (held_of new.device) (image_of new.device) new
-releasing honest held_of image_of old new command asks (Ok t) reply told done refused h =
-    by_request honest held_of image_of old new command Release asks (Ok Done) reply told (λ beside is. (record { frozen = None }, Ok IsDone, refl, done h beside is))
-releasing honest held_of image_of old new command asks (Err r) reply told done refused h = refuses honest held_of image_of old new command Release asks r reply told (refused h)
+releasing honest held_of image_of old new command s asks (Ok t) reply told done refused h =
+    by_request honest held_of image_of old new command (Release s) asks (Ok Done) reply told (λ beside is. (record { snapshots = fewer beside.snapshots s }, Ok IsDone, refl, done h beside is))
+releasing honest held_of image_of old new command s asks (Err r) reply told done refused h = refuses honest held_of image_of old new command (Release s) asks r reply told (refused h)
 
 -- ---- one after another
 

@@ -1,20 +1,23 @@
 -- Which refusals a call may give, whatever its device did: `Device` only where the device failed, else want of memory or a cause.
-use Rattle.std.proofs.Common.{◌≡◌, ◌⊎◌, ◌↔◌, ◌≤◌, ℕ, [], Ok, Err, Result, IfErr, MatchResult, Option, Some, None, inl, inr, refl, sym, ap, ◌∙◌, subst}
-use Rattle.std.specs.Prelude.{IsErrOf, IsOkUnless, IsSome, is_some, unwrap_or}
+use Rattle.std.proofs.Common.{◌≡◌, ◌⊎◌, ◌↔◌, ◌≤◌, ℕ, true, List, [], ◌∷◌, Ok, Err, Result, IfErr, MatchResult, Option, Some, None, inl, inr, refl, sym, ap, ◌∙◌, subst}
+use Rattle.std.specs.Prelude.{IsErrOf, IsOkUnless, IsTrue, is_some, unwrap_or}
 use Rattle.std.specs.Bool.{then_some}
 use Rattle.std.specs.Option.{option_map, option_or}
 use Rattle.std.proofs.lemmas.Bool.{cond-true, le-leb}
 use Rattle.layout.specs.declared.refusal.Refusal.{Refusal}
-use Rattle.layout.specs.declared.refusal.Refusal.TheVariants.{BadIndex, Device, NoMemory, NoSnapshot, SnapshotStands, TraceFull}
+use Rattle.layout.specs.declared.refusal.Refusal.TheVariants.{BadIndex, Device, NoMemory, NoSnapshot, TooManySnapshots, TraceFull}
 use Rattle.model.specs.Layout.{Geometry, block_count, is_data_address}
 use Rattle.machine.specs.Causes.{FirstRefusal, causes, refusal_of}
 use Rattle.machine.specs.Command.{Command as Request, Flush, Freeze, Release, SnapRead}
+use Rattle.machine.specs.Standing.{Snapshots, Standing, image_at, too_many}
 use Rattle.machine.specs.State.{State}
+use Rattle.model.specs.View.{View}
 use Rattle.frozen.specs.Kept.{Kept, frozen_view, kept_bytes}
 use Rattle.metadata.specs.Shown.{Shows}
 use Rattle.replies.proofs.Causes.{first_not_device, first_not_full}
-use Rattle.live_states.specs.Holdings.{Has, Holdings, IsImageOf, held_by, opened_by, plan_by}
+use Rattle.live_states.specs.Holdings.{AreImages, Has, Holdings, held_by, opened_by, plan_by}
 use Rattle.live_states.specs.Planned.{IsFirstCauseWith, IsRefused, IsRefusedWith}
+use Rattle.live_states.proofs.Images.{same_at, same_room}
 use Rattle.live.specs.Alive.{Alive, IsFirstCause}
 use Rattle.snapshot.specs.declared.answer.Answer.{Answer}
 use Rattle.snapshot.specs.declared.command.Command.{Command}
@@ -32,12 +35,18 @@ shows_itself kept = record {
   bytes = λ a b t e. cond-true (is_data_address kept.geometry a) (kept_bytes kept.blocks a) [] t ∙ ap (λ o. unwrap_or o []) e;
 }
 
-some_image : (snapshot : Option Kept) → IsImageOf snapshot (option_map frozen_view snapshot)
-some_image None = tt
-some_image (Some kept) = shows_itself kept
+-- images that have what snapshots keep
+images_of : List (Standing Kept) → List (Standing View)
+images_of [] = []
+images_of (k ∷ ks) = record { number = k.number; image = frozen_view k.image } ∷ images_of ks
+
+some_images : (ks : List (Standing Kept)) → AreImages ks (images_of ks)
+unfolding images_of
+some_images [] = tt
+some_images (k ∷ ks) = (refl, shows_itself k.image, some_images ks)
 
 some_state : Kept → Holdings → State
-some_state kept holdings = record { view = frozen_view kept; opened = opened_by holdings; held = held_by holdings; frozen = option_map frozen_view holdings.snapshot; plan = plan_by holdings }
+some_state kept holdings = record { view = frozen_view kept; opened = opened_by holdings; held = held_by holdings; snapshots = record { standing = images_of holdings.snapshots.standing; freezes = holdings.snapshots.freezes }; plan = plan_by holdings }
 
 some_shown : (kept : Kept) (holdings : Holdings) → Shows kept (some_state kept holdings).view
 unfolding some_state
@@ -45,7 +54,7 @@ some_shown kept holdings = shows_itself kept
 
 some_has : (kept : Kept) (holdings : Holdings) → Has holdings (some_state kept holdings)
 unfolding some_state
-some_has kept holdings = record { opened = refl; held = refl; frozen = some_image holdings.snapshot; plan = refl }
+some_has kept holdings = record { opened = refl; held = refl; snapshots = (refl, some_images holdings.snapshots.standing); plan = refl }
 
 -- ---- a refusal
 
@@ -72,14 +81,14 @@ module _ (kept : Kept) (holdings : Holdings) (command : Request) (r : Refusal) w
   has_cause (inl memory) = inr (inl memory)
   has_cause (inr first) = inr (inr (inl first))
 
--- a read of the snapshot
-module _ (kept : Kept) (holdings : Holdings) (i k : ℕ) (r : Refusal) where
-  pub unread_cause : IsWhyUnread kept.geometry holdings i k r → IsCauseOf kept holdings (SnapRead i k) r
+-- a read of a snapshot
+module _ (kept : Kept) (holdings : Holdings) (s i k : ℕ) (r : Refusal) where
+  pub unread_cause : IsWhyUnread kept.geometry holdings s i k r → IsCauseOf kept holdings (SnapRead s i k) r
   unread_cause (inl first) = inr (inr (inl (λ old shows has. first old has)))
   unread_cause (inr unread) = inr (inr (inr unread))
 
-  pub unread_never_device : IsWhyUnread kept.geometry holdings i k r → r ≡ Device → ⊥
-  unread_never_device (inl first) device = never_device kept holdings (SnapRead i k) r (inr (λ old shows has. first old has)) device
+  pub unread_never_device : IsWhyUnread kept.geometry holdings s i k r → r ≡ Device → ⊥
+  unread_never_device (inl first) device = never_device kept holdings (SnapRead s i k) r (inr (λ old shows has. first old has)) device
   unread_never_device (inr (index, unread)) device = let bad : BadIndex ≡ Device = sym index ∙ device in cc
 
 module _ (failed : Type 0) (kept : Kept) (holdings : Holdings) (command : Request) where
@@ -183,12 +192,12 @@ module _ (kept : Kept) (holdings : Holdings) where
   at_most_cause command why r first (inr (inl memory)) = inr (inl memory)
   at_most_cause command why r first (inr (inr device)) = inl device
 
-  pub freeze_caused : {T : Type 0} (outcome : Result T Refusal) → IsErrOf outcome SnapshotStands ↔ IsSome holdings.snapshot → IfErr outcome (AtMost SnapshotStands) → IfErr outcome (IsCauseOf kept holdings Freeze)
-  freeze_caused (Ok t) stands most = tt
-  freeze_caused (Err r) stands most = at_most_cause Freeze SnapshotStands r
-      (λ is old shows has. inl (refuses_freeze kept.geometry old (none_frozen holdings.snapshot old.frozen has.frozen ∙ stands.0 (ap Err is)))) most
+  pub freeze_caused : {T : Type 0} (outcome : Result T Refusal) → IsErrOf outcome TooManySnapshots ↔ IsTrue (too_many holdings.snapshots) → IfErr outcome (AtMost TooManySnapshots) → IfErr outcome (IsCauseOf kept holdings Freeze)
+  freeze_caused (Ok t) many most = tt
+  freeze_caused (Err r) many most = at_most_cause Freeze TooManySnapshots r
+      (λ is old shows has. inl (refuses_freeze kept.geometry old (same_room holdings.snapshots old.snapshots has.snapshots ∙ many.0 (ap Err is)))) most
 
-  pub release_caused : {T : Type 0} (outcome : Result T Refusal) → IsErrOf outcome NoSnapshot ↔ (holdings.snapshot ≡ None) → IfErr outcome (AtMost NoSnapshot) → IfErr outcome (IsCauseOf kept holdings Release)
-  release_caused (Ok t) none most = tt
-  release_caused (Err r) none most = at_most_cause Release NoSnapshot r
-      (λ is old shows has. inl (refuses_release kept.geometry old (none_frozen holdings.snapshot old.frozen has.frozen ∙ ap is_some (none.0 (ap Err is))))) most
+  pub release_caused : {T : Type 0} (s : ℕ) (outcome : Result T Refusal) → IsErrOf outcome NoSnapshot ↔ (image_at holdings.snapshots.standing s ≡ None) → IfErr outcome (AtMost NoSnapshot) → IfErr outcome (IsCauseOf kept holdings (Release s))
+  release_caused s (Ok t) none most = tt
+  release_caused s (Err r) none most = at_most_cause (Release s) NoSnapshot r
+      (λ is old shows has. inl (refuses_release kept.geometry old s (none_frozen (image_at holdings.snapshots.standing s) (image_at old.snapshots.standing s) (same_at holdings.snapshots.standing old.snapshots.standing has.snapshots.1 s) ∙ ap is_some (none.0 (ap Err is))))) most

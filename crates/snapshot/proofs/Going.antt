@@ -24,7 +24,7 @@ use Rattle.frozen_files.specs.Standing.{KeepsFiles}
 use Rattle.frozen_files.proofs.Laws.{step_keeps_files}
 use Rattle.softdep.specs.Queued.{Queued, pending_of}
 use Rattle.softdep.specs.Syncing.{AreFlushes, images_of}
-use Rattle.live_states.specs.Holdings.{Beside, Holdings, IsImageOf}
+use Rattle.live_states.specs.Holdings.{Beside, Holdings, AreImagesOf}
 use Rattle.live_states.specs.Planned.{safe_after}
 use Rattle.live_states.specs.Volume.{state_over}
 use Rattle.live.specs.Alive.{Alive, Answers, MayRefuse, StandsSo, disk_of, state_of}
@@ -44,7 +44,7 @@ module _ {D : Type 0} (image' : List (List ℕ)) (new : Alive D) (so : StandsSo 
   }
 
   -- after a step
-  pub beside_then : (image : List (List ℕ)) (old : Alive D) (beside : Beside) (command : Command) (reply : Reply) → new.kept.geometry ≡ old.kept.geometry → IsBeside image old beside → IsImageOf new.holdings.snapshot beside'.frozen
+  pub beside_then : (image : List (List ℕ)) (old : Alive D) (beside : Beside) (command : Command) (reply : Reply) → new.kept.geometry ≡ old.kept.geometry → IsBeside image old beside → AreImagesOf new.holdings.snapshots beside'.snapshots
       → Step old.kept.geometry (state_of image old beside) command reply (state_of image' new beside') → IsBeside image' new beside'
   beside_then image old beside command reply geometry is belongs step =
       let s = state_of image old beside in
@@ -58,7 +58,7 @@ module _ {D : Type 0} (image' : List (List ℕ)) (new : Alive D) (so : StandsSo 
       }
 
   -- where users see what they saw
-  pub beside_still : (image : List (List ℕ)) (old : Alive D) → new.kept.geometry ≡ old.kept.geometry → IsBeside image old beside' → IsImageOf new.holdings.snapshot beside'.frozen
+  pub beside_still : (image : List (List ℕ)) (old : Alive D) → new.kept.geometry ≡ old.kept.geometry → IsBeside image old beside' → AreImagesOf new.holdings.snapshots beside'.snapshots
       → state_of image' new beside' ≡ state_of image old beside' → IsBeside image' new beside'
   beside_still image old geometry is belongs same = record {
     belongs = belongs;
@@ -87,7 +87,7 @@ module _ {D : Type 0} (held held' : List (List (List ℕ))) (image image' : List
       let t = state_of image' new beside in
       record {
         geometry = a.geometry;
-        is = beside_then image' new so beside image old beside command (Ok answer) a.geometry is (subst (λ x. IsImageOf x beside.frozen) (sym a.snapshot) is.belongs) step;
+        is = beside_then image' new so beside image old beside command (Ok answer) a.geometry is (subst (λ x. AreImagesOf x beside.snapshots) (sym a.snapshots) is.belongs) step;
         run = (t, step, refl);
         later = later;
         since = since;

@@ -1,5 +1,5 @@
 -- Which check may be installed, and why another may not.
-use Rattle.std.proofs.Common.{◌≡◌, ℕ, suc, Bool, true, false, not, List, [], ◌∷◌, length, Option, Some, None, is_some, arith, cond, eqb, inl, inr, refl, sym, ap, ap₂, ◌∙◌, subst}
+use Rattle.std.proofs.Common.{◌≡◌, ℕ, suc, Bool, true, false, not, List, [], ◌∷◌, length, Option, Some, None, is_none, is_some, arith, cond, eqb, inl, inr, refl, sym, ap, ap₂, ◌∙◌, subst}
 use Rattle.std.specs.List.{All, Contains, filter_map, list_all}
 use Rattle.std.specs.Option.{option_map, option_or}
 use Rattle.std.proofs.lemmas.Bool.{cases_Bool, ne_eqb}
@@ -19,31 +19,37 @@ use Rattle.model.specs.Layout.{Geometry, IsGeometry}
 use Rattle.model.specs.Metadata.{SameMetadata}
 use Rattle.model.specs.View.{View}
 use Rattle.model.proofs.Same.{reachable_number}
-use Rattle.machine.specs.Below.{when}
+use Rattle.machine.specs.Below.{first_of, when}
 use Rattle.machine.specs.Causes.{Belongs, FirstRefusal, causes, refusal_of}
 use Rattle.machine.specs.Command.{Check, Install}
-use Rattle.machine.specs.State.{State}
+use Rattle.machine.specs.Standing.{latest_at}
+use Rattle.machine.specs.State.{State, latest}
 use Rattle.machine.proofs.Decisions.{sound_parts}
 use Rattle.frozen.specs.Kept.{Kept, KeepsMetadata, frozen_view}
 use Rattle.fsck.specs.Checked.{CheckedImage, IsChecked}
 use Rattle.metadata.specs.Shown.{Shows}
 use Rattle.metadata.proofs.ShownLemmas.{shows_metadata}
 use Rattle.live_states.specs.Holdings.{Has, Holdings, IsImageOf, Repairs, plan_of}
+use Rattle.live_states.proofs.Images.{same_latest}
 use Rattle.live_states.specs.Snapshots.{AreRepairsOf, IsInstallable, IsRepairOf, installing}
 use Rattle.live.specs.Alive.{Alive, IsSnapshotOf}
 use Rattle.snapshot.specs.Asked.{check_of}
 use Rattle.snapshot.proofs.Alike.{alike, alike_through, image_of_check, image_where_same, not_no_image, same_as_itself}
+
+-- the metadata of the snapshot of the latest freeze, where it stands
+abbrev pub latest_of : Holdings → Option Kept
+latest_of holdings = latest_at holdings.snapshots.standing holdings.snapshots.freezes
 
 -- ---- the causes of an install, in order
 
 causes_of : (standing planned soft : Bool) → Option Refusal
 causes_of standing planned soft = option_or (when (not standing) NoSnapshot) (option_or (when planned PlanStands) (option_or (when (not soft) PlanNotSoft) None))
 
-by_causes : (geo : Geometry) (old : State) (check : Check) → refusal_of geo old (Install check) ≡ causes_of (is_some old.frozen) (is_some old.plan) (list_all is_soft check.findings)
+by_causes : (geo : Geometry) (old : State) (check : Check) → refusal_of geo old (Install check) ≡ causes_of (is_some (latest old)) (is_some old.plan) (list_all is_soft check.findings)
 unfolding causes causes_of
-by_causes geo old check = by old.frozen
+by_causes geo old check = by (latest old)
   where
-    by : (f : Option View) → refusal_of geo (record old { frozen = f }) (Install check) ≡ causes_of (is_some f) (is_some old.plan) (list_all is_soft check.findings)
+    by : (f : Option View) → first_of (when (is_none f) NoSnapshot ∷ when (is_some old.plan) PlanStands ∷ when (not (list_all is_soft check.findings)) PlanNotSoft ∷ []) ≡ causes_of (is_some f) (is_some old.plan) (list_all is_soft check.findings)
     by None = refl
     by (Some v) = refl
 
@@ -75,17 +81,17 @@ module _ (kept : Kept) (holdings : Holdings) (check : Check) where
   abbrev HeldCause : Refusal → Type 0
   HeldCause r = (old : State) → Has holdings old → FirstRefusal kept.geometry old (Install check) r
 
-  told : (old : State) → Has holdings old → refusal_of kept.geometry old (Install check) ≡ causes_of (is_some holdings.snapshot) (is_some holdings.repairs) (list_all is_soft check.findings)
+  told : (old : State) → Has holdings old → refusal_of kept.geometry old (Install check) ≡ causes_of (is_some (latest_of holdings)) (is_some holdings.repairs) (list_all is_soft check.findings)
   told old has =
       by_causes kept.geometry old check
-      ∙ ap (λ b. causes_of b (is_some old.plan) (list_all is_soft check.findings)) (same_some holdings.snapshot old.frozen has.frozen)
-      ∙ ap (λ b. causes_of (is_some holdings.snapshot) b (list_all is_soft check.findings)) (ap is_some has.plan ∙ some_mapped holdings.repairs)
+      ∙ ap (λ b. causes_of b (is_some old.plan) (list_all is_soft check.findings)) (same_some (latest_of holdings) (latest old) (same_latest holdings.snapshots old.snapshots has.snapshots))
+      ∙ ap (λ b. causes_of (is_some (latest_of holdings)) b (list_all is_soft check.findings)) (ap is_some has.plan ∙ some_mapped holdings.repairs)
 
-  pub refused_none : is_some holdings.snapshot ≡ false → HeldCause NoSnapshot
+  pub refused_none : is_some (latest_of holdings) ≡ false → HeldCause NoSnapshot
   unfolding causes_of
   refused_none e old has = inl (told old has ∙ ap (λ b. causes_of b (is_some holdings.repairs) (list_all is_soft check.findings)) e)
 
-  module _ (stands : is_some holdings.snapshot ≡ true) where
+  module _ (stands : is_some (latest_of holdings) ≡ true) where
     pub refused_planned : is_some holdings.repairs ≡ true → HeldCause PlanStands
     unfolding causes_of
     refused_planned e old has = inl (told old has ∙ ap (λ b. causes_of b (is_some holdings.repairs) (list_all is_soft check.findings)) stands ∙ ap (λ b. causes_of true b (list_all is_soft check.findings)) e)
@@ -149,7 +155,7 @@ named geo view (f ∷ fs) each =
 
 -- ---- the check
 
--- the image of the snapshot that stands
+-- the image of a snapshot that stands
 pub record StandsAs (snapshot : Kept) (frozen : Option View) : Type 0 where
   pub image : View
   pub is : frozen ≡ Some image
@@ -169,7 +175,7 @@ stands_as kept snapshot frozen e is = by frozen (subst (λ s. IsImageOf s frozen
     by None t = absurd t
     by (Some view) t = record { image = view; is = refl; shows = t }
 
-module _ (kept : Kept) (holdings : Holdings) (checked : CheckedImage) (is : IsChecked checked.frozen.geometry (frozen_view checked.frozen) checked) (snapshot : Kept) (stands : holdings.snapshot ≡ Some snapshot)
+module _ (kept : Kept) (holdings : Holdings) (checked : CheckedImage) (is : IsChecked checked.frozen.geometry (frozen_view checked.frozen) checked) (snapshot : Kept) (stands : latest_of holdings ≡ Some snapshot)
     (same : snapshot.geometry ≡ kept.geometry) (keeps : KeepsMetadata snapshot) where
   abbrev geo : Geometry
   geo = kept.geometry
@@ -216,7 +222,7 @@ module _ (kept : Kept) (holdings : Holdings) (checked : CheckedImage) (is : IsCh
   pub foreign : IsGeometry geo → ((snapshot.geometry ≡ checked.frozen.geometry) × SameMetadata snapshot.geometry (frozen_view snapshot) (frozen_view checked.frozen) → ⊥)
       → (old : State) → Has holdings old → Belongs geo old (Install (check_of geo checked)) → ⊥
   foreign ok differ old has belongs =
-      let there = stands_as holdings.snapshot snapshot old.frozen stands has.frozen in
+      let there = stands_as (latest_of holdings) snapshot (latest old) stands (same_latest holdings.snapshots old.snapshots has.snapshots) in
       let view = there.image in
       let metadata : SameMetadata geo view (check_of geo checked).image = subst (λ v. SameMetadata geo v (check_of geo checked).image) (let e : Some belongs.0 ≡ Some view = sym belongs.1 ∙ there.is in let f : belongs.0 ≡ view = cc in f) belongs.2 in
       elim (image_of_check geo checked) [

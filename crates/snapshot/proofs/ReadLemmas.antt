@@ -1,5 +1,5 @@
 -- A read of a snapshot gives the bytes of its image.
-use Rattle.std.proofs.Common.{◌≡◌, ◌<◌, ◌-◌, ◌*◌, ℕ, Bool, true, false, not, ◌&&◌, eqb, leb, min, List, length, take, Option, Some, None, Ok, IsTrue, inl, inr, refl, sym, ap, ◌∙◌, subst, arith, leb-true}
+use Rattle.std.proofs.Common.{◌≡◌, ◌<◌, ◌-◌, ◌*◌, ℕ, Bool, true, false, not, ◌&&◌, eqb, leb, min, List, [], ◌∷◌, length, take, Option, Some, None, is_none, Ok, IsTrue, inl, inr, refl, sym, ap, ◌∙◌, subst, arith, leb-true}
 use Rattle.std.specs.Bool.{then_some}
 use Rattle.std.specs.Option.{option_or}
 use Rattle.std.proofs.lemmas.Bool.{and_parts, and_from, leb-false}
@@ -14,11 +14,11 @@ use Rattle.model.specs.View.{Inode, View}
 use Rattle.model.proofs.Same.{claim_there, same_facts, same_rules}
 use Rattle.model.proofs.UseLemmas.{claim_from, claim_parts}
 use Rattle.machine.specs.Balance.{Balance}
-use Rattle.machine.specs.Below.{when}
-use Rattle.machine.specs.Causes.{Accepts, causes, is_used_number, not_file, past, refusal_of}
+use Rattle.machine.specs.Below.{first_of, when}
+use Rattle.machine.specs.Causes.{Accepts, causes, in_image, is_used_number, not_file, past, refusal_of}
 use Rattle.machine.specs.Cells.{block_of, seen}
 use Rattle.machine.specs.Command.{Bytes, SnapRead}
-use Rattle.machine.specs.State.{State}
+use Rattle.machine.specs.State.{State, snapshot_at}
 use Rattle.machine.specs.Step.{Step}
 use Rattle.plans_data.proofs.Blocks.{block_claimed}
 use Rattle.frozen.specs.Kept.{Kept, KeepsMetadata, frozen_view}
@@ -31,10 +31,14 @@ use Rattle.snapshot.specs.Pieces.{IsPieceOf, why_no_piece}
 
 -- ---- refusals
 
--- the causes of a read, where the snapshot has this image
-read_causes : (geo : Geometry) (old : State) (image : View) (i k : ℕ) → old.frozen ≡ Some image → refusal_of geo old (SnapRead i k) ≡ why_no_piece geo image i k
+-- the causes of a read, by the image of the snapshot, where it stands
+abbrev causes_in : Geometry → Option View → ℕ → ℕ → List (Option Refusal)
+causes_in geo f i k = when (is_none f) NoSnapshot ∷ in_image (λ v. when (not (is_used_number geo v i)) NotFound) f ∷ in_image (λ v. not_file geo v i) f ∷ in_image (λ v. past geo v i k) f ∷ []
+
+-- where the snapshot has this image
+read_causes : (geo : Geometry) (old : State) (image : View) (s i k : ℕ) → snapshot_at old s ≡ Some image → refusal_of geo old (SnapRead s i k) ≡ why_no_piece geo image i k
 unfolding causes
-read_causes geo old image i k e = by old.frozen e
+read_causes geo old image s i k e = by (snapshot_at old s) e
   where
     shorter : (x y z : Option Refusal) → option_or None (option_or x (option_or y (option_or z None))) ≡ option_or x (option_or y z)
     shorter None None None = refl
@@ -42,16 +46,16 @@ read_causes geo old image i k e = by old.frozen e
     shorter None (Some r) z = refl
     shorter (Some r) y z = refl
 
-    by : (f : Option View) → f ≡ Some image → refusal_of geo (record old { frozen = f }) (SnapRead i k) ≡ why_no_piece geo image i k
+    by : (f : Option View) → f ≡ Some image → first_of (causes_in geo f i k) ≡ why_no_piece geo image i k
     by None e = let bad : None ≡ Some image = e in cc
-    by (Some v) e = subst (λ w. refusal_of geo (record old { frozen = Some v }) (SnapRead i k) ≡ why_no_piece geo w i k) (let same : v ≡ image = cc in same)
+    by (Some v) e = subst (λ w. first_of (causes_in geo (Some v) i k) ≡ why_no_piece geo w i k) (let same : v ≡ image = cc in same)
         (shorter (when (not (is_used_number geo v i)) NotFound) (not_file geo v i) (past geo v i k))
 
-pub no_snapshot : (geo : Geometry) (old : State) (i k : ℕ) → old.frozen ≡ None → refusal_of geo old (SnapRead i k) ≡ Some NoSnapshot
+pub no_snapshot : (geo : Geometry) (old : State) (s i k : ℕ) → snapshot_at old s ≡ None → refusal_of geo old (SnapRead s i k) ≡ Some NoSnapshot
 unfolding causes
-no_snapshot geo old i k e = by old.frozen e
+no_snapshot geo old s i k e = by (snapshot_at old s) e
   where
-    by : (f : Option View) → f ≡ None → refusal_of geo (record old { frozen = f }) (SnapRead i k) ≡ Some NoSnapshot
+    by : (f : Option View) → f ≡ None → first_of (causes_in geo f i k) ≡ Some NoSnapshot
     by None e = refl
     by (Some v) e = let bad : Some v ≡ None = e in cc
 
@@ -114,15 +118,15 @@ module _ (geo : Geometry) (kept : Kept) (image : View) (same : kept.geometry ≡
   pub obeys_too : ObeysRules geo image → ObeysRules kept.geometry (frozen_view kept)
   obeys_too o = subst (λ g. ObeysRules g (frozen_view kept)) (sym same) ((same_rules geo (frozen_view kept) image metadata).1 o)
 
-  module _ (old : State) (i k : ℕ) (stands : old.frozen ≡ Some image) where
-    pub refused_read : (r : Refusal) → why_no_piece kept.geometry (frozen_view kept) i k ≡ Some r → refusal_of geo old (SnapRead i k) ≡ Some r
-    refused_read r e = read_causes geo old image i k stands ∙ sym (same_why geo (frozen_view kept) image i k (shows.inode i)) ∙ subst (λ g. why_no_piece g (frozen_view kept) i k ≡ Some r) same e
+  module _ (old : State) (s i k : ℕ) (stands : snapshot_at old s ≡ Some image) where
+    pub refused_read : (r : Refusal) → why_no_piece kept.geometry (frozen_view kept) i k ≡ Some r → refusal_of geo old (SnapRead s i k) ≡ Some r
+    refused_read r e = read_causes geo old image s i k stands ∙ sym (same_why geo (frozen_view kept) image i k (shows.inode i)) ∙ subst (λ g. why_no_piece g (frozen_view kept) i k ≡ Some r) same e
 
     -- ---- what is read
 
     module _ (balance : Balance geo old) (files : KeepsFiles geo old) (piece : Piece) (is : IsPieceOf kept i k piece) where
       obeys : ObeysRules geo image
-      obeys = (balance.snapshot image stands).0
+      obeys = (balance.snapshot s image stands).0
 
       why_none : why_no_piece geo image i k ≡ None
       why_none = sym (same_why geo (frozen_view kept) image i k (shows.inode i)) ∙ subst (λ g. why_no_piece g (frozen_view kept) i k ≡ None) same is.there
@@ -133,13 +137,13 @@ module _ (geo : Geometry) (kept : Kept) (image : View) (same : kept.geometry ≡
       pub data_address : IsTrue (is_data_address geo piece.block)
       data_address = claim.1
 
-      accepted : Accepts geo old (SnapRead i k)
-      accepted = (read_causes geo old image i k stands ∙ why_none, tt)
+      accepted : Accepts geo old (SnapRead s i k)
+      accepted = (read_causes geo old image s i k stands ∙ why_none, tt)
 
       file_claim : IsFileClaim geo image i k piece.block
       file_claim = file_claimed geo image i k obeys piece.block why_none claim
 
-      pub read_step : (bytes : List ℕ) → old.view.bytes piece.block ≡ bytes → length bytes ≡ 1024 → Step geo old (SnapRead i k) (Ok (Bytes (take piece.length bytes))) old
+      pub read_step : (bytes : List ℕ) → old.view.bytes piece.block ≡ bytes → length bytes ≡ 1024 → Step geo old (SnapRead s i k) (Ok (Bytes (take piece.length bytes))) old
       read_step bytes e whole = (accepted, (image, stands, shown, refl))
         where
           shown : take piece.length bytes ≡ seen geo image i k
@@ -147,4 +151,4 @@ module _ (geo : Geometry) (kept : Kept) (image : View) (same : kept.geometry ≡
               ∙ ap (λ m. take (min ((image.inode i).size - 1024 * k) m) bytes) (sym whole)
               ∙ take_min ((image.inode i).size - 1024 * k) bytes
               ∙ ap (take ((image.inode i).size - 1024 * k)) (sym e)
-              ∙ sym (read_of_users geo old image balance files stands i k piece.block file_claim)
+              ∙ sym (read_of_users geo old s image balance files stands i k piece.block file_claim)

@@ -1,8 +1,8 @@
 -- What a volume refuses that no cause refuses: want of memory, and a fault of its device.
-use Rattle.std.proofs.Common.{◌≡◌, ◌⊎◌, ℕ, true, not, List, [], ◌∷◌, Ok, Err, Option, Some, None, is_some, is_none, inl, inr, refl, sym, ap, ◌∙◌, subst}
+use Rattle.std.proofs.Common.{◌≡◌, ◌⊎◌, ℕ, true, false, not, List, [], ◌∷◌, Ok, Err, Option, Some, None, is_some, is_none, inl, inr, refl, sym, ap, ◌∙◌, subst}
 use Rattle.std.specs.List.{list_all}
 use Rattle.layout.specs.declared.refusal.Refusal.{Refusal}
-use Rattle.layout.specs.declared.refusal.Refusal.TheVariants.{Device, NoMemory, NoSnapshot, PlanNotSoft, PlanStands, SnapshotStands}
+use Rattle.layout.specs.declared.refusal.Refusal.TheVariants.{Device, NoMemory, NoSnapshot, PlanNotSoft, PlanStands, TooManySnapshots}
 use Rattle.findings.specs.Findings.{is_soft}
 use Rattle.model.specs.Layout.{Geometry}
 use Rattle.model.specs.View.{View}
@@ -10,7 +10,8 @@ use Rattle.frozen.specs.Loading.{GivesOut}
 use Rattle.machine.specs.Below.{first_of, when}
 use Rattle.machine.specs.Causes.{Belongs, FirstRefusal, causes, refusal_of}
 use Rattle.machine.specs.Command.{Check, Command, Freeze, Install, Release, Reply, Sync}
-use Rattle.machine.specs.State.{Plan, State}
+use Rattle.machine.specs.Standing.{too_many}
+use Rattle.machine.specs.State.{Plan, State, latest, snapshot_at}
 use Rattle.live_states.specs.Holdings.{Beside}
 use Rattle.live.specs.Alive.{Alive, state_of}
 use Rattle.snapshot.specs.Asked.{IsReply}
@@ -39,19 +40,19 @@ module _ {D : Type 0} (held : List (List (List ℕ))) (image : List (List ℕ)) 
 
 -- ---- no cause refuses what is done to mend a volume
 
-pub may_freeze : (geo : Geometry) (old : State) → old.frozen ≡ None → refusal_of geo old Freeze ≡ None
+pub may_freeze : (geo : Geometry) (old : State) → too_many old.snapshots ≡ false → refusal_of geo old Freeze ≡ None
 unfolding causes
-may_freeze geo old none = ap (λ (f : Option View). first_of (when (is_some f) SnapshotStands ∷ [])) none
+may_freeze geo old room = ap (λ b. first_of (when b TooManySnapshots ∷ [])) room
 
-pub may_release : (geo : Geometry) (old : State) (view : View) → old.frozen ≡ Some view → refusal_of geo old Release ≡ None
+pub may_release : (geo : Geometry) (old : State) (s : ℕ) (view : View) → snapshot_at old s ≡ Some view → refusal_of geo old (Release s) ≡ None
 unfolding causes
-may_release geo old view stands = ap (λ (f : Option View). first_of (when (is_none f) NoSnapshot ∷ [])) stands
+may_release geo old s view stands = ap (λ (f : Option View). first_of (when (is_none f) NoSnapshot ∷ [])) stands
 
 pub may_sync : (geo : Geometry) (old : State) → refusal_of geo old Sync ≡ None
 unfolding causes
 may_sync geo old = refl
 
-pub may_install : (geo : Geometry) (old : State) (check : Check) (view : View) → old.frozen ≡ Some view → old.plan ≡ None → list_all is_soft check.findings ≡ true → refusal_of geo old (Install check) ≡ None
+pub may_install : (geo : Geometry) (old : State) (check : Check) (view : View) → latest old ≡ Some view → old.plan ≡ None → list_all is_soft check.findings ≡ true → refusal_of geo old (Install check) ≡ None
 unfolding causes
 may_install geo old check view stands none soft =
     ap (λ (f : Option View). first_of (when (is_none f) NoSnapshot ∷ when (is_some old.plan) PlanStands ∷ when (not (list_all is_soft check.findings)) PlanNotSoft ∷ [])) stands

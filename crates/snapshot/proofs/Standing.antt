@@ -1,20 +1,24 @@
 -- A snapshot begins, is read, and ends.
-use Rattle.std.proofs.Common.{◌≡◌, ◌<◌, ℕ, zero, suc, arith, Bool, true, false, List, [], ◌∷◌, ◌++◌, Ok, Option, Some, None, IsTrue, refl, sym, ap, ◌∙◌, subst}
-use Rattle.std.specs.Prelude.{is_some, length, slice_index_or}
+use Rattle.std.proofs.Common.{◌≡◌, ◌<◌, ℕ, zero, suc, arith, Bool, true, false, not, ◌&&◌, List, [], ◌∷◌, ◌++◌, Ok, Option, Some, None, IsTrue, refl, sym, ap, ◌∙◌, subst}
+use Rattle.std.specs.Prelude.{is_none, is_some, length, slice_index_or}
 use Rattle.std.proofs.lemmas.List.{append-nil}
-use Rattle.layout.specs.declared.refusal.Refusal.TheVariants.{NoSnapshot, SnapshotStands}
+use mathlib.Core.Path.{fun_ext}
+use Rattle.findings.specs.Numbers.{found_below}
+use Rattle.layout.specs.declared.refusal.Refusal.TheVariants.{NoSnapshot, TooManySnapshots}
 use Rattle.model.specs.Image.{image_view}
 use Rattle.model.specs.Layout.{Geometry}
 use Rattle.model.specs.View.{View}
 use Rattle.ordering.specs.Cuts.{Pending}
 use Rattle.queue_model.specs.Blocks.{home_of}
 use Rattle.queue_model.specs.Sync.{Flushes}
+use Rattle.machine.specs.Below.{first_of, when}
 use Rattle.machine.specs.Causes.{Accepts, causes, refusal_of}
 use Rattle.machine.specs.Command.{Done, Freeze, Image, Release}
 use Rattle.machine.specs.Snapshot.{frozen, released, settled}
-use Rattle.machine.specs.State.{State}
+use Rattle.machine.specs.Standing.{begun as more, ended as fewer, image_at, others, too_many}
+use Rattle.machine.specs.State.{State, snapshot_at}
 use Rattle.machine.specs.Step.{Step}
-use Rattle.plans_data.specs.Lists.{held_below}
+use Rattle.plans_data.specs.Lists.{let_go_below}
 use Rattle.plans_data.specs.Release.{releasing}
 use Rattle.courses.specs.Serves.{CarriesOut, Freezes, Releases, Service, Starts, flush_images}
 use Rattle.frozen.specs.Kept.{Kept}
@@ -22,13 +26,14 @@ use Rattle.metadata.specs.Shown.{Shows}
 use Rattle.softdep.specs.Queued.{Queued, pending_of}
 use Rattle.softdep.specs.Syncing.{AreFlushes}
 use Rattle.live_states.specs.Holdings.{Beside, IsImageOf, held_by}
-use Rattle.live_states.specs.Snapshots.{held_blocks, keeping, let_go}
+use Rattle.live_states.specs.Snapshots.{keeping, let_go, let_go_blocks}
+use Rattle.live_states.proofs.Images.{images_begun, images_ended, same_at, same_kept, same_room}
 use Rattle.live_states.specs.Volume.{state_over}
 use Rattle.live.specs.Alive.{Alive, StandsSo, disk_of, state_of}
 use Rattle.snapshot.specs.Goes.{Goes, IsBeside}
 use Rattle.snapshot.proofs.Going.{beside_then, flushed_since, flushed_state, images, same_images}
 
--- ---- whether one stands
+-- ---- whether one may begin, and whether one stands
 
 pub none_frozen : (snapshot : Option Kept) (frozen : Option View) → IsImageOf snapshot frozen → is_some frozen ≡ is_some snapshot
 none_frozen None None t = refl
@@ -36,35 +41,27 @@ none_frozen (Some k) (Some v) t = refl
 none_frozen None (Some v) t = absurd t
 none_frozen (Some k) None t = absurd t
 
-accepts_freeze : (geo : Geometry) (old : State) → is_some old.frozen ≡ false → Accepts geo old Freeze
+accepts_freeze : (geo : Geometry) (old : State) → too_many old.snapshots ≡ false → Accepts geo old Freeze
 unfolding causes
-accepts_freeze geo old e = by old.frozen e
-  where
-    by : (f : Option View) → is_some f ≡ false → Accepts geo (record old { frozen = f }) Freeze
-    by None e = (refl, tt)
-    by (Some v) e = let bad : true ≡ false = e in cc
+accepts_freeze geo old e = (ap (λ b. first_of (when b TooManySnapshots ∷ [])) e, tt)
 
-pub refuses_freeze : (geo : Geometry) (old : State) → is_some old.frozen ≡ true → refusal_of geo old Freeze ≡ Some SnapshotStands
+pub refuses_freeze : (geo : Geometry) (old : State) → too_many old.snapshots ≡ true → refusal_of geo old Freeze ≡ Some TooManySnapshots
 unfolding causes
-refuses_freeze geo old e = by old.frozen e
+refuses_freeze geo old e = ap (λ b. first_of (when b TooManySnapshots ∷ [])) e
+
+accepts_release : (geo : Geometry) (old : State) (s : ℕ) → is_some (snapshot_at old s) ≡ true → Accepts geo old (Release s)
+unfolding causes
+accepts_release geo old s e = (by (snapshot_at old s) e, tt)
   where
-    by : (f : Option View) → is_some f ≡ true → refusal_of geo (record old { frozen = f }) Freeze ≡ Some SnapshotStands
+    by : (f : Option View) → is_some f ≡ true → first_of (when (is_none f) NoSnapshot ∷ []) ≡ None
     by None e = let bad : false ≡ true = e in cc
     by (Some v) e = refl
 
-accepts_release : (geo : Geometry) (old : State) → is_some old.frozen ≡ true → Accepts geo old Release
+pub refuses_release : (geo : Geometry) (old : State) (s : ℕ) → is_some (snapshot_at old s) ≡ false → refusal_of geo old (Release s) ≡ Some NoSnapshot
 unfolding causes
-accepts_release geo old e = by old.frozen e
+refuses_release geo old s e = by (snapshot_at old s) e
   where
-    by : (f : Option View) → is_some f ≡ true → Accepts geo (record old { frozen = f }) Release
-    by None e = let bad : false ≡ true = e in cc
-    by (Some v) e = (refl, tt)
-
-pub refuses_release : (geo : Geometry) (old : State) → is_some old.frozen ≡ false → refusal_of geo old Release ≡ Some NoSnapshot
-unfolding causes
-refuses_release geo old e = by old.frozen e
-  where
-    by : (f : Option View) → is_some f ≡ false → refusal_of geo (record old { frozen = f }) Release ≡ Some NoSnapshot
+    by : (f : Option View) → is_some f ≡ false → first_of (when (is_none f) NoSnapshot ∷ []) ≡ Some NoSnapshot
     by None e = refl
     by (Some v) e = let bad : true ≡ false = e in cc
 
@@ -103,79 +100,81 @@ module _ {D : Type 0} (held held' : List (List (List ℕ))) (image image' : List
 
   -- ---- it begins
 
-  module _ (device : D) (snapshot : Kept) (unkept : old.holdings.snapshot ≡ None)
+  module _ (device : D) (snapshot : Kept) (room : too_many old.holdings.snapshots ≡ false)
       (shows : Shows snapshot (settled geo s))
-      (begun : state_over disk' (pending_of queue) (keeping old.holdings snapshot) (record { frozen = Some (settled geo (state_over disk' (pending_of queue) old.holdings beside)) })
+      (begun : state_over disk' (pending_of queue) (keeping old.holdings snapshot) (record { snapshots = more beside.snapshots (settled geo (state_over disk' (pending_of queue) old.holdings beside)) })
       ≡ frozen geo (state_over disk' (pending_of queue) old.holdings beside))
       (so : StandsSo image' (record { device = device; queue = queue; kept = old.kept; holdings = keeping old.holdings snapshot })) where
     new : Alive D
     new = record { device = device; queue = queue; kept = old.kept; holdings = keeping old.holdings snapshot }
 
     abbrev beside' : Beside
-    beside' = record { frozen = Some (settled geo s) }
+    beside' = record { snapshots = more beside.snapshots (settled geo s) }
 
     frozen_now : state_over disk' (pending_of queue) (keeping old.holdings snapshot) beside' ≡ frozen geo s
-    frozen_now = subst (λ t. state_over disk' (pending_of queue) (keeping old.holdings snapshot) (record { frozen = Some (settled geo t) }) ≡ frozen geo t) same_state begun
+    frozen_now = subst (λ t. state_over disk' (pending_of queue) (keeping old.holdings snapshot) (record { snapshots = more beside.snapshots (settled geo t) }) ≡ frozen geo t) same_state begun
 
     accepted : Accepts geo s Freeze
-    accepted = accepts_freeze geo s (none_frozen old.holdings.snapshot beside.frozen is.belongs ∙ ap is_some unkept)
+    accepted = accepts_freeze geo s (same_room old.holdings.snapshots beside.snapshots is.belongs ∙ room)
 
-    pub freezes : Goes beside held image old (Freeze ∷ []) (Ok (Image (settled geo s)) ∷ []) beside' held' image' (record { device = device; queue = queue; kept = old.kept; holdings = keeping old.holdings snapshot })
+    pub freezes : Goes beside held image old (Freeze ∷ []) (Ok (Image s.snapshots.freezes (settled geo s)) ∷ []) beside' held' image' (record { device = device; queue = queue; kept = old.kept; holdings = keeping old.holdings snapshot })
     freezes =
         let t = state_over disk' (pending_of queue) (keeping old.holdings snapshot) beside' in
-        let step : Step geo s Freeze (Ok (Image (settled geo s))) t = (accepted, (refl, frozen_now)) in
+        let step : Step geo s Freeze (Ok (Image s.snapshots.freezes (settled geo s))) t = (accepted, (refl, frozen_now)) in
         record {
           geometry = refl;
-          is = beside_then image' (record { device = device; queue = queue; kept = old.kept; holdings = keeping old.holdings snapshot }) so beside' image old beside Freeze (Ok (Image (settled geo s))) refl is shows step;
+          is = beside_then image' (record { device = device; queue = queue; kept = old.kept; holdings = keeping old.holdings snapshot }) so beside' image old beside Freeze (Ok (Image s.snapshots.freezes (settled geo s))) refl is (images_begun old.holdings.snapshots beside.snapshots snapshot (settled geo s) is.belongs shows) step;
           run = (t, step, refl);
           later = later;
           since = flushed_since held held' image image' old beside is queue flushes;
           service = λ mount h cut safe begin. (
             safe,
-            subst (λ x. Service geo disk q s safe disk' (pending_of queue) x safe (Freeze ∷ []) (Ok (Image (settled geo s)) ∷ []) later) (sym frozen_now)
-                (subst (λ p. Service geo disk q s safe disk' p (frozen geo s) safe (Freeze ∷ []) (Ok (Image (settled geo s)) ∷ []) later) (sym none)
-                (subst (λ xs. Service geo disk q s safe disk' [] (frozen geo s) safe (Freeze ∷ []) (Ok (Image (settled geo s)) ∷ []) xs) same_later
-                (CarriesOut Freeze (Image (settled geo s)) disk' [] (frozen geo s) safe (flush_images (home_of geo) disk q flushes.blocks []) Starts accepted
+            subst (λ x. Service geo disk q s safe disk' (pending_of queue) x safe (Freeze ∷ []) (Ok (Image s.snapshots.freezes (settled geo s)) ∷ []) later) (sym frozen_now)
+                (subst (λ p. Service geo disk q s safe disk' p (frozen geo s) safe (Freeze ∷ []) (Ok (Image s.snapshots.freezes (settled geo s)) ∷ []) later) (sym none)
+                (subst (λ xs. Service geo disk q s safe disk' [] (frozen geo s) safe (Freeze ∷ []) (Ok (Image s.snapshots.freezes (settled geo s)) ∷ []) xs) same_later
+                (CarriesOut Freeze (Image s.snapshots.freezes (settled geo s)) disk' [] (frozen geo s) safe (flush_images (home_of geo) disk q flushes.blocks []) Starts accepted
                 (Freezes flushes.blocks disk' (subst (λ p. Flushes (home_of geo) disk q flushes.blocks disk' p) none flushes.flushes))))),
           );
         }
 
   -- ---- it ends
 
-  module _ (device : D) (queue' : Queued) (kept' : Kept) (stands : is_some old.holdings.snapshot ≡ true) (geometry : kept'.geometry ≡ geo)
-      (pending : pending_of queue' ≡ releasing (held_blocks old.holdings) [])
-      (ended : state_over (image_view kept'.geometry image') (pending_of queue') (let_go old.holdings) (record { frozen = None }) ≡ released (state_over disk' (pending_of queue) old.holdings beside))
-      (so : StandsSo image' (record { device = device; queue = queue'; kept = kept'; holdings = let_go old.holdings })) where
-    released_now : state_over (image_view kept'.geometry image') (pending_of queue') (let_go old.holdings) (record { frozen = None }) ≡ released s
-    released_now = ended ∙ ap released same_state
+  module _ (device : D) (queue' : Queued) (kept' : Kept) (n : ℕ) (stands : is_some (image_at old.holdings.snapshots.standing n) ≡ true) (geometry : kept'.geometry ≡ geo)
+      (pending : pending_of queue' ≡ releasing (let_go_blocks old.holdings n) [])
+      (ended : state_over (image_view kept'.geometry image') (pending_of queue') (let_go old.holdings n) (record { snapshots = fewer beside.snapshots n }) ≡ released (state_over disk' (pending_of queue) old.holdings beside) n)
+      (so : StandsSo image' (record { device = device; queue = queue'; kept = kept'; holdings = let_go old.holdings n })) where
+    released_now : state_over (image_view kept'.geometry image') (pending_of queue') (let_go old.holdings n) (record { snapshots = fewer beside.snapshots n }) ≡ released s n
+    released_now = ended ∙ ap (λ t. released t n) same_state
 
-    ends_accepted : Accepts geo s Release
-    ends_accepted = accepts_release geo s (none_frozen old.holdings.snapshot beside.frozen is.belongs ∙ stands)
+    ends_accepted : Accepts geo s (Release n)
+    ends_accepted = accepts_release geo s n (none_frozen (image_at old.holdings.snapshots.standing n) (image_at beside.snapshots.standing n) (same_at old.holdings.snapshots.standing beside.snapshots.standing is.belongs.1 n) ∙ stands)
 
     few : (a : ℕ) → IsTrue (held_by old.holdings a) → a < length old.holdings.held
     few a t = within old.holdings.held a t
 
-    same_pending : releasing (held_below s (length old.holdings.held)) [] ≡ pending_of queue'
-    same_pending = sym pending
+    same_pending : releasing (let_go_below s n (length old.holdings.held)) [] ≡ pending_of queue'
+    same_pending = ap (λ (f : ℕ → Bool). releasing (found_below f (λ a. a) (length old.holdings.held)) []) (fun_ext (λ a. ap (λ k. held_by old.holdings a && not k)
+        (same_kept (others old.holdings.snapshots.standing n) (others beside.snapshots.standing n) (images_ended old.holdings.snapshots beside.snapshots n is.belongs).1 a)))
+        ∙ sym pending
 
-    pub releases : Goes beside held image old (Release ∷ []) (Ok Done ∷ []) (record { frozen = None }) held' image' (record { device = device; queue = queue'; kept = kept'; holdings = let_go old.holdings })
+    pub releases : Goes beside held image old (Release n ∷ []) (Ok Done ∷ []) (record { snapshots = fewer beside.snapshots n }) held' image' (record { device = device; queue = queue'; kept = kept'; holdings = let_go old.holdings n })
     releases =
-        let t = state_over (image_view kept'.geometry image') (pending_of queue') (let_go old.holdings) (record { frozen = None }) in
-        let step : Step geo s Release (Ok Done) t = (ends_accepted, released_now) in
-        let n = length old.holdings.held in
+        let t = state_over (image_view kept'.geometry image') (pending_of queue') (let_go old.holdings n) (record { snapshots = fewer beside.snapshots n }) in
+        let step : Step geo s (Release n) (Ok Done) t = (ends_accepted, released_now) in
+        let m = length old.holdings.held in
         record {
           geometry = geometry;
-          is = beside_then image' (record { device = device; queue = queue'; kept = kept'; holdings = let_go old.holdings }) so (record { frozen = None }) image old beside Release (Ok Done) geometry is tt step;
+          is = beside_then image' (record { device = device; queue = queue'; kept = kept'; holdings = let_go old.holdings n }) so (record { snapshots = fewer beside.snapshots n }) image old beside (Release n) (Ok Done) geometry is (images_ended old.holdings.snapshots beside.snapshots n is.belongs) step;
           run = (t, step, refl);
           later = later;
           since = flushed_since held held' image image' old beside is queue flushes;
           service = λ mount h cut safe begin. (
             safe,
-            subst (λ g. Service geo disk q s safe (image_view g image') (pending_of queue') t safe (Release ∷ []) (Ok Done ∷ []) later) (sym geometry)
-                (subst (λ x. Service geo disk q s safe disk' (pending_of queue') x safe (Release ∷ []) (Ok Done ∷ []) later) (sym released_now)
-                (subst (λ p. Service geo disk q s safe disk' p (released s) safe (Release ∷ []) (Ok Done ∷ []) later) same_pending
-                (subst (λ xs. Service geo disk q s safe disk' (releasing (held_below s n) []) (released s) safe (Release ∷ []) (Ok Done ∷ []) xs) same_later
-                (CarriesOut Release Done disk' (releasing (held_below s n) []) (released s) safe (flush_images (home_of geo) disk q flushes.blocks []) Starts ends_accepted
-                (Releases flushes.blocks disk' n (subst (λ p. Flushes (home_of geo) disk q flushes.blocks disk' p) none flushes.flushes) few))))),
+            subst (λ g. Service geo disk q s safe (image_view g image') (pending_of queue') t safe (Release n ∷ []) (Ok Done ∷ []) later) (sym geometry)
+                (subst (λ x. Service geo disk q s safe disk' (pending_of queue') x safe (Release n ∷ []) (Ok Done ∷ []) later) (sym released_now)
+                (subst (λ p. Service geo disk q s safe disk' p (released s n) safe (Release n ∷ []) (Ok Done ∷ []) later) same_pending
+                (subst (λ xs. Service geo disk q s safe disk' (releasing (let_go_below s n m) []) (released s n) safe (Release n ∷ []) (Ok Done ∷ []) xs) same_later
+                (CarriesOut (Release n) Done disk' (releasing (let_go_below s n m) []) (released s n) safe (flush_images (home_of geo) disk q flushes.blocks []) Starts ends_accepted
+                (Releases n flushes.blocks disk' m (subst (λ p. Flushes (home_of geo) disk q flushes.blocks disk' p) none flushes.flushes) few))))),
           );
         }

@@ -158,7 +158,7 @@ module _ {D : Type 0} (honest : D → Type 0) (held_of : D → List (List (List 
       let s = state_of (image_of live.device) live beside in
       record {
         geometry = refl;
-        snapshot = refl;
+        snapshots = refl;
         step = λ stands. shown beside;
         serves = λ safe stands. subst (λ safe'. Serves geo disk q s safe request answer disk q s safe' []) (sym (safely (users_view disk q) safe)) (Quietly request answer s quiet (shown beside).1);
       }

@@ -1,20 +1,21 @@
 -- What a volume goes through by a command that writes all that is pending first.
-use Rattle.std.proofs.Common.{◌≡◌, ◌⊎◌, ℕ, true, false, List, [], Bor, Ok, Err, Result, IfErr, OnErr, OnOk, Option, Some, None, is_some, inl, refl, sym, ap₂, subst}
+use Rattle.std.proofs.Common.{◌≡◌, ◌⊎◌, ◌∙◌, ℕ, true, false, List, [], Bor, Ok, Err, Result, IfErr, OnErr, OnOk, Option, Some, None, ◌∷◌, is_some, inl, refl, sym, ap₂, subst}
 use Rattle.std.specs.Option.{option_copied, option_map}
 use Rattle.layout.specs.declared.refusal.Refusal.{Refusal}
 use Rattle.layout.specs.declared.refusal.Refusal.TheVariants.{NoMemory, Device}
 use Rattle.machine.specs.Causes.{FirstRefusal}
-use Rattle.machine.specs.Command.{Command as Request, Freeze, Release}
+use Rattle.machine.specs.Command.{Command as Request, Freeze, Image, Release}
 use Rattle.machine.specs.Snapshot.{frozen, released, settled}
+use Rattle.machine.specs.Standing.{begun, ended, image_at, too_many}
 use Rattle.plans_data.specs.Release.{releasing}
 use Rattle.frozen.specs.Kept.{Kept}
 use Rattle.metadata.specs.Shown.{Shows}
 use Rattle.softdep.specs.Queued.{pending_of}
 use Rattle.softdep.specs.Syncing.{AreFlushes}
-use Rattle.live_states.specs.Holdings.{Beside, Holdings, IsImageOf}
-use Rattle.live_states.specs.Snapshots.{held_blocks, keeping, let_go}
+use Rattle.live_states.specs.Holdings.{Beside, Holdings, AreImagesOf}
+use Rattle.live_states.specs.Snapshots.{let_go_blocks, keeping, let_go}
 use Rattle.live.specs.Alive.{Alive, StandsSo, state_of}
-use Rattle.snapshot.specs.Goes.{Freezes, HasBeside, IsBeside, Releases, Replies}
+use Rattle.snapshot.specs.Goes.{Freezes, Goes, HasBeside, IsBeside, Releases, Replies}
 use Rattle.snapshot.proofs.CallLemmas.{refused_after}
 use Rattle.snapshot.proofs.Standing.{freezes, releases}
 
@@ -53,24 +54,29 @@ module _ {D : Type 0} (honest : D → Type 0) (held_of : D → List (List (List 
 
   -- ---- a snapshot begins
 
-  module _ (new : Alive D) (snapshot : Kept) (unkept : old.holdings.snapshot ≡ None) (none : pending_of mid.queue ≡ []) where
+  module _ (new : Alive D) (number : ℕ) (snapshot : Kept) (room : too_many old.holdings.snapshots ≡ false) (none : pending_of mid.queue ≡ []) where
     abbrev Begins : Alive D → Type 0
     Begins m = (new ≡ record m { holdings = keeping m.holdings snapshot })
-        × ((beside : Beside) → IsImageOf old.holdings.snapshot beside.frozen → Shows snapshot (settled old.kept.geometry (state_of (image_of old.device) old beside)))
-        × ((beside : Beside) → state_of (image_of new.device) new (record { frozen = Some (settled m.kept.geometry (state_of (image_of m.device) m beside)) }) ≡ frozen m.kept.geometry (state_of (image_of m.device) m beside))
+        × ((beside : Beside) → AreImagesOf old.holdings.snapshots beside.snapshots → Shows snapshot (settled old.kept.geometry (state_of (image_of old.device) old beside)))
+        × ((beside : Beside) → state_of (image_of new.device) new (record { snapshots = begun beside.snapshots (settled m.kept.geometry (state_of (image_of m.device) m beside)) }) ≡ frozen m.kept.geometry (state_of (image_of m.device) m beside))
+        × (number ≡ m.holdings.snapshots.freezes)
 
     abbrev IsFrozen : Alive D → Type 0
-    IsFrozen n = Freezes (held_of old.device) (image_of old.device) old snapshot (held_of n.device) (image_of n.device) n
+    IsFrozen n = Freezes (held_of old.device) (image_of old.device) old number snapshot (held_of n.device) (image_of n.device) n
 
     abbrev Kept' : Alive D
     Kept' = record { device = mid.device; queue = mid.queue; kept = old.kept; holdings = keeping old.holdings snapshot }
 
     begins_from : honest mid.device → StandsSo (image_of Kept'.device) Kept' → Begins Mid → IsFrozen new
     begins_from h so facts = subst IsFrozen (sym facts.0) (λ beside is.
-        let begun = subst (λ (n : Alive D). state_of (image_of n.device) n (record { frozen = Some (settled old.kept.geometry (state_of (image_of mid.device) Mid beside)) }) ≡ frozen old.kept.geometry (state_of (image_of mid.device) Mid beside)) facts.0 (facts.2 beside) in
-        let shows = facts.1 beside is.belongs in (
+        let begun_now = subst (λ (n : Alive D). state_of (image_of n.device) n (record { snapshots = begun beside.snapshots (settled old.kept.geometry (state_of (image_of mid.device) Mid beside)) }) ≡ frozen old.kept.geometry (state_of (image_of mid.device) Mid beside)) facts.0 (facts.2 beside) in
+        let shows = facts.1 beside is.belongs in
+        let view = settled old.kept.geometry (state_of (image_of old.device) old beside) in (
+          facts.3,
           shows,
-          freezes (held_of old.device) (held_of mid.device) (image_of old.device) (image_of mid.device) old beside is mid.queue (flushes h) none mid.device snapshot unkept shows begun so,
+          subst (λ n. Goes beside (held_of old.device) (image_of old.device) old (Freeze ∷ []) (Ok (Image n view) ∷ []) (record { snapshots = begun beside.snapshots view }) (held_of mid.device) (image_of mid.device) Kept')
+              (is.belongs.0 ∙ sym facts.3)
+              (freezes (held_of old.device) (held_of mid.device) (image_of old.device) (image_of mid.device) old beside is mid.queue (flushes h) none mid.device snapshot room shows begun_now so),
         ))
 
     pub begins : (honest new.device → StandsSo (image_of new.device) new) → honest mid.device → Begins mid → IsFrozen new
@@ -80,23 +86,23 @@ module _ {D : Type 0} (honest : D → Type 0) (held_of : D → List (List (List 
 
   -- ---- it ends
 
-  module _ (new : Alive D) (standing : is_some old.holdings.snapshot ≡ true) (none : pending_of mid.queue ≡ []) where
+  module _ (new : Alive D) (number : ℕ) (standing : is_some (image_at old.holdings.snapshots.standing number) ≡ true) (none : pending_of mid.queue ≡ []) where
     abbrev Ends : Alive D → Type 0
-    Ends m = (new.device ≡ m.device) × (new.holdings ≡ let_go m.holdings) × (new.kept.geometry ≡ m.kept.geometry) × (pending_of new.queue ≡ releasing (held_blocks m.holdings) [])
-        × ((beside : Beside) → state_of (image_of new.device) new (record { frozen = None }) ≡ released (state_of (image_of m.device) m beside))
+    Ends m = (new.device ≡ m.device) × (new.holdings ≡ let_go m.holdings number) × (new.kept.geometry ≡ m.kept.geometry) × (pending_of new.queue ≡ releasing (let_go_blocks m.holdings number) [])
+        × ((beside : Beside) → AreImagesOf m.holdings.snapshots beside.snapshots → state_of (image_of new.device) new (record { snapshots = ended beside.snapshots number }) ≡ released (state_of (image_of m.device) m beside) number)
 
     abbrev IsReleased : Alive D → Type 0
-    IsReleased n = Releases (held_of old.device) (image_of old.device) old (held_of n.device) (image_of n.device) n
+    IsReleased n = Releases (held_of old.device) (image_of old.device) old number (held_of n.device) (image_of n.device) n
 
     abbrev Gone : D → Holdings → Alive D
     Gone d h = record { device = d; queue = new.queue; kept = new.kept; holdings = h }
 
-    ends_from : honest mid.device → StandsSo (image_of mid.device) (Gone mid.device (let_go old.holdings)) → Ends Mid → IsReleased new
+    ends_from : honest mid.device → StandsSo (image_of mid.device) (Gone mid.device (let_go old.holdings number)) → Ends Mid → IsReleased new
     ends_from h so facts =
         subst (λ d. IsReleased (Gone d new.holdings)) (sym facts.0) (subst (λ o. IsReleased (Gone mid.device o)) (sym facts.1) (λ beside is.
-        let ended = subst (λ (n : Alive D). state_of (image_of n.device) n (record { frozen = None }) ≡ released (state_of (image_of mid.device) Mid beside))
-        (ap₂ (λ (d : D) (o : Holdings). Gone d o) facts.0 facts.1) (facts.4 beside) in
-        releases (held_of old.device) (held_of mid.device) (image_of old.device) (image_of mid.device) old beside is mid.queue (flushes h) none mid.device new.queue new.kept standing facts.2 facts.3 ended so))
+        let ended_now = subst (λ (n : Alive D). state_of (image_of n.device) n (record { snapshots = ended beside.snapshots number }) ≡ released (state_of (image_of mid.device) Mid beside) number)
+        (ap₂ (λ (d : D) (o : Holdings). Gone d o) facts.0 facts.1) (facts.4 beside is.belongs) in
+        releases (held_of old.device) (held_of mid.device) (image_of old.device) (image_of mid.device) old beside is mid.queue (flushes h) none mid.device new.queue new.kept number standing facts.2 facts.3 ended_now so))
 
     pub ends : (honest new.device → StandsSo (image_of new.device) new) → honest mid.device → Ends mid → IsReleased new
     ends so h facts =
@@ -106,19 +112,19 @@ module _ {D : Type 0} (honest : D → Type 0) (held_of : D → List (List (List 
     module _ {T : Type 0} (device : new.device ≡ mid.device) where
       -- by what the end of a snapshot promises
       pub ends_ok : (r : Result T Refusal) → (honest new.device → StandsSo (image_of new.device) new)
-          → OnOk r (honest mid.device → (beside : Beside) → state_of (image_of new.device) new (record { frozen = None }) ≡ released (state_of (image_of mid.device) mid beside))
-          → OnOk r (pending_of new.queue ≡ releasing (held_blocks mid.holdings) []) → OnOk r (new.holdings ≡ let_go mid.holdings) → OnOk r (new.kept.geometry ≡ mid.kept.geometry)
+          → OnOk r (honest mid.device → (beside : Beside) → AreImagesOf mid.holdings.snapshots beside.snapshots → state_of (image_of new.device) new (record { snapshots = ended beside.snapshots number }) ≡ released (state_of (image_of mid.device) mid beside) number)
+          → OnOk r (pending_of new.queue ≡ releasing (let_go_blocks mid.holdings number) []) → OnOk r (new.holdings ≡ let_go mid.holdings number) → OnOk r (new.kept.geometry ≡ mid.kept.geometry)
           → OnOk r (honest new.device → IsReleased new)
       ends_ok (Ok t) so gone pending held geometry = λ h. let there = subst honest device h in ends so there (device, held, geometry, pending, gone there)
       ends_ok (Err e) so gone pending held geometry = gone
 
       pub ends_err : (r : Result T Refusal) → IfErr r (λ e. e ≡ NoMemory) → OnErr r (new ≡ mid)
-          → IfErr r (λ e. honest new.device → Replies (held_of old.device) (image_of old.device) old Release (Err e) (held_of new.device) (image_of new.device) new)
+          → IfErr r (λ e. honest new.device → Replies (held_of old.device) (image_of old.device) old (Release number) (Err e) (held_of new.device) (image_of new.device) new)
       ends_err (Ok t) none same = none
-      ends_err (Err e) none same = λ h. subst (λ (n : Alive D). Replies (held_of old.device) (image_of old.device) old Release (Err e) (held_of n.device) (image_of n.device) n) (sym same)
-          (written_err Release e (λ beside is. inl none) (subst honest device h))
+      ends_err (Err e) none same = λ h. subst (λ (n : Alive D). Replies (held_of old.device) (image_of old.device) old (Release number) (Err e) (held_of n.device) (image_of n.device) n) (sym same)
+          (written_err (Release number) e (λ beside is. inl none) (subst honest device h))
 
       pub ends_keeps : (r : Result T Refusal) → OnOk r (honest new.device → IsReleased new) → OnErr r (new ≡ mid) → (honest old.device → HasBeside (image_of old.device) old) → (honest mid.device → honest old.device)
           → honest new.device → HasBeside (image_of new.device) new
-      ends_keeps (Ok t) gone same has back h = let b = has (back (subst honest device h)) in record { beside = record { frozen = None }; is = (gone h b.beside b.is).is }
+      ends_keeps (Ok t) gone same has back h = let b = has (back (subst honest device h)) in record { beside = record { snapshots = ended b.beside.snapshots number }; is = (gone h b.beside b.is).is }
       ends_keeps (Err e) gone same has back h = subst (λ (n : Alive D). HasBeside (image_of n.device) n) (sym same) (written_keeps has back (subst honest device h))

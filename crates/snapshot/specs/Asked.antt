@@ -30,8 +30,8 @@ check_of geo checked = record { image = if is_same_geometry checked.frozen.geome
 -- a command of users: not one about snapshots, checks and repairs
 abbrev pub is_users : Command → Bool
 is_users Freeze = false
-is_users (SnapRead inode index) = false
-is_users Release = false
+is_users (SnapRead snapshot inode index) = false
+is_users (Release number) = false
 is_users (Install checked) = false
 is_users (Repair place) = false
 is_users _ = true
@@ -52,22 +52,22 @@ asked geo (Truncate handle size) = AsksTruncate handle size
 asked geo (ListOf path) = ListNames path.items
 asked geo (Stat path) = AsksStat path.items
 asked geo Freeze = AsksFreeze
-asked geo (SnapRead inode index) = AsksSnapRead inode index
-asked geo Release = AsksRelease
+asked geo (SnapRead snapshot inode index) = AsksSnapRead snapshot inode index
+asked geo (Release number) = AsksRelease number
 asked geo (Install checked) = AsksInstall (check_of geo (arc_value checked))
 asked geo (Repair place) = RepairAt place
 asked geo (Flush address) = AsksFlush address
 asked geo Sync = AsksSync
 
--- An answer stands for the machine's; that of a freeze has the metadata of its image.
+-- An answer stands for the machine's; that of a freeze has the snapshot's number and the metadata of its image.
 abbrev pub StandsFor : Answer → Answered → Type 0
 StandsFor Done answer = answer ≡ IsDone
 StandsFor (Number n) answer = answer ≡ IsNumber n
 StandsFor (Bytes bytes) answer = answer ≡ AreBytes bytes.items
 StandsFor (Names names) answer = answer ≡ Listed (map name_of names.items)
 StandsFor (Status status) answer = answer ≡ IsStatus status.number status.mode status.links status.size
-StandsFor (Image frozen) (IsImage view) = Shows (arc_value frozen) view
-StandsFor (Image frozen) _ = ⊥
+StandsFor (Image number frozen) (IsImage n view) = (n ≡ number) × Shows (arc_value frozen) view
+StandsFor (Image number frozen) _ = ⊥
 
 -- and so does a reply
 abbrev pub IsReply : Result Answer Refusal → Response → Type 0

@@ -31,13 +31,13 @@ GotReply held image old request reply new = Replies (held old.device) (image old
 abbrev pub asks_install : {D : Type 0} → Alive D → CheckedImage → Request
 asks_install old checked = Install (check_of old.kept.geometry checked)
 
--- a snapshot began, and this is the metadata of its image
-abbrev pub Froze : {D : Type 0} → (D → List (List (List ℕ))) → (D → List (List ℕ)) → Alive D → Kept → Alive D → Type 0
-Froze held image old snapshot new = Freezes (held old.device) (image old.device) old snapshot (held new.device) (image new.device) new
+-- a snapshot began with this number, and this is the metadata of its image
+abbrev pub Froze : {D : Type 0} → (D → List (List (List ℕ))) → (D → List (List ℕ)) → Alive D → ℕ → Kept → Alive D → Type 0
+Froze held image old s snapshot new = Freezes (held old.device) (image old.device) old s snapshot (held new.device) (image new.device) new
 
--- the snapshot ended
-abbrev pub Released : {D : Type 0} → (D → List (List (List ℕ))) → (D → List (List ℕ)) → Alive D → Alive D → Type 0
-Released held image old new = Releases (held old.device) (image old.device) old (held new.device) (image new.device) new
+-- the snapshot of this number ended
+abbrev pub Released : {D : Type 0} → (D → List (List (List ℕ))) → (D → List (List ℕ)) → Alive D → ℕ → Alive D → Type 0
+Released held image old s new = Releases (held old.device) (image old.device) old s (held new.device) (image new.device) new
 
 -- the mounted volume replied so to a command of its users
 abbrev pub RepliedSo : {D : Type 0} → (D → List (List (List ℕ))) → (D → List (List ℕ)) → Alive D → Command → Result Answer Refusal → Alive D → Type 0

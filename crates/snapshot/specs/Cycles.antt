@@ -11,6 +11,7 @@ use Rattle.model.specs.View.{View}
 
 -- Commands with these replies have a snapshot, a check of it that was installed, and each of the check's repairs carried out, and no other snapshot since.
 pub record HasCycle (geo : Geometry) (commands : List Command) (responses : List Reply) : Type 0 where
+  pub number : ℕ
   pub frozen : View
   pub check : Check
   pub findings : List Finding
@@ -21,7 +22,7 @@ pub record HasCycle (geo : Geometry) (commands : List Command) (responses : List
   pub replies : List Reply
   pub answers : List Reply
   pub commands_are : commands ≡ earlier ++ (Freeze ∷ (first ++ (Install check ∷ second)))
-  pub responses_are : responses ≡ before ++ (Ok (Image frozen) ∷ (replies ++ (Ok Done ∷ answers)))
+  pub responses_are : responses ≡ before ++ (Ok (Image number frozen) ∷ (replies ++ (Ok Done ∷ answers)))
   pub as_many : length before ≡ length earlier
   pub as_many_first : length replies ≡ length first
   pub no_freeze_first : IsTaken Freeze first replies → ⊥

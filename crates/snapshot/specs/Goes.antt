@@ -1,10 +1,11 @@
 -- What stands beside a volume, and what a volume goes through by its calls.
-use Rattle.std.specs.Prelude.{◌≡◌, ℕ, Bool, false, List, [], ◌∷◌, Some, None, Ok, Result}
+use Rattle.std.specs.Prelude.{◌≡◌, ℕ, Bool, false, List, [], ◌∷◌, Ok, Result}
 use Rattle.layout.specs.declared.refusal.Refusal.{Refusal}
 use Rattle.model.specs.Image.{IsImage}
 use Rattle.model.specs.View.{View}
 use Rattle.machine.specs.Command.{Command, Done, Freeze, Image, Release, Reply}
 use Rattle.machine.specs.Snapshot.{settled}
+use Rattle.machine.specs.Standing.{begun, ended}
 use Rattle.machine.specs.Step.{Run}
 use Rattle.plans_data.specs.Carried.{Stands}
 use Rattle.queue_model.specs.Files.{Written}
@@ -13,15 +14,15 @@ use Rattle.frozen.specs.Kept.{Kept}
 use Rattle.frozen_files.specs.Standing.{KeepsFiles}
 use Rattle.metadata.specs.Shown.{Shows}
 use Rattle.softdep.specs.Queued.{pending_of}
-use Rattle.live_states.specs.Holdings.{Beside, IsImageOf}
+use Rattle.live_states.specs.Holdings.{AreImagesOf, Beside}
 use Rattle.live.specs.Alive.{Alive, HasBegun, disk_of, state_of}
 use Rattle.live.specs.Held.{HeldMore}
 use Rattle.snapshot.specs.declared.answer.Answer.{Answer as Given}
 use Rattle.snapshot.specs.Asked.{AreReplies, IsReply}
 
--- This is the whole image of a volume's snapshot, where one stands: with it the volume stands, in balance, over an image that can be loaded, since some mount, and the blocks of the snapshot's files have their bytes still.
+-- These are the whole images of a volume's snapshots: with them the volume stands, in balance, over an image that can be loaded, since some mount, and the blocks of the snapshots' files have their bytes still.
 pub record IsBeside {D : Type 0} (image : List (List ℕ)) (live : Alive D) (beside : Beside) : Type 0 where
-  pub belongs : IsImageOf live.holdings.snapshot beside.frozen
+  pub belongs : AreImagesOf live.holdings.snapshots beside.snapshots
   pub stands : Stands live.kept.geometry (disk_of image live) (pending_of live.queue) (state_of image live beside) (λ f. false)
   pub files : KeepsFiles live.kept.geometry (state_of image live beside)
   pub framed : IsImage live.kept.geometry image
@@ -49,15 +50,17 @@ pub record Goes {D : Type 0} (beside : Beside) (held : List (List (List ℕ))) (
 abbrev pub Replies : {D : Type 0} → List (List (List ℕ)) → List (List ℕ) → Alive D → Command → Reply → List (List (List ℕ)) → List (List ℕ) → Alive D → Type 0
 Replies held image old command reply held' image' new = (beside : Beside) → IsBeside image old beside → Goes beside held image old (command ∷ []) (reply ∷ []) beside held' image' new
 
--- A snapshot began, and this is the metadata of its image, which then stands beside the volume.
-abbrev pub Freezes : {D : Type 0} → List (List (List ℕ)) → List (List ℕ) → Alive D → Kept → List (List (List ℕ)) → List (List ℕ) → Alive D → Type 0
-Freezes held image old snapshot held' image' new = (beside : Beside) → IsBeside image old beside
-    → Shows snapshot (settled old.kept.geometry (state_of image old beside))
-    × Goes beside held image old (Freeze ∷ []) (Ok (Image (settled old.kept.geometry (state_of image old beside))) ∷ []) (record { frozen = Some (settled old.kept.geometry (state_of image old beside)) }) held' image' new
+-- A snapshot began with this number, and this is the metadata of its image, which then stands beside the volume too.
+abbrev pub Freezes : {D : Type 0} → List (List (List ℕ)) → List (List ℕ) → Alive D → ℕ → Kept → List (List (List ℕ)) → List (List ℕ) → Alive D → Type 0
+Freezes held image old s snapshot held' image' new = (beside : Beside) → IsBeside image old beside
+    → let view = settled old.kept.geometry (state_of image old beside) in
+    (s ≡ old.holdings.snapshots.freezes) × Shows snapshot view
+    × Goes beside held image old (Freeze ∷ []) (Ok (Image s view) ∷ []) (record { snapshots = begun beside.snapshots view }) held' image' new
 
--- The snapshot ended, and nothing stands beside the volume.
-abbrev pub Releases : {D : Type 0} → List (List (List ℕ)) → List (List ℕ) → Alive D → List (List (List ℕ)) → List (List ℕ) → Alive D → Type 0
-Releases held image old held' image' new = (beside : Beside) → IsBeside image old beside → Goes beside held image old (Release ∷ []) (Ok Done ∷ []) (record { frozen = None }) held' image' new
+-- The snapshot of this number ended, and its image stands beside the volume no more.
+abbrev pub Releases : {D : Type 0} → List (List (List ℕ)) → List (List ℕ) → Alive D → ℕ → List (List (List ℕ)) → List (List ℕ) → Alive D → Type 0
+Releases held image old s held' image' new = (beside : Beside) → IsBeside image old beside
+    → Goes beside held image old (Release s ∷ []) (Ok Done ∷ []) (record { snapshots = ended beside.snapshots s }) held' image' new
 
 -- A command got this reply, whatever stands beside the volume then.
 abbrev pub Applies : {D : Type 0} → List (List (List ℕ)) → List (List ℕ) → Alive D → Command → Result Given Refusal → List (List (List ℕ)) → List (List ℕ) → Alive D → Type 0

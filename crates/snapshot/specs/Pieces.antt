@@ -8,6 +8,7 @@ use Rattle.model.specs.Uses.{claim_at}
 use Rattle.model.specs.View.{View}
 use Rattle.machine.specs.Below.{when}
 use Rattle.machine.specs.Causes.{is_used_number, not_file, past}
+use Rattle.machine.specs.Standing.{image_at}
 use Rattle.frozen.specs.Kept.{Kept, KeepsMetadata, frozen_view}
 use Rattle.live_states.specs.Holdings.{Holdings}
 use Rattle.snapshot.specs.declared.pieces.Piece.{Piece}
@@ -22,10 +23,10 @@ pub record IsPieceOf (kept : Kept) (i k : ℕ) (piece : Piece) : Type 0 where
   pub claimed : claim_at kept.geometry (frozen_view kept) i k ≡ Some piece.block
   pub length : piece.length ≡ min (((frozen_view kept).inode i).size - 1024 * k) 1024
 
--- And so where the snapshot of a volume of this geometry stands, which is all metadata of its image.
-pub record IsPieceOfSnapshot (geo : Geometry) (holdings : Holdings) (i k : ℕ) (piece : Piece) : Type 0 where
+-- And so where snapshot s of a volume of this geometry stands, which is all metadata of its image.
+pub record IsPieceOfSnapshot (geo : Geometry) (holdings : Holdings) (s i k : ℕ) (piece : Piece) : Type 0 where
   pub snapshot : Kept
-  pub stands : holdings.snapshot ≡ Some snapshot
+  pub stands : image_at holdings.snapshots.standing s ≡ Some snapshot
   pub geometry : snapshot.geometry ≡ geo
   pub metadata : KeepsMetadata snapshot
   pub found : IsPieceOf snapshot i k piece

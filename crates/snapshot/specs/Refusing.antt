@@ -5,6 +5,7 @@ use Rattle.layout.specs.declared.refusal.Refusal.TheVariants.{BadIndex, Device, 
 use Rattle.model.specs.Layout.{Geometry}
 use Rattle.machine.specs.Causes.{FirstRefusal}
 use Rattle.machine.specs.Command.{Command as Request, SnapRead}
+use Rattle.machine.specs.Standing.{image_at}
 use Rattle.machine.specs.State.{State}
 use Rattle.frozen.specs.Kept.{Kept, KeepsMetadata}
 use Rattle.live_states.specs.Holdings.{Has, Holdings}
@@ -15,21 +16,21 @@ use Rattle.snapshot.specs.declared.command.Command.{Command}
 use Rattle.snapshot.specs.Asked.{asked}
 use Rattle.snapshot.specs.Pieces.{LacksPiece}
 
--- The image of the snapshot breaks the rules: no cause is there, and yet it has no block k of file i.
-pub record LacksPieceOfSnapshot (geo : Geometry) (holdings : Holdings) (i k : ℕ) : Type 0 where
+-- The image of snapshot s breaks the rules: no cause is there, and yet it has no block k of file i.
+pub record LacksPieceOfSnapshot (geo : Geometry) (holdings : Holdings) (s i k : ℕ) : Type 0 where
   pub snapshot : Kept
-  pub stands : holdings.snapshot ≡ Some snapshot
+  pub stands : image_at holdings.snapshots.standing s ≡ Some snapshot
   pub geometry : snapshot.geometry ≡ geo
   pub metadata : KeepsMetadata snapshot
   pub lacks : LacksPiece snapshot i k
 
--- why block k of file i of the snapshot has no place
-abbrev pub IsWhyUnread : Geometry → Holdings → ℕ → ℕ → Refusal → Type 0
-IsWhyUnread geo holdings i k r = ((old : State) → Has holdings old → FirstRefusal geo old (SnapRead i k) r) ⊎ ((r ≡ BadIndex) × LacksPieceOfSnapshot geo holdings i k)
+-- why block k of file i of snapshot s has no place
+abbrev pub IsWhyUnread : Geometry → Holdings → ℕ → ℕ → ℕ → Refusal → Type 0
+IsWhyUnread geo holdings s i k r = ((old : State) → Has holdings old → FirstRefusal geo old (SnapRead s i k) r) ⊎ ((r ≡ BadIndex) × LacksPieceOfSnapshot geo holdings s i k)
 
--- so a read of the snapshot is refused without a cause
+-- so a read of a snapshot is refused without a cause
 abbrev pub IsUnread : Geometry → Holdings → Request → Type 0
-IsUnread geo holdings (SnapRead i k) = LacksPieceOfSnapshot geo holdings i k
+IsUnread geo holdings (SnapRead s i k) = LacksPieceOfSnapshot geo holdings s i k
 IsUnread geo holdings command = ⊥
 
 -- The device failed, or there is no memory, or this is the first cause for every state that the memory of a volume shows; or the block is not there in a snapshot that breaks the rules.

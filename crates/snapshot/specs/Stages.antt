@@ -25,7 +25,7 @@ geometry_at s = s.volume.kept.geometry
 abbrev pub state_at : {D : Type 0} → Stage D → State
 state_at s = state_of s.image s.volume s.beside
 
--- what stands beside the volume is the whole image of its snapshot, and the volume stands
+-- what stands beside the volume are the whole images of its snapshots, and the volume stands
 abbrev pub StandsAt : {D : Type 0} → Stage D → Type 0
 StandsAt s = IsBeside s.image s.volume s.beside
 

@@ -1,7 +1,7 @@
 -- What each command writes to the device of a volume.
 use Rattle.std.specs.Prelude.{◌≡◌, ℕ, ◌<◌, List, Ok, Err, Result}
 use Rattle.layout.specs.declared.refusal.Refusal.{Refusal}
-use Rattle.layout.specs.declared.refusal.Refusal.TheVariants.{NoSnapshot, SnapshotStands}
+use Rattle.layout.specs.declared.refusal.Refusal.TheVariants.{NoSnapshot, TooManySnapshots}
 use Rattle.model.specs.Layout.{Geometry}
 use Rattle.ordering.specs.Cuts.{Pending}
 use Rattle.softdep.specs.Queued.{pending_of}
@@ -23,14 +23,14 @@ WritesFlush a (Err r) image held image' held' = WritesNothing image held image' 
 abbrev pub WritesLeast : Geometry → List Pending → List (List ℕ) → List (List (List ℕ)) → List (List ℕ) → List (List (List ℕ)) → Type 0
 WritesLeast geo q image held image' held' = (q' : List Pending) × AreFlushes geo image held q image' held' q'
 
--- A command got this reply, and wrote so, to a device that tells so whether it was honest, what it held and what it holds: a flush its block; a sync, a freeze and a release what is pending, unless a snapshot stands or there is none; any other one nothing.
+-- A command got this reply, and wrote so, to a device that tells so whether it was honest, what it held and what it holds: a flush its block; a sync, a freeze and a release what is pending, unless one more would be too many, or the one that is to end does not stand; any other one nothing.
 abbrev pub Writes : {D : Type 0} → (D → Type 0) → (D → List (List (List ℕ))) → (D → List (List ℕ)) → Alive D → Command → Result Answer Refusal → Alive D → Type 0
 Writes honest held image old (Flush a) reply new = WritesFlush a reply (image old.device) (held old.device) (image new.device) (held new.device)
 Writes honest held image old Sync reply new = honest new.device → WritesLeast old.kept.geometry (pending_of old.queue) (image old.device) (held old.device) (image new.device) (held new.device)
 Writes honest held image old Freeze reply new =
     (honest new.device → WritesLeast old.kept.geometry (pending_of old.queue) (image old.device) (held old.device) (image new.device) (held new.device))
-    × (reply ≡ Err SnapshotStands → WritesNothing (image old.device) (held old.device) (image new.device) (held new.device))
-Writes honest held image old Release reply new =
+    × (reply ≡ Err TooManySnapshots → WritesNothing (image old.device) (held old.device) (image new.device) (held new.device))
+Writes honest held image old (Release number) reply new =
     (honest new.device → WritesLeast old.kept.geometry (pending_of old.queue) (image old.device) (held old.device) (image new.device) (held new.device))
     × (reply ≡ Err NoSnapshot → WritesNothing (image old.device) (held old.device) (image new.device) (held new.device))
 Writes honest held image old command reply new = WritesNothing (image old.device) (held old.device) (image new.device) (held new.device)

@@ -20,8 +20,8 @@ pub enum Answer {
     Names(Vec<Named>),
     /// What an inode is.
     Status(Status),
-    /// The metadata of the image that was frozen.
-    Image(Arc<Frozen>),
+    /// The number of a snapshot that began, and the metadata of its image.
+    Image(u64, Arc<Frozen>),
 }
 
 /// The answer, or why there is none: then what users see, what is open and held and the repairs are as they were.
@@ -69,9 +69,9 @@ pub(crate) fn status(outcome: Result<Status, Refusal>) -> Reply
     outcome.map(|status| Answer::Status(status))
 }
 
-/// The reply that has the metadata of an image.
-pub(crate) fn image(outcome: Result<Arc<Frozen>, Refusal>) -> Reply
-    ensures { MatchResult outcome (λ frozen. result ≡ Ok (Answer.Image frozen)) (λ refusal. result ≡ Err refusal) }
+/// The reply that has the number of a snapshot and the metadata of its image.
+pub(crate) fn image(outcome: Result<(u64, Arc<Frozen>), Refusal>) -> Reply
+    ensures { MatchResult outcome (λ made. result ≡ Ok (Answer.Image made.0 made.1)) (λ refusal. result ≡ Err refusal) }
 {
-    outcome.map(|frozen| Answer::Image(frozen))
+    outcome.map(|(number, frozen)| Answer::Image(number, frozen))
 }

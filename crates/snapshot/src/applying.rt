@@ -31,8 +31,12 @@ impl<D: Device> Volume<D> {
     {
         match command {
             Command::Freeze => image(self.freeze(alloc)),
-            Command::SnapRead { inode, index } => bytes(self.snap_read(alloc, *inode, *index)),
-            Command::Release => done(self.release(alloc)),
+            Command::SnapRead {
+                snapshot,
+                inode,
+                index,
+            } => bytes(self.snap_read(alloc, *snapshot, *inode, *index)),
+            Command::Release(number) => done(self.release(alloc, *number)),
             Command::Install(checked) => done(self.install(alloc, checked)),
             Command::Repair(place) => done(self.repair(alloc, *place)),
             _ => self.user_answer(alloc, command),

@@ -5,6 +5,7 @@ ghost use Rattle.machine.specs.Command.{Done, RepairAt};
 ghost use Rattle.frozen.specs.Kept.{frozen_view};
 ghost use Rattle.fsck.specs.Checked.{IsChecked};
 ghost use Rattle.machine.specs.Causes.{FirstRefusal};
+ghost use Rattle.machine.specs.Standing.{latest_at};
 ghost use Rattle.machine.specs.State.{State};
 ghost use Rattle.live_states.specs.Holdings.{Has};
 ghost use Rattle.live_states.specs.Planned.{IsRefusedWith};
@@ -22,10 +23,11 @@ use same_metadata::have_same_metadata;
 use std::alloc::Global;
 
 impl<D: Device> Volume<D> {
-    /// Takes the repairs of a check of the snapshot that stands, none of them done. Refused with `NoSnapshot`, with
-    /// `PlanStands` where a check of the snapshot was installed before, with `PlanNotSoft` where the image that was checked
-    /// is damaged, with `ForeignPlan` where that image is another one than the snapshot's: its geometry, a record, a bit, or a byte of
-    /// an indirect block or a directory's block differs; and with `NoMemory`.
+    /// Takes the repairs of a check of the snapshot of the latest freeze, none of them done. Refused with `NoSnapshot` where
+    /// that one stands no more, whatever else stands, with `PlanStands` where a check of it was installed before, with
+    /// `PlanNotSoft` where the image that was checked is damaged, with `ForeignPlan` where that image is another one than the
+    /// snapshot's: its geometry, a record, a bit, or a byte of an indirect block or a directory's block differs; and with
+    /// `NoMemory`.
     pub fn install(&mut self, alloc: Global, checked: &Checked) -> Result<(), Refusal>
         ensures installed { OnOk result (D.honest self.new.device → GotReply D.held D.image self.old (asks_install self.old checked.now) (Ok Done) self.new) }
         ensures refused { IfErr result (λ r. D.honest self.new.device → GotReply D.held D.image self.old (asks_install self.old checked.now) (Err r) self.new) }
@@ -37,10 +39,10 @@ impl<D: Device> Volume<D> {
         self.take_repairs(alloc, checked)
     }
 
-    /// Takes the repairs of a check as `install` does, where the image that was checked is the very snapshot that stands:
-    /// nothing is compared. Refused with `PlanStands`, with `PlanNotSoft`, and with `NoMemory`.
+    /// Takes the repairs of a check as `install` does, where the image that was checked is the very snapshot of the latest
+    /// freeze, which stands: nothing is compared. Refused with `PlanStands`, with `PlanNotSoft`, and with `NoMemory`.
     pub fn install_own(&mut self, alloc: Global, checked: &Checked) -> Result<(), Refusal>
-        requires own { self.old.holdings.snapshot ≡ Some checked.now.frozen }
+        requires own { latest_at self.old.holdings.snapshots.standing self.old.holdings.snapshots.freezes ≡ Some checked.now.frozen }
         ensures installed { OnOk result (D.honest self.new.device → GotReply D.held D.image self.old (asks_install self.old checked.now) (Ok Done) self.new) }
         ensures refused { IfErr result (λ r. D.honest self.new.device → GotReply D.held D.image self.old (asks_install self.old checked.now) (Err r) self.new) }
         ensures cause { IfErr result (IsRefusedWith self.old.kept self.old.holdings (asks_install self.old checked.now)) }
@@ -92,7 +94,7 @@ fn may_install<D: Device>(live: &Live<D>, checked: &Checked) -> Result<(), Refus
     ensures refused { IfErr result (λ r. (old : State) → Has live.now.holdings old
         → FirstRefusal live.now.kept.geometry old (asks_install live.now checked.now) r) }
 {
-    let Some(snapshot) = live.snapshot() else {
+    let Some(snapshot) = live.latest() else {
         return Err(Refusal::NoSnapshot);
     };
     may_mend(live, checked)?;
@@ -103,9 +105,9 @@ fn may_install<D: Device>(live: &Live<D>, checked: &Checked) -> Result<(), Refus
     Ok(())
 }
 
-/// Whether the repairs of a check may be taken, where the snapshot that stands is the image that was checked.
+/// Whether the repairs of a check may be taken, where the snapshot of the latest freeze is the image that was checked.
 fn may_install_own<D: Device>(live: &Live<D>, checked: &Checked) -> Result<(), Refusal>
-    requires { live.now.holdings.snapshot ≡ Some checked.now.frozen }
+    requires { latest_at live.now.holdings.snapshots.standing live.now.holdings.snapshots.freezes ≡ Some checked.now.frozen }
     ensures installable { OnOk result (IsInstallable live.now.kept live.now.holdings (check_of live.now.kept.geometry checked.now) checked.now.repairs) }
     ensures named { OnOk result (AreRepairsOf live.now.kept.geometry (installing live.now.holdings checked.now.repairs).repairs) }
     ensures refused { IfErr result (λ r. (old : State) → Has live.now.holdings old
@@ -113,14 +115,15 @@ fn may_install_own<D: Device>(live: &Live<D>, checked: &Checked) -> Result<(), R
     ensures error { IfErr result (λ r. (r ≡ Refusal.PlanStands) ⊎ (r ≡ Refusal.PlanNotSoft)) }
 {
     may_mend(live, checked)?;
-    live.snapshot(); // for the proof: its clause `whole`
+    live.latest(); // for the proof: its clause `whole`
     tells_its_image(checked);
     Ok(())
 }
 
-/// Whether no check is installed in a volume whose snapshot stands, and repairs mend all that this check found.
+/// Whether no check is installed in a volume whose latest freeze's snapshot stands, and repairs mend all that this check
+/// found.
 fn may_mend<D: Device>(live: &Live<D>, checked: &Checked) -> Result<(), Refusal>
-    requires { IsSome live.now.holdings.snapshot }
+    requires { IsSome (latest_at live.now.holdings.snapshots.standing live.now.holdings.snapshots.freezes) }
     ensures unplanned { OnOk result (live.now.holdings.repairs ≡ None) }
     ensures soft { OnOk result (list_all is_soft checked.now.findings ≡ true) }
     ensures refused { IfErr result (λ r. (old : State) → Has live.now.holdings old

@@ -41,16 +41,17 @@ pub enum Command {
     List(Vec<u8>),
     /// What a path leads to.
     Stat(Vec<u8>),
-    /// A snapshot begins; the answer is its metadata.
+    /// A snapshot begins; the answer is its number and its metadata.
     Freeze,
-    /// The bytes that a file had in its block of this index when the snapshot began.
+    /// The bytes that a file had in its block of this index when the snapshot of this number began.
     SnapRead {
+        snapshot: u64,
         inode: u32,
         index: u32,
     },
-    /// The snapshot ends.
-    Release,
-    /// The repairs of a check of the snapshot are to be carried out.
+    /// The snapshot of this number ends.
+    Release(u64),
+    /// The repairs of a check of the snapshot of the latest freeze are to be carried out.
     Install(Arc<Checked>),
     /// The repair of this place in the list of the check is carried out.
     Repair(u32),

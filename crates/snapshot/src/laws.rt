@@ -2,7 +2,7 @@
 //! the calls are stated, of stages: a volume with what stands beside it, and with what its device had held and holds.
 
 ghost use Rattle.std.specs.List.{All};
-ghost use Rattle.std.specs.Prelude.{◌≡◌, ℕ, Bool, false, List, [], ◌∷◌, ◌++◌, ◌⊎◌, None, Ok, Some, IsTrue, length, slice_get};
+ghost use Rattle.std.specs.Prelude.{◌≡◌, ℕ, Bool, false, List, [], ◌∷◌, ◌++◌, ◌⊎◌, Ok, Some, IsTrue, length, slice_get};
 ghost use Rattle.findings.specs.Findings.{AreFindings};
 ghost use Rattle.findings.specs.Report.{repairs_of};
 ghost use Rattle.findings.specs.declared.finding.Finding.{Finding};
@@ -15,7 +15,7 @@ ghost use Rattle.machine.specs.Runs.{IsTaken};
 ghost use Rattle.machine.specs.State.{Plan};
 ghost use Rattle.queue_model.specs.Files.{Written};
 ghost use Rattle.softdep.specs.Queued.{pending_of};
-ghost use Rattle.live_states.specs.Holdings.{IsIdle};
+ghost use Rattle.live_states.specs.Holdings.{IsIdle, nothing_beside};
 ghost use Rattle.live.specs.Alive.{disk_of};
 ghost use Rattle.live.specs.Held.{HeldMore};
 ghost use Rattle.live.specs.Mounting.{IsMountable};
@@ -55,7 +55,7 @@ pub fn each_image_held_is_mountable<D: Device>()
         → (more : List (List (List ℕ))) × (t.held ≡ s.held ++ more) × All (IsMountable (geometry_at s)) more }
 {}
 
-/// A volume is in balance: everything that is marked or counted is in use, held for the snapshot, or owed a repair. Where
+/// A volume is in balance: everything that is marked or counted is in use, held for a snapshot, or owed a repair. Where
 /// nothing is owed, the maps mark exactly what is reachable, open or held, and each link count equals its entries.
 pub fn volumes_are_in_balance<D: Device>()
     ensures { (s : Stage D) → StandsAt s → Balance (geometry_at s) (state_at s)
@@ -77,7 +77,7 @@ pub fn no_call_makes_a_debt<D: Device>()
 pub fn clean_volumes_stay_exact<D: Device>()
     ensures { (s t : Stage D) (commands : List Command) (replies : List Reply)
         → IsMountable (geometry_at s) s.image → pending_of s.volume.queue ≡ [] → IsIdle s.volume.holdings
-        → s.beside.frozen ≡ None → AreFindings (geometry_at s) (disk_of s.image s.volume) []
+        → s.beside ≡ nothing_beside → AreFindings (geometry_at s) (disk_of s.image s.volume) []
         → LeadsTo s commands replies t
         → OwesNothing (geometry_at s) (state_at t) × Exact (geometry_at s) (state_at t) }
 {
@@ -89,9 +89,9 @@ pub fn clean_volumes_stay_exact<D: Device>()
 /// held, and each link count equals its entries; and from then on nothing is owed whatever is done, freezes and all. A part of a
 /// longer history that is such a cycle (`within`) ends it exact, too.
 pub fn whole_cycles_end_exact<D: Device>()
-    ensures cycle { (s t : Stage D) (frozen : View) (check : Check) (findings : List Finding)
+    ensures cycle { (s t : Stage D) (number : ℕ) (frozen : View) (check : Check) (findings : List Finding)
         → (first second : List Command) (replies answers : List Reply) → StandsAt s → length replies ≡ length first
-        → LeadsTo s (Freeze ∷ (first ++ (Install check ∷ second))) (Ok (Image frozen) ∷ (replies ++ (Ok Done ∷ answers))) t
+        → LeadsTo s (Freeze ∷ (first ++ (Install check ∷ second))) (Ok (Image number frozen) ∷ (replies ++ (Ok Done ∷ answers))) t
         → (IsTaken Freeze first replies → ⊥) → (IsTaken Freeze second answers → ⊥)
         → AreFindings (geometry_at s) frozen findings
         → ((k : ℕ) (r : Repair) → slice_get (repairs_of findings) k ≡ Some r → IsTaken (RepairAt k) second answers)

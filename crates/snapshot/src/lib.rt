@@ -1,9 +1,10 @@
 //! A mounted volume of which snapshots are taken: an image of it is frozen for a check while users go on, what the check
 //! finds is mended by repairs, and the marks and links of the volume are then exact.
 //!
-//! A snapshot is not kept over a stop: the blocks that were held for it are then marked and in no use, which the next
-//! check finds. Snapshots that a file system takes of itself for its check are after McKusick and Ganger (1999) and McKusick
-//! (2002).
+//! Up to four snapshots may stand, each with the number of its freeze since the mount; only the one of the latest freeze
+//! takes the repairs of a check. No snapshot is kept over a stop: the blocks that were held are then marked and in no use,
+//! which the next check finds. Snapshots that a file system takes of itself for its check are after McKusick and Ganger
+//! (1999) and McKusick (2002).
 #![tactic(auto)]
 
 mod answer;

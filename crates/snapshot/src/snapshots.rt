@@ -1,9 +1,10 @@
-ghost use Rattle.std.specs.Prelude.{◌≡◌, ◌⊎◌, ◌↔◌, ◌≤◌, [], Err, IfErr, IfOk, IsErrOf, IsOkUnless, IsSome, None, Ok, IsTrue, OnErr, OnOk, is_some};
+ghost use Rattle.std.specs.Prelude.{◌≡◌, ◌⊎◌, ◌↔◌, ◌≤◌, [], Err, IfErr, IfOk, IsErrOf, IsOkUnless, None, Ok, IsTrue, OnErr, OnOk, is_some};
 ghost use Rattle.std.specs.Arc.{arc_value};
 ghost use Rattle.device.specs.Writes.{HasFailed};
 ghost use Rattle.frozen.specs.Kept.{KeepsMetadata};
 ghost use Rattle.model.specs.Layout.{is_data_address};
 ghost use Rattle.machine.specs.Command.{Bytes, Freeze, Release, SnapRead};
+ghost use Rattle.machine.specs.Standing.{image_at, too_many};
 ghost use Rattle.softdep.specs.Queued.{pending_of};
 ghost use Rattle.live_states.specs.Snapshots.{IsSettled, keeping};
 ghost use Rattle.live.specs.Alive.{StandsSo};
@@ -24,102 +25,113 @@ use std::sync::Arc;
 impl<D: Device> Volume<D> {
     /// A snapshot begins: the image of users, without the open files that have no name and without what is held, as it is
     /// once all that is pending is written. From now on no block of a file in it is changed or given out, until it is
-    /// released. The repairs of an older check are dropped. Refused with `SnapshotStands` and with `NoMemory`, and then
-    /// nothing changed; and with `Device`, and then what was written before stays written.
-    pub fn freeze(&mut self, alloc: Global) -> Result<Arc<Frozen>, Refusal>
-        ensures frozen { IfOk result (λ snapshot. D.honest self.new.device → Froze D.held D.image self.old (arc_value snapshot) self.new) }
+    /// released. The repairs of an older check are dropped. Gives its number, which is how many freezes there were before it
+    /// since the mount, and its metadata. Refused with `TooManySnapshots` where four stand or no number is left, and with
+    /// `NoMemory`, and then nothing changed; and with `Device`, and then what was written before stays written.
+    pub fn freeze(&mut self, alloc: Global) -> Result<(u64, Arc<Frozen>), Refusal>
+        ensures frozen { IfOk result (λ made. D.honest self.new.device → Froze D.held D.image self.old made.0 (arc_value made.1) self.new) }
         ensures refused { IfErr result (λ r. D.honest self.new.device → GotReply D.held D.image self.old Freeze (Err r) self.new) }
         ensures untouched { OnErr result ((self.new.kept ≡ self.old.kept) × (self.new.holdings ≡ self.old.holdings)) }
         ensures writes { D.honest self.new.device → WroteLeast D.held D.image self.old self.new }
-        ensures stands { IsErrOf result Refusal.SnapshotStands ↔ IsSome self.old.holdings.snapshot }
-        ensures standing { IsErrOf result Refusal.SnapshotStands → self.new ≡ self.old }
+        ensures many { IsErrOf result Refusal.TooManySnapshots ↔ IsTrue (too_many self.old.holdings.snapshots) }
+        ensures unchanged { IsErrOf result Refusal.TooManySnapshots → self.new ≡ self.old }
         ensures full { IsErrOf result Refusal.NoMemory → self.new ≡ self.old }
-        ensures error { IfErr result (λ r. (r ≡ Refusal.SnapshotStands) ⊎ ((r ≡ Refusal.NoMemory) ⊎ (r ≡ Refusal.Device))) }
+        ensures error { IfErr result (λ r. (r ≡ Refusal.TooManySnapshots) ⊎ ((r ≡ Refusal.NoMemory) ⊎ (r ≡ Refusal.Device))) }
         ensures cause { IsErrOf result Refusal.Device → HasFailed (D.failures self.old.device) (D.failures self.new.device) }
         ensures honest { D.honest self.new.device → D.honest self.old.device }
     {
-        if has_snapshot(self.live()) {
-            return Err(Refusal::SnapshotStands);
+        if !self.live.may_freeze() {
+            return Err(Refusal::TooManySnapshots);
         }
         let Shared { kept, given } = shared_view(alloc, self.live())?;
-        self.freeze_as(kept)?;
-        Ok(given)
+        let number = self.freeze_as(kept)?;
+        Ok((number, given))
     }
 
-    /// A snapshot begins as by `freeze`, where the caller has the metadata of its image already: nothing is copied. Refused
-    /// with `SnapshotStands`, and then nothing changed; and with `Device`, and then what was written before stays written.
-    pub fn freeze_as(&mut self, snapshot: Arc<Frozen>) -> Result<(), Refusal>
+    /// A snapshot begins as by `freeze`, where the caller has the metadata of its image already: nothing is copied. Gives its
+    /// number. Refused with `TooManySnapshots`, and then nothing changed; and with `Device`, and then what was written before
+    /// stays written.
+    pub fn freeze_as(&mut self, snapshot: Arc<Frozen>) -> Result<u64, Refusal>
         requires settled { IsSettled self.old.kept self.old.holdings (arc_value snapshot) }
         requires whole { ((arc_value snapshot).geometry ≡ self.old.kept.geometry) × KeepsMetadata (arc_value snapshot) }
-        ensures frozen { OnOk result (D.honest self.new.device → Froze D.held D.image self.old (arc_value snapshot) self.new) }
-        // Whatever the device did, this is the snapshot that stands, and users see what they saw.
-        ensures keeps { OnOk result ((self.new.kept ≡ self.old.kept) × (self.new.holdings ≡ keeping self.old.holdings (arc_value snapshot))) }
+        ensures frozen { IfOk result (λ number. D.honest self.new.device → Froze D.held D.image self.old number (arc_value snapshot) self.new) }
+        // Whatever the device did, this is the snapshot that stands under the number, and users see what they saw.
+        ensures keeps { IfOk result (λ number. (number ≡ self.old.holdings.snapshots.freezes) × (self.new.kept ≡ self.old.kept)
+            × (self.new.holdings ≡ keeping self.old.holdings (arc_value snapshot))) }
         ensures refused { IfErr result (λ r. D.honest self.new.device → GotReply D.held D.image self.old Freeze (Err r) self.new) }
         ensures untouched { OnErr result ((self.new.kept ≡ self.old.kept) × (self.new.holdings ≡ self.old.holdings)) }
         ensures writes { D.honest self.new.device → WroteLeast D.held D.image self.old self.new }
-        ensures stands { IsErrOf result Refusal.SnapshotStands ↔ IsSome self.old.holdings.snapshot }
-        ensures standing { IsErrOf result Refusal.SnapshotStands → self.new ≡ self.old }
-        ensures error { IfErr result (λ r. (r ≡ Refusal.SnapshotStands) ⊎ (r ≡ Refusal.Device)) }
+        ensures many { IsErrOf result Refusal.TooManySnapshots ↔ IsTrue (too_many self.old.holdings.snapshots) }
+        ensures unchanged { IsErrOf result Refusal.TooManySnapshots → self.new ≡ self.old }
+        ensures error { IfErr result (λ r. (r ≡ Refusal.TooManySnapshots) ⊎ (r ≡ Refusal.Device)) }
         ensures cause { IsErrOf result Refusal.Device → HasFailed (D.failures self.old.device) (D.failures self.new.device) }
         ensures honest { D.honest self.new.device → D.honest self.old.device }
     {
-        if has_snapshot(&self.live) {
-            return Err(Refusal::SnapshotStands);
+        if !self.live.may_freeze() {
+            return Err(Refusal::TooManySnapshots);
         }
         self.live.keeps_metadata();
         write_all(&mut self.live)?;
-        self.live.keep(snapshot);
+        let number = self.live.keep(snapshot);
         self.live.device();
-        Ok(())
+        Ok(number)
     }
 
-    /// The bytes that a file had in its block of this index when the snapshot began. Refused with `NoSnapshot`, with
-    /// `NotFound` where the number was in no use, with `IsDirectory`, with `BadIndex` where the file ended before the block, with
-    /// `Device`, and with `NoMemory`.
-    pub fn snap_read(&mut self, alloc: Global, inode: u32, index: u32) -> Result<Vec<u8>, Refusal>
-        ensures read { IfOk result (λ bytes. D.honest self.new.device → GotReply D.held D.image self.old (SnapRead inode index) (Ok (Bytes bytes.items)) self.new) }
-        ensures refused { IfErr result (λ r. D.honest self.new.device → GotReply D.held D.image self.old (SnapRead inode index) (Err r) self.new) }
+    /// The bytes that a file had in its block of this index when the snapshot of this number began. Refused with `NoSnapshot`
+    /// where that one does not stand, with `NotFound` where the inode's number was in no use, with `IsDirectory`, with
+    /// `BadIndex` where the file ended before the block, with `Device`, and with `NoMemory`.
+    pub fn snap_read(
+        &mut self,
+        alloc: Global,
+        number: u64,
+        inode: u32,
+        index: u32,
+    ) -> Result<Vec<u8>, Refusal>
+        ensures read { IfOk result (λ bytes. D.honest self.new.device
+            → GotReply D.held D.image self.old (SnapRead number inode index) (Ok (Bytes bytes.items)) self.new) }
+        ensures refused { IfErr result (λ r. D.honest self.new.device → GotReply D.held D.image self.old (SnapRead number inode index) (Err r) self.new) }
         ensures untouched { (self.new.queue ≡ self.old.queue) × (self.new.kept ≡ self.old.kept) × (self.new.holdings ≡ self.old.holdings) }
         ensures image { D.image self.new.device ≡ D.image self.old.device }
         ensures held { D.held self.new.device ≡ D.held self.old.device }
-        ensures error { IfErr result (IsCauseOf self.old.kept self.old.holdings (SnapRead inode index)) }
+        ensures error { IfErr result (IsCauseOf self.old.kept self.old.holdings (SnapRead number inode index)) }
         ensures cause { IsErrOf result Refusal.Device → HasFailed (D.failures self.old.device) (D.failures self.new.device) }
         ensures honest { D.honest self.new.device → D.honest self.old.device }
     {
-        let Piece { block, length } = piece_of_snapshot(&self.live, inode, index)?;
+        let Piece { block, length } = piece_of_snapshot(&self.live, number, inode, index)?;
         let bytes = self.live.data_block(block)?;
         Ok(first_bytes(alloc, &bytes, length)?)
     }
 
-    /// The snapshot ends once all that is pending is written; the blocks that were held for it are free. The repairs of its
-    /// check stay. Refused with `NoSnapshot`, and then nothing changed, with `NoMemory`, and with `Device`; what was written
-    /// before stays written, since the plan that frees the blocks needs the marks on the device first.
-    pub fn release(&mut self, alloc: Global) -> Result<(), Refusal>
-        ensures released { OnOk result (D.honest self.new.device → Released D.held D.image self.old self.new) }
-        ensures refused { IfErr result (λ r. D.honest self.new.device → GotReply D.held D.image self.old Release (Err r) self.new) }
+    /// The snapshot of this number ends once all that is pending is written; the blocks are free that were held for it and
+    /// that no other one keeps. The repairs of a check stay. Refused with `NoSnapshot` where it does not stand, and then
+    /// nothing changed, with `NoMemory`, and with `Device`; what was written before stays written, since the plan that frees
+    /// the blocks needs the marks on the device first.
+    pub fn release(&mut self, alloc: Global, number: u64) -> Result<(), Refusal>
+        ensures released { OnOk result (D.honest self.new.device → Released D.held D.image self.old number self.new) }
+        ensures refused { IfErr result (λ r. D.honest self.new.device → GotReply D.held D.image self.old (Release number) (Err r) self.new) }
         ensures untouched { OnErr result ((self.new.kept ≡ self.old.kept) × (self.new.holdings ≡ self.old.holdings)) }
         ensures writes { D.honest self.new.device → WroteLeast D.held D.image self.old self.new }
-        ensures stands { IsErrOf result Refusal.NoSnapshot ↔ (self.old.holdings.snapshot ≡ None) }
+        ensures stands { IsErrOf result Refusal.NoSnapshot ↔ (image_at self.old.holdings.snapshots.standing number ≡ None) }
         ensures none { IsErrOf result Refusal.NoSnapshot → self.new ≡ self.old }
         ensures error { IfErr result (λ r. (r ≡ Refusal.NoSnapshot) ⊎ ((r ≡ Refusal.NoMemory) ⊎ (r ≡ Refusal.Device))) }
         ensures cause { IsErrOf result Refusal.Device → HasFailed (D.failures self.old.device) (D.failures self.new.device) }
         ensures honest { D.honest self.new.device → D.honest self.old.device }
     {
-        if !has_snapshot(&self.live) {
+        if !has_snapshot(&self.live, number) {
             return Err(Refusal::NoSnapshot);
         }
         write_all(&mut self.live)?;
-        let outcome = self.live.end_keep(alloc);
+        let outcome = self.live.end_keep(alloc, number);
         self.live.device();
         outcome
     }
 }
 
-/// Whether a snapshot stands.
-fn has_snapshot<D: Device>(live: &Live<D>) -> bool
-    ensures { result ≡ is_some live.now.holdings.snapshot }
+/// Whether the snapshot of this number stands.
+fn has_snapshot<D: Device>(live: &Live<D>, number: u64) -> bool
+    ensures { result ≡ is_some (image_at live.now.holdings.snapshots.standing number) }
 {
-    live.snapshot().is_some()
+    live.snapshot(number).is_some()
 }
 
 /// Writes all that is pending; the volume stands then as before.
@@ -138,14 +150,20 @@ fn write_all<D: Device>(live: &mut Live<D>) -> Result<(), Refusal>
     outcome
 }
 
-/// Where the block of this index of a file of the snapshot stands. Refused with `NoSnapshot`, and then as `piece_of`.
-fn piece_of_snapshot<D: Device>(live: &Live<D>, inode: u32, index: u32) -> Result<Piece, Refusal>
-    ensures piece { IfOk result (IsPieceOfSnapshot live.now.kept.geometry live.now.holdings inode index) }
+/// Where the block of this index of a file of the snapshot of this number stands. Refused with `NoSnapshot`, and then as
+/// `piece_of`.
+fn piece_of_snapshot<D: Device>(
+    live: &Live<D>,
+    number: u64,
+    inode: u32,
+    index: u32,
+) -> Result<Piece, Refusal>
+    ensures piece { IfOk result (IsPieceOfSnapshot live.now.kept.geometry live.now.holdings number inode index) }
     ensures address { IfOk result (λ piece. IsTrue (is_data_address live.now.kept.geometry piece.block)) }
     ensures short { IfOk result (λ piece. piece.length ≤ 1024) }
-    ensures refused { IfErr result (IsWhyUnread live.now.kept.geometry live.now.holdings inode index) }
+    ensures refused { IfErr result (IsWhyUnread live.now.kept.geometry live.now.holdings number inode index) }
 {
-    match live.snapshot() {
+    match live.snapshot(number) {
         Some(snapshot) => piece_of(snapshot, inode, index),
         None => Err(Refusal::NoSnapshot),
     }

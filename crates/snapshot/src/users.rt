@@ -47,7 +47,7 @@ pub(crate) fn user_reply<D: Device>(live: &mut Live<D>, alloc: Global, command: 
         Command::Sync => done(live.sync()),
         Command::Freeze
         | Command::SnapRead { .. }
-        | Command::Release
+        | Command::Release(_)
         | Command::Install(_)
         | Command::Repair(_) => unreachable!(),
     }

@@ -1,6 +1,8 @@
-ghost use Rattle.std.specs.Prelude.{◌≡◌, None, length, Option};
+ghost use Rattle.std.specs.Prelude.{◌≡◌, [], length};
 ghost use Rattle.std.specs.Option.{option_map_or};
 ghost use Rattle.live_states.specs.Holdings.{Repairs};
+ghost use Rattle.live_states.specs.Snapshots.{places};
+ghost use Rattle.live.specs.Places.{Ascend};
 ghost use Rattle.snapshot.specs.Goes.{HasBeside};
 
 use device::Device;
@@ -8,7 +10,7 @@ use live::Live;
 use std::marker::Model;
 
 /// A mounted volume of which snapshots are taken. Where its device was honest so far, it is in balance: everything that is
-/// marked or counted in it is in use, held for the snapshot, or owed a repair.
+/// marked or counted in it is in use, held for a snapshot, or owed a repair.
 #[derive(Drop)]
 pub struct Volume<D: Device> {
     pub(crate) live: Live<D>,
@@ -26,9 +28,9 @@ impl<D: Device> Model for Volume<D> {
 }
 
 impl<D: Device> Volume<D> {
-    /// A mounted volume that keeps no snapshot. A check that is installed in it stays, and its repairs can be carried out.
+    /// A mounted volume of which no snapshot stands. A check that is installed in it stays, and its repairs can be carried out.
     pub fn new(live: Live<D>) -> Volume<D>
-        requires none { live.holdings.snapshot ≡ None }
+        requires none { live.holdings.snapshots.standing ≡ [] }
         ensures { result ≡ live }
     {
         live.device();
@@ -41,6 +43,14 @@ impl<D: Device> Volume<D> {
         ensures balance { D.honest self.now.device → HasBeside (D.image self.now.device) self.now }
     {
         &self.live
+    }
+
+    /// The numbers of the snapshots that stand, in ascending order, and then empty places.
+    pub fn standing(&self) -> [Option<u64>; 4]
+        ensures numbers { result ≡ places self.now.holdings.snapshots.standing }
+        ensures ascending { Ascend result }
+    {
+        self.live.standing()
     }
 
     /// How many repairs the check has that is installed: 0 where none is.

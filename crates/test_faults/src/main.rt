@@ -21,8 +21,8 @@ use std::thread::Threads;
 use stops::stop_each;
 use tally::Tally;
 use test_trials::{
-    COUNT_TOO_HIGH, FULL, INTO_NEW_DIRECTORY, LOST_FILE, NUMBER_OF_ANOTHER, SECOND_BLOCK,
-    TWO_USERS, Trial, UNLINKED_AND_OPEN,
+    COUNT_TOO_HIGH, FOUR_SNAPSHOTS, FULL, INTO_NEW_DIRECTORY, LOST_FILE, NUMBER_OF_ANOTHER,
+    SECOND_BLOCK, TWO_USERS, Trial, UNLINKED_AND_OPEN,
 };
 
 /// All of them.
@@ -34,6 +34,7 @@ const TRIALS: &[Trial] = &[
     INTO_NEW_DIRECTORY,
     NUMBER_OF_ANOTHER,
     TWO_USERS,
+    FOUR_SNAPSHOTS,
     SOON_FULL,
     FULL,
 ];
@@ -50,14 +51,14 @@ const SOON_FULL: Trial = Trial {
         ("fill 0 0 15", "ok"),
         ("create /b", "ok 4"),
         ("open /b", "ok 1"),
-        ("freeze", "ok"),
+        ("freeze", "ok 0"),
         ("unmarked", "12"),
         ("truncate 0 0", "ok"),
         ("unmarked", "12"),
         ("fill 1 0 12", "ok"),
         ("unmarked", "0"),
         ("write 1 12 x", "refused 14 NoBlock"),
-        ("release", "ok"),
+        ("release 0", "ok"),
         ("unmarked", "16"),
         ("write 1 12 x", "ok"),
         ("sync", "ok"),

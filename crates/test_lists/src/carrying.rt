@@ -82,9 +82,9 @@ impl<D: Device> Mounted<D> {
         ensures checked { self.new.checked ≡ self.old.checked }
     {
         match self.volume.apply(alloc, command) {
-            Ok(VolumeAnswer::Image(frozen)) => {
+            Ok(VolumeAnswer::Image(number, frozen)) => {
                 self.frozen = Some(frozen);
-                Answer::Given(VolumeAnswer::Done)
+                Answer::Given(VolumeAnswer::Number(number))
             }
             Ok(answer) => Answer::Given(answer),
             Err(refusal) => Answer::Refused(refusal),

@@ -18,7 +18,8 @@ pub enum Asked {
     Stat(&'static [u8]),
     Repair(u32),
     Freeze,
-    Release,
+    SnapRead(u64, u32, u32),
+    Release(u64),
     Sync,
 }
 
@@ -31,7 +32,12 @@ pub fn command_of(alloc: Global, asked: Asked) -> Result<Command, AllocError> {
         Asked::Rename(from, to) => renamed(alloc, from, to),
         Asked::Repair(place) => Ok(Command::Repair(place)),
         Asked::Freeze => Ok(Command::Freeze),
-        Asked::Release => Ok(Command::Release),
+        Asked::SnapRead(snapshot, inode, index) => Ok(Command::SnapRead {
+            snapshot,
+            inode,
+            index,
+        }),
+        Asked::Release(number) => Ok(Command::Release(number)),
         Asked::Sync => Ok(Command::Sync),
         Asked::Create(path) => Ok(Command::Create(path.to_vec(alloc)?)),
         Asked::Mkdir(path) => Ok(Command::Mkdir(path.to_vec(alloc)?)),
@@ -74,6 +80,8 @@ pub enum Wanted {
     Done,
     /// A number.
     Number(u64),
+    /// A snapshot of this number.
+    Snapshot(u64),
     /// These bytes.
     Bytes(&'static [u8]),
     /// A file with so many links.
@@ -87,6 +95,7 @@ pub fn is_as(reply: Option<&Reply>, wanted: Wanted) -> bool {
     match (reply, wanted) {
         (Some(Ok(Answer::Done)), Wanted::Done) => true,
         (Some(Ok(Answer::Number(number))), Wanted::Number(wanted)) => *number == wanted,
+        (Some(Ok(Answer::Image(number, _))), Wanted::Snapshot(wanted)) => *number == wanted,
         (Some(Ok(Answer::Bytes(bytes))), Wanted::Bytes(wanted)) => bytes.as_slice() == wanted,
         (Some(Ok(Answer::Status(status))), Wanted::Links(wanted)) => status.links == wanted,
         (Some(Err(refusal)), Wanted::Refused(wanted)) => *refusal == wanted,

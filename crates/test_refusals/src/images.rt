@@ -1,7 +1,7 @@
 //! The images that are checked, and the trials that are carried out.
 use test_trials::{
-    COUNT_TOO_HIGH, FULL, INTO_NEW_DIRECTORY, LOST_FILE, NUMBER_OF_ANOTHER, SECOND_BLOCK,
-    TWO_USERS, Trial, UNLINKED_AND_OPEN,
+    COUNT_TOO_HIGH, FOUR_SNAPSHOTS, FULL, INTO_NEW_DIRECTORY, LOST_FILE, NUMBER_OF_ANOTHER,
+    SECOND_BLOCK, TWO_USERS, Trial, UNLINKED_AND_OPEN,
 };
 
 /// A group of 16 blocks and 16 inodes.
@@ -21,6 +21,7 @@ pub const TRIALS: &[Trial] = &[
     INTO_NEW_DIRECTORY,
     NUMBER_OF_ANOTHER,
     TWO_USERS,
+    FOUR_SNAPSHOTS,
     FULL,
 ];
 
@@ -54,7 +55,7 @@ const LOST_DIRECTORY: Trial = Trial {
         (5_248, b"\x07\0\0\0\x01\0\0\0f"),
     ],
     lines: &[
-        ("freeze", "ok"),
+        ("freeze", "ok 0"),
         (
             "check",
             "lost inode 6; lost inode 7; count high 2 links 3 entries 2",
@@ -62,7 +63,7 @@ const LOST_DIRECTORY: Trial = Trial {
         ("repair 2", "ok"),
         ("repair 1", "ok"),
         ("repair 0", "ok"),
-        ("release", "ok"),
+        ("release 0", "ok"),
         ("unmarked", "12"),
         ("sync", "ok"),
     ],

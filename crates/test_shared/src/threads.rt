@@ -8,6 +8,7 @@ mod stage;
 use crate::expect::{holds, same};
 use device::MemDevice;
 use findings::Finding;
+use fsck::check_one;
 use images::{FILE_WITH_TWO_LINKS, FRESH, LOST_BLOCK, LOST_DIRECTORY};
 use layout::Refusal;
 use meeting::{Met, check_beside_a_user};
@@ -189,7 +190,7 @@ fn expect_three_repairs(rt: &impl Abort, outcome: &Outcome) {
 }
 
 /// A check is repaired by two threads at once, and the snapshot ends.
-const REPAIRED_AT_ONCE: &[Step] = &[Step::Check, Step::RepairAll, Step::Call(Asked::Release)];
+const REPAIRED_AT_ONCE: &[Step] = &[Step::Check, Step::RepairAll, Step::Call(Asked::Release(0))];
 
 #[test]
 fn two_threads_share_the_repairs(rt: HostRuntime) -> Result<(), Fail> {
@@ -238,7 +239,7 @@ const MOVED_AND_FROZEN: &[Step] = &[
     Step::Check,
     Step::Call(Asked::Mkdir(b"/d")),
     Step::Call(Asked::Rename(b"/a", b"/d/c")),
-    Step::Call(Asked::Release),
+    Step::Call(Asked::Release(0)),
     Step::Call(Asked::Freeze),
     Step::Call(Asked::Repair(0)),
 ];
@@ -280,7 +281,7 @@ const DROPPED_WHILE_OPEN: &[Step] = &[
     Step::Check,
     Step::Call(Asked::Open(b"/a")),
     Step::Call(Asked::Unlink(b"/a")),
-    Step::Call(Asked::Release),
+    Step::Call(Asked::Release(0)),
     Step::Check,
     Step::Call(Asked::Repair(0)),
     Step::Call(Asked::Sync),
@@ -291,7 +292,7 @@ const DROPPED_AND_CLOSED: &[Step] = &[
     Step::Check,
     Step::Call(Asked::Open(b"/a")),
     Step::Call(Asked::Unlink(b"/a")),
-    Step::Call(Asked::Release),
+    Step::Call(Asked::Release(0)),
     Step::Check,
     Step::Call(Asked::Repair(0)),
     Step::Call(Asked::Close(0)),
@@ -371,6 +372,107 @@ fn a_repair_is_carried_out_once(rt: HostRuntime) -> Result<(), Fail> {
             |outcome| expect_told(&rt, outcome, REPAIRED_ONCE),
         )?;
     }
+    Ok(())
+}
+
+/// Two threads in turn freeze a volume and write a file between, until four snapshots stand.
+const FOUR_SNAPSHOTS: &[Step] = &[
+    Step::Call(Asked::Create(b"/a")),
+    Step::Call(Asked::Open(b"/a")),
+    Step::Call(Asked::Write(0, 0, b"one")),
+    Step::Call(Asked::Freeze),
+    Step::Call(Asked::Write(0, 0, b"two")),
+    Step::Call(Asked::Freeze),
+    Step::Call(Asked::Write(0, 0, b"six")),
+    Step::Call(Asked::Freeze),
+    Step::Call(Asked::SnapRead(0, 3, 0)),
+    Step::Call(Asked::SnapRead(1, 3, 0)),
+    Step::Call(Asked::SnapRead(2, 3, 0)),
+    Step::Call(Asked::Release(0)),
+    Step::Call(Asked::Release(1)),
+    Step::Call(Asked::SnapRead(1, 3, 0)),
+    Step::Call(Asked::Freeze),
+    Step::Call(Asked::Freeze),
+    Step::Call(Asked::Freeze),
+    Step::Call(Asked::Freeze),
+];
+
+/// Each snapshot has what the file had when it began.
+const SNAPSHOTS_TOLD: &[(usize, Wanted)] = &[
+    (3, Wanted::Snapshot(0)),
+    (5, Wanted::Snapshot(1)),
+    (7, Wanted::Snapshot(2)),
+    (8, Wanted::Bytes(b"one")),
+    (9, Wanted::Bytes(b"two")),
+    (10, Wanted::Bytes(b"six")),
+    (11, Wanted::Done),
+    (12, Wanted::Done),
+    (13, Wanted::Refused(Refusal::NoSnapshot)),
+    (14, Wanted::Snapshot(3)),
+    (15, Wanted::Snapshot(4)),
+    (16, Wanted::Snapshot(5)),
+    (17, Wanted::Refused(Refusal::TooManySnapshots)),
+];
+
+/// The trace notes their numbers.
+const SNAPSHOTS_NOTED: &[(usize, Wanted)] = &[
+    (3, Wanted::Number(0)),
+    (5, Wanted::Number(1)),
+    (7, Wanted::Number(2)),
+    (10, Wanted::Bytes(b"six")),
+    (16, Wanted::Number(5)),
+    (17, Wanted::Refused(Refusal::TooManySnapshots)),
+];
+
+/// Expects these replies at these places of a trace.
+fn expect_trace(rt: &impl Abort, trace: &[Entry], wanted: &[(usize, Wanted)]) {
+    for (place, wanted) in wanted {
+        let noted = trace.get(*place).map(|entry| &entry.reply);
+        holds(rt, (*place, *wanted), is_as(noted, *wanted));
+    }
+}
+
+/// Expects a check to find nothing on each image that was frozen.
+fn expect_clean<R: Threads + Sync + AllocGlobal + Abort>(
+    rt: &R,
+    replies: &[Reply],
+) -> Result<(), Refusal> {
+    for reply in replies {
+        if let Ok(Answer::Image(number, frozen)) = reply {
+            let checked = check_one(rt, rt.alloc(), frozen)?;
+            same(rt, *number, checked.findings().len(), 0);
+        }
+    }
+    Ok(())
+}
+
+/// Expects the snapshots to be told and noted, and the last four to stand.
+fn expect_snapshots<R: Threads + Sync + AllocGlobal + Abort>(
+    rt: &R,
+    outcome: &Outcome,
+) -> Result<(), Refusal> {
+    let volume = &outcome.closed.volume;
+    expect_told(rt, outcome, SNAPSHOTS_TOLD);
+    expect_trace(rt, outcome.closed.trace.as_slice(), SNAPSHOTS_NOTED);
+    same(
+        rt,
+        "standing",
+        volume.standing(),
+        [Some(2), Some(3), Some(4), Some(5)],
+    );
+    same(rt, "unmarked", volume.live().unmarked_blocks(), 11);
+    expect_clean(rt, outcome.told.replies.as_slice())
+}
+
+#[test]
+fn up_to_four_snapshots_stand(rt: HostRuntime) -> Result<(), Fail> {
+    look_at(
+        &rt,
+        FRESH,
+        100,
+        FOUR_SNAPSHOTS,
+        |outcome| expect_snapshots(&rt, outcome),
+    )??;
     Ok(())
 }
 

@@ -20,8 +20,8 @@ pub enum Told {
     Count(u32),
 }
 
-/// Carries out an action. One that is refused changes nothing of what users see; `check` is refused with `NoSnapshot` where no
-/// snapshot stands.
+/// Carries out an action. One that is refused changes nothing of what users see; `check` is refused with `NoSnapshot` where the
+/// snapshot of the latest freeze stands no more.
 pub fn carry_out<D: Device>(
     rt: &(impl Threads + Sync),
     alloc: Global,
@@ -35,13 +35,13 @@ pub fn carry_out<D: Device>(
     }
 }
 
-/// Checks the snapshot that stands, and installs the check.
+/// Checks the snapshot of the latest freeze, and installs the check.
 fn check_and_install<D: Device>(
     rt: &(impl Threads + Sync),
     alloc: Global,
     volume: &mut Volume<D>,
 ) -> Result<Checked, Refusal> {
-    let Some(snapshot) = volume.live().snapshot() else {
+    let Some(snapshot) = volume.live().latest() else {
         return Err(Refusal::NoSnapshot);
     };
     let snapshot = Arc::try_clone(snapshot)?;

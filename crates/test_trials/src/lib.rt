@@ -13,8 +13,8 @@ mod watched;
 pub use carrying::{Told, carry_out, write_told};
 pub use images::{Put, bytes_of, mount};
 pub use rows::{
-    COUNT_TOO_HIGH, FULL, INTO_NEW_DIRECTORY, LOST_FILE, NUMBER_OF_ANOTHER, SECOND_BLOCK,
-    TWO_USERS, UNLINKED_AND_OPEN,
+    COUNT_TOO_HIGH, FOUR_SNAPSHOTS, FULL, INTO_NEW_DIRECTORY, LOST_FILE, NUMBER_OF_ANOTHER,
+    SECOND_BLOCK, TWO_USERS, UNLINKED_AND_OPEN,
 };
 pub use seen::Seen;
 pub use stops::{Fault, fault_of};

@@ -6,13 +6,13 @@ use same_metadata::have_same_metadata;
 use snapshot::Volume;
 use std::alloc::Global;
 
-/// What users see of a volume but for the bytes of files: its metadata, how many blocks are free, whether a snapshot stands, and
+/// What users see of a volume but for the bytes of files: its metadata, how many blocks are free, which snapshots stand, and
 /// how many repairs the check has that is installed.
 #[derive(Drop)]
 pub struct Seen {
     view: Frozen,
     unmarked: u32,
-    has_snapshot: bool,
+    standing: [Option<u64>; 4],
     repairs: Option<usize>,
 }
 
@@ -23,7 +23,7 @@ impl Seen {
         Ok(Seen {
             view: live.view(alloc)?,
             unmarked: live.unmarked_blocks(),
-            has_snapshot: live.snapshot().is_some(),
+            standing: volume.standing(),
             repairs: live.repair_count(),
         })
     }
@@ -31,7 +31,7 @@ impl Seen {
     /// Whether it is the same at two moments.
     pub fn is_same(&self, other: &Seen) -> bool {
         self.unmarked == other.unmarked
-            && self.has_snapshot == other.has_snapshot
+            && self.standing == other.standing
             && self.repairs == other.repairs
             && have_same_metadata(&self.view, &other.view)
     }

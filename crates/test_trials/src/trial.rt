@@ -18,7 +18,7 @@ pub struct Trial {
     ///
     /// - a command in text, and its answer or `refused` with the number of the cause and its name
     /// - `fill HANDLE INDEX COUNT`: as many writes, each of a whole block, from this index on; the answer is that of each
-    /// - `check`: the snapshot that stands is checked, and the check is installed; the answer has what it finds
+    /// - `check`: the snapshot of the latest freeze is checked, and the check is installed; the answer has what it finds
     /// - `unmarked`: how many data blocks are not marked
     pub lines: &'static [(&'static str, &'static str)],
 }
@@ -28,7 +28,7 @@ pub struct Trial {
 pub enum Action {
     /// A command is carried out.
     Command(Command),
-    /// The snapshot that stands is checked, and the check is installed.
+    /// The snapshot of the latest freeze is checked, and the check is installed.
     Check,
     /// The data blocks are counted that are not marked.
     Unmarked,

@@ -11,7 +11,7 @@ use std::sync::Arc;
 use std::test::Fail;
 use std::thread::Threads;
 use test_images::{Byte, frozen_with};
-use test_mounted::{Asked, commands_of};
+use test_mounted::{Asked, Wanted, commands_of, is_as};
 
 /// Block 9 is marked, and in no use.
 const LOST_BLOCK: &[Byte] = &[(1, 160, 0b10_0001)];
@@ -51,7 +51,7 @@ fn freeze_and_check<R: Threads + AllocGlobal + Sync>(
     rt: &R,
     volume: &mut Volume<MemDevice>,
 ) -> Result<Checked, Refusal> {
-    let frozen = volume.freeze(rt.alloc())?;
+    let (_, frozen) = volume.freeze(rt.alloc())?;
     check_one(rt, rt.alloc(), &frozen)
 }
 
@@ -82,9 +82,9 @@ fn expect_release<R: AllocGlobal + Abort>(
     rt: &R,
     volume: &mut Volume<MemDevice>,
 ) -> Result<(), Refusal> {
-    let bytes = volume.snap_read(rt.alloc(), 3, 0)?;
+    let bytes = volume.snap_read(rt.alloc(), 0, 3, 0)?;
     same(rt, "bytes", bytes.as_slice(), b"abc".as_slice());
-    volume.release(rt.alloc())?;
+    volume.release(rt.alloc(), 0)?;
     same(rt, "unmarked", volume.live().unmarked_blocks(), 11);
     let reply = volume.apply(rt.alloc(), &Command::Sync);
     holds(rt, "sync", matches!(reply, Ok(Answer::Done)));
@@ -116,7 +116,7 @@ fn a_lost_block_is_found_and_given_back(rt: HostRuntime) -> Result<(), Fail> {
 /// The path of a name that is too long.
 const LONG: &[u8] = b"/xxxxxxxxxxxxxxxxxxxxxxxxxxxxxxxxxxxxxxxxxxxxxxxxxxxxxxxxx";
 
-/// Commands that are refused, and a freeze between the last two.
+/// Commands that are refused, and two freezes.
 const REFUSED: &[Asked] = &[
     Asked::Create(b"/"),
     Asked::Create(b"a"),
@@ -124,42 +124,42 @@ const REFUSED: &[Asked] = &[
     Asked::Rmdir(b"/"),
     Asked::Close(0),
     Asked::Repair(0),
-    Asked::Release,
+    Asked::Release(0),
     Asked::Create(LONG),
     Asked::Freeze,
     Asked::Freeze,
 ];
 
-/// Why each of them is refused.
-const REFUSALS: &[Option<Refusal>] = &[
-    Some(Refusal::IsRoot),
-    Some(Refusal::BadName),
-    Some(Refusal::NotFound),
-    Some(Refusal::IsRoot),
-    Some(Refusal::BadHandle),
-    Some(Refusal::NoPlan),
-    Some(Refusal::NoSnapshot),
-    Some(Refusal::BadName),
-    None,
-    Some(Refusal::SnapshotStands),
+/// What each of them is answered.
+const REPLIES: &[Wanted] = &[
+    Wanted::Refused(Refusal::IsRoot),
+    Wanted::Refused(Refusal::BadName),
+    Wanted::Refused(Refusal::NotFound),
+    Wanted::Refused(Refusal::IsRoot),
+    Wanted::Refused(Refusal::BadHandle),
+    Wanted::Refused(Refusal::NoPlan),
+    Wanted::Refused(Refusal::NoSnapshot),
+    Wanted::Refused(Refusal::BadName),
+    Wanted::Snapshot(0),
+    Wanted::Snapshot(1),
 ];
 
-/// Expects each command of a volume to be refused for its reason.
-fn expect_refusals<R: AllocGlobal + Abort>(
+/// Expects each command of a volume to be answered so.
+fn expect_replies<R: AllocGlobal + Abort>(
     rt: &R,
     volume: &mut Volume<MemDevice>,
 ) -> Result<(), Refusal> {
     let replies = replies_to(rt.alloc(), volume, REFUSED)?;
-    same(rt, "replies", replies.len(), REFUSALS.len());
-    for (reply, wanted) in replies.iter().zip(REFUSALS) {
-        same(rt, *wanted, reply.as_ref().err().copied(), *wanted);
+    same(rt, "replies", replies.len(), REPLIES.len());
+    for (reply, wanted) in replies.iter().zip(REPLIES) {
+        holds(rt, *wanted, is_as(Some(reply), *wanted));
     }
     Ok(())
 }
 
 #[test]
 fn commands_are_answered_in_their_order(rt: HostRuntime) -> Result<(), Fail> {
-    on_mounted(rt.alloc(), 16, &[], |volume| expect_refusals(&rt, volume))?;
+    on_mounted(rt.alloc(), 16, &[], |volume| expect_replies(&rt, volume))?;
     Ok(())
 }
 
@@ -213,7 +213,7 @@ fn expect_held<R: Threads + AllocGlobal + Abort + Sync>(
     let replies = replies_to(rt.alloc(), volume, REMOVED)?;
     holds(rt, "removed", replies.iter().all(|reply| reply.is_ok()));
     expect_nothing_found(rt, volume, 11)?;
-    volume.release(rt.alloc())?;
+    volume.release(rt.alloc(), 0)?;
     expect_nothing_found(rt, volume, 12)
 }
 

@@ -6,6 +6,8 @@ mod changed;
 #[cfg(test)]
 mod expect;
 #[cfg(test)]
+mod four_snapshots;
+#[cfg(test)]
 mod frozen_volume;
 #[cfg(test)]
 mod volumes;

@@ -102,7 +102,7 @@ fn may_stand(command: &Command, which: Commands) -> bool {
         Command::Flush(_) | Command::Sync => which == Commands::OfUsersAndFlushes,
         Command::Freeze
         | Command::SnapRead { .. }
-        | Command::Release
+        | Command::Release(_)
         | Command::Install(_)
         | Command::Repair(_) => false,
     }

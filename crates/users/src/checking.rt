@@ -28,23 +28,23 @@ pub fn mend<D: Device + Drop, L: Rotating, M: Ledger, R: Threads + Wait + Sync>(
     seat: &mut Seat<L, M>,
     workers: u32,
 ) -> Result<Mended, Refusal> {
-    let frozen = freeze(rt, alloc, shared, seat)?;
+    let (number, frozen) = freeze(rt, alloc, shared, seat)?;
     let checked = Arc::new(alloc, check(rt, alloc, &frozen, workers, &OpenGate)?)?;
     install(rt, alloc, shared, seat, &checked)?;
     let repaired = repair_all(rt, alloc, shared, seat)?;
-    release(rt, alloc, shared, seat)?;
+    release(rt, alloc, shared, seat, number)?;
     Ok(Mended { checked, repaired })
 }
 
-/// Freezes the volume.
+/// Freezes the volume, and gives the snapshot's number and its metadata.
 fn freeze<D: Device + Drop, L: Rotating, M: Ledger, R: Wait>(
     rt: &R,
     alloc: Global,
     shared: &Shared<D, L, M>,
     seat: &mut Seat<L, M>,
-) -> Result<Arc<Frozen>, Refusal> {
+) -> Result<(u64, Arc<Frozen>), Refusal> {
     match call(rt, alloc, shared, seat, &Command::Freeze)? {
-        Answer::Image(frozen) => Ok(frozen),
+        Answer::Image(number, frozen) => Ok((number, frozen)),
         // No volume answers a freeze otherwise.
         _ => Err(Refusal::NoSnapshot),
     }
@@ -63,14 +63,15 @@ fn install<D: Device + Drop, L: Rotating, M: Ledger, R: Wait>(
     Ok(())
 }
 
-/// Ends the snapshot.
+/// Ends the snapshot of this number.
 fn release<D: Device + Drop, L: Rotating, M: Ledger, R: Wait>(
     rt: &R,
     alloc: Global,
     shared: &Shared<D, L, M>,
     seat: &mut Seat<L, M>,
+    number: u64,
 ) -> Result<(), Refusal> {
-    call(rt, alloc, shared, seat, &Command::Release)?;
+    call(rt, alloc, shared, seat, &Command::Release(number))?;
     Ok(())
 }
 

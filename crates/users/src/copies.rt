@@ -42,11 +42,16 @@ pub(crate) fn copy_of(alloc: Global, command: &Command) -> Result<Command, Alloc
         Command::List(path) => Command::List(path.to_vec(alloc)?),
         Command::Stat(path) => Command::Stat(path.to_vec(alloc)?),
         Command::Freeze => Command::Freeze,
-        Command::SnapRead { inode, index } => Command::SnapRead {
+        Command::SnapRead {
+            snapshot,
+            inode,
+            index,
+        } => Command::SnapRead {
+            snapshot: *snapshot,
             inode: *inode,
             index: *index,
         },
-        Command::Release => Command::Release,
+        Command::Release(number) => Command::Release(*number),
         Command::Install(checked) => Command::Install(Arc::try_clone(checked)?),
         Command::Repair(place) => Command::Repair(*place),
         Command::Flush(address) => Command::Flush(*address),

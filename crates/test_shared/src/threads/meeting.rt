@@ -148,7 +148,7 @@ fn check_beside<
 /// The image that was frozen.
 fn image_of(reply: Reply) -> Result<Arc<Frozen>, Refusal> {
     match reply? {
-        Answer::Image(frozen) => Ok(frozen),
+        Answer::Image(_, frozen) => Ok(frozen),
         _ => Err(Refusal::NoSnapshot),
     }
 }

@@ -285,7 +285,7 @@ fn checked<R: Threads + Sync>(
     frozen: Reply,
 ) -> Result<(Vec<Finding>, Arc<Checked>), Refusal> {
     match frozen? {
-        Answer::Image(frozen) => {
+        Answer::Image(_, frozen) => {
             let checked = check_one(rt, alloc, &frozen)?;
             let findings = checked.findings().to_vec(alloc)?;
             Ok((findings, Arc::new(alloc, checked)?))

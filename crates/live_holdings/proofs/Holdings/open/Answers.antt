@@ -10,6 +10,6 @@ returns-else-handle-len-clause-opened c = record {
       (within_table c.self.inside.handles.items c.args.handle (λ g low. subst (λ (l : Holdings). IsSome (opened_by l g)) (sym c.self.view_is) (c.requires.least g low)) (λ e. c.if-handle-len.false (e ∙ sym (c.len.ensures ∙ c.self.inside.handles.ok.0))))
       ∙ ap (λ (l : Holdings). put_at (opened_by l) c.args.handle (Some c.args.number)) c.self.view_is;
   held = ap (λ (l : Holdings). l.held) c.self.view_is;
-  snapshot = ap (λ (l : Holdings). l.snapshot) c.self.view_is;
+  snapshots = ap (λ (l : Holdings). l.snapshots) c.self.view_is;
   repairs = ap (λ (l : Holdings). l.repairs) c.self.view_is;
 }

@@ -1,4 +1,4 @@
--- A block that the snapshot keeps needs one more, and there is none.
+-- A block that a snapshot keeps needs one more, and there is none.
 use Rattle.std.proofs.Common.{◌≡◌, Bool, true, ltb, cond, sym, ap, ap₂, ◌∙◌, arith}
 use Rattle.std.proofs.lemmas.Bool.Decides.{nat_tests}
 use Rattle.std.specs.Prelude.{unwrap_or}

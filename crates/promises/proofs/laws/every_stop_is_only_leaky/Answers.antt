@@ -19,9 +19,9 @@ returns g c = λ s t commands replies is leads.
       mounts = mounts;
       soft = (c.rules_hold_where_findings_are_soft.ensures geo (image_view geo stop)).0 mounts.obeys;
       mended = λ commands replies new run cycle.
-          c.checks_carried_out_end_exact.ensures.in_one_run geo stop new cycle.frozen cycle.check cycle.findings cycle.earlier cycle.first cycle.second cycle.before cycle.replies cycle.answers
+          c.checks_carried_out_end_exact.ensures.in_one_run geo stop new cycle.number cycle.frozen cycle.check cycle.findings cycle.earlier cycle.first cycle.second cycle.before cycle.replies cycle.answers
           mounts.is_image mounts.obeys cycle.as_many cycle.as_many_first
-          (subst (λ cs. Run geo start cs (cycle.before ++ (Ok (Image cycle.frozen) ∷ (cycle.replies ++ (Ok Done ∷ cycle.answers)))) new) cycle.commands_are (subst (λ rs. Run geo start commands rs new) cycle.responses_are run))
+          (subst (λ cs. Run geo start cs (cycle.before ++ (Ok (Image cycle.number cycle.frozen) ∷ (cycle.replies ++ (Ok Done ∷ cycle.answers)))) new) cycle.commands_are (subst (λ rs. Run geo start commands rs new) cycle.responses_are run))
           cycle.no_freeze_first cycle.no_freeze_second cycle.found cycle.each;
     }
     in

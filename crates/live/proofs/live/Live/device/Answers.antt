@@ -14,7 +14,7 @@ pub returns-clause-stands : goal.returns-clause-stands
 returns-clause-stands g c = subst (λ (l : Alive _). g.D.Device.honest l.device → StandsSo (g.D.Device.image l.device) l) c.self.view_is
     (λ h. let volume = c.self.invariant.alive.true h in record {
       beside = volume.beside;
-      belongs = volume.frozen;
+      belongs = volume.snapshots;
       stands = volume.beginning.stands;
       framed = c.self.invariant.framed h;
       begun = record { mount = volume.mount; history = volume.history; cut = volume.cut; moment = volume.beginning.moment };

@@ -1,16 +1,16 @@
-use Rattle.std.proofs.Common.{◌≡◌, [], None, All, IsSome, IsTrue, sym, ap, ◌∙◌, subst}
+use Rattle.std.proofs.Common.{◌≡◌, [], All, IsSome, IsTrue, sym, ap, ◌∙◌, subst}
 use Rattle.model.specs.Image.{image_view}
 use Rattle.model.specs.Layout.{is_data_address}
+use Rattle.machine.specs.Standing.{ended, image_at}
 use Rattle.machine.specs.Snapshot.{released}
 use Rattle.frozen.specs.Kept.{Kept}
 use Rattle.metadata.proofs.Steps.{same_geometry}
 use Rattle.plans_data.specs.Release.{releasing}
 use Rattle.softdep.specs.Queued.{pending_of}
 use Rattle.live_states.specs.Drafts.{over}
-use Rattle.live_states.specs.Holdings.{Holdings}
-use Rattle.live_states.specs.Snapshots.{held_blocks, let_go}
+use Rattle.live_states.specs.Holdings.{AreImagesOf, Holdings}
+use Rattle.live_states.specs.Snapshots.{let_go, let_go_blocks}
 use Rattle.live_states.specs.Volume.{state_over}
-use Rattle.live_states.proofs.Standing.{nothing_beside}
 use Rattle.live.specs.Alive.{Alive, IsLive, state_of}
 use Rattle.live.proofs.SnapshotLemmas.{held_are_data, live_let_go, metadata_then, pending_then, released_then}
 use Rattle.live.proofs.live.Live.end_keep.Goals as goal
@@ -21,7 +21,7 @@ clearing-requires g c =
     let same = c.geometry-geometry.ensures.geometry ∙ ap (λ (k : Kept). k.geometry) c.frozen.ensures.same in
     subst (All (λ a. IsTrue (is_data_address c.geometry-geometry.result a))) (sym c.as_slice.ensures.value)
     (subst (λ geo. All (λ a. IsTrue (is_data_address geo a)) items) (sym same)
-    (held_are_data c.self.inside.metadata c.self.inside.holdings (pending_of c.self.inside.queue) c.self.invariant.alive.disk c.self.invariant.alive.some items c.in_ok-blocks.ensures))
+    (held_are_data c.self.inside.metadata c.self.inside.holdings (pending_of c.self.inside.queue) c.self.invariant.alive.disk c.self.invariant.alive.some c.args.number items c.in_ok-blocks.ensures))
 
 pub issue-requires-clause-geometry : goal.issue-requires-clause-geometry
 issue-requires-clause-geometry g c = c.self.invariant.geometry
@@ -33,8 +33,11 @@ pub issue-requires-clause-metadata : goal.issue-requires-clause-metadata
 issue-requires-clause-metadata g c = λ staged is.
     metadata_then (g.D.Device.honest c.self.inside.device) (g.D.Device.image c.self.inside.device) c.self.inside.queue c.self.inside.metadata c.self.inside.holdings c.self.invariant
     (subst (λ (l : Alive _). pending_of l.queue ≡ []) (sym c.self.view_is) c.requires.pending)
-    (subst (λ (l : Alive _). IsSome l.holdings.snapshot) (sym c.self.view_is) c.requires.stands)
+    c.args.number (subst (λ (l : Alive _). IsSome (image_at l.holdings.snapshots.standing c.args.number)) (sym c.self.view_is) c.requires.stands)
     c.in_ok-plan.plan (c.in_ok-plan.ensures.updates ∙ ap (λ bs. releasing bs []) (c.as_slice.ensures.value ∙ c.in_ok-blocks.ensures)) staged is
+
+pub let_go-requires : goal.let_go-requires
+let_go-requires g c = c.as_slice-2.ensures.value ∙ c.in_ok-blocks.ensures
 
 pub invariant_of-self-2 : goal.invariant_of-self-2
 invariant_of-self-2 g c =
@@ -43,35 +46,35 @@ invariant_of-self-2 g c =
     subst (IsLive honest image c.issue.new.queue c.issue.new.metadata) (sym c.let_go.ensures)
     (live_let_go honest image c.self.inside.queue c.self.inside.metadata c.self.inside.holdings c.self.invariant
     (subst (λ (l : Alive _). pending_of l.queue ≡ []) (sym c.self.view_is) c.requires.pending)
-    (subst (λ (l : Alive _). IsSome l.holdings.snapshot) (sym c.self.view_is) c.requires.stands)
+    c.args.number (subst (λ (l : Alive _). IsSome (image_at l.holdings.snapshots.standing c.args.number)) (sym c.self.view_is) c.requires.stands)
     c.in_ok-plan.plan (c.in_ok-plan.ensures.updates ∙ ap (λ bs. releasing bs []) (c.as_slice.ensures.value ∙ c.in_ok-blocks.ensures))
     c.issue.new.queue c.issue.new.metadata c.in_ok-issue.ensures.issued)
 
 pub returns-clause-released : goal.returns-clause-released
-returns-clause-released g c = λ h beside.
+returns-clause-released g c = λ h beside images.
     let honest = g.D.Device.honest c.self.inside.device in
     let image = g.D.Device.image c.self.inside.device in
-    ap (λ (o : Holdings). state_over (image_view c.issue.new.metadata.geometry image) (pending_of c.issue.new.queue) o nothing_beside) c.let_go.ensures
+    ap (λ (o : Holdings). state_over (image_view c.issue.new.metadata.geometry image) (pending_of c.issue.new.queue) o (record { snapshots = ended beside.snapshots c.args.number })) c.let_go.ensures
     ∙ released_then honest image c.self.inside.queue c.self.inside.metadata c.self.inside.holdings c.self.invariant
     (subst (λ (l : Alive _). pending_of l.queue ≡ []) (sym c.self.view_is) c.requires.pending)
-    (subst (λ (l : Alive _). IsSome l.holdings.snapshot) (sym c.self.view_is) c.requires.stands)
+    c.args.number (subst (λ (l : Alive _). IsSome (image_at l.holdings.snapshots.standing c.args.number)) (sym c.self.view_is) c.requires.stands)
     c.in_ok-plan.plan (c.in_ok-plan.ensures.updates ∙ ap (λ bs. releasing bs []) (c.as_slice.ensures.value ∙ c.in_ok-blocks.ensures))
     c.issue.new.queue c.issue.new.metadata c.in_ok-issue.ensures.issued
-    (subst (λ (l : Alive _). g.D.Device.honest l.device) (sym c.self.view_is) h) beside
-    ∙ ap (λ (l : Alive _). released (state_of (g.D.Device.image l.device) l beside)) c.self.view_is
+    (subst (λ (l : Alive _). g.D.Device.honest l.device) (sym c.self.view_is) h) beside (subst (λ (l : Alive _). AreImagesOf l.holdings.snapshots beside.snapshots) (sym c.self.view_is) images)
+    ∙ ap (λ (l : Alive _). released (state_of (g.D.Device.image l.device) l beside) c.args.number) c.self.view_is
 
 pub returns-clause-pending : goal.returns-clause-pending
 returns-clause-pending g c =
     pending_then (g.D.Device.honest c.self.inside.device) (g.D.Device.image c.self.inside.device) c.self.inside.queue c.self.inside.metadata c.self.inside.holdings c.self.invariant
     (subst (λ (l : Alive _). pending_of l.queue ≡ []) (sym c.self.view_is) c.requires.pending)
-    (subst (λ (l : Alive _). IsSome l.holdings.snapshot) (sym c.self.view_is) c.requires.stands)
+    c.args.number (subst (λ (l : Alive _). IsSome (image_at l.holdings.snapshots.standing c.args.number)) (sym c.self.view_is) c.requires.stands)
     c.in_ok-plan.plan (c.in_ok-plan.ensures.updates ∙ ap (λ bs. releasing bs []) (c.as_slice.ensures.value ∙ c.in_ok-blocks.ensures))
     c.issue.new.queue c.issue.new.metadata c.in_ok-issue.ensures.issued
     ∙ c.in_ok-plan.ensures.updates ∙ ap (λ bs. releasing bs []) (c.as_slice.ensures.value ∙ c.in_ok-blocks.ensures)
-    ∙ ap (λ (l : Alive _). releasing (held_blocks l.holdings) []) c.self.view_is
+    ∙ ap (λ (l : Alive _). releasing (let_go_blocks l.holdings c.args.number) []) c.self.view_is
 
 pub returns-clause-holdings : goal.returns-clause-holdings
-returns-clause-holdings g c = c.let_go.ensures ∙ ap (λ (l : Alive _). let_go l.holdings) c.self.view_is
+returns-clause-holdings g c = c.let_go.ensures ∙ ap (λ (l : Alive _). let_go l.holdings c.args.number) c.self.view_is
 
 pub returns-clause-geometry : goal.returns-clause-geometry
 returns-clause-geometry g c =

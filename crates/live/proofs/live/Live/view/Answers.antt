@@ -3,7 +3,7 @@ use Rattle.model.specs.Image.{image_view}
 use Rattle.machine.specs.Snapshot.{settled}
 use Rattle.metadata.specs.Shown.{Shows}
 use Rattle.softdep.specs.Queued.{pending_of}
-use Rattle.live_states.specs.Holdings.{Beside, IsImageOf}
+use Rattle.live_states.specs.Holdings.{Beside, AreImagesOf}
 use Rattle.live_states.specs.Snapshots.{IsSettled}
 use Rattle.live_states.specs.Volume.{state_over}
 use Rattle.live_states.proofs.Standing.{has, stands_with}
@@ -19,7 +19,7 @@ returns-clause-settled g c = subst (λ (l : Alive _). IsSettled l.kept l.holding
 pub returns-clause-shown : goal.returns-clause-shown
 returns-clause-shown g c =
     let view = c.in_ok-settled.field-0 in
-    subst (λ (l : Alive _). g.D.Device.honest l.device → (beside : Beside) → IsImageOf l.holdings.snapshot beside.frozen
+    subst (λ (l : Alive _). g.D.Device.honest l.device → (beside : Beside) → AreImagesOf l.holdings.snapshots beside.snapshots
     → Shows view (settled l.kept.geometry (state_of (g.D.Device.image l.device) l beside))) c.self.view_is
     (λ h beside belongs.
     let disk = image_view c.self.inside.metadata.geometry (g.D.Device.image c.self.inside.device) in

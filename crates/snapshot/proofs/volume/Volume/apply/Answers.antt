@@ -6,7 +6,7 @@ use Rattle.snapshot.specs.Asked.{asked, check_of}
 use Rattle.snapshot.proofs.AnswerLemmas.{neither}
 use Rattle.snapshot.proofs.AppliesLemmas.{freezing, releasing, stays, stays_done}
 use Rattle.snapshot.proofs.Blaming.{caused_so, freeze_caused, handed_on, never_device, never_so, release_caused}
-use Rattle.layout.specs.declared.refusal.Refusal.TheVariants.{Device, NoSnapshot, SnapshotStands}
+use Rattle.layout.specs.declared.refusal.Refusal.TheVariants.{Device, NoSnapshot, TooManySnapshots}
 use Rattle.live_states.specs.Planned.{IsRefusedWith}
 use Rattle.live.specs.Alive.{Alive}
 use Rattle.snapshot.proofs.Writing.{refused_by, untouched}
@@ -14,7 +14,7 @@ use Rattle.snapshot.proofs.volume.Volume.apply.Goals as goal
 
 pub returns-in-Freeze-clause-applied : goal.returns-in-Freeze-clause-applied
 returns-in-Freeze-clause-applied g c =
-    freezing Image (λ snapshot. arc_value snapshot) (λ snapshot view shows. shows)
+    freezing (λ made. Image made.0 made.1) (λ made. made.0) (λ made. arc_value made.1) (λ made view shows. (refl, shows))
     g.D.Device.honest g.D.Device.held g.D.Device.image c.args.self.now c.freeze.new.self (asked c.args.self.now.kept.geometry c.args.command.now)
     (ap (asked c.args.self.now.kept.geometry) c.in-Freeze.is)
     c.freeze.result c.image.result c.image.ensures c.freeze.ensures.frozen c.freeze.ensures.refused
@@ -22,13 +22,13 @@ returns-in-Freeze-clause-applied g c =
 pub returns-in-SnapRead-clause-applied : goal.returns-in-SnapRead-clause-applied
 returns-in-SnapRead-clause-applied g c =
     stays g.D.Device.honest g.D.Device.held g.D.Device.image c.args.self.now c.snap_read.new.self (asked c.args.self.now.kept.geometry c.args.command.now)
-    (AsksSnapRead c.in-SnapRead.inode c.in-SnapRead.index) (ap (asked c.args.self.now.kept.geometry) c.in-SnapRead.is)
+    (AsksSnapRead c.in-SnapRead.snapshot c.in-SnapRead.inode c.in-SnapRead.index) (ap (asked c.args.self.now.kept.geometry) c.in-SnapRead.is)
     Bytes (λ bytes. AreBytes bytes.items) (λ bytes. refl)
     c.snap_read.result c.bytes.result c.bytes.ensures c.snap_read.ensures.read c.snap_read.ensures.refused
 
 pub returns-in-Release-clause-applied : goal.returns-in-Release-clause-applied
 returns-in-Release-clause-applied g c =
-    releasing g.D.Device.honest g.D.Device.held g.D.Device.image c.args.self.now c.release.new.self (asked c.args.self.now.kept.geometry c.args.command.now)
+    releasing g.D.Device.honest g.D.Device.held g.D.Device.image c.args.self.now c.release.new.self (asked c.args.self.now.kept.geometry c.args.command.now) c.in-Release.number
     (ap (asked c.args.self.now.kept.geometry) c.in-Release.is)
     c.release.result c.done.result c.done.ensures c.release.ensures.released c.release.ensures.refused
 
@@ -48,7 +48,7 @@ returns-in-Repair-clause-applied g c =
 -- ---- what a refusal may be
 
 pub returns-in-Freeze-clause-cause : goal.returns-in-Freeze-clause-cause
-returns-in-Freeze-clause-cause g c = λ is. c.freeze.ensures.cause (refused_by Image c.freeze.result c.image.result Device c.image.ensures is)
+returns-in-Freeze-clause-cause g c = λ is. c.freeze.ensures.cause (refused_by (λ made. Image made.0 made.1) c.freeze.result c.image.result Device c.image.ensures is)
 
 pub returns-in-SnapRead-clause-cause : goal.returns-in-SnapRead-clause-cause
 returns-in-SnapRead-clause-cause g c = λ is. c.snap_read.ensures.cause (refused_by Bytes c.snap_read.result c.bytes.result Device c.bytes.ensures is)
@@ -74,19 +74,19 @@ pub returns-in-Freeze-clause-error : goal.returns-in-Freeze-clause-error
 returns-in-Freeze-clause-error g c =
     let live = c.args.self.now in
     handed_on live.kept live.holdings (asked live.kept.geometry c.args.command.now) AsksFreeze (ap (asked live.kept.geometry) c.in-Freeze.is)
-    Image c.freeze.result c.image.result c.image.ensures (freeze_caused live.kept live.holdings c.freeze.result c.freeze.ensures.stands c.freeze.ensures.error)
+    (λ made. Image made.0 made.1) c.freeze.result c.image.result c.image.ensures (freeze_caused live.kept live.holdings c.freeze.result c.freeze.ensures.many c.freeze.ensures.error)
 
 pub returns-in-SnapRead-clause-error : goal.returns-in-SnapRead-clause-error
 returns-in-SnapRead-clause-error g c =
     let live = c.args.self.now in
-    handed_on live.kept live.holdings (asked live.kept.geometry c.args.command.now) (AsksSnapRead c.in-SnapRead.inode c.in-SnapRead.index) (ap (asked live.kept.geometry) c.in-SnapRead.is)
+    handed_on live.kept live.holdings (asked live.kept.geometry c.args.command.now) (AsksSnapRead c.in-SnapRead.snapshot c.in-SnapRead.inode c.in-SnapRead.index) (ap (asked live.kept.geometry) c.in-SnapRead.is)
     Bytes c.snap_read.result c.bytes.result c.bytes.ensures c.snap_read.ensures.error
 
 pub returns-in-Release-clause-error : goal.returns-in-Release-clause-error
 returns-in-Release-clause-error g c =
     let live = c.args.self.now in
-    handed_on live.kept live.holdings (asked live.kept.geometry c.args.command.now) AsksRelease (ap (asked live.kept.geometry) c.in-Release.is)
-    (λ t. Done) c.release.result c.done.result c.done.ensures (release_caused live.kept live.holdings c.release.result c.release.ensures.stands c.release.ensures.error)
+    handed_on live.kept live.holdings (asked live.kept.geometry c.args.command.now) (AsksRelease c.in-Release.number) (ap (asked live.kept.geometry) c.in-Release.is)
+    (λ t. Done) c.release.result c.done.result c.done.ensures (release_caused live.kept live.holdings c.in-Release.number c.release.result c.release.ensures.stands c.release.ensures.error)
 
 pub returns-in-Install-clause-error : goal.returns-in-Install-clause-error
 returns-in-Install-clause-error g c =
@@ -103,7 +103,7 @@ returns-in-Repair-clause-error g c =
 -- ---- what an answer of bytes or names leaves
 
 pub returns-in-Freeze-clause-reading : goal.returns-in-Freeze-clause-reading
-returns-in-Freeze-clause-reading g c = neither Image (λ frozen has. has) _ c.freeze.result c.image.result c.image.ensures
+returns-in-Freeze-clause-reading g c = neither (λ made. Image made.0 made.1) (λ made has. has) _ c.freeze.result c.image.result c.image.ensures
 
 pub returns-in-Release-clause-reading : goal.returns-in-Release-clause-reading
 returns-in-Release-clause-reading g c = neither (λ t. Done) (λ t has. has) _ c.release.result c.done.result c.done.ensures
@@ -121,7 +121,7 @@ returns-in-Freeze-clause-writes g c =
     rw c.in-Freeze.is (
       c.freeze.ensures.writes,
       λ e. untouched g.D.Device.held g.D.Device.image c.args.self.now.device c.freeze.new.self.device
-          (ap (λ (l : Alive _). l.device) (c.freeze.ensures.standing (refused_by Image c.freeze.result c.image.result SnapshotStands c.image.ensures e))),
+          (ap (λ (l : Alive _). l.device) (c.freeze.ensures.unchanged (refused_by (λ made. Image made.0 made.1) c.freeze.result c.image.result TooManySnapshots c.image.ensures e))),
     )
 
 pub returns-in-SnapRead-clause-writes : goal.returns-in-SnapRead-clause-writes

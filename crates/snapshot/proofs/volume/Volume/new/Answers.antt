@@ -1,7 +1,16 @@
 use Rattle.frozen_files.proofs.Laws.{none_kept}
 use Rattle.live.specs.Alive.{state_of}
-use Rattle.snapshot.proofs.Installs.{none_stands}
+use Rattle.std.proofs.Common.{◌≡◌, [], List, refl, subst, ◌∷◌}
+use Rattle.model.specs.View.{View}
+use Rattle.frozen.specs.Kept.{Kept}
+use Rattle.machine.specs.Standing.{Standing}
+use Rattle.live_states.specs.Holdings.{AreImages}
 use Rattle.snapshot.proofs.volume.Volume.new.Goals as goal
+
+-- no image belongs to no snapshot
+no_images : (xs : List (Standing View)) → AreImages [] xs → xs ≡ []
+no_images [] are = refl
+no_images (x ∷ xs) are = absurd are
 
 pub invariant_of-result : goal.invariant_of-result
 invariant_of-result g c = λ h.
@@ -12,7 +21,7 @@ invariant_of-result g c = λ h.
       is = record {
         belongs = so.belongs;
         stands = so.stands;
-        files = none_kept live.kept.geometry (state_of (g.D.Device.image live.device) live so.beside) (none_stands live.holdings.snapshot so.beside.frozen c.requires.none so.belongs);
+        files = none_kept live.kept.geometry (state_of (g.D.Device.image live.device) live so.beside) (no_images so.beside.snapshots.standing (subst (λ ks. AreImages ks so.beside.snapshots.standing) c.requires.none so.belongs.1));
         framed = so.framed;
         begun = so.begun;
       };
