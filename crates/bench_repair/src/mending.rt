@@ -38,14 +38,14 @@ fn mend_volume(
 }
 
 /// Prints the time since a step began.
-fn tell(rt: &(impl Clock + Eprint), step: &str, start: &Instant) -> Result<()> {
+pub fn tell(rt: &(impl Clock + Eprint), step: &str, start: &Instant) -> Result<()> {
     let taken = start.elapsed(rt)?.as_nanos();
     eprintln!(rt; "{step} {taken}")?;
     Ok(())
 }
 
-/// Freezes the volume, and gives the snapshot's number and its metadata.
-fn freeze(
+/// Freezes the volume, prints the time, and gives the snapshot's number and its metadata.
+pub fn freeze(
     rt: &(impl AllocGlobal + Clock + Eprint),
     volume: &mut Volume<MemDevice>,
 ) -> Result<(u64, Arc<Frozen>)> {

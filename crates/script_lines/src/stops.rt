@@ -131,7 +131,7 @@ fn carry_out_line<D: Device>(
     handles: &mut Handles,
     command: Command,
 ) -> Result<(), Refusal> {
-    let Some(command) = handles.command_for(command) else {
+    let Ok(command) = handles.command_for(command) else {
         return Ok(());
     };
     let reply = volume.apply(alloc, &command);

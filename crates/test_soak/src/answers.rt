@@ -23,6 +23,8 @@ pub fn is_possible(reply: &Reply) -> bool {
                 | Refusal::BadIndex
                 | Refusal::BadPiece
                 | Refusal::TooManyOpen
+                | Refusal::TooManySnapshots
+                | Refusal::NoSnapshot
         ),
     }
 }

@@ -2,8 +2,11 @@
 use std::alloc::{AllocError, Global};
 use test_noise::Noise;
 
-/// How many users a script has.
-pub const USERS: u32 = 4;
+/// How many users a script has who work with files.
+const USERS: u32 = 4;
+
+/// The user who takes snapshots, reads them and ends them.
+const KEEPER: u32 = 5;
 
 /// How many lines each has at least.
 const LINES: u32 = 80;
@@ -24,7 +27,7 @@ const NAMES: &[&str] = &[
 ];
 
 /// A script of random lines of each user. A user's handle 0 is of a file of its own, which no other one names, and each write
-/// to it is followed by a read of the same block.
+/// to it is followed by a read of the same block. One user more takes snapshots.
 pub fn random_script(alloc: Global, noise: &mut Noise) -> Result<String, AllocError> {
     let mut text = String::new(alloc);
     for user in 1..=USERS {
@@ -34,7 +37,32 @@ pub fn random_script(alloc: Global, noise: &mut Noise) -> Result<String, AllocEr
             write_lines(&mut text, noise, user)?;
         }
     }
+    write_of_keeper(&mut text, noise)?;
     Ok(text)
+}
+
+/// Writes the lines of the user who takes snapshots. It names those that it took last, some of which it has ended.
+fn write_of_keeper(text: &mut String, noise: &mut Noise) -> Result<(), AllocError> {
+    let mut taken = 0u32;
+    for _line in 0..LINES {
+        let number = taken.saturating_sub(noise.below(5).saturating_add(1));
+        match noise.below(8) {
+            0 => {
+                writeln!(text, "{KEEPER} freeze")?;
+                taken = taken.saturating_add(1);
+            }
+            1 => writeln!(text, "{KEEPER} release {number}")?,
+            _ => write_snapread(text, noise, number)?,
+        }
+    }
+    Ok(())
+}
+
+/// Writes a read of a random block of a snapshot.
+fn write_snapread(text: &mut String, noise: &mut Noise, number: u32) -> Result<(), AllocError> {
+    let inode = noise.below(10).saturating_add(3);
+    let index = noise.below(2);
+    writeln!(text, "{KEEPER} snapread {number} {inode} {index}")
 }
 
 /// Writes the next line of a user, or the next two.

@@ -1,11 +1,12 @@
 //! Rounds of random commands, each with stops.
 use crate::answers::{is_possible, opens_own, reads_back};
 use crate::commands::random_script;
+use crate::snapshots::Snapshots;
 use anyhow::Result;
 use device::MemDevice;
 use findings::Verdict;
 use layout::Refusal;
-use snapshot::Volume;
+use snapshot::{Answer, Volume};
 use std::alloc::Global;
 use std::io::Eprint;
 use std::sync::Wait;
@@ -35,6 +36,8 @@ pub struct Counts {
     pub commands: u64,
     /// Repairs beside users.
     pub repairs: u64,
+    /// Snapshots beside that which is checked.
+    pub snapshots: u64,
     pub stops: u64,
     pub wrong: u64,
 }
@@ -46,6 +49,7 @@ impl Counts {
             rounds: 0,
             commands: 0,
             repairs: 0,
+            snapshots: 0,
             stops: 0,
             wrong: 0,
         }
@@ -105,6 +109,7 @@ fn look_at_round<R: Threads + Eprint + Sync>(
 ) -> Result<MemDevice> {
     counts.rounds = counts.rounds.saturating_add(1);
     count_answers(rt, ran.answered.as_slice(), counts)?;
+    count_snapshots(rt, alloc, ran.answered.as_slice(), counts)?;
     count_repairs(rt, &ran.mended, counts)?;
     look_at_stops(rt, alloc, ran.volume.live().device(), noise, counts)
 }
@@ -151,7 +156,7 @@ fn look_at_copy<R: Threads + Eprint + Sync>(
 /// A random script.
 fn script_of(alloc: Global, noise: &mut Noise) -> Result<Vec<UserLine>> {
     let text = random_script(alloc, noise)?;
-    Ok(parse(alloc, text.as_bytes(), Commands::OfUsers)?)
+    Ok(parse(alloc, text.as_bytes(), Commands::OfUsersAndSnapshots)?)
 }
 
 /// What a device held after a random number of its writes.
@@ -184,6 +189,27 @@ fn count_repairs(rt: &impl Eprint, mended: &Mended, counts: &mut Counts) -> Resu
         counts.wrong = counts.wrong.saturating_add(1);
         let round = counts.rounds;
         eprintln!(rt; "round {round}: the check beside the users finds damage")?;
+    }
+    Ok(())
+}
+
+/// Counts the snapshots, and the lines on them that are answered wrongly.
+fn count_snapshots(
+    rt: &impl Eprint,
+    alloc: Global,
+    answered: &[Answered],
+    counts: &mut Counts,
+) -> Result<()> {
+    let mut snapshots = Snapshots::new(alloc);
+    for (place, line) in answered.iter().enumerate() {
+        if let Ok(Answer::Image(_, _)) = &line.reply {
+            counts.snapshots = counts.snapshots.saturating_add(1);
+        }
+        if !snapshots.is_right(line)? {
+            counts.wrong = counts.wrong.saturating_add(1);
+            let round = counts.rounds;
+            eprintln!(rt; "round {round}: line {place} is not answered as its snapshot")?;
+        }
     }
     Ok(())
 }

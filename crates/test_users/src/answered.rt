@@ -16,9 +16,9 @@ use test_mounted::{found_on, mounted};
 use user_scripts::{Commands, UserLine, parse};
 use users::{Answered, Ran, run};
 
-/// The lines of a script.
+/// The lines of a script, which may take and end snapshots.
 fn lines_of(alloc: Global, script: &[u8]) -> Result<Vec<UserLine>, Refusal> {
-    match parse(alloc, script, Commands::OfUsers) {
+    match parse(alloc, script, Commands::OfUsersAndSnapshots) {
         Ok(lines) => Ok(lines),
         Err(_) => Err(Refusal::BadIndex),
     }
@@ -111,6 +111,74 @@ fn a_user_reads_what_it_wrote(rt: HostRuntime) -> Result<(), Fail> {
         b"1 create /x -> ok 3\n1 open /x -> ok 0\n1 write 0 0 abc -> ok\n1 read 0 0 -> ok 616263\n1 stat /x -> ok number 3 file links 1 size 3\n";
     for workers in [1, 2, 4] {
         expect_run(&rt, &[], script, workers, wanted, &[])?;
+    }
+    Ok(())
+}
+
+/// What a user asks for who has snapshots of its own, and how the answers begin. The numbers of the volume are not told: one
+/// of them is that of the thread that checks.
+const OF_SNAPSHOTS: &[(&[u8], &[u8])] = &[
+    (b"1 create /x\n", b" -> ok 3\n"),
+    (b"1 open /x\n", b" -> ok 0\n"),
+    (b"1 write 0 0 abc\n", b" -> ok\n"),
+    (b"1 snapread 0 3 0\n", b" -> refused 21 NoSnapshot\n"),
+    (b"1 freeze\n", b" -> ok "),
+    (b"1 write 0 0 xyz\n", b" -> ok\n"),
+    (b"1 freeze\n", b" -> ok "),
+    (b"1 snapread 0 3 0\n", b" -> ok 616263\n"),
+    (b"1 release 0\n", b" -> ok\n"),
+    (b"1 release 0\n", b" -> refused 21 NoSnapshot\n"),
+    (b"1 snapread 1 3 0\n", b" -> ok 78797a\n"),
+    (b"1 snapread 0 3 0\n", b" -> refused 21 NoSnapshot\n"),
+    (b"1 snapread 1 4 0\n", b" -> refused 7 NotFound\n"),
+];
+
+/// The script of these lines.
+fn script_of(alloc: Global, lines: &[(&[u8], &[u8])]) -> Result<Vec<u8>, AllocError> {
+    let mut script = Vec::new(alloc);
+    for (line, _) in lines {
+        script.extend_from_slice(line)?;
+    }
+    Ok(script)
+}
+
+/// Expects the replies to these lines to begin so.
+fn expect_replies(
+    rt: &(impl AllocGlobal + Abort),
+    answered: &[Answered],
+    lines: &[(&[u8], &[u8])],
+) -> Result<(), AllocError> {
+    same(rt, "lines", answered.len(), lines.len());
+    for (line, (_, wanted)) in answered.iter().zip(lines) {
+        let text = text_of(rt.alloc(), line)?;
+        holds(rt, text.as_str(), text.as_bytes().starts_with(wanted));
+    }
+    Ok(())
+}
+
+#[test]
+fn a_users_snapshots_are_its_own(rt: HostRuntime) -> Result<(), Fail> {
+    for workers in [1, 2, 4] {
+        let script = script_of(rt.alloc(), OF_SNAPSHOTS)?;
+        let ran = ran(&rt, rt.alloc(), &[], script.as_slice(), workers)?;
+        let outcome = expect_replies(&rt, ran.answered.as_slice(), OF_SNAPSHOTS);
+        drop(ran);
+        outcome?;
+    }
+    Ok(())
+}
+
+/// A script with more snapshots than may stand.
+const TOO_MANY: &[u8] =
+    b"1 freeze\n1 freeze\n1 freeze\n1 freeze\n1 freeze\n1 freeze\n1 release 0\n1 release 1\n1 release 2\n1 release 3\n";
+
+#[test]
+fn the_check_waits_until_it_may_freeze_the_volume(rt: HostRuntime) -> Result<(), Fail> {
+    let bytes = [(1, 160, 0b10_0001)];
+    for _time in 0..20 {
+        let ran = ran(&rt, rt.alloc(), &bytes, TOO_MANY, 2)?;
+        expect_repairs(&rt, &ran, &[Repair::FreeBlock(9)]);
+        drop(ran);
     }
     Ok(())
 }

@@ -25,6 +25,12 @@ fn shown(alloc: Global, command: &Command) -> Result<String, AllocError> {
         }
         Command::Truncate { handle, size } => format!(in alloc; "truncate {handle} {size}"),
         Command::Flush(address) => format!(in alloc; "flush {address}"),
+        Command::SnapRead {
+            snapshot,
+            inode,
+            index,
+        } => format!(in alloc; "snapread {snapshot} {inode} {index}"),
+        Command::Release(number) => format!(in alloc; "release {number}"),
         _ => String::from_str(alloc, word_of(command)),
     }
 }
@@ -42,6 +48,7 @@ fn word_of(command: &Command) -> &'static str {
         Command::List(_) => "list",
         Command::Stat(_) => "stat",
         Command::Sync => "sync",
+        Command::Freeze => "freeze",
         _ => "another",
     }
 }
@@ -113,6 +120,15 @@ fn flushes_stand_in_some_scripts(rt: HostRuntime) -> Result<(), Fail> {
     let wanted = ["1 flush 7", "2 sync"];
     expect_bad(&rt, script, Commands::OfUsers, 1);
     expect_lines(&rt, script, Commands::OfUsersAndFlushes, &wanted)
+}
+
+#[test]
+fn snapshots_stand_in_some_scripts(rt: HostRuntime) -> Result<(), Fail> {
+    let script = b"1 freeze\n2 snapread 00 3 1\n3 release 7\n4 open /a\n".as_slice();
+    let wanted = ["1 freeze", "2 snapread 0 3 1", "3 release 7", "4 open"];
+    expect_bad(&rt, script, Commands::OfUsers, 1);
+    expect_bad(&rt, script, Commands::OfUsersAndFlushes, 1);
+    expect_lines(&rt, script, Commands::OfUsersAndSnapshots, &wanted)
 }
 
 #[test]
@@ -267,11 +283,11 @@ fn last_command(alloc: Global, script: &[u8]) -> Result<Command, Fail> {
 /// Asks for a line's command on a volume that gives this reply, and tells what the volume is asked for.
 fn asked(alloc: Global, handles: &mut Handles, line: &[u8], told: Told) -> Result<String, Fail> {
     match handles.command_for(last_command(alloc, line)?) {
-        Some(command) => {
+        Ok(command) => {
             handles.note(&command, &reply_of(told))?;
             Ok(shown(alloc, &command)?)
         }
-        None => Ok(String::from_str(alloc, "nothing")?),
+        Err(_) => Ok(String::from_str(alloc, "nothing")?),
     }
 }
 

@@ -12,6 +12,8 @@ pub enum Commands {
     OfUsers,
     /// These, and `flush` and `sync`.
     OfUsersAndFlushes,
+    /// Those of users, and `freeze`, `snapread` and `release`.
+    OfUsersAndSnapshots,
 }
 
 /// A line of a script.
@@ -21,7 +23,7 @@ pub struct UserLine {
     pub user: u8,
     /// The bytes of the line, without its line feed.
     pub text: Vec<u8>,
-    /// What the user asks for, with a handle as it stands in the line.
+    /// What the user asks for, with a handle or the number of a snapshot as it stands in the line.
     pub command: Command,
     ghost from_one: { 1 ≤ user },
     ghost to_eight: { user ≤ 8 },

@@ -100,10 +100,9 @@ fn may_stand(command: &Command, which: Commands) -> bool {
         | Command::List(_)
         | Command::Stat(_) => true,
         Command::Flush(_) | Command::Sync => which == Commands::OfUsersAndFlushes,
-        Command::Freeze
-        | Command::SnapRead { .. }
-        | Command::Release(_)
-        | Command::Install(_)
-        | Command::Repair(_) => false,
+        Command::Freeze | Command::SnapRead { .. } | Command::Release(_) => {
+            which == Commands::OfUsersAndSnapshots
+        }
+        Command::Install(_) | Command::Repair(_) => false,
     }
 }

@@ -9,7 +9,7 @@ use snapshot::{Answer, Command};
 use std::alloc::Global;
 use std::sync::ledger::Ledger;
 use std::sync::{Arc, Wait};
-use std::thread::Threads;
+use std::thread::{Threads, yield_now};
 use workers::OpenGate;
 
 /// The check of a snapshot, and how many of its repairs were carried out.
@@ -20,7 +20,8 @@ pub struct Mended {
 }
 
 /// Freezes the volume, checks the snapshot with so many workers, installs the check, carries out each of its repairs, and
-/// ends the snapshot.
+/// ends the snapshot. While four others stand it waits until it may freeze the volume; where another thread froze it
+/// before the check was installed, it ends the snapshot and begins anew.
 pub fn mend<D: Device + Drop, L: Rotating, M: Ledger, R: Threads + Wait + Sync>(
     rt: &R,
     alloc: Global,
@@ -28,12 +29,39 @@ pub fn mend<D: Device + Drop, L: Rotating, M: Ledger, R: Threads + Wait + Sync>(
     seat: &mut Seat<L, M>,
     workers: u32,
 ) -> Result<Mended, Refusal> {
-    let (number, frozen) = freeze(rt, alloc, shared, seat)?;
-    let checked = Arc::new(alloc, check(rt, alloc, &frozen, workers, &OpenGate)?)?;
-    install(rt, alloc, shared, seat, &checked)?;
+    for _ in rt.forever() {
+        match freeze(rt, alloc, shared, seat) {
+            Err(Refusal::TooManySnapshots) => yield_now(),
+            frozen => {
+                let (number, frozen) = frozen?;
+                let mended = mend_frozen(rt, alloc, shared, seat, &frozen, workers)?;
+                release(rt, alloc, shared, seat, number)?;
+                if let Some(mended) = mended {
+                    return Ok(mended);
+                }
+            }
+        }
+    }
+    unreachable!()
+}
+
+/// Checks a snapshot with so many workers, installs the check, and carries out each of its repairs. `None` where the snapshot
+/// is no longer that of the latest freeze, and another image may be what that one froze.
+fn mend_frozen<D: Device + Drop, L: Rotating, M: Ledger, R: Threads + Wait + Sync>(
+    rt: &R,
+    alloc: Global,
+    shared: &Shared<D, L, M>,
+    seat: &mut Seat<L, M>,
+    frozen: &Arc<Frozen>,
+    workers: u32,
+) -> Result<Option<Mended>, Refusal> {
+    let checked = Arc::new(alloc, check(rt, alloc, frozen, workers, &OpenGate)?)?;
+    match install(rt, alloc, shared, seat, &checked) {
+        Err(Refusal::NoSnapshot | Refusal::ForeignPlan) => return Ok(None),
+        installed => installed?,
+    }
     let repaired = repair_all(rt, alloc, shared, seat)?;
-    release(rt, alloc, shared, seat, number)?;
-    Ok(Mended { checked, repaired })
+    Ok(Some(Mended { checked, repaired }))
 }
 
 /// Freezes the volume, and gives the snapshot's number and its metadata.

@@ -1,7 +1,6 @@
 //! The lines of one user.
 use crate::calling::call;
 use device::Device;
-use layout::Refusal;
 use shared::{Rotating, Seat, Shared};
 use snapshot::{Command, Reply};
 use std::alloc::{AllocError, Global};
@@ -39,8 +38,8 @@ pub(crate) fn carry_out<D: Device + Drop, L: Rotating, M: Ledger, R: Wait>(
     Ok(answered)
 }
 
-/// The reply to a command of a user, whose handles are the user's. One of a handle that the user has not open is refused
-/// without a call.
+/// The reply to a command of a user, whose handles and snapshots are the user's. One of a handle that the user has not open,
+/// or of a snapshot that the user has not standing, is refused without a call.
 fn reply_to<D: Device + Drop, L: Rotating, M: Ledger, R: Wait>(
     rt: &R,
     alloc: Global,
@@ -49,7 +48,7 @@ fn reply_to<D: Device + Drop, L: Rotating, M: Ledger, R: Wait>(
     handles: &mut Handles,
     command: Command,
 ) -> Reply {
-    let command = handles.command_for(command).ok_or(Refusal::BadHandle)?;
+    let command = handles.command_for(command)?;
     let reply = call(rt, alloc, shared, seat, &command);
     handles.note(&command, &reply)?;
     reply
