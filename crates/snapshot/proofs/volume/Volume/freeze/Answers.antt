@@ -43,14 +43,14 @@ pub freeze_as-requires-clause-settled : goal.freeze_as-requires-clause-settled
 freeze_as-requires-clause-settled g c =
     subst (λ (l : Alive _). IsSettled l.kept l.holdings (arc_value c.in_ok-kept.field-0.kept)) c.live.ensures.live c.in_ok-kept.ensures.settled
 
-pub returns-in_err-freeze_as-clause-refused : goal.returns-in_err-freeze_as-clause-refused
-returns-in_err-freeze_as-clause-refused g c =
-    let p = err_from_is_err_and c.from_residual-in_err-freeze_as.result c.from_residual-in_err-freeze_as.ensures.1 in
-    rw (p.1, p.2) c.in_err-freeze_as.ensures.refused
+pub returns-in_err-number-clause-refused : goal.returns-in_err-number-clause-refused
+returns-in_err-number-clause-refused g c =
+    let p = err_from_is_err_and c.from_residual-in_err-number.result c.from_residual-in_err-number.ensures.1 in
+    rw (p.1, p.2) c.in_err-number.ensures.refused
 
 pub returns-clause-frozen : goal.returns-clause-frozen
 returns-clause-frozen g c = λ h.
     let old = c.args.self.now in
     let new = c.freeze_as.new.self in
-    subst (λ k. Freezes (g.D.Device.held old.device) (g.D.Device.image old.device) old c.in_ok-freeze_as.field-0 k (g.D.Device.held new.device) (g.D.Device.image new.device) new) (sym c.in_ok-kept.ensures.given)
-    (c.in_ok-freeze_as.ensures.frozen h)
+    subst (λ k. Freezes (g.D.Device.held old.device) (g.D.Device.image old.device) old c.in_ok-number.number k (g.D.Device.held new.device) (g.D.Device.image new.device) new) (sym c.in_ok-kept.ensures.given)
+    (c.in_ok-number.ensures.frozen h)
