@@ -233,9 +233,9 @@ module _ (kept : Kept) (holdings : Holdings) (checked : CheckedImage) (is : IsCh
         | inr none ↦ not_no_image geo snapshot view ok same (shown view there.shows) (subst (SameMetadata geo view) none metadata)
       ]
 
--- the image that was checked is the snapshot that stands
-module _ (kept : Kept) (holdings : Holdings) (checked : CheckedImage) (is : IsChecked checked.frozen.geometry (frozen_view checked.frozen) checked) (stands : holdings.snapshot ≡ Some checked.frozen)
-    (whole : IsSnapshotOf kept.geometry holdings.snapshot) where
+-- the image that was checked is the snapshot of the latest freeze
+module _ (kept : Kept) (holdings : Holdings) (checked : CheckedImage) (is : IsChecked checked.frozen.geometry (frozen_view checked.frozen) checked) (stands : latest_of holdings ≡ Some checked.frozen)
+    (whole : IsSnapshotOf kept.geometry (latest_of holdings)) where
   own_whole : (checked.frozen.geometry ≡ kept.geometry) × KeepsMetadata checked.frozen
   own_whole = subst (IsSnapshotOf kept.geometry) stands whole
 

@@ -9,6 +9,7 @@ pub mod Joining
 mod PieceLemmas
 mod ReadLemmas
 pub mod Refusals
+mod Room
 mod Splitting
 mod Standing
 mod UserReplies

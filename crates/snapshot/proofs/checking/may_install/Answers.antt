@@ -17,28 +17,28 @@ use Rattle.live_states.specs.Holdings.{Has, Holdings}
 use Rattle.live_states.specs.Snapshots.{AreRepairsOf, IsInstallable, installing}
 use Rattle.live.specs.Alive.{IsSnapshotOf}
 use Rattle.snapshot.specs.Asked.{check_of}
-use Rattle.snapshot.proofs.Installs.{foreign, installable, refused_foreign, refused_none, repairs_named}
+use Rattle.snapshot.proofs.Installs.{foreign, installable, latest_of, refused_foreign, refused_none, repairs_named}
 use Rattle.snapshot.proofs.checking.may_install.Goals as goal
 
 pub returns-in_default-clause-refused : goal.returns-in_default-clause-refused
 returns-in_default-clause-refused g c =
     let live = c.args.live.now in
     refused_none live.kept live.holdings (check_of live.kept.geometry c.args.checked.now)
-    (ap is_some (sym c.snapshot.ensures.snapshot ∙ ap (λ o. option_map arc_value (option_copied o)) c.in_default.is))
+    (ap is_some (sym c.latest.ensures.snapshot ∙ ap (λ o. option_map arc_value (option_copied o)) c.in_default.is))
 
 pub may_mend-requires : goal.may_mend-requires
 may_mend-requires g c =
-    ap is_some (sym c.snapshot.ensures.snapshot ∙ ap (λ o. option_map arc_value (option_copied o)) c.in-Some.is)
+    ap is_some (sym c.latest.ensures.snapshot ∙ ap (λ o. option_map arc_value (option_copied o)) c.in-Some.is)
 
 pub returns-in_err-may_mend-clause-refused : goal.returns-in_err-may_mend-clause-refused
 returns-in_err-may_mend-clause-refused g c =
     let p = err_from_is_err_and c.from_residual.result c.from_residual.ensures.1 in
     rw (p.1, p.2) c.in_err-may_mend.ensures.refused
 
--- the snapshot that stands
-module _ (kept : Kept) (holdings : Holdings) (checked : CheckedImage) (snapshot : Option Kept) (s : Kept) (told : snapshot ≡ holdings.snapshot) (is : snapshot ≡ Some s) (whole : IsSnapshotOf kept.geometry holdings.snapshot)
+-- the snapshot of the latest freeze, which stands
+module _ (kept : Kept) (holdings : Holdings) (checked : CheckedImage) (snapshot : Option Kept) (s : Kept) (told : snapshot ≡ latest_of holdings) (is : snapshot ≡ Some s) (whole : IsSnapshotOf kept.geometry (latest_of holdings))
     (image : IsChecked checked.frozen.geometry (frozen_view checked.frozen) checked) where
-  stands : holdings.snapshot ≡ Some s
+  stands : latest_of holdings ≡ Some s
   stands = sym told ∙ is
 
   whole' : (s.geometry ≡ kept.geometry) × KeepsMetadata s
@@ -66,13 +66,13 @@ returns-then-not-have_same_metadata-clause-refused g c =
     let live = c.args.live.now in
     let checked = c.args.checked.now in
     let s = arc_value c.in-Some.snapshot.now in
-    let frozen = option_map arc_value (option_copied c.snapshot.result) in
+    let frozen = option_map arc_value (option_copied c.latest.result) in
     let is : frozen ≡ Some s = ap (λ o. option_map arc_value (option_copied o)) c.in-Some.is in
     let unplanned = c.in_ok-may_mend.ensures.unplanned in
     let soft = c.in_ok-may_mend.ensures.soft in
     let one : c.deref.result.now ≡ s = c.deref.ensures in
     let other : c.deref-2.result.now ≡ checked.frozen = c.deref-2.ensures ∙ c.frozen.ensures in
-    refuses_foreign live.kept live.holdings checked frozen s c.snapshot.ensures.snapshot is c.snapshot.ensures.whole c.tells_its_image.ensures unplanned soft
+    refuses_foreign live.kept live.holdings checked frozen s c.latest.ensures.snapshot is c.latest.ensures.whole c.tells_its_image.ensures unplanned soft
     (λ alike. both_ways c.have_same_metadata.result c.if-not-have_same_metadata.true (c.have_same_metadata.ensures.1 (subst (λ k. AreAlike k c.deref-2.result.now) (sym one) (subst (AreAlike s) (sym other) alike))))
 
 pub returns-clause-installable : goal.returns-clause-installable
@@ -80,13 +80,13 @@ returns-clause-installable g c =
     let live = c.args.live.now in
     let checked = c.args.checked.now in
     let s = arc_value c.in-Some.snapshot.now in
-    let frozen = option_map arc_value (option_copied c.snapshot.result) in
+    let frozen = option_map arc_value (option_copied c.latest.result) in
     let is : frozen ≡ Some s = ap (λ o. option_map arc_value (option_copied o)) c.in-Some.is in
     let unplanned = c.in_ok-may_mend.ensures.unplanned in
     let soft = c.in_ok-may_mend.ensures.soft in
     let one : c.deref.result.now ≡ s = c.deref.ensures in
     let other : c.deref-2.result.now ≡ checked.frozen = c.deref-2.ensures ∙ c.frozen.ensures in
-    may_be live.kept live.holdings checked frozen s c.snapshot.ensures.snapshot is c.snapshot.ensures.whole c.tells_its_image.ensures c.in_ok-may_mend.ensures.unplanned c.in_ok-may_mend.ensures.soft
+    may_be live.kept live.holdings checked frozen s c.latest.ensures.snapshot is c.latest.ensures.whole c.tells_its_image.ensures c.in_ok-may_mend.ensures.unplanned c.in_ok-may_mend.ensures.soft
     (subst (AreAlike s) other (subst (λ k. AreAlike k c.deref-2.result.now) one (c.have_same_metadata.ensures.0 c.if-not-have_same_metadata.false)))
 
 pub returns-clause-named : goal.returns-clause-named
@@ -94,11 +94,11 @@ returns-clause-named g c =
     let live = c.args.live.now in
     let checked = c.args.checked.now in
     let s = arc_value c.in-Some.snapshot.now in
-    let frozen = option_map arc_value (option_copied c.snapshot.result) in
+    let frozen = option_map arc_value (option_copied c.latest.result) in
     let is : frozen ≡ Some s = ap (λ o. option_map arc_value (option_copied o)) c.in-Some.is in
     let unplanned = c.in_ok-may_mend.ensures.unplanned in
     let soft = c.in_ok-may_mend.ensures.soft in
     let one : c.deref.result.now ≡ s = c.deref.ensures in
     let other : c.deref-2.result.now ≡ checked.frozen = c.deref-2.ensures ∙ c.frozen.ensures in
-    are_named live.kept live.holdings checked frozen s c.snapshot.ensures.snapshot is c.snapshot.ensures.whole c.tells_its_image.ensures c.in_ok-may_mend.ensures.unplanned c.in_ok-may_mend.ensures.soft
+    are_named live.kept live.holdings checked frozen s c.latest.ensures.snapshot is c.latest.ensures.whole c.tells_its_image.ensures c.in_ok-may_mend.ensures.unplanned c.in_ok-may_mend.ensures.soft
     (subst (AreAlike s) other (subst (λ k. AreAlike k c.deref-2.result.now) one (c.have_same_metadata.ensures.0 c.if-not-have_same_metadata.false)))

@@ -19,9 +19,9 @@ returns-in_err-may_mend-clause-error g c =
 pub returns-clause-installable : goal.returns-clause-installable
 returns-clause-installable g c =
     let live = c.args.live.now in
-    own_installable live.kept live.holdings c.args.checked.now c.tells_its_image.ensures c.requires c.snapshot.ensures.whole c.in_ok-may_mend.ensures.unplanned c.in_ok-may_mend.ensures.soft
+    own_installable live.kept live.holdings c.args.checked.now c.tells_its_image.ensures c.requires c.latest.ensures.whole c.in_ok-may_mend.ensures.unplanned c.in_ok-may_mend.ensures.soft
 
 pub returns-clause-named : goal.returns-clause-named
 returns-clause-named g c =
     let live = c.args.live.now in
-    own_named live.kept live.holdings c.args.checked.now c.tells_its_image.ensures c.requires c.snapshot.ensures.whole c.in_ok-may_mend.ensures.soft
+    own_named live.kept live.holdings c.args.checked.now c.tells_its_image.ensures c.requires c.latest.ensures.whole c.in_ok-may_mend.ensures.soft
