@@ -1,5 +1,5 @@
 -- The places in which the numbers of snapshots are told ascend.
-use Rattle.std.proofs.Common.{◌≡◌, ◌<◌, ◌≤◌, ℕ, zero, suc, List, [], ◌∷◌, Option, Some, None, slice_get, arith}
+use Rattle.std.proofs.Common.{◌≡◌, ◌≤◌, ℕ, zero, suc, List, [], ◌∷◌, Option, Some, None, slice_get, arith}
 use Rattle.frozen.specs.Kept.{Kept}
 use Rattle.machine.specs.Standing.{AreNumbered, Snapshots, Standing}
 use Rattle.live_states.specs.Snapshots.{places}

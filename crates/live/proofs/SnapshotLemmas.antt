@@ -8,13 +8,13 @@ use Rattle.model.specs.Cells.{SetBlock}
 use Rattle.model.specs.Image.{IsImage, image_view}
 use Rattle.model.specs.Layout.{block_count, is_data_address}
 use Rattle.model.specs.View.{View}
-use Rattle.ordering.specs.Cuts.{Pending, users_view}
+use Rattle.ordering.specs.Cuts.{Pending}
 use Rattle.live_holdings.proofs.Tables.{unmarked_length}
 use Rattle.machine.specs.Standing.{ended, image_at, others, too_many}
 use Rattle.machine.specs.Snapshot.{released}
 use Rattle.plans_data.specs.Release.{releasing}
 use Rattle.updates.specs.Values.{written}
-use Rattle.frozen.specs.Kept.{Kept, KeepsMetadata, frozen_view}
+use Rattle.frozen.specs.Kept.{Kept, KeepsMetadata}
 use Rattle.metadata.proofs.Steps.{same_geometry}
 use Rattle.metadata.specs.declared.staged.Staged.{Staged}
 use Rattle.metadata.specs.Staged.{IsStaged, after, changes}

@@ -1,5 +1,5 @@
 -- The snapshots that stand are whole.
-use Rattle.std.proofs.Common.{◌≡◌, ℕ, [], Option, Some, None, refl, sym, ◌∙◌, subst, arith, inl, inr, IsFalse}
+use Rattle.std.proofs.Common.{◌≡◌, ℕ, Option, Some, None, refl, sym, ◌∙◌, subst, arith, inl, inr, IsFalse}
 use Rattle.std.proofs.lemmas.Bool.{cases_eq}
 use Rattle.model.specs.Layout.{Geometry}
 use Rattle.frozen.specs.Kept.{Kept, KeepsMetadata}
