@@ -1,6 +1,6 @@
 -- A volume that is as it was, but for its device, which holds what it held.
 use Rattle.std.proofs.Common.{◌≡◌, List, ℕ, sym, subst}
-use Rattle.ordering.specs.Cuts.{Pending, users_view}
+use Rattle.ordering.specs.Cuts.{users_view}
 use Rattle.model.specs.Image.{image_view}
 use Rattle.model.specs.View.{View}
 use Rattle.machine.specs.Command.{Answer, Command}

@@ -1,5 +1,5 @@
 -- A command that was planned is carried out.
-use Rattle.std.proofs.Common.{◌≡◌, ◌<◌, ◌≤◌, ℕ, All, Bool, true, false, List, [], ◌∷◌, length, map, Ok, Option, None, Some, arith, slice_index_or, slice_set, length-set, refl, sym, ap, ◌∙◌, subst}
+use Rattle.std.proofs.Common.{◌≡◌, ◌<◌, ◌≤◌, ℕ, All, true, false, List, [], ◌∷◌, length, map, Ok, Option, None, Some, arith, slice_index_or, slice_set, length-set, refl, sym, ap, ◌∙◌, subst}
 use Rattle.std.specs.Option.{option_map}
 use Rattle.std.proofs.lemmas.List.Elements.{All-nil}
 use Rattle.model.specs.Image.{IsImage, image_view}
@@ -7,7 +7,6 @@ use Rattle.model.specs.Layout.{Geometry, block_count}
 use Rattle.model.specs.View.{View}
 use Rattle.ordering.specs.Cuts.{Pending, users_view}
 use Rattle.queue_model.specs.Files.{Written}
-use Rattle.updates.specs.declared.change.Update.{Update}
 use Rattle.updates.specs.Values.{written}
 use Rattle.machine.specs.Command.{Answer, Command}
 use Rattle.machine.specs.Step.{Step}

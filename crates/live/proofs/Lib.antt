@@ -7,6 +7,7 @@ mod LettingGo
 mod Looks
 mod Mountable
 mod Mounting
+mod Places
 mod Quietly
 mod RunLemmas
 mod Views

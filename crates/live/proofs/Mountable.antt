@@ -1,8 +1,8 @@
 -- An image of a volume that obeys the rules is mounted, unless memory runs out or the device fails.
-use Rattle.std.proofs.Common.{◌≡◌, ◌<◌, ℕ, List, ◌⊎◌, inl, inr, refl, sym, ap, ◌∙◌, subst, length, arith}
+use Rattle.std.proofs.Common.{◌≡◌, ◌<◌, ℕ, List, ◌⊎◌, inl, inr, refl, sym, ap, ◌∙◌, subst, arith}
 use Rattle.layout.specs.declared.refusal.Refusal.{Refusal}
 use Rattle.layout.specs.declared.refusal.Refusal.TheVariants as refusal
-use Rattle.model.specs.Image.{IsImage, IsSuper, block_at, image_view}
+use Rattle.model.specs.Image.{IsSuper, block_at, image_view}
 use Rattle.model.specs.Layout.{Geometry, block_count, group_block}
 use Rattle.model.specs.Rules.{ObeysRules}
 use Rattle.model.specs.Image.{IsGroupBlock}

@@ -6,7 +6,7 @@ use Rattle.layout.specs.declared.refusal.Refusal.TheVariants.{BadHandle, BadInde
 use Rattle.model.specs.Image.{image_view}
 use Rattle.model.specs.Layout.{block_count}
 use Rattle.model.specs.View.{View}
-use Rattle.ordering.specs.Cuts.{Pending, users_view}
+use Rattle.ordering.specs.Cuts.{users_view}
 use Rattle.machine.specs.Command.{Answer, Command}
 use Rattle.machine.specs.Step.{Step}
 use Rattle.courses.specs.Serves.{Serves}

@@ -1,12 +1,12 @@
 -- What a mounted volume goes through is a service.
-use Rattle.std.proofs.Common.{◌≡◌, ℕ, Bool, false, List, [], ◌∷◌, ◌++◌, map, reverse, Ok, Err, IsTrue, refl, sym, ap, ◌∙◌, subst}
-use Rattle.std.proofs.lemmas.List.{append_assoc, append-nil, reverse-append}
+use Rattle.std.proofs.Common.{◌≡◌, ℕ, Bool, List, [], ◌∷◌, ◌++◌, reverse, Ok, Err, IsTrue, refl, sym, ap, ◌∙◌, subst}
+use Rattle.std.proofs.lemmas.List.{append_assoc, reverse-append}
 use Rattle.model.specs.Image.{image_view}
 use Rattle.model.specs.Layout.{Geometry}
 use Rattle.model.specs.Reach.{IsReachable}
 use Rattle.model.specs.View.{View}
 use Rattle.layout.specs.declared.refusal.Refusal.{Refusal}
-use Rattle.ordering.specs.Cuts.{Cell, Pending, rest, seen, users_view}
+use Rattle.ordering.specs.Cuts.{Pending, rest, seen, users_view}
 use Rattle.machine.specs.Command.{Answer, Command, Reply}
 use Rattle.machine.specs.State.{State}
 use Rattle.machine.specs.Step.{Step}

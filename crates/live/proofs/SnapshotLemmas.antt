@@ -8,13 +8,13 @@ use Rattle.model.specs.Cells.{SetBlock}
 use Rattle.model.specs.Image.{IsImage, image_view}
 use Rattle.model.specs.Layout.{block_count, is_data_address}
 use Rattle.model.specs.View.{View}
-use Rattle.ordering.specs.Cuts.{Pending, users_view}
+use Rattle.ordering.specs.Cuts.{Pending}
 use Rattle.live_holdings.proofs.Tables.{unmarked_length}
 use Rattle.machine.specs.Standing.{ended, image_at, others, too_many}
 use Rattle.machine.specs.Snapshot.{released}
 use Rattle.plans_data.specs.Release.{releasing}
 use Rattle.updates.specs.Values.{written}
-use Rattle.frozen.specs.Kept.{Kept, KeepsMetadata, frozen_view}
+use Rattle.frozen.specs.Kept.{Kept, KeepsMetadata}
 use Rattle.metadata.proofs.Steps.{same_geometry}
 use Rattle.metadata.specs.declared.staged.Staged.{Staged}
 use Rattle.metadata.specs.Staged.{IsStaged, after, changes}
@@ -52,10 +52,16 @@ module _ (kept : Kept) (holdings : Holdings) (q : List Pending) (disk : View) (v
       let marked = (volume.beginning.stands.balance.held_block a t).1 in
       (and_parts (is_data_address kept.geometry a) _ (subst (λ b. IsTrue b) (sym (volume.shows.block_marked a)) marked)).0
 
+  let_go_is_data : (s a : ℕ) → Contains (let_go_blocks holdings s) a → IsTrue (is_data_address kept.geometry a)
+  let_go_is_data s a c =
+      let found = found_members (λ b. held_by holdings b && not (kept_by (others holdings.snapshots.standing s) b)) (λ b. b) (length holdings.held) a c in
+      subst (λ b. IsTrue (is_data_address kept.geometry b)) found.is (held_is_data found.number (and_parts (held_by holdings found.number) _ found.passes).0)
+
   pub held_are_data : (s : ℕ) (blocks : List ℕ) → blocks ≡ let_go_blocks holdings s → All (λ a. IsTrue (is_data_address kept.geometry a)) blocks
-  held_are_data s blocks e = subst (All (λ a. IsTrue (is_data_address kept.geometry a))) (sym e)
-      (All-weaker (Contains (let_go_blocks holdings s)) (λ a. IsTrue (is_data_address kept.geometry a)) (λ a c. let found = found_members (λ b. held_by holdings b && not (kept_by (others holdings.snapshots.standing s) b)) (λ b. b) (length holdings.held) a c in subst (λ b. IsTrue (is_data_address kept.geometry b)) found.is (held_is_data found.number (and_parts (held_by holdings found.number) _ found.passes).0))
-      (let_go_blocks holdings s) (All-contains_itself (let_go_blocks holdings s)))
+  held_are_data s blocks e =
+      let gone = let_go_blocks holdings s in
+      subst (All (λ a. IsTrue (is_data_address kept.geometry a))) (sym e)
+      (All-weaker (Contains gone) (λ a. IsTrue (is_data_address kept.geometry a)) (let_go_is_data s) gone (All-contains_itself gone))
 
 -- ---- it begins
 

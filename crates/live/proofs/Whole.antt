@@ -1,5 +1,5 @@
 -- The snapshots that stand are whole.
-use Rattle.std.proofs.Common.{◌≡◌, ℕ, [], Option, Some, None, refl, sym, ◌∙◌, subst, arith, inl, inr, IsFalse}
+use Rattle.std.proofs.Common.{◌≡◌, ℕ, Option, Some, None, refl, sym, ◌∙◌, subst, arith, inl, inr, IsFalse}
 use Rattle.std.proofs.lemmas.Bool.{cases_eq}
 use Rattle.model.specs.Layout.{Geometry}
 use Rattle.frozen.specs.Kept.{Kept, KeepsMetadata}
@@ -27,7 +27,9 @@ module _ (geo : Geometry) (snapshots : Snapshots Kept) (are : AreSnapshotsOf geo
   pub whole_begun : (snapshot : Kept) → IsFalse (too_many snapshots) → (snapshot.geometry ≡ geo) × KeepsMetadata snapshot → AreSnapshotsOf geo (begun snapshots snapshot)
   whole_begun snapshot room whole = record {
     images = λ s k e. elim (cases_eq snapshots.freezes s) [
-      | inl here ↦ subst (λ x. (x.geometry ≡ geo) × KeepsMetadata x) (same_one snapshot k (sym (at_here snapshots.freezes snapshot snapshots.standing) ∙ subst (λ n. image_at (begun snapshots snapshot).standing n ≡ Some k) (sym here) e)) whole
+      | inl here ↦
+          let found = subst (λ n. image_at (begun snapshots snapshot).standing n ≡ Some k) (sym here) e in
+          subst (λ x. (x.geometry ≡ geo) × KeepsMetadata x) (same_one snapshot k (sym (at_here snapshots.freezes snapshot snapshots.standing) ∙ found)) whole
       | inr earlier ↦ are.images s k (sym (at_other snapshots.freezes s snapshot snapshots.standing earlier) ∙ e)
     ];
     numbered = numbered_begun snapshots snapshot room are.numbered;

@@ -1,5 +1,4 @@
 -- What is open and held once a command has ended what it ends.
-use Rattle.std.specs.Prelude.{ℕ}
 use Rattle.live.specs.declared.ending.Ending.{Ending}
 use Rattle.live.specs.declared.ending.Ending.TheVariants.{Handle, Nothing, Repair}
 use Rattle.live_holdings.specs.Handles.{closed}

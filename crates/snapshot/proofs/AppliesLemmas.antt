@@ -1,5 +1,5 @@
 -- What a volume goes through by a command, and by commands one after another.
-use Rattle.std.proofs.Common.{◌≡◌, ◌<◌, ◌+◌, ℕ, List, [], ◌∷◌, ◌++◌, map, take, length, get_or, Ok, Err, Result, Some, None, IfErr, IfOk, MatchResult, OnOk, refl, sym, ap, ◌∙◌, subst}
+use Rattle.std.proofs.Common.{◌≡◌, ◌<◌, ◌+◌, ℕ, List, [], ◌∷◌, ◌++◌, map, take, length, get_or, Ok, Err, Result, IfErr, IfOk, MatchResult, OnOk, refl, sym, ap, ◌∙◌, subst}
 use Rattle.std.specs.List.{AllZip}
 use Rattle.std.proofs.lemmas.List.{map-append, take_more}
 use Rattle.layout.specs.declared.refusal.Refusal.{Refusal}

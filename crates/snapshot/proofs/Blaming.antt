@@ -1,15 +1,15 @@
 -- Which refusals a call may give, whatever its device did: `Device` only where the device failed, else want of memory or a cause.
-use Rattle.std.proofs.Common.{◌≡◌, ◌⊎◌, ◌↔◌, ◌≤◌, ℕ, true, List, [], ◌∷◌, Ok, Err, Result, IfErr, MatchResult, Option, Some, None, inl, inr, refl, sym, ap, ◌∙◌, subst}
+use Rattle.std.proofs.Common.{◌≡◌, ◌⊎◌, ◌↔◌, ◌≤◌, ℕ, List, [], ◌∷◌, Ok, Err, Result, IfErr, MatchResult, Some, None, inl, inr, refl, sym, ap, ◌∙◌, subst}
 use Rattle.std.specs.Prelude.{IsErrOf, IsOkUnless, IsTrue, is_some, unwrap_or}
 use Rattle.std.specs.Bool.{then_some}
-use Rattle.std.specs.Option.{option_map, option_or}
+use Rattle.std.specs.Option.{option_or}
 use Rattle.std.proofs.lemmas.Bool.{cond-true, le-leb}
 use Rattle.layout.specs.declared.refusal.Refusal.{Refusal}
 use Rattle.layout.specs.declared.refusal.Refusal.TheVariants.{BadIndex, Device, NoMemory, NoSnapshot, TooManySnapshots, TraceFull}
 use Rattle.model.specs.Layout.{Geometry, block_count, is_data_address}
 use Rattle.machine.specs.Causes.{FirstRefusal, causes, refusal_of}
 use Rattle.machine.specs.Command.{Command as Request, Flush, Freeze, Release, SnapRead}
-use Rattle.machine.specs.Standing.{Snapshots, Standing, image_at, too_many}
+use Rattle.machine.specs.Standing.{Standing, image_at, too_many}
 use Rattle.machine.specs.State.{State}
 use Rattle.model.specs.View.{View}
 use Rattle.frozen.specs.Kept.{Kept, frozen_view, kept_bytes}

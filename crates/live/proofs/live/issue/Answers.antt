@@ -1,4 +1,4 @@
-use Rattle.std.proofs.Common.{◌≡◌, All, sym, ap, ◌∙◌, map, subst}
+use Rattle.std.proofs.Common.{All, sym, ap, ◌∙◌, map, subst}
 use Rattle.updates.specs.Places.{IsUpdate}
 use Rattle.updates.specs.Values.{written}
 use Rattle.metadata.specs.Staged.{IsStaged, changes}

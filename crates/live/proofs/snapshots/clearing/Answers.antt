@@ -1,6 +1,6 @@
-use Rattle.std.proofs.Common.{◌≡◌, false, List, [], ◌∷◌, take, map, sym, ap, ◌∙◌, slice_index_or}
+use Rattle.std.proofs.Common.{false, List, [], ◌∷◌, map, sym, ap, ◌∙◌, slice_index_or}
 use Rattle.model.specs.Cells.{SetBlock}
-use Rattle.ordering.specs.Cuts.{Cell, Pending}
+use Rattle.ordering.specs.Cuts.{Cell}
 use Rattle.updates.specs.Values.{cell}
 use Rattle.live_states.specs.Drafts.{over}
 use Rattle.live.proofs.SnapshotLemmas.{cleared_at, clears_next}

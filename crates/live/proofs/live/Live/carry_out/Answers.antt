@@ -1,4 +1,4 @@
-use Rattle.std.proofs.Common.{◌≡◌, ◌<◌, ◌≤◌, ℕ, [], All, List, length, sym, ap, ap₂, ◌∙◌, subst}
+use Rattle.std.proofs.Common.{◌≡◌, ◌<◌, ◌≤◌, [], All, length, sym, ap, ap₂, ◌∙◌, subst}
 use Rattle.model.specs.Layout.{block_count}
 use Rattle.ordering.specs.Cuts.{users_view}
 use Rattle.softdep.specs.Queued.{pending_of}

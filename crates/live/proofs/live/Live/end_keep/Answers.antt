@@ -7,7 +7,6 @@ use Rattle.frozen.specs.Kept.{Kept}
 use Rattle.metadata.proofs.Steps.{same_geometry}
 use Rattle.plans_data.specs.Release.{releasing}
 use Rattle.softdep.specs.Queued.{pending_of}
-use Rattle.live_states.specs.Drafts.{over}
 use Rattle.live_states.specs.Holdings.{AreImagesOf, Holdings}
 use Rattle.live_states.specs.Snapshots.{let_go, let_go_blocks}
 use Rattle.live_states.specs.Volume.{state_over}

@@ -1,4 +1,4 @@
-use Rattle.std.proofs.Common.{[], None, sym, subst}
+use Rattle.std.proofs.Common.{[], sym, subst}
 use Rattle.std.proofs.lemmas.Result.{err_from_is_err_and}
 use Rattle.ordering.specs.Cuts.{users_view}
 use Rattle.machine.specs.Command.{Done, Link}

@@ -1,4 +1,4 @@
-use Rattle.std.proofs.Common.{◌≡◌, IfOk, subst}
+use Rattle.std.proofs.Common.{IfOk, subst}
 use Rattle.live.specs.Mounting.{IsFresh}
 use Rattle.live.proofs.Mounting.{live_fresh, mountable}
 use Rattle.live.proofs.live.Live.mount_loaded.Goals as goal

@@ -1,4 +1,4 @@
-use Rattle.std.proofs.Common.{◌<◌, All, [], None, Some, inl, inr, sym, subst}
+use Rattle.std.proofs.Common.{◌<◌, All, [], sym, subst}
 use Rattle.std.proofs.lemmas.Result.{err_from_is_err_and}
 use Rattle.model.specs.Layout.{block_count}
 use Rattle.ordering.specs.Cuts.{users_view}

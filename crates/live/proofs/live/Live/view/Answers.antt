@@ -1,4 +1,4 @@
-use Rattle.std.proofs.Common.{◌≡◌, subst}
+use Rattle.std.proofs.Common.{subst}
 use Rattle.model.specs.Image.{image_view}
 use Rattle.machine.specs.Snapshot.{settled}
 use Rattle.metadata.specs.Shown.{Shows}

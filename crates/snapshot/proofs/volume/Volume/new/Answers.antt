@@ -2,7 +2,6 @@ use Rattle.frozen_files.proofs.Laws.{none_kept}
 use Rattle.live.specs.Alive.{state_of}
 use Rattle.std.proofs.Common.{◌≡◌, [], List, refl, subst, ◌∷◌}
 use Rattle.model.specs.View.{View}
-use Rattle.frozen.specs.Kept.{Kept}
 use Rattle.machine.specs.Standing.{Standing}
 use Rattle.live_states.specs.Holdings.{AreImages}
 use Rattle.snapshot.proofs.volume.Volume.new.Goals as goal
