@@ -14,7 +14,7 @@ use Rattle.model.specs.View.{View}
 use Rattle.machine.specs.Below.{first_of, when}
 use Rattle.machine.specs.Causes.{causes, refusal_of}
 use Rattle.machine.specs.Command.{Check, Done, Install, RepairAt}
-use Rattle.machine.specs.State.{Plan, State}
+use Rattle.machine.specs.State.{Plan, State, latest}
 use Rattle.machine.specs.Step.{Run, Step}
 use Rattle.mending.specs.Repairs.{IsPlanned, all_done, repairs_below}
 use Rattle.mending.proofs.Upkeep.{as_many, last_step}
@@ -32,7 +32,7 @@ may_repair geo old k count is low =
 -- ---- the plan that stands
 
 -- once a check is installed all its repairs are to be done
-pub installed : (geo : Geometry) (old new : State) (check : Check) (view : View) (findings : List Finding) → old.frozen ≡ Some view → AreFindings geo view findings
+pub installed : (geo : Geometry) (old new : State) (check : Check) (view : View) (findings : List Finding) → latest old ≡ Some view → AreFindings geo view findings
     → ((geo : Geometry) (view : View) (fs gs : List Finding) → AreFindings geo view fs → AreFindings geo view gs → fs ≡ gs)
     → Run geo old (Install check ∷ []) (Ok Done ∷ []) new → IsPlanned new 0 (length (repairs_of findings))
 installed geo old new check view findings stands found unique run =

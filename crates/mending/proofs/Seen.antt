@@ -1,5 +1,5 @@
 -- What a check of the snapshot sees, and what is found of it.
-use Rattle.std.proofs.Common.{◌≡◌, ℕ, Bool, false, not, ◌&&◌, eqb, ltb, List, [], inl, inr, refl, sym, ap, ap₂, ◌∙◌, subst, None, Some, Option}
+use Rattle.std.proofs.Common.{◌≡◌, ℕ, Bool, false, not, ◌&&◌, eqb, ltb, List, [], inl, inr, refl, sym, ap, ap₂, ◌∙◌, subst, ◌∷◌, None, Some, Option}
 use Rattle.std.proofs.lemmas.Bool.{cases_Bool, cond-true, cond-false}
 use Rattle.std.specs.Option.{option_map_or}
 use mathlib.Core.Path.{fun_ext}
@@ -17,25 +17,28 @@ use Rattle.machine.proofs.Tests.{and_true}
 use Rattle.machine.specs.Below.{any_below}
 use Rattle.machine.specs.Cells.{claims}
 use Rattle.machine.specs.Snapshot.{is_orphan, settled, without}
+use Rattle.machine.specs.Standing.{Snapshots, Standing, none_yet}
 use Rattle.machine.specs.State.{handle_count, mounted, open_at}
 use Rattle.softdep.specs.Queued.{pending_of}
 use Rattle.live_states.proofs.Standing.{idle_mounted}
-use Rattle.live_states.specs.Holdings.{Beside, Holdings, IsIdle, IsImageOf}
+use Rattle.live_states.proofs.Images.{same_latest}
+use Rattle.live_states.specs.Holdings.{AreImages, AreImagesOf, Beside, Holdings, IsIdle, IsImageOf, nothing_beside}
 use Rattle.live_states.specs.Snapshots.{IsSettled}
 use Rattle.live_states.specs.Volume.{state_over}
 use Rattle.snapshot.specs.Alive.{Alive, disk_of, state_of}
 use Rattle.snapshot.specs.Goes.{IsBeside}
-use Rattle.mending.proofs.Joining.{nothing_beside}
-use Rattle.mending.specs.Repairs.{IsSnapshotChecked}
+use Rattle.mending.specs.Repairs.{IsSnapshotChecked, one_beside}
 
--- what stands beside a volume that keeps no snapshot
-pub alone : {D : Type 0} (image : List (List ℕ)) (live : Alive D) (beside : Beside) → live.holdings.snapshot ≡ None → IsBeside image live beside → IsBeside image live nothing_beside
-alone image live beside none is = subst (λ b. IsBeside image live b) (ap (λ f. record { frozen = f }) (no_image live.holdings.snapshot beside.frozen none is.belongs)) is
+-- what stands beside a volume of which there was no freeze yet
+pub alone : {D : Type 0} (image : List (List ℕ)) (live : Alive D) (beside : Beside) → live.holdings.snapshots ≡ none_yet → IsBeside image live beside → IsBeside image live nothing_beside
+alone image live beside none is = subst (λ b. IsBeside image live b) (ap (λ s. record { snapshots = s }) (no_images beside.snapshots (subst (λ k. AreImagesOf k beside.snapshots) none is.belongs))) is
   where
-    no_image : (kept : Option Kept) (view : Option View) → kept ≡ None → IsImageOf kept view → view ≡ None
-    no_image None None e of = refl
-    no_image (Some k) view e of = let bad : Some k ≡ None = e in cc
-    no_image None (Some v) e of = absurd of
+    no_standing : (xs : List (Standing View)) → AreImages [] xs → xs ≡ []
+    no_standing [] are = refl
+    no_standing (x ∷ xs) are = absurd are
+
+    no_images : (images : Snapshots View) → AreImagesOf none_yet images → images ≡ none_yet
+    no_images images are = ap₂ (λ (xs : List (Standing View)) (n : ℕ). record { standing = xs; freezes = n }) (no_standing images.standing are.1) are.0
 
 -- ---- a volume as it is mounted is seen as it is
 
@@ -86,7 +89,7 @@ other_view geo v w checked same is = record {
   repairs = is.repairs;
 }
 
-pub image_checked : {D : Type 0} (image : List (List ℕ)) (live : Alive D) (view : View) (checked : CheckedImage) → IsBeside image live (record { frozen = Some view }) → IsSnapshotChecked live checked → IsChecked live.kept.geometry view checked
+pub image_checked : {D : Type 0} (image : List (List ℕ)) (live : Alive D) (view : View) (checked : CheckedImage) → IsBeside image live (one_beside 0 view) → IsSnapshotChecked live checked → IsChecked live.kept.geometry view checked
 image_checked image live view checked is c =
-    let shows : Shows c.snapshot view = subst (λ kept. IsImageOf kept (Some view)) c.stands is.belongs in
+    let shows : Shows c.snapshot view = subst (λ kept. IsImageOf kept (Some view)) c.stands (same_latest live.holdings.snapshots (one_beside 0 view).snapshots is.belongs) in
     subst (λ geo. IsChecked geo view checked) c.geometry (other_view c.snapshot.geometry (frozen_view c.snapshot) view checked (shows_metadata c.snapshot view c.metadata shows) c.is_checked)

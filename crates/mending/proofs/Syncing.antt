@@ -68,7 +68,7 @@ module _ (geo : Geometry) where
   sync_leaves disk q old safe command answer disk' q' new safe' later (FlushesSome a some) t = cc
   sync_leaves disk q old safe command answer disk' q' new safe' later (SyncsAll blocks d syncs) t = refl
   sync_leaves disk q old safe command answer disk' q' new safe' later (Freezes blocks d syncs) t = cc
-  sync_leaves disk q old safe command answer disk' q' new safe' later (Releases blocks d n syncs held) t = cc
+  sync_leaves disk q old safe command answer disk' q' new safe' later (Releases s blocks d n syncs held) t = cc
 
   module _ (disk0 : View) (q0 : List Pending) (old0 : State) (safe0 : ℕ → Bool) where
     pub none_left : (disk : View) (q : List Pending) (new : State) (safe : ℕ → Bool) (commands cs : List Command) (replies rs : List Reply) (answer : Answer) (images : List View)

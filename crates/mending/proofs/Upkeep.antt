@@ -1,4 +1,4 @@
--- Runs of freezes, checks, repairs, releases and syncs: they open and close no handle.
+-- Runs of freezes, checks, repairs, releases and syncs: they open and close no handle, and repairs leave the snapshots.
 use Rattle.std.proofs.Common.{◌≡◌, ◌<◌, ◌+◌, ◌-◌, ℕ, zero, suc, Bool, true, false, ◌&&◌, not, eqb, List, [], ◌∷◌, ◌++◌, length, inl, inr, refl, sym, ap, ◌∙◌, subst, arith, Ok, Err}
 use Rattle.std.specs.List.{list_all}
 use Rattle.std.proofs.lemmas.Bool.{and_from, and_parts, cases_Bool, cases_eq, cond-true, cond-false}
@@ -17,26 +17,32 @@ use Rattle.machine.specs.State.{State, is_open}
 use Rattle.machine.specs.Step.{Effect, Run, Step}
 use Rattle.mending.specs.Repairs.{all_done, repairs_below}
 
--- ---- handles
+-- ---- what a repair leaves
 
-swept_opened : (geo : Geometry) (s : State) (i : ℕ) → (swept geo s i).opened ≡ s.opened
-swept_opened geo s i =
+-- the same handles, and the same snapshots
+abbrev Leaves : State → State → Type 0
+Leaves old new = (new.opened ≡ old.opened) × (new.snapshots ≡ old.snapshots)
+
+swept_leaves : (geo : Geometry) (s : State) (i : ℕ) → Leaves s (swept geo s i)
+swept_leaves geo s i =
     let test : Bool = eqb (s.view.inode i).links 0 && not (is_open s i) in
     let gone : State = lets_go geo s i (updated_all s.view (SetInode i free_inode ∷ SetNumber i false ∷ [])) in
     elim (cases_Bool test) [
-      | inl t ↦ ap (λ (x : State). x.opened) (cond-true test gone s t)
-      | inr f ↦ ap (λ (x : State). x.opened) (cond-false test gone s f)
+      | inl t ↦ (let e = cond-true test gone s t in (ap (λ (x : State). x.opened) e, ap (λ (x : State). x.snapshots) e))
+      | inr f ↦ (let e = cond-false test gone s f in (ap (λ (x : State). x.opened) e, ap (λ (x : State). x.snapshots) e))
     ]
 
-repaired_opened : (geo : Geometry) (s : State) (r : Repair) → (repaired geo s r).opened ≡ s.opened
-repaired_opened geo s (DropInode i) = swept_opened geo (record s { view = updated s.view (SetInode i (with_links (s.view.inode i) 0)) }) i
-repaired_opened geo s (LowerCount i x) = swept_opened geo (record s { view = updated s.view (SetInode i (with_links (s.view.inode i) ((s.view.inode i).links - x))) }) i
-repaired_opened geo s (FreeBlock a) = refl
-repaired_opened geo s (FreeNumber i) = refl
+repaired_leaves : (geo : Geometry) (s : State) (r : Repair) → Leaves s (repaired geo s r)
+repaired_leaves geo s (DropInode i) = swept_leaves geo (record s { view = updated s.view (SetInode i (with_links (s.view.inode i) 0)) }) i
+repaired_leaves geo s (LowerCount i x) = swept_leaves geo (record s { view = updated s.view (SetInode i (with_links (s.view.inode i) ((s.view.inode i).links - x))) }) i
+repaired_leaves geo s (FreeBlock a) = (refl, refl)
+repaired_leaves geo s (FreeNumber i) = (refl, refl)
+
+-- ---- handles
 
 abbrev pub is_upkeep : Command → Bool
 is_upkeep Freeze = true
-is_upkeep Release = true
+is_upkeep (Release s) = true
 is_upkeep (Install check) = true
 is_upkeep (RepairAt k) = true
 is_upkeep Sync = true
@@ -44,11 +50,11 @@ is_upkeep _ = false
 
 effect_opened : (geo : Geometry) (old new : State) (command : Command) (answer : Answer) → is_upkeep command ≡ true → Effect geo old command answer new → new.opened ≡ old.opened
 effect_opened geo old new Freeze answer t e = ap (λ (s : State). s.opened) e.1
-effect_opened geo old new Release Done t e = ap (λ (s : State). s.opened) e
+effect_opened geo old new (Release s) Done t e = ap (λ (s : State). s.opened) e
 effect_opened geo old new (Install check) Done t e = ap (λ (s : State). s.opened) e.whole
-effect_opened geo old new (RepairAt k) Done t e = ap (λ (s : State). s.opened) e.whole ∙ repaired_opened geo old e.repair
+effect_opened geo old new (RepairAt k) Done t e = ap (λ (s : State). s.opened) e.whole ∙ (repaired_leaves geo old e.repair).0
 effect_opened geo old new Sync Done t e = ap (λ (s : State). s.opened) e
-effect_opened geo old new Release _ t e = absurd e
+effect_opened geo old new (Release s) _ t e = absurd e
 effect_opened geo old new (Install check) _ t e = absurd e
 effect_opened geo old new (RepairAt k) _ t e = absurd e
 effect_opened geo old new Sync _ t e = absurd e
@@ -123,3 +129,14 @@ last_step geo old new [] c [] r e run = (old, refl, subst (λ s. Step geo old c 
 last_step geo old new (d ∷ cs) c (s ∷ rs) r e run = let rest = last_step geo run.0 new cs c rs r (omega (arith, e)) run.2 in (rest.0, (run.0, run.1, rest.1), rest.2)
 last_step geo old new [] c (s ∷ rs) r e run = absurd (omega (arith, e))
 last_step geo old new (d ∷ cs) c [] r e run = absurd (omega (arith, e))
+
+-- ---- repairs leave the snapshots
+
+repair_snapshots : (geo : Geometry) (old new : State) (k : ℕ) → Step geo old (RepairAt k) (Ok Done) new → new.snapshots ≡ old.snapshots
+repair_snapshots geo old new k s = ap (λ (x : State). x.snapshots) s.1.whole ∙ (repaired_leaves geo old s.1.repair).1
+
+pub repairs_snapshots : (geo : Geometry) (old new : State) (n : ℕ) → Run geo old (repairs_below n) (all_done n) new → new.snapshots ≡ old.snapshots
+repairs_snapshots geo old new zero run = ap (λ (s : State). s.snapshots) run
+repairs_snapshots geo old new (suc n) run =
+    let last = last_step geo old new (repairs_below n) (RepairAt n) (all_done n) (Ok Done) (as_many n) run in
+    repair_snapshots geo last.0 new n last.2 ∙ repairs_snapshots geo old last.0 n last.1

@@ -4,7 +4,9 @@ use Rattle.std.proofs.lemmas.Result.{err_from_is_err_and}
 use Rattle.frozen.specs.Kept.{KeepsMetadata, Kept}
 use Rattle.fsck.specs.Checked.{CheckedImage}
 use Rattle.machine.specs.Snapshot.{settled}
-use Rattle.live_states.specs.Holdings.{Holdings}
+use Rattle.machine.specs.Standing.{latest_at}
+use Rattle.machine.proofs.Snapshots.{at_here}
+use Rattle.live_states.specs.Holdings.{Holdings, nothing_beside}
 use Rattle.live_states.specs.Snapshots.{IsSettled}
 use Rattle.snapshot.specs.Alive.{Alive, state_of}
 use Rattle.snapshot.specs.Asked.{check_of}
@@ -12,7 +14,7 @@ use Rattle.mending.proofs.MayMend.{may_mend, of_loaded}
 use Rattle.mending.proofs.Ended.{Ended, checked_before, ends}
 use Rattle.snapshot.proofs.Refusals.{may_freeze, refused_so}
 use Rattle.machine.specs.Command.{Freeze}
-use Rattle.mending.proofs.Joining.{joins_of, nothing_beside}
+use Rattle.mending.proofs.Joining.{joins_of}
 use Rattle.mending.proofs.Seen.{alone, settled_idle}
 use Rattle.mending.proofs.mend_checked.Goals as goal
 
@@ -30,20 +32,22 @@ freeze_as-requires-clause-whole g c =
 
 pub mend_frozen-requires : goal.mend_frozen-requires
 mend_frozen-requires g c =
-    ap (λ (h : Holdings). h.snapshot) c.in_ok-freeze_as.ensures.keeps.1 ∙ ap Some (c.in_ok-snapshot.ensures.cases ∙ c.frozen.ensures)
+    let snapshots = c.args.volume.now.holdings.snapshots in
+    ap (λ (h : Holdings). latest_at h.snapshots.standing h.snapshots.freezes) c.in_ok-number.ensures.keeps.2
+    ∙ at_here snapshots.freezes (arc_value c.in_ok-snapshot.snapshot) snapshots.standing ∙ ap Some (c.in_ok-snapshot.ensures.cases ∙ c.frozen.ensures)
 
-pub returns-in_err-freeze_as-clause-error : goal.returns-in_err-freeze_as-clause-error
-returns-in_err-freeze_as-clause-error g c =
-    let p = err_from_is_err_and c.from_residual-in_err-freeze_as.result c.from_residual-in_err-freeze_as.ensures.1 in
+pub returns-in_err-number-clause-error : goal.returns-in_err-number-clause-error
+returns-in_err-number-clause-error g c =
+    let p = err_from_is_err_and c.from_residual-in_err-number.result c.from_residual-in_err-number.ensures.1 in
     rw (p.1, p.2) (λ honest.
     let held = g.D.Device.held in
     let image = g.D.Device.image in
     let old = c.args.volume.now in
     let new = c.freeze_as.new.self in
     let beside = c.live.ensures.balance (c.freeze_as.ensures.honest honest) in
-    let is = alone (image old.device) old beside.beside c.requires.idle.snapshot beside.is in
+    let is = alone (image old.device) old beside.beside c.requires.idle.snapshots beside.is in
     refused_so (held old.device) (image old.device) old (held new.device) (image new.device) new nothing_beside is Freeze
-    (may_freeze old.kept.geometry (state_of (image old.device) old nothing_beside) refl) tt _ (c.in_err-freeze_as.ensures.refused honest))
+    (may_freeze old.kept.geometry (state_of (image old.device) old nothing_beside) refl) tt _ (c.in_err-number.ensures.refused honest))
 
 pub returns-in_err-mend_frozen-clause-error : goal.returns-in_err-mend_frozen-clause-error
 returns-in_err-mend_frozen-clause-error g c =
@@ -55,17 +59,18 @@ returns-in_err-mend_frozen-clause-error g c =
     let v1 = c.freeze_as.new.self in
     let v2 = c.mend_frozen.new.volume in
     let checked : CheckedImage = c.args.checked.now in
+    let number = c.in_ok-number.number in
     let snapshot = arc_value c.in_ok-snapshot.snapshot in
     let h1 = c.mend_frozen.ensures.honest honest in
     let h0 = c.freeze_as.ensures.honest h1 in
     let beside = c.live.ensures.balance h0 in
-    let is = alone (image v0.device) v0 beside.beside c.requires.idle.snapshot beside.is in
-    let freezes = c.in_ok-freeze_as.ensures.frozen h1 in
+    let is = alone (image v0.device) v0 beside.beside c.requires.idle.snapshots beside.is in
+    let freezes = c.in_ok-number.ensures.frozen h1 in
     let found = checked_before (joins_of c.calls_join.ensures) (held v0.device) (held v1.device) (held v2.device) (image v0.device) (image v1.device) (image v2.device) v0 v1 v2 checked
     c.requires.pending c.requires.idle (sym (ap (λ (k : Kept). k.geometry) c.requires.kept)) (c.requires.loaded h0) c.tells_its_image.ensures in
     c.in_err-mend_frozen.ensures.error honest
-    (may_mend image c.damaged_where_a_rule_is_broken.ensures (held v0.device) (held v1.device) (image v0.device) v0 v1 snapshot checked c.requires.pending c.requires.idle (c.requires.mounted h0) is freezes found
-    (of_loaded image c.damaged_where_a_rule_is_broken.ensures (held v0.device) (held v1.device) (image v0.device) v0 v1 snapshot checked c.requires.pending c.requires.idle (c.requires.mounted h0) is freezes found (sym (ap (λ (k : Kept). k.geometry) c.requires.kept)) (c.requires.loaded h0))))
+    (may_mend image c.damaged_where_a_rule_is_broken.ensures (held v0.device) (held v1.device) (image v0.device) v0 v1 number snapshot checked c.requires.pending c.requires.idle (c.requires.mounted h0) is freezes found
+    (of_loaded image c.damaged_where_a_rule_is_broken.ensures (held v0.device) (held v1.device) (image v0.device) v0 v1 number snapshot checked c.requires.pending c.requires.idle (c.requires.mounted h0) is freezes found (sym (ap (λ (k : Kept). k.geometry) c.requires.kept)) (c.requires.loaded h0))))
 
 pub returns : goal.returns
 returns g c =
@@ -77,21 +82,22 @@ returns g c =
     let v2 = c.mend_frozen.new.volume in
     let checked : CheckedImage = c.args.checked.now in
     let check = check_of v1.kept.geometry checked in
+    let number = c.in_ok-number.number in
     let first : honest v2.device → honest v0.device = λ h2. c.freeze_as.ensures.honest (c.mend_frozen.ensures.honest h2) in
-    let ended : honest v2.device → Ended (held v0.device) (image v0.device) v0 check _ checked (held v2.device) (image v2.device) v2 = λ h2.
+    let ended : honest v2.device → Ended (held v0.device) (image v0.device) v0 number check _ checked (held v2.device) (image v2.device) v2 = λ h2.
     let h1 = c.mend_frozen.ensures.honest h2 in
     let h0 = c.freeze_as.ensures.honest h1 in
     let beside = c.live.ensures.balance h0 in
-    let is = alone (image v0.device) v0 beside.beside c.requires.idle.snapshot beside.is in
-    ends (joins_of c.calls_join.ensures) (held v0.device) (held v1.device) (held v2.device) (image v0.device) (image v1.device) (image v2.device) v0 v1 v2 (arc_value c.in_ok-snapshot.snapshot) checked
+    let is = alone (image v0.device) v0 beside.beside c.requires.idle.snapshots beside.is in
+    ends (joins_of c.calls_join.ensures) (held v0.device) (held v1.device) (held v2.device) (image v0.device) (image v1.device) (image v2.device) v0 v1 v2 number (arc_value c.in_ok-snapshot.snapshot) checked
     c.requires.pending c.requires.idle is
     (checked_before (joins_of c.calls_join.ensures) (held v0.device) (held v1.device) (held v2.device) (image v0.device) (image v1.device) (image v2.device) v0 v1 v2 checked c.requires.pending c.requires.idle (sym (ap (λ (k : Kept). k.geometry) c.requires.kept)) (c.requires.loaded h0) c.tells_its_image.ensures)
-    (c.in_ok-freeze_as.ensures.frozen h1) (c.in_ok-mend_frozen.ensures.mends h2)
+    (c.in_ok-number.ensures.frozen h1) (c.in_ok-mend_frozen.ensures.mends h2)
     in
     record {
       clean = λ h2.
           let e = ended h2 in
-          c.mended_images_are_clean.ensures e.cycle.beside (held v0.device) (held v2.device) (image v0.device) (image v2.device) v0 v2 (settled v0.kept.geometry (state_of (image v0.device) v0 nothing_beside)) check checked.findings _ e.cycle.answer
+          c.mended_images_are_clean.ensures e.cycle.beside (held v0.device) (held v2.device) (image v0.device) (image v2.device) v0 v2 number (settled v0.kept.geometry (state_of (image v0.device) v0 nothing_beside)) check checked.findings _ e.cycle.answer
           (c.requires.mounted (first h2)) c.requires.pending c.requires.idle e.is e.is_settled.findings e.count e.cycle.goes;
       framed = λ h2. (ended h2).cycle.goes.is.framed;
       geometry = λ h2. (ended h2).cycle.goes.geometry;

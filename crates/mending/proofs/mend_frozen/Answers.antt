@@ -1,11 +1,13 @@
-use Rattle.std.proofs.Common.{◌∙◌, ap, length, refl, subst, sym, Some}
+use Rattle.std.proofs.Common.{◌∙◌, [], ap, length, subst, sym}
 use Rattle.std.proofs.lemmas.Result.{err_from_is_err_and}
 use Rattle.machine.specs.Command.{Install, Release, Sync}
+use Rattle.machine.specs.Standing.{ended}
+use Rattle.machine.proofs.Snapshots.{at_here}
 use Rattle.live_states.specs.Holdings.{Beside}
 use Rattle.snapshot.specs.Alive.{state_of}
 use Rattle.snapshot.specs.Asked.{check_of}
-use Rattle.mending.specs.Repairs.{IsPlanned, Mends}
-use Rattle.mending.proofs.Joining.{joins_of, nothing_beside, then_mends}
+use Rattle.mending.specs.Repairs.{IsPlanned, Mends, one_beside}
+use Rattle.mending.proofs.Joining.{joins_of, then_mends}
 use Rattle.snapshot.proofs.Refusals.{may_install, may_release, may_sync, refused_so, refused_too}
 use Rattle.mending.proofs.Planned.{installed}
 use Rattle.mending.proofs.mend_frozen.Goals as goal
@@ -18,10 +20,11 @@ returns-in_err-install_own-clause-error g c =
     let image = g.D.Device.image in
     let old = c.args.volume.now in
     let new = c.install_own.new.self in
-    let b : Beside = record { frozen = Some may.view } in
+    let s = c.args.number in
+    let b : Beside = one_beside s may.view in
     let check = check_of old.kept.geometry c.args.checked.now in
     refused_so (held old.device) (image old.device) old (held new.device) (image new.device) new b may.is (Install check)
-    (may_install old.kept.geometry (state_of (image old.device) old b) check may.view refl may.none may.soft) (may.view, refl, may.same) _ (c.in_err-install_own.ensures.refused honest))
+    (may_install old.kept.geometry (state_of (image old.device) old b) check may.view (at_here s may.view []) may.none may.soft) (may.view, at_here s may.view [], may.same) _ (c.in_err-install_own.ensures.refused honest))
 
 pub returns-in_err-repair_all-clause-error : goal.returns-in_err-repair_all-clause-error
 returns-in_err-repair_all-clause-error g c =
@@ -30,13 +33,14 @@ returns-in_err-repair_all-clause-error g c =
     let image = g.D.Device.image in
     let old = c.args.volume.now in
     let mid = c.install_own.new.self in
-    let b : Beside = record { frozen = Some may.view } in
+    let s = c.args.number in
+    let b : Beside = one_beside s may.view in
     let two = c.in_ok-install_own.ensures.installed (subst g.D.Device.honest c.repair_all.ensures.device honest) b may.is in
     c.in_err-repair_all.ensures.error honest (record {
       beside = b;
       is = two.is;
       is_planned = subst (IsPlanned (state_of (image mid.device) mid b) 0) (ap length (sym may.repairs ∙ sym c.repairs.ensures.repairs))
-          (installed old.kept.geometry (state_of (image old.device) old b) (state_of (image mid.device) mid b) _ may.view c.args.checked.now.findings refl may.found c.findings_are_unique.ensures two.run);
+          (installed old.kept.geometry (state_of (image old.device) old b) (state_of (image mid.device) mid b) _ may.view c.args.checked.now.findings (at_here s may.view []) may.found c.findings_are_unique.ensures two.run);
     }))
 
 pub returns-in_err-release-clause-error : goal.returns-in_err-release-clause-error
@@ -47,12 +51,13 @@ returns-in_err-release-clause-error g c =
     let image = g.D.Device.image in
     let old = c.repair_all.new.volume in
     let new = c.release.new.self in
-    let b : Beside = record { frozen = Some may.view } in
+    let s = c.args.number in
+    let b : Beside = one_beside s may.view in
     let h3 = c.release.ensures.honest honest in
     let two = c.in_ok-install_own.ensures.installed (subst g.D.Device.honest c.repair_all.ensures.device h3) b may.is in
     let three = c.in_ok-repair_all.ensures.repaired h3 b two.is in
-    refused_so (held old.device) (image old.device) old (held new.device) (image new.device) new b three.is Release
-    (may_release old.kept.geometry (state_of (image old.device) old b) may.view refl) tt _ (c.in_err-release.ensures.refused honest))
+    refused_so (held old.device) (image old.device) old (held new.device) (image new.device) new b three.is (Release s)
+    (may_release old.kept.geometry (state_of (image old.device) old b) s may.view (at_here s may.view [])) tt _ (c.in_err-release.ensures.refused honest))
 
 pub returns-in_err-apply-clause-error : goal.returns-in_err-apply-clause-error
 returns-in_err-apply-clause-error g c =
@@ -62,14 +67,16 @@ returns-in_err-apply-clause-error g c =
     let image = g.D.Device.image in
     let old = c.release.new.self in
     let new = c.apply.new.self in
-    let b : Beside = record { frozen = Some may.view } in
+    let s = c.args.number in
+    let b : Beside = one_beside s may.view in
     let h4 = c.apply.ensures.honest honest in
     let h3 = c.release.ensures.honest h4 in
     let two = c.in_ok-install_own.ensures.installed (subst g.D.Device.honest c.repair_all.ensures.device h3) b may.is in
     let three = c.in_ok-repair_all.ensures.repaired h3 b two.is in
     let four = c.in_ok-release.ensures.released h4 b three.is in
-    refused_too (held old.device) (image old.device) old (held new.device) (image new.device) new nothing_beside four.is Sync
-    (may_sync old.kept.geometry (state_of (image old.device) old nothing_beside)) tt _ (c.in_err-apply.ensures.applied honest))
+    let left : Beside = record { snapshots = ended b.snapshots s } in
+    refused_too (held old.device) (image old.device) old (held new.device) (image new.device) new left four.is Sync
+    (may_sync old.kept.geometry (state_of (image old.device) old left)) tt _ (c.in_err-apply.ensures.applied honest))
 
 pub returns : goal.returns
 returns g c =
@@ -87,9 +94,9 @@ returns g c =
           let h4 = c.apply.ensures.honest h5 in
           let h3 = c.release.ensures.honest h4 in
           let h2 = subst honest c.repair_all.ensures.device h3 in
-          subst (λ n. Mends beside (held v1.device) (image v1.device) v1 (check_of v1.kept.geometry checked) n (held v5.device) (image v5.device) v5) (ap length c.repairs.ensures.repairs)
+          subst (λ n. Mends beside (held v1.device) (image v1.device) v1 c.args.number (check_of v1.kept.geometry checked) n (held v5.device) (image v5.device) v5) (ap length c.repairs.ensures.repairs)
           (then_mends (joins_of c.calls_join.ensures) (held v1.device) (held v2.device) (held v3.device) (held v4.device) (held v5.device)
-          (image v1.device) (image v2.device) (image v3.device) (image v4.device) (image v5.device) v1 v2 v3 v4 v5 beside (check_of v1.kept.geometry checked) _ c.in_ok-apply.field-0 is
+          (image v1.device) (image v2.device) (image v3.device) (image v4.device) (image v5.device) v1 v2 v3 v4 v5 beside c.args.number (check_of v1.kept.geometry checked) _ c.in_ok-apply.field-0 is
           (c.in_ok-install_own.ensures.installed h2) (c.in_ok-repair_all.ensures.repaired h3) (c.in_ok-release.ensures.released h4) (c.in_ok-apply.ensures.applied h5));
       error = tt;
       honest = λ h5. subst honest c.install_own.ensures.device (subst honest c.repair_all.ensures.device (c.release.ensures.honest (c.apply.ensures.honest h5)));
