@@ -39,7 +39,7 @@ pub enum Job<'a> {
 /// Reads the words of a line, the program's name first.
 pub fn parse(words: &[String]) -> Result<Job<'_>> {
     match words {
-        [_, mode, image, last] => job(mode.as_str(), image.as_str(), last.as_str()),
+        [_, mode, image, last] => mode_of(mode.as_str(), image.as_str(), last.as_str()),
         [_, mode, image, paths, snapshots] if mode.as_str() == "unlink" => Ok(Job::Unlink {
             image: image.as_str(),
             paths: paths.as_str(),
@@ -52,7 +52,7 @@ pub fn parse(words: &[String]) -> Result<Job<'_>> {
 }
 
 /// What a mode, an image and a word more ask for.
-fn job<'a>(mode: &str, image: &'a str, last: &'a str) -> Result<Job<'a>> {
+fn mode_of<'a>(mode: &str, image: &'a str, last: &'a str) -> Result<Job<'a>> {
     match mode {
         "mend" => Ok(Job::Mend {
             image,
