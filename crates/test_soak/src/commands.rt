@@ -41,7 +41,8 @@ pub fn random_script(alloc: Global, noise: &mut Noise) -> Result<String, AllocEr
     Ok(text)
 }
 
-/// Writes the lines of the user who takes snapshots. It names those that it took last, some of which it has ended.
+/// Writes the lines of the user who takes snapshots. It names those that it took last, some of which it has ended; at last it
+/// ends them all.
 fn write_of_keeper(text: &mut String, noise: &mut Noise) -> Result<(), AllocError> {
     let mut taken = 0u32;
     for _line in 0..LINES {
@@ -54,6 +55,14 @@ fn write_of_keeper(text: &mut String, noise: &mut Noise) -> Result<(), AllocErro
             1 => writeln!(text, "{KEEPER} release {number}")?,
             _ => write_snapread(text, noise, number)?,
         }
+    }
+    write_ends(text, taken)
+}
+
+/// Writes the ends of all snapshots, so that the check finds room for its own.
+fn write_ends(text: &mut String, taken: u32) -> Result<(), AllocError> {
+    for number in 0..taken {
+        writeln!(text, "{KEEPER} release {number}")?;
     }
     Ok(())
 }

@@ -7,6 +7,7 @@ use layout::Refusal;
 use shared::{Progress, Rotating, Seat, Shared};
 use snapshot::{Answer, Command};
 use std::alloc::Global;
+use std::sync::atomic::{AtomicU64, Ordering};
 use std::sync::ledger::Ledger;
 use std::sync::{Arc, Wait};
 use std::thread::{Threads, yield_now};
@@ -20,8 +21,8 @@ pub struct Mended {
 }
 
 /// Freezes the volume, checks the snapshot with so many workers, installs the check, carries out each of its repairs, and
-/// ends the snapshot. While four others stand it waits until it may freeze the volume; where another thread froze it
-/// before the check was installed, it ends the snapshot and begins anew.
+/// ends the snapshot. Where another thread froze the volume before the check was installed, it ends the snapshot and begins
+/// anew. Refused with `TooManySnapshots` where four others stand.
 pub fn mend<D: Device + Drop, L: Rotating, M: Ledger, R: Threads + Wait + Sync>(
     rt: &R,
     alloc: Global,
@@ -30,16 +31,31 @@ pub fn mend<D: Device + Drop, L: Rotating, M: Ledger, R: Threads + Wait + Sync>(
     workers: u32,
 ) -> Result<Mended, Refusal> {
     for _ in rt.forever() {
-        match freeze(rt, alloc, shared, seat) {
-            Err(Refusal::TooManySnapshots) => yield_now(),
-            frozen => {
-                let (number, frozen) = frozen?;
-                let mended = mend_frozen(rt, alloc, shared, seat, &frozen, workers)?;
-                release(rt, alloc, shared, seat, number)?;
-                if let Some(mended) = mended {
-                    return Ok(mended);
-                }
-            }
+        let (number, frozen) = freeze(rt, alloc, shared, seat)?;
+        let mended = mend_frozen(rt, alloc, shared, seat, &frozen, workers)?;
+        release(rt, alloc, shared, seat, number)?;
+        if let Some(mended) = mended {
+            return Ok(mended);
+        }
+    }
+    unreachable!()
+}
+
+/// Mends the volume beside users, of whom so many have ended. Where four snapshots stand, it waits for one of them to end, and
+/// is refused where all users have ended.
+pub(crate) fn mend_beside<D: Device + Drop, L: Rotating, M: Ledger, R: Threads + Wait + Sync>(
+    rt: &R,
+    alloc: Global,
+    shared: &Shared<D, L, M>,
+    seat: &mut Seat<L, M>,
+    workers: u32,
+    ended: &AtomicU64,
+) -> Result<Mended, Refusal> {
+    for _ in rt.forever() {
+        let is_over = ended.load(Ordering::SeqCst) > 0;
+        match mend(rt, alloc, shared, seat, workers) {
+            Err(Refusal::TooManySnapshots) if !is_over => yield_now(),
+            mended => return mended,
         }
     }
     unreachable!()

@@ -2,7 +2,7 @@
 ghost use Rattle.std.specs.Prelude.{◌≡◌, ◌+◌, IfOk, IfSome, vec_len};
 ghost use Rattle.shared.specs.Opened.{opened_of};
 
-use crate::checking::{Mended, mend};
+use crate::checking::{Mended, mend_beside};
 use crate::flushing::flush_until;
 use crate::lines::{Answered, carry_out};
 use device::Device;
@@ -47,7 +47,8 @@ struct Left<L: Ledger, M: Ledger> {
 
 /// Carries out the lines of a script, those of each user in order by a thread of its own. Beside them one thread freezes the
 /// volume, checks the snapshot with so many workers, installs the check, carries out each of its repairs and ends the
-/// snapshot, once; and one flushes what may go to the device, until all others have ended. Then all is written. Where the
+/// snapshot, once; and one flushes what may go to the device, until all others have ended. Then all is written. The one that
+/// checks waits while users have four snapshots, and is refused with `TooManySnapshots` where they leave four. Where the
 /// thread that checks was refused, or else the one that flushes, that is the refusal; further refused with `NoMemory`, and
 /// with `Device` where not all could be written.
 pub fn run<D: Device + Drop + Send, R: Threads + Wait + Sync>(
@@ -275,7 +276,7 @@ fn work_all<
             rt,
             move || {
                 let mut seat = checker;
-                let mended = mend(rt, alloc, shared, &mut seat, workers);
+                let mended = mend_beside(rt, alloc, shared, &mut seat, workers, ended);
                 ended.fetch_add(1, Ordering::SeqCst);
                 (seat, mended)
             },
