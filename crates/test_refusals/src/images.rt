@@ -7,13 +7,11 @@ use test_trials::{
 /// A group of 16 blocks and 16 inodes.
 const SMALL: [u32; 3] = [1, 16, 16];
 
-/// All of them.
-pub const TRIALS: &[Trial] = &[
-    FRESH,
-    LOST_BLOCK,
-    LOST_DIRECTORY,
-    SHARED_BLOCK,
-    LOST_CYCLE,
+/// Those that are there for their images, which a check is to find something on.
+pub const OF_IMAGES: &[Trial] = &[FRESH, LOST_BLOCK, LOST_DIRECTORY, SHARED_BLOCK, LOST_CYCLE];
+
+/// Those that are there for what is done on their volumes.
+pub const OF_VOLUMES: &[Trial] = &[
     LOST_FILE,
     COUNT_TOO_HIGH,
     UNLINKED_AND_OPEN,

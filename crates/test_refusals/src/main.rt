@@ -10,10 +10,13 @@ mod outcome;
 mod trying;
 
 use anyhow::Result;
-use images::TRIALS;
+use images::{OF_IMAGES, OF_VOLUMES};
 use outcome::Outcome;
+use std::alloc::Global;
 use std::env;
 use std::process::ExitCode;
+use std::thread::Threads;
+use test_trials::Trial;
 use trying::try_trial;
 
 fn main(rt: HostRuntime) -> Result<ExitCode> {
@@ -27,11 +30,8 @@ fn main(rt: HostRuntime) -> Result<ExitCode> {
         Err(_) => env::args(&rt)?.collect(alloc)?,
     };
     let mut outcome = Outcome::new(alloc);
-    for trial in TRIALS {
-        if is_asked(words.as_slice(), trial.name) {
-            try_trial(&rt, alloc, trial, &mut outcome)?;
-        }
-    }
+    try_asked(&rt, alloc, words.as_slice(), OF_IMAGES, &mut outcome)?;
+    try_asked(&rt, alloc, words.as_slice(), OF_VOLUMES, &mut outcome)?;
     let Outcome {
         text,
         refused,
@@ -40,6 +40,22 @@ fn main(rt: HostRuntime) -> Result<ExitCode> {
     print!(rt; "{text}")?;
     eprintln!(rt; "refused {refused}")?;
     Ok(ExitCode::from(if wrong == 0 { 0 } else { 1 }))
+}
+
+/// Carries out those of these trials that the words of a line ask for.
+fn try_asked(
+    rt: &(impl Threads + Sync),
+    alloc: Global,
+    words: &[String],
+    trials: &[Trial],
+    outcome: &mut Outcome,
+) -> Result<()> {
+    for trial in trials {
+        if is_asked(words, trial.name) {
+            try_trial(rt, alloc, trial, outcome)?;
+        }
+    }
+    Ok(())
 }
 
 /// Whether the words of a line, the program's name first, ask for the trial of this name.
