@@ -22,7 +22,8 @@ pub struct Mended {
 
 /// Freezes the volume, checks the snapshot with so many workers, installs the check, carries out each of its repairs, and
 /// ends the snapshot. Where another thread froze the volume before the check was installed, it ends the snapshot and begins
-/// anew. Refused with `TooManySnapshots` where four others stand.
+/// anew; where one froze it later, the repairs that were left are dropped. Refused with `TooManySnapshots` where four others
+/// stand.
 pub fn mend<D: Device + Drop, L: Rotating, M: Ledger, R: Threads + Wait + Sync>(
     rt: &R,
     alloc: Global,
