@@ -3,8 +3,9 @@ use Rattle.std.proofs.Common.{◌≡◌, ◌+◌, ℕ, suc, Bool, true, false, n
 use Rattle.model.specs.Layout.{Geometry, is_data_address, is_number}
 use Rattle.model.specs.Metadata.{SameMetadata}
 use Rattle.model.specs.Reach.{sum_below}
-use Rattle.model.specs.Uses.{is_directory_at, is_sound_at, is_sound, is_directory}
 use Rattle.model.specs.View.{View}
+use Rattle.model.proofs.Alike.{same_and}
+use Rattle.model.proofs.Same.{SameFacts, same_facts}
 use Rattle.model.proofs.Sums.{sum-same}
 use Rattle.machine.specs.Room.{IsFreeBlock}
 use Rattle.census.specs.Census.{IsCensus, bound_of, count_of, counts}
@@ -32,29 +33,16 @@ counted_same p n m is before = let here : once p n ≡ 0 = ap (λ b. cond b 1 0)
 
 -- ---- the same metadata
 module _ (geo : Geometry) (v w : View) (same : SameMetadata geo v w) where
-  guarded : (b : Bool) (x y : Bool) → (b ≡ true → x ≡ y) → (b && x) ≡ (b && y)
-  guarded true x y h = h refl
-  guarded false x y h = refl
-
-  same_sound : (i : ℕ) → is_sound_at geo v i ≡ is_sound_at geo w i
-  same_sound i = guarded (is_number geo i) (is_sound (v.inode i)) (is_sound (w.inode i)) (λ n. ap is_sound (same.inode i n))
-
-  both_guarded : (b x y x' y' : Bool) → (b ≡ true → x ≡ x') → (b ≡ true → y ≡ y') → ((b && x) && y) ≡ ((b && x') && y')
-  both_guarded true x y x' y' h k = ap₂ (λ a c. a && c) (h refl) (k refl)
-  both_guarded false x y x' y' h k = refl
-
-  same_directory : (i : ℕ) → is_directory_at geo v i ≡ is_directory_at geo w i
-  same_directory i =
-      both_guarded (is_number geo i) (is_sound (v.inode i)) (is_directory (v.inode i)) (is_sound (w.inode i)) (is_directory (w.inode i))
-      (λ n. ap is_sound (same.inode i n)) (λ n. ap is_directory (same.inode i n))
+  facts : SameFacts geo v w
+  facts = same_facts geo v w same
 
   same_counts : (what : Counted) (i : ℕ) → counts geo v what i ≡ counts geo w what i
-  same_counts UsedNumbers i = guarded (is_number geo i) (v.number_marked i) (w.number_marked i) (same.number_marked i)
-  same_counts FreeNumbers i = guarded (is_number geo i) (not (v.number_marked i)) (not (w.number_marked i)) (λ n. ap not (same.number_marked i n))
-  same_counts UsedBlocks i = guarded (is_data_address geo i) (v.block_marked i) (w.block_marked i) (same.block_marked i)
-  same_counts FreeBlocks i = guarded (is_data_address geo i) (not (v.block_marked i)) (not (w.block_marked i)) (λ n. ap not (same.block_marked i n))
-  same_counts Files i = ap₂ (λ a b. a && not b) (same_sound i) (same_directory i)
-  same_counts Directories i = same_directory i
+  same_counts UsedNumbers i = same_and (is_number geo i) (v.number_marked i) (w.number_marked i) (same.number_marked i)
+  same_counts FreeNumbers i = same_and (is_number geo i) (not (v.number_marked i)) (not (w.number_marked i)) (λ n. ap not (same.number_marked i n))
+  same_counts UsedBlocks i = same_and (is_data_address geo i) (v.block_marked i) (w.block_marked i) (same.block_marked i)
+  same_counts FreeBlocks i = same_and (is_data_address geo i) (not (v.block_marked i)) (not (w.block_marked i)) (λ n. ap not (same.block_marked i n))
+  same_counts Files i = ap₂ (λ a b. a && not b) (facts.sound_at i) (facts.directory_at i)
+  same_counts Directories i = facts.directory_at i
 
   pub same_count : (what : Counted) → count_of geo v what ≡ count_of geo w what
   same_count what = sum-same (bound_of geo what) (once (counts geo v what)) (once (counts geo w what)) (λ k low. ap (λ b. cond b 1 0) (same_counts what k))

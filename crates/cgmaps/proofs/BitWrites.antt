@@ -8,7 +8,7 @@ use Rattle.model.specs.Layout.{Geometry, IsGeometry, is_number, is_data_address,
 use Rattle.model.specs.View.{View, view_of, inode_at, map_bit, free_inode}
 use Rattle.model.specs.Cells.{SetNumber, SetBlock, updated, put_at}
 use Rattle.model.proofs.Places.{maps_are_no_data, inodes_are_no_maps, put_here, put_there}
-use Rattle.model.proofs.Same.{same_and, same_cond}
+use Rattle.model.proofs.Alike.{same_and, same_cond}
 use Rattle.cgmaps.specs.Maps.{ChangesBit}
 
 -- a number with its group and its place there is the number with that group and that place

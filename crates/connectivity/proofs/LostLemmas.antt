@@ -39,7 +39,7 @@ module _ (geo : Geometry) (view : View) (reached : List ℕ) (h : AreReached geo
   is_member_of : (f : Finding) → IsTrue (is_of_connectivity f) → IsFinding geo view f → Contains (found_below (is_lost_among geo view reached) LostInode (inode_count geo)) f
   is_member_of (LostInode i) t f =
       members_found (is_lost_among geo view reached) LostInode (inode_count geo) i
-      (number_below geo i (and_parts (is_number geo i) (is_sound (view.inode i)) f.0).0) (lost_from i f)
+      (number_below geo i (and_parts (is_number geo i) (is_sound geo (view.inode i)) f.0).0) (lost_from i f)
   is_member_of _ t f = absurd cc
 
 pub lost_found : (geo : Geometry) (view : View) (reached : List ℕ) (found : List Finding) → AreReached geo view reached

@@ -202,7 +202,7 @@ module _ (geo : Geometry) (view : View) where
   module _ (all : Claimed) (seats : List Seated) (back : AreBack all seats) (walked : HasWalked geo view all.opening seats) where
     few : length all.opening + all_given seats ≤ inode_count geo
     few = few_given (inode_count geo) all.opening seats back.once
-        (λ n stands. number_below geo n (and_parts (is_number geo n) (is_sound (view.inode n)) (reachable_sound geo view n (walked.reachable n stands))).0)
+        (λ n stands. number_below geo n (and_parts (is_number geo n) (is_sound geo (view.inode n)) (reachable_sound geo view n (walked.reachable n stands))).0)
 
     told_claimed : (i : ℕ) → 0 < all_told seats i → 0 < claimed all.opening seats i
     told_claimed i stands =

@@ -119,7 +119,7 @@ module _ (geo : Geometry) (view : View) (table : List (ℕ × List ℕ)) where
   pub walk_small : (reached round : List ℕ) → IsWalk geo view table reached round → length reached ≤ inode_count geo
   walk_small reached round w =
       length-le_from_distinct_below reached (inode_count geo) (IsDistinct-eqb)
-      (λ q t. number_below geo q (and_parts (is_number geo q) (is_sound (view.inode q)) (w.sound q (from_any q t))).0)
+      (λ q t. number_below geo q (and_parts (is_number geo q) (is_sound geo (view.inode q)) (w.sound q (from_any q t))).0)
     where
       same_test : eq_by_cmp nat_cmp ≡ eqb
       same_test = fun_ext (λ x. fun_ext (λ y. tests_agree x y))

@@ -1,5 +1,5 @@
 -- Each accepted command that changes data has a plan, and so has each repair that is owed.
-use Rattle.std.proofs.Common.{◌≤◌, ◌<◌, ℕ, Bool, List, IsTrue, IsFalse}
+use Rattle.std.proofs.Common.{◌≤◌, ◌<◌, ℕ, Bool, List, [], IsTrue, IsFalse}
 use Rattle.model.specs.Layout.{Geometry, IsGeometry}
 use Rattle.model.specs.View.{View, free_inode}
 use Rattle.model.specs.Uses.{blocks_of}
@@ -19,7 +19,7 @@ use Rattle.plans_data.specs.Write.{written, relocated, held_besides}
 use Rattle.plans_data.specs.Truncate.{truncation}
 use Rattle.plans_data.specs.Relink.{closing, repairing, goes_away, held_if, held_after, inode_of, open_of, without_handle}
 use Rattle.plans_data.specs.Lists.{given_up_with}
-use Rattle.plans_data.specs.Plans.{IsChoice, holder_of, holder_in_use, named_by}
+use Rattle.plans_data.specs.Plans.{IsChoice, holder_of, named_by}
 use Rattle.findings.specs.declared.repair.Repair.TheVariants.{DropInode, LowerCount, FreeBlock, FreeNumber}
 use Rattle.plans_data.proofs.Plans.{plan_in_place, plan_appended, plan_moved, plan_truncate, plan_close, plan_drop, plan_lower, plan_block, plan_number}
 use Rattle.courses.specs.Plans.{IsPlan, WritesInPlace, WritesAppended, WritesMoved, Truncates, Closes, Repairs}
@@ -28,11 +28,11 @@ use Rattle.courses.proofs.LifeBytes.{IsWriteOf, LeavesBehind}
 abbrev pub writes_in_place_have_plans : (geo : Geometry) (disk : View) (q : List Pending) (old : State) (safe : ℕ → Bool) → Balance geo (now disk q old) → IsGeometry geo → (h k : ℕ) (piece : List ℕ) → Accepts geo (now disk q old) (Write h k piece) → (bytes : List ℕ) → IsOverwritten piece (seen geo (users_view disk q) (file_of old h) k) bytes → k < blocks_of ((users_view disk q).inode (file_of old h)).size → IsFalse (is_kept old (block_of geo (users_view disk q) (file_of old h) k)) → IsPlan geo disk q old safe (file_of old h) (written (file_of old h) ((users_view disk q).inode (file_of old h)) (block_of geo (users_view disk q) (file_of old h) k) bytes (size_after (users_view disk q) (file_of old h) k piece) q) old.held (safe)
 writes_in_place_have_plans geo disk q old safe balance geometry h k piece ok bytes over inside not = WritesInPlace (file_of old h) k piece bytes (plan_in_place geo geometry (now disk q old) balance h k piece ok bytes over inside not)
 
-abbrev pub extending_writes_have_plans : (geo : Geometry) (disk : View) (q : List Pending) (old : State) (safe : ℕ → Bool) → Balance geo (now disk q old) → IsGeometry geo → (h k : ℕ) (piece : List ℕ) → Accepts geo (now disk q old) (Write h k piece) → (bytes : List ℕ) → IsOverwritten piece (seen geo (users_view disk q) (file_of old h) k) bytes → (b x : ℕ) (table : List ℕ) → IsChoice geo (users_view disk q) k b x table → blocks_of ((users_view disk q).inode (file_of old h)).size ≤ k → IsPlan geo disk q old safe (file_of old h) (appended (file_of old h) ((users_view disk q).inode (file_of old h)) k b bytes (size_after (users_view disk q) (file_of old h) k piece) (holder_of k ((users_view disk q).bytes ((users_view disk q).inode (file_of old h)).indirect) x table) q) old.held (safe)
-extending_writes_have_plans geo disk q old safe balance geometry h k piece ok bytes over b x table choice past = WritesAppended (file_of old h) k b piece bytes (holder_of k ((users_view disk q).bytes ((users_view disk q).inode (file_of old h)).indirect) x table) (plan_appended geo geometry (now disk q old) balance h k piece ok bytes over b x table choice past)
+abbrev pub extending_writes_have_plans : (geo : Geometry) (disk : View) (q : List Pending) (old : State) (safe : ℕ → Bool) → Balance geo (now disk q old) → IsGeometry geo → (h k : ℕ) (piece : List ℕ) → Accepts geo (now disk q old) (Write h k piece) → (bytes : List ℕ) → IsOverwritten piece (seen geo (users_view disk q) (file_of old h) k) bytes → (b : ℕ) (news : List ℕ) → IsChoice geo (users_view disk q) k b news → blocks_of ((users_view disk q).inode (file_of old h)).size ≤ k → IsPlan geo disk q old safe (file_of old h) (appended geo (file_of old h) ((users_view disk q).inode (file_of old h)) k b bytes (size_after (users_view disk q) (file_of old h) k piece) (holder_of geo (users_view disk q) (file_of old h) k b news) q) old.held (safe)
+extending_writes_have_plans geo disk q old safe balance geometry h k piece ok bytes over b news choice past = WritesAppended (file_of old h) k b piece bytes (holder_of geo (users_view disk q) (file_of old h) k b news) (plan_appended geo geometry (now disk q old) balance h k piece ok bytes over b news choice past)
 
-abbrev pub moving_writes_have_plans : (geo : Geometry) (disk : View) (q : List Pending) (old : State) (safe : ℕ → Bool) → Balance geo (now disk q old) → IsGeometry geo → (h k : ℕ) (piece : List ℕ) → Accepts geo (now disk q old) (Write h k piece) → (bytes : List ℕ) → IsOverwritten piece (seen geo (users_view disk q) (file_of old h) k) bytes → (b : ℕ) → IsFreeBlock geo (users_view disk q) b → k < blocks_of ((users_view disk q).inode (file_of old h)).size → IsTrue (is_kept old (block_of geo (users_view disk q) (file_of old h) k)) → IsPlan geo disk q old safe (file_of old h) (relocated (file_of old h) ((users_view disk q).inode (file_of old h)) k b bytes (size_after (users_view disk q) (file_of old h) k piece) (holder_in_use k ((users_view disk q).bytes ((users_view disk q).inode (file_of old h)).indirect)) q) (held_besides geo (now disk q old) (file_of old h) k) (safe)
-moving_writes_have_plans geo disk q old safe balance geometry h k piece ok bytes over b free inside kept = WritesMoved (file_of old h) k b piece bytes (holder_in_use k ((users_view disk q).bytes ((users_view disk q).inode (file_of old h)).indirect)) (plan_moved geo geometry (now disk q old) balance h k piece ok bytes over b free inside kept)
+abbrev pub moving_writes_have_plans : (geo : Geometry) (disk : View) (q : List Pending) (old : State) (safe : ℕ → Bool) → Balance geo (now disk q old) → IsGeometry geo → (h k : ℕ) (piece : List ℕ) → Accepts geo (now disk q old) (Write h k piece) → (bytes : List ℕ) → IsOverwritten piece (seen geo (users_view disk q) (file_of old h) k) bytes → (b : ℕ) → IsFreeBlock geo (users_view disk q) b → k < blocks_of ((users_view disk q).inode (file_of old h)).size → IsTrue (is_kept old (block_of geo (users_view disk q) (file_of old h) k)) → IsPlan geo disk q old safe (file_of old h) (relocated geo (file_of old h) ((users_view disk q).inode (file_of old h)) k b bytes (size_after (users_view disk q) (file_of old h) k piece) (holder_of geo (users_view disk q) (file_of old h) k b []) q) (held_besides geo (now disk q old) (file_of old h) k) (safe)
+moving_writes_have_plans geo disk q old safe balance geometry h k piece ok bytes over b free inside kept = WritesMoved (file_of old h) k b piece bytes (holder_of geo (users_view disk q) (file_of old h) k b []) (plan_moved geo geometry (now disk q old) balance h k piece ok bytes over b free inside kept)
 
 abbrev pub truncations_have_plans : (geo : Geometry) (disk : View) (q : List Pending) (old : State) (safe : ℕ → Bool) → Balance geo (now disk q old) → IsGeometry geo → (h size : ℕ) → Accepts geo (now disk q old) (Truncate h size) → IsPlan geo disk q old safe (file_of old h) (truncation (file_of old h) ((users_view disk q).inode (file_of old h)) size (given_up_with geo (now disk q old) (file_of old h) (sized ((users_view disk q).inode (file_of old h)) size)) q) (held_with geo (now disk q old) (file_of old h) (sized ((users_view disk q).inode (file_of old h)) size)) (safe)
 truncations_have_plans geo disk q old safe balance geometry h size ok = Truncates (file_of old h) size (given_up_with geo (now disk q old) (file_of old h) (sized ((users_view disk q).inode (file_of old h)) size)) (plan_truncate geo geometry (now disk q old) balance h size ok)

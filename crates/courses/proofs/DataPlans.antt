@@ -1,30 +1,40 @@
 -- The plans of writes, truncations, closings and repairs, update by update.
-use Rattle.std.proofs.Common.{◌≡◌, ℕ, ◌≤◌, ◌-◌, ◌*◌, ◌==◌, Bool, true, false, ltb, List, [], ◌∷◌, refl, subst, IsTrue, arith}
+use Rattle.std.proofs.Common.{◌≡◌, ◌<◌, ℕ, ◌-◌, ◌==◌, Bool, true, false, ltb, List, [], ◌∷◌, map, Contains, inl, inr, sym, ap, ◌∙◌, subst, IsFalse, arith}
 use Rattle.std.specs.Prelude.{if◌then◌else◌}
+use Rattle.std.proofs.lemmas.Bool.{leb-true}
 use Rattle.model.specs.Layout.{Geometry}
-use Rattle.model.specs.View.{View, Inode, u32_at}
+use Rattle.model.specs.View.{View, Inode}
 use Rattle.model.specs.Cells.{SetInode, SetBlock, SetBytes}
-use Rattle.model.specs.Uses.{is_sound, is_sound_at, blocks_of, IsClaim}
+use Rattle.model.specs.Shape.{most_blocks, place_in_table, pointer_in, IsAbove}
+use Rattle.model.specs.Uses.{IsClaim, IsClaimed}
 use Rattle.model.specs.Rules.{ObeysRules}
-use Rattle.std.proofs.lemmas.Bool.{and_parts}
-use Rattle.model.specs.Layout.{is_number}
+use Rattle.model.proofs.Uses.{above_table}
 use Rattle.findings.specs.declared.repair.Repair.{Repair}
 use Rattle.findings.specs.declared.repair.Repair.TheVariants.{DropInode, LowerCount, FreeBlock, FreeNumber}
+use Rattle.ordering.specs.Agrees.{AllAgree}
 use Rattle.ordering.specs.Cuts.{Cell, Record, BlockBit, Block, Pending, users_view}
+use Rattle.ordering.specs.Ghosts.{Ghost, at_rest}
 use Rattle.machine.specs.State.{State}
 use Rattle.machine.specs.Cells.{block_of, with_pointer}
 use Rattle.machine.specs.Effects.{size_after, with_links}
 use Rattle.plans_data.specs.Now.{now}
-use Rattle.plans_data.specs.Append.{Holder, InRecord, InTable, InNewTable, filled, linked, pointed, pointer_after, sized, appended}
+use Rattle.plans_data.specs.Append.{Holder, KeptInRecord, KeptInTable, KeptInNew, IsWhole, IsSpare, filled, linked, pointed, pointer_after, known, sized, appended}
 use Rattle.plans_data.specs.Freeing.{freeing}
 use Rattle.plans_data.specs.Write.{MayWriteInPlace, MayWriteAppended, MayWriteMoved, written, relocated}
 use Rattle.plans_data.specs.Truncate.{truncation}
 use Rattle.plans_data.specs.Relink.{relinking, closing, repairing, goes_away}
-use Rattle.plans_data.proofs.Blocks.{block_claimed, claims_indirect, few_blocks}
-use Rattle.courses.proofs.Members.{only}
-use Rattle.courses.proofs.Fits.{IsNoFiles, AreOf}
+use Rattle.plans_data.proofs.Append.{at, change}
+use Rattle.plans_data.proofs.Blocks.{block_claimed, few_blocks}
+use Rattle.plans_data.proofs.Holders.{first_of, later_of, one_of_both, unmapped, over_claimed}
+use Rattle.plans_data.proofs.Linking.{At, further, table_uses}
+use Rattle.plans_data.proofs.Moved.{MayMove, stays_claimed, no_new_table}
+use Rattle.plans_data.proofs.Placed.{same_inode}
+use Rattle.plans_data.proofs.WriteAppended.{may_append}
+use Rattle.plans_data.proofs.WriteMoved.{may_move}
+use Rattle.queue_model.proofs.NewClaims.{number_of_block}
+use Rattle.courses.proofs.Fits.{AreOf}
 use Rattle.courses.proofs.Walks.{Own, Fits, Start, On}
-use Rattle.courses.proofs.Pieces.{unmarked_no_files, files_own, no_cells, one_block, one_more, Still, Fitting, fitting, nothing_yet, cleared_fits, record_still, record_fits, bytes_fits, bit_fits, filled_fits, freeing_still, bit_still, number_still}
+use Rattle.courses.proofs.Pieces.{unmarked_no_files, files_own, no_cells, one_block, one_more, both_of, Still, Fitting, fitting, nothing_yet, cleared_fits, record_still, record_fits, bytes_fits, bit_fits, filled_fits, freeing_still, bit_still, number_still}
 
 module _ (geo : Geometry) (disk : View) (q : List Pending) (rules : ObeysRules geo (users_view disk q)) where
   abbrev start : View
@@ -34,7 +44,7 @@ module _ (geo : Geometry) (disk : View) (q : List Pending) (rules : ObeysRules g
 
   module _ (n : ℕ) (one : (start.inode n).mode ≡ 1) where
     -- a larger size after blocks that the plan has written
-    enlarged_fits : (inode : Inode) (size : ℕ) (after : List Cell) (p : List Pending) (calm : Bool) (ws : List ℕ) → Fits geo disk n q calm ws p → ((users_view disk p).inode n).mode ≡ 1 → AreOf after ws
+    enlarged_fits : (inode : Inode) (size : ℕ) (after : List Cell) (p : List Pending) (calm : Bool) (ws : List ℕ) → Fits geo disk n q calm ws p → ((users_view disk p).inode n).mode ≡ 1 → AreOf geo (users_view disk p) after ws
         → (more : Bool) → Fitting geo disk n q (if more then record { change = SetInode n (sized inode size); after = after } ∷ p else p)
     enlarged_fits inode size after p calm ws f file of true = record_fits geo disk n q (sized inode size) after p calm ws f file of
     enlarged_fits inode size after p calm ws f file of false = (calm, ws, f)
@@ -43,71 +53,113 @@ module _ (geo : Geometry) (disk : View) (q : List Pending) (rules : ObeysRules g
     written_fits k b bytes size claim =
         let u : Pending = record { change = SetBytes b bytes; after = [] } in
         enlarged_fits (start.inode n) size (Block b ∷ []) (u ∷ q) false (b ∷ [])
-        (On u Start (Own b bytes [] (files_own geo start rules n k b claim) (no_cells []))) one (one_block b []) (ltb (start.inode n).size size)
+        (On u Start (Own b bytes [] (files_own geo start rules n k b claim) (no_cells geo start []))) one (one_block geo (users_view disk (u ∷ q)) b (b ∷ []) (first_of b [])) (ltb (start.inode n).size size)
 
-    -- the record, or nothing
-    no_block : (none : Bool) → AreOf (if none then [] else Record n ∷ []) []
-    no_block true = no_cells []
-    no_block false = λ c m. let e = only (Record n) (Block c) m in cc
+    -- what a pointer comes after: a block that the plan has written, the record, and tables that are claimed
+    pointer_of : (v : View) (place b : ℕ) (before over : List ℕ) (ws : List ℕ) → Contains ws b → ((c : ℕ) → Contains over c → IsClaimed geo v c) → AreOf geo v (pointer_after n place b before over) ws
+    pointer_of v place b before over ws here claimed = one_more geo v b _ ws here (rest_of (pointer_in before place == 0))
+      where
+        rest_of : (none : Bool) → AreOf geo v (if none then [] else Record n ∷ map Block over) ws
+        rest_of true = no_cells geo v ws
+        rest_of false = λ c m. elim (one_of_both (Record n) (map Block over) (Block c) m) [
+          | inl e ↦ cc
+          | inr d ↦ let r = unmapped Block over (Block c) d in inr (claimed c (subst (λ y. Contains over y) (ap number_of_block r.2) r.1))
+        ]
 
-    -- the indirect block is written after a block that the plan has written
-    table_fits : (k b : ℕ) (bytes before table : List ℕ) → IsNoFiles geo start b → IsClaim geo start n 268 (start.inode n).indirect
-        → Fits geo disk n q false ((start.inode n).indirect ∷ b ∷ []) (record { change = SetBytes (start.inode n).indirect table; after = pointer_after n k b before } ∷ filled b bytes q)
-    table_fits k b bytes before table other claim =
-        On (record { change = SetBytes (start.inode n).indirect table; after = pointer_after n k b before }) (filled_fits geo disk n q b bytes q [] other Start)
-        (Own (start.inode n).indirect table (pointer_after n k b before) (files_own geo start rules n 268 (start.inode n).indirect claim)
-        (one_more b (if u32_at before (4 * (k - 12)) == 0 then [] else Record n ∷ []) [] (no_block (u32_at before (4 * (k - 12)) == 0))))
+    over_of : (v : View) (over ws : List ℕ) → ((c : ℕ) → Contains over c → IsClaimed geo v c) → AreOf geo v (map Block over) ws
+    over_of v over ws claimed c m = let r = unmapped Block over (Block c) m in inr (claimed c (subst (λ y. Contains over y) (ap number_of_block r.2) r.1))
 
-    pub appended_fits : (k b : ℕ) (bytes : List ℕ) (size : ℕ) (holder : Holder) → IsNoFiles geo start b → ((table : List ℕ) → holder ≡ InTable table → IsClaim geo start n 268 (start.inode n).indirect) → ((x : ℕ) (table : List ℕ) → holder ≡ InNewTable x table → IsNoFiles geo start x)
-        → Fitting geo disk n q (appended n (start.inode n) k b bytes size holder q)
-    appended_fits k b bytes size InRecord other kept fresh =
-        record_fits geo disk n q (sized (pointed (start.inode n) k b InRecord) size) (Block b ∷ []) (filled b bytes q) true (b ∷ []) (filled_fits geo disk n q b bytes q [] other Start) one (one_block b [])
-    appended_fits k b bytes size (InTable table) other kept fresh =
-        record_fits geo disk n q (sized (start.inode n) size) (Block (start.inode n).indirect ∷ Block b ∷ []) (linked n (start.inode n) k b (InTable table) (filled b bytes q)) false ((start.inode n).indirect ∷ b ∷ [])
-        (table_fits k b bytes table (with_pointer table (k - 12) b) other (kept table refl)) one (one_more (start.inode n).indirect (Block b ∷ []) (b ∷ []) (one_block b []))
-    appended_fits k b bytes size (InNewTable x table) other kept fresh =
-        record_fits geo disk n q (sized (pointed (start.inode n) k b (InNewTable x table)) size) (Block x ∷ Block b ∷ []) (linked n (start.inode n) k b (InNewTable x table) (filled b bytes q)) true (x ∷ b ∷ [])
-        (bytes_fits geo disk n q x table (BlockBit x ∷ Block b ∷ Record n ∷ []) (record { change = SetBlock x true; after = [] } ∷ filled b bytes q) (b ∷ []) (fresh x table refl)
-        (bit_fits geo disk n q x true [] (filled b bytes q) (b ∷ []) (filled_fits geo disk n q b bytes q [] other Start))) one (one_more x (Block b ∷ []) (b ∷ []) (one_block b []))
+    -- ---- a new pointer is put where it is kept
+    -- the plan then, which has written the block, and what the record comes after
+    record Ends (b : ℕ) (h : Holder) (ws : List ℕ) (p : List Pending) : Type 0 where
+      calm : Bool
+      written : List ℕ
+      fits : Fits geo disk n q calm written p
+      keeps : (c : ℕ) → Contains ws c → Contains written c
+      of : AreOf geo (users_view disk p) (known b h) written
 
-    pub relocated_fits : (k b : ℕ) (bytes : List ℕ) (size : ℕ) (holder : Holder) → IsNoFiles geo start b → ((table : List ℕ) → holder ≡ InTable table → IsClaim geo start n 268 (start.inode n).indirect) → ((x : ℕ) (table : List ℕ) → holder ≡ InNewTable x table → IsNoFiles geo start x)
-        → Fitting geo disk n q (relocated n (start.inode n) k b bytes size holder q)
-    relocated_fits k b bytes size InRecord other kept fresh = appended_fits k b bytes size InRecord other kept fresh
-    relocated_fits k b bytes size (InNewTable x table) other kept fresh = appended_fits k b bytes size (InNewTable x table) other kept fresh
-    relocated_fits k b bytes size (InTable table) other kept fresh =
-        enlarged_fits (start.inode n) size (Block (start.inode n).indirect ∷ Block b ∷ []) (linked n (start.inode n) k b (InTable table) (filled b bytes q)) false ((start.inode n).indirect ∷ b ∷ [])
-        (table_fits k b bytes table (with_pointer table (k - 12) b) other (kept table refl)) one (one_more (start.inode n).indirect (Block b ∷ []) (b ∷ []) (one_block b [])) (ltb (start.inode n).size size)
+    module _ (ghost : Ghost) (whole : IsWhole geo start) (spare : IsSpare start ghost) where
+      link_fits : (k b : ℕ) (h : Holder) (p : List Pending) → At geo disk q ghost n k b h p → (ws : List ℕ) → Contains ws b → Fits geo disk n q true ws p → Ends b h ws (linked geo n k b h p)
+      link_fits k b KeptInRecord p at ws here f = record { calm = true; written = ws; fits = f; keeps = λ c i. i; of = one_block geo (users_view disk p) b ws here }
+      link_fits k b (KeptInTable m x table over) p at ws here f =
+          let after = pointer_after n (place_in_table geo k) b table over in
+          let bytes = with_pointer table (place_in_table geo k) b in
+          let u : Pending = record { change = SetBytes x bytes; after = after } in
+          let claimed = over_claimed geo start n k b m x table over at.kept in
+          record {
+            calm = false;
+            written = x ∷ ws;
+            fits = On u f (Own x bytes after (files_own geo start rules n m x (at.kept).1) (pointer_of (users_view disk p) (place_in_table geo k) b table over ws here (λ c i. let r = claimed c i in (n, r.0, (sym (at.stage.quiet.uses n r.0) ∙ r.2.0, r.2.1)))));
+            keeps = λ c i. later_of x ws c i;
+            of = both_of geo (users_view disk (u ∷ p)) (map Block over) (Block x ∷ Block b ∷ []) (x ∷ ws)
+                (over_of (users_view disk (u ∷ p)) over (x ∷ ws) (λ c i. let r = claimed c i in (n, r.0, (sym (at.stage.quiet.uses n r.0 ∙ table_uses geo disk q ghost n whole.geometry whole.blocks rules spare k b m x table over p at n r.0) ∙ r.2.0, r.2.1))))
+                (one_more geo (users_view disk (u ∷ p)) x (Block b ∷ []) (x ∷ ws) (first_of x ws) (one_block geo (users_view disk (u ∷ p)) b (x ∷ ws) (later_of x ws b here)));
+          }
+      link_fits k b (KeptInNew m x table up) p at ws here f =
+          let before : List Pending = record { change = SetBlock x true; after = [] } ∷ p in
+          let founded : List Pending = record { change = SetBytes x table; after = BlockBit x ∷ Block b ∷ Record n ∷ [] } ∷ before in
+          let rest = link_fits m x up founded (further geo disk q ghost n whole.geometry whole.blocks rules spare k b m x table up p at) (x ∷ ws) (first_of x ws)
+          (bytes_fits geo disk n q x table (BlockBit x ∷ Block b ∷ Record n ∷ []) before ws (unmarked_no_files geo start rules x ((at.kept).2).free.unmarked) (bit_fits geo disk n q x true [] p ws f)) in
+          record {
+            calm = rest.calm;
+            written = rest.written;
+            fits = rest.fits;
+            keeps = λ c i. rest.keeps c (later_of x ws c i);
+            of = both_of geo (users_view disk (linked geo n m x up founded)) (known x up) (Block b ∷ []) rest.written rest.of
+                (one_block geo (users_view disk (linked geo n m x up founded)) b rest.written (rest.keeps b (later_of x ws b here)));
+          }
 
   -- ---- what these ask for says so
-
-  few : (n : ℕ) → IsTrue (is_sound_at geo start n) → blocks_of (start.inode n).size ≤ 268
-  few n sound = few_blocks (start.inode n) (and_parts (is_number geo n) (is_sound (start.inode n)) sound).1
 
   pub in_place_fits : (old : State) (n k : ℕ) (piece bytes : List ℕ) → MayWriteInPlace geo (now disk q old) n k piece bytes
       → Fitting geo disk n q (written n (start.inode n) (block_of geo start n k) bytes (size_after start n k piece) q)
   in_place_fits old n k piece bytes may =
-      let inside = may.inside in
-      written_fits n may.write.file k (block_of geo start n k) bytes (size_after start n k piece) (block_claimed geo start rules n k may.write.sound may.inside (omega (arith, inside, few n may.write.sound)))
+      written_fits n may.write.file k (block_of geo start n k) bytes (size_after start n k piece) (block_claimed geo start rules n k may.write.sound may.inside)
 
-  pub extended_fits : (old : State) (n k b : ℕ) (piece bytes : List ℕ) (holder : Holder) → MayWriteAppended geo (now disk q old) n k b piece bytes holder
-      → Fitting geo disk n q (appended n (start.inode n) k b bytes (size_after start n k piece) holder q)
-  extended_fits old n k b piece bytes InRecord may =
-      appended_fits n may.write.file k b bytes (size_after start n k piece) InRecord (unmarked_no_files geo start rules b may.free.unmarked) (λ t e. cc) (λ x t e. cc)
-  extended_fits old n k b piece bytes (InTable table) may =
-      let high = may.kept.0 in let next = may.next in
-      appended_fits n may.write.file k b bytes (size_after start n k piece) (InTable table) (unmarked_no_files geo start rules b may.free.unmarked) (λ t e. claims_indirect geo start rules n may.write.sound (omega (arith, high, next))) (λ x t e. cc)
-  extended_fits old n k b piece bytes (InNewTable x table) may =
-      appended_fits n may.write.file k b bytes (size_after start n k piece) (InNewTable x table) (unmarked_no_files geo start rules b may.free.unmarked) (λ t e. cc)
-      (λ y t e. subst (IsNoFiles geo start) (let same : x ≡ y = cc in same) (unmarked_no_files geo start rules x may.kept.1.free.unmarked))
+  module _ (old : State) (safe : ℕ → Bool) (all : AllAgree geo disk q (at_rest old.held safe)) where
+    filled_first : (n b : ℕ) (bytes : List ℕ) → IsFalse (start.block_marked b) → Fits geo disk n q true (b ∷ []) (filled b bytes q)
+    filled_first n b bytes unmarked = filled_fits geo disk n q b bytes q [] (unmarked_no_files geo start rules b unmarked) Start
 
-  pub moved_fits : (old : State) (n k b : ℕ) (piece bytes : List ℕ) (holder : Holder) → MayWriteMoved geo (now disk q old) n k b piece bytes holder
-      → Fitting geo disk n q (relocated n (start.inode n) k b bytes (size_after start n k piece) holder q)
-  moved_fits old n k b piece bytes InRecord may =
-      relocated_fits n may.write.file k b bytes (size_after start n k piece) InRecord (unmarked_no_files geo start rules b may.free.unmarked) (λ t e. cc) (λ x t e. cc)
-  moved_fits old n k b piece bytes (InTable table) may =
-      let high = may.moved.0 in let inside = may.inside in
-      relocated_fits n may.write.file k b bytes (size_after start n k piece) (InTable table) (unmarked_no_files geo start rules b may.free.unmarked) (λ t e. claims_indirect geo start rules n may.write.sound (omega (arith, high, inside))) (λ x t e. cc)
-  moved_fits old n k b piece bytes (InNewTable x table) may = absurd may.moved
+    pub extended_fits : (n k b : ℕ) (piece bytes : List ℕ) (holder : Holder) → MayWriteAppended geo (now disk q old) n k b piece bytes holder
+        → Fitting geo disk n q (appended geo n (start.inode n) k b bytes (size_after start n k piece) holder q)
+    extended_fits n k b piece bytes holder may =
+        let size = size_after start n k piece in
+        let append = may_append geo disk q old safe n k b piece bytes holder may in
+        let ends = link_fits n may.write.file (at_rest old.held safe) may.whole append.spare k b holder (filled b bytes q) (at geo disk q (at_rest old.held safe) n k b bytes size holder append all) (b ∷ []) (first_of b []) (filled_first n b bytes may.free.unmarked) in
+        record_fits geo disk n q (sized (pointed geo (start.inode n) k b holder) size) (known b holder) (linked geo n k b holder (filled b bytes q)) ends.calm ends.written ends.fits
+        (ap (λ (y : Inode). y.mode) (same_inode geo disk q n k b bytes size holder (change geo disk q (at_rest old.held safe) n k b bytes size holder append all)) ∙ may.write.file) ends.of
+
+    pub moved_fits : (n k b : ℕ) (piece bytes : List ℕ) (holder : Holder) → MayWriteMoved geo (now disk q old) n k b piece bytes holder
+        → Fitting geo disk n q (relocated geo n (start.inode n) k b bytes (size_after start n k piece) holder q)
+    moved_fits n k b piece bytes KeptInRecord may =
+        record_fits geo disk n q (sized (pointed geo (start.inode n) k b KeptInRecord) (size_after start n k piece)) (Block b ∷ []) (filled b bytes q) true (b ∷ []) (filled_first n b bytes may.free.unmarked) may.write.file
+        (one_block geo (users_view disk (filled b bytes q)) b (b ∷ []) (first_of b []))
+    moved_fits n k b piece bytes (KeptInTable m x table over) may =
+        let size = size_after start n k piece in
+        let moving = may_move geo disk q old safe n k b piece bytes all (KeptInTable m x table over) may in
+        let claimed = over_claimed geo start n k b m x table over may.kept in
+        let after = pointer_after n (place_in_table geo k) b table over in
+        let u : Pending = record { change = SetBytes x (with_pointer table (place_in_table geo k) b); after = after } in
+        let p : List Pending = u ∷ filled b bytes q in
+        enlarged_fits n may.write.file (start.inode n) size (known b (KeptInTable m x table over)) p false (x ∷ b ∷ [])
+        (On u (filled_first n b bytes may.free.unmarked) (Own x (with_pointer table (place_in_table geo k) b) after (files_own geo start rules n m x (may.kept).1)
+        (pointer_of n may.write.file (users_view disk (filled b bytes q)) (place_in_table geo k) b table over (b ∷ []) (first_of b []) (λ c i. let r = claimed c i in (n, r.0, (sym (moving.filled.uses n r.0) ∙ r.2.0, r.2.1))))))
+        may.write.file
+        (both_of geo (users_view disk p) (map Block over) (Block x ∷ Block b ∷ []) (x ∷ b ∷ [])
+        (over_of n may.write.file (users_view disk p) over (x ∷ b ∷ []) (λ c i. let r = claimed c i in (n, r.0, stays_claimed geo disk q old safe n k b bytes size m x table over moving r.0 c (no_table_at n k b size m x table over moving r.0 r.1) r.2)))
+        (one_more geo (users_view disk p) x (Block b ∷ []) (x ∷ b ∷ []) (first_of x (b ∷ [])) (one_block geo (users_view disk p) b (x ∷ b ∷ []) (later_of x (b ∷ []) b (first_of b [])))))
+        (ltb (start.inode n).size size)
+      where
+        no_table_at : (n k b size m x : ℕ) (table over : List ℕ) → MayMove geo disk q old safe n k b bytes size (KeptInTable m x table over) → (t : ℕ) → IsAbove geo m t → t ≡ k → ⊥
+        no_table_at n k b size m x table over moving t up e =
+            let past = leb-true (most_blocks geo) t (above_table geo m t up) in
+            let low = omega_low n k b size m x table over moving in
+            omega (arith, past, e, low)
+          where
+            omega_low : (n k b size m x : ℕ) (table over : List ℕ) → MayMove geo disk q old safe n k b bytes size (KeptInTable m x table over) → k < most_blocks geo
+            omega_low n k b size m x table over moving = let most = few_blocks geo start n moving.sound in let inside = moving.inside in omega (arith, most, inside)
+    moved_fits n k b piece bytes (KeptInNew m x table up) may =
+        absurd (no_new_table geo disk q old safe n k b bytes (size_after start n k piece) m x table up (may_move geo disk q old safe n k b piece bytes all (KeptInNew m x table up) may))
 
   -- ---- plans that give no file a block
 

@@ -52,8 +52,8 @@ module _ (geo : Geometry) (disk : View) (q : List Pending) (old : State) (safe :
     asks = λ n j other w. absurd w;
   }
   steps command answer file plan new safe' ok (CreatesInNewBlock p n b kept s entry after free place) = record {
-    step = (carries_create_grown geo disk q (now disk q old) safe stands p ok n b kept s entry after free place.full place.free place.keeps place.stands place.says place.record_first place.blocks_first).step;
-    is_plan = creations_in_new_blocks_have_plans geo disk q (now disk q old) safe stands.balance stands.geometry p ok n b kept s entry after free place.full place.free place.keeps place.stands place.says place.record_first place.blocks_first;
+    step = (carries_create_grown geo disk q (now disk q old) safe stands p ok n b kept s entry after free place.full place.free place.keeps place.apart place.stands place.says place.record_first place.blocks_first).step;
+    is_plan = creations_in_new_blocks_have_plans geo disk q (now disk q old) safe stands.balance stands.geometry p ok n b kept s entry after free place.full place.free place.keeps place.apart place.stands place.says place.record_first place.blocks_first;
     same = refl;
     leaves = λ r. tt;
     asks = λ n j other w. absurd w;
@@ -66,8 +66,8 @@ module _ (geo : Geometry) (disk : View) (q : List Pending) (old : State) (safe :
     asks = λ n j other w. absurd w;
   }
   steps command answer file plan new safe' ok (MakesInNewBlock p i a dots b kept s entry after free own are other place) = record {
-    step = (carries_make_grown geo disk q (now disk q old) safe stands p ok i a dots b kept s entry after free own are place.full place.free other place.keeps place.stands place.says place.record_first place.blocks_first).step;
-    is_plan = new_directories_in_new_blocks_have_plans geo disk q (now disk q old) safe stands.balance stands.geometry p ok i a dots b kept s entry after free own are place.full place.free other place.keeps place.stands place.says place.record_first place.blocks_first;
+    step = (carries_make_grown geo disk q (now disk q old) safe stands p ok i a dots b kept s entry after free own are place.full place.free other place.keeps place.apart place.stands place.says place.record_first place.blocks_first).step;
+    is_plan = new_directories_in_new_blocks_have_plans geo disk q (now disk q old) safe stands.balance stands.geometry p ok i a dots b kept s entry after free own are place.full place.free other place.keeps place.apart place.stands place.says place.record_first place.blocks_first;
     same = refl;
     leaves = λ r. tt;
     asks = λ n j other w. absurd w;
@@ -80,8 +80,8 @@ module _ (geo : Geometry) (disk : View) (q : List Pending) (old : State) (safe :
     asks = λ n j other w. absurd w;
   }
   steps command answer file plan new safe' ok (LinksInNewBlock p r b kept s entry after place) = record {
-    step = (carries_link_grown geo disk q (now disk q old) safe stands p r ok b kept s entry after place.full place.free place.keeps place.stands place.says place.record_first place.blocks_first).step;
-    is_plan = links_in_new_blocks_have_plans geo disk q (now disk q old) safe stands.balance stands.geometry p r ok b kept s entry after place.full place.free place.keeps place.stands place.says place.record_first place.blocks_first;
+    step = (carries_link_grown geo disk q (now disk q old) safe stands p r ok b kept s entry after place.full place.free place.keeps place.apart place.stands place.says place.record_first place.blocks_first).step;
+    is_plan = links_in_new_blocks_have_plans geo disk q (now disk q old) safe stands.balance stands.geometry p r ok b kept s entry after place.full place.free place.keeps place.apart place.stands place.says place.record_first place.blocks_first;
     same = refl;
     leaves = λ r. tt;
     asks = λ n j other w. absurd w;
@@ -101,8 +101,8 @@ module _ (geo : Geometry) (disk : View) (q : List Pending) (old : State) (safe :
     asks = λ n j other w. absurd w;
   }
   steps command answer file plan new safe' ok (MovesToNewBlock p r b kept s entry after' after apart place entered grounds table) = record {
-    step = (carries_move_grown geo disk q (now disk q old) safe stands p r ok apart b kept s entry after' after place.full place.free place.keeps place.stands place.says place.record_first place.blocks_first entered grounds.needs table).step;
-    is_plan = moves_to_new_blocks_have_plans geo disk q (now disk q old) safe stands.balance stands.geometry p r ok apart b kept s entry after' after place.full place.free place.keeps place.stands place.says place.record_first place.blocks_first entered grounds.needs table;
+    step = (carries_move_grown geo disk q (now disk q old) safe stands p r ok apart b kept s entry after' after place.full place.free place.keeps place.apart place.stands place.says place.record_first place.blocks_first entered grounds.needs table).step;
+    is_plan = moves_to_new_blocks_have_plans geo disk q (now disk q old) safe stands.balance stands.geometry p r ok apart b kept s entry after' after place.full place.free place.keeps place.apart place.stands place.says place.record_first place.blocks_first entered grounds.needs table;
     same = refl;
     leaves = λ r. tt;
     asks = λ n j other w. absurd w;
@@ -138,9 +138,9 @@ module _ (geo : Geometry) (disk : View) (q : List Pending) (old : State) (safe :
   steps command answer file plan new safe' ok (WritesInPlace h k piece bytes over inside free) =
       let done = carries_write geo disk q (now disk q old) safe stands h k piece ok bytes over inside free in
       record { step = done.step; is_plan = writes_in_place_have_plans geo disk q (now disk q old) safe stands.balance stands.geometry h k piece ok bytes over inside free; same = refl; leaves = λ r. r; asks = λ n j other w. w }
-  steps command answer file plan new safe' ok (WritesBehind h k piece bytes b x table over choice past) =
-      let done = carries_extension geo disk q (now disk q old) safe stands h k piece ok bytes over b x table choice past in
-      record { step = done.step; is_plan = extending_writes_have_plans geo disk q (now disk q old) safe stands.balance stands.geometry h k piece ok bytes over b x table choice past; same = refl; leaves = λ r. r; asks = λ n j other w. w }
+  steps command answer file plan new safe' ok (WritesBehind h k piece bytes b news over choice past) =
+      let done = carries_extension geo disk q (now disk q old) safe stands h k piece ok bytes over b news choice past in
+      record { step = done.step; is_plan = extending_writes_have_plans geo disk q (now disk q old) safe stands.balance stands.geometry h k piece ok bytes over b news choice past; same = refl; leaves = λ r. r; asks = λ n j other w. w }
   steps command answer file plan new safe' ok (WritesElsewhere h k piece bytes b over free inside kept) =
       let done = carries_write_elsewhere geo disk q (now disk q old) safe stands h k piece ok bytes over b free inside kept in
       record { step = done.step; is_plan = moving_writes_have_plans geo disk q (now disk q old) safe stands.balance stands.geometry h k piece ok bytes over b free inside kept; same = refl; leaves = λ r. r; asks = λ n j other w. w }

@@ -1,11 +1,12 @@
 -- Updates that leave the blocks of files, and what these hold, as they are, but for exceptions.
-use Rattle.std.proofs.Common.{◌≡◌, ℕ, zero, suc, ◌≤◌, ◌&&◌, Bool, true, false, List, ◌∷◌, ◌⊎◌, inl, inr, refl, sym, ap, ◌∙◌, subst, IsTrue, IsFalse, length, arith}
+use Rattle.std.proofs.Common.{◌≡◌, ℕ, zero, suc, ◌≤◌, Bool, true, false, List, ◌∷◌, ◌⊎◌, inl, inr, refl, sym, ap, ◌∙◌, subst, Some, IsTrue, IsFalse, length, arith}
 use Rattle.std.proofs.lemmas.Bool.{cases_eq}
-use Rattle.model.specs.Layout.{Geometry, is_number}
+use Rattle.model.specs.Layout.{Geometry}
 use Rattle.model.specs.View.{View, Inode}
 use Rattle.model.specs.Cells.{Update, SetInode, updated, put_at}
-use Rattle.model.specs.Uses.{IsClaim, is_used, is_sound, value_at}
-use Rattle.model.proofs.UseLemmas.{use_from, use_parts}
+use Rattle.model.specs.Uses.{IsClaim, record_use}
+use Rattle.model.proofs.Steps.{use_sound}
+use Rattle.model.proofs.Uses.{use_number, number_use, record_uses_agree, same_fields}
 use Rattle.ordering.specs.Cuts.{Pending, users_view}
 use Rattle.ordering.specs.Ghosts.{Ghost}
 use Rattle.ordering.specs.Histories.{Step}
@@ -137,17 +138,13 @@ links_keep geo v m links x same n k b (claim, low, one) = elim (cases_eq n m) [
   | inr other ↦ inl (((other_use geo v m x n k other ∙ claim.0, claim.1), low, other_mode geo v m x n other ∙ one), refl)
   | inl e ↦
       let here : put_at v.inode m x n ≡ with_links (v.inode n) links = ap (put_at v.inode m x) e ∙ put_here v.inode m x ∙ same ∙ ap (λ j. with_links (v.inode j) links) (sym e) in
-      let parts = use_parts geo (updated v (SetInode m x)) n k b claim.0 in
+      let u = use_number geo (updated v (SetInode m x)) n k b claim.0 in
+      let used : record_use geo v (with_links (v.inode n) links) k ≡ Some b
+      = record_uses_agree geo v (updated v (SetInode m x)) (with_links (v.inode n) links) k (λ t a above w d. refl) ∙ ap (λ y. record_use geo (updated v (SetInode m x)) y k) (sym here) ∙ u.1 in
+      let sound = use_sound geo v (with_links (v.inode n) links) k b used in
       inl (
         (
-          (
-            use_from geo v n k b (record {
-              sound = subst (λ (y : Inode). IsTrue (is_number geo n && is_sound y)) here parts.sound;
-              used = subst (λ (y : Inode). IsTrue (is_used geo y k)) here parts.used;
-              value = sym (ap (λ (y : Inode). value_at v y k) here) ∙ parts.value;
-            }),
-            claim.1,
-          ),
+          (number_use geo v n k b u.0 (sym (same_fields geo v (with_links (v.inode n) links) (v.inode n) sound sound refl (λ j. refl) k) ∙ used), claim.1),
           low,
           sym (ap (λ (y : Inode). y.mode) here) ∙ one,
         ),

@@ -28,7 +28,7 @@ module _ (geo : Geometry) (disk : View) (q : List Pending) (old : State) (safe :
   others_leave command answer file plan new safe' (RemovesName p after all stays) f = tt
   others_leave command answer file plan new safe' (RemovesDirectory p blocks after all two goes) f = tt
   others_leave command answer file plan new safe' (WritesInPlace h k piece bytes over inside free) f = absurd (let bad : true ≡ false = f in cc)
-  others_leave command answer file plan new safe' (WritesBehind h k piece bytes b x table over choice past) f = absurd (let bad : true ≡ false = f in cc)
+  others_leave command answer file plan new safe' (WritesBehind h k piece bytes b news over choice past) f = absurd (let bad : true ≡ false = f in cc)
   others_leave command answer file plan new safe' (WritesElsewhere h k piece bytes b over free inside kept) f = absurd (let bad : true ≡ false = f in cc)
   others_leave command answer file plan new safe' (TruncatesFile h size) f = tt
   others_leave command answer file plan new safe' (ClosesHandle h) f = tt

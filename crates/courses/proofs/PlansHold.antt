@@ -1,14 +1,13 @@
 -- What is true of the bytes of files' blocks stays so through each plan.
-use Rattle.std.proofs.Common.{◌≡◌, ℕ, ◌<◌, ◌≤◌, ◌*◌, ◌+◌, ◌-◌, Bool, true, false, List, [], ◌∷◌, ◌++◌, ◌⊎◌, inl, inr, refl, sym, ap, ◌∙◌, subst, length, drop, replicate, IsTrue, arith}
-use Rattle.std.proofs.lemmas.Bool.{and_parts, both_ways}
-use Rattle.std.proofs.lemmas.Nat.{mul-le}
-use Rattle.model.specs.Layout.{Geometry, IsGeometry, is_data_address, is_number}
+use Rattle.std.proofs.Common.{◌≡◌, ℕ, ◌<◌, ◌+◌, ◌-◌, Bool, true, List, [], ◌∷◌, ◌++◌, ◌⊎◌, inl, inr, refl, sym, ap, ◌∙◌, subst, length, drop, replicate, IsTrue, arith}
+use Rattle.std.proofs.lemmas.Bool.{lt-leb}
+use Rattle.model.specs.Layout.{Geometry}
 use Rattle.model.specs.View.{View, Inode}
 use Rattle.model.specs.Cells.{SetInode}
 use Rattle.model.specs.Slots.{Good}
-use Rattle.model.specs.Uses.{IsClaim, blocks_of, is_sound, is_sound_at}
+use Rattle.model.specs.Shape.{most_blocks}
+use Rattle.model.specs.Uses.{blocks_of, is_sound_at}
 use Rattle.model.specs.Rules.{ObeysRules}
-use Rattle.model.proofs.Addresses.{data_range}
 use Rattle.ordering.specs.Cuts.{Cell, Block, Pending, users_view}
 use Rattle.ordering.specs.Ghosts.{Ghost, at_rest}
 use Rattle.ordering.specs.Agrees.{AllAgree}
@@ -17,12 +16,14 @@ use Rattle.ordering.proofs.Records.{put_here}
 use Rattle.machine.specs.State.{State, is_open}
 use Rattle.machine.specs.Cells.{block_of}
 use Rattle.machine.specs.Effects.{size_after, with_links}
-use Rattle.plans_data.specs.Append.{Holder, InRecord, InTable, InNewTable, appended, sized}
+use Rattle.plans_data.specs.Append.{Holder, appended, sized}
 use Rattle.plans_data.specs.Issues.{Issues}
 use Rattle.plans_data.specs.Now.{now}
 use Rattle.plans_data.specs.Relink.{without_handle, inode_of, open_of}
 use Rattle.plans_data.specs.Write.{MayWriteInPlace, MayWriteAppended, MayWriteMoved, relocated, written}
-use Rattle.plans_data.proofs.Blocks.{block_claimed, claims_indirect, few_blocks, one_more, same_blocks}
+use Rattle.plans_data.proofs.Blocks.{few_blocks, block_claimed, same_blocks}
+use Rattle.plans_data.proofs.WriteAppended.{may_append}
+use Rattle.plans_data.proofs.WriteMoved.{may_move}
 use Rattle.plans_naming.specs.Entries.{slot_written, no_entry}
 use Rattle.plans_naming.specs.Link.{linking, linking_grown, raised}
 use Rattle.queue_model.specs.Files.{Written, updates, generation, IsFileBlock}
@@ -35,7 +36,7 @@ use Rattle.courses.proofs.DataPlans.{relinking_fits, closing_fits, repairing_fit
 use Rattle.courses.proofs.NamingPlans.{slot_still, other_record, creating_fits, creating_grown_fits, linking_fits, linking_grown_fits, unlinking_last_fits, making_fits, making_grown_fits, removing_fits, removing_name_fits, renaming_fits}
 use Rattle.courses.proofs.PlansLead.{plan_chain}
 use Rattle.courses.proofs.Firm.{Firm, Further, Nowhere, firm_holds, still_firm, but_last, links_keep}
-use Rattle.courses.proofs.WritesKeep.{Put, written_firm, in_record_firm, in_new_table_firm, in_table_firm, relocated_firm}
+use Rattle.courses.proofs.WritesKeep.{Put, written_firm, append_firm, move_firm}
 use Rattle.courses.proofs.LifeBytes.{IsWriteOf, LeavesBehind}
 
 -- ---- plans that give no file a block
@@ -57,73 +58,28 @@ module _ (geo : Geometry) (disk : View) (q : List Pending) where
 
 -- ---- writes
 
--- the number of a data block has four bytes
-small_address : (geo : Geometry) → IsGeometry geo → (a : ℕ) → IsTrue (is_data_address geo a) → a < 4294967296
-small_address geo ok a t =
-    let few : geo.groups * geo.blocks ≤ 64 * 4096 = mul-le geo.groups geo.blocks 64 4096 ok.few_groups ok.few_blocks in
-    omega (arith, (data_range geo ok a t).1, few)
-
 module _ (geo : Geometry) (disk : View) (q : List Pending) (rules : ObeysRules geo (users_view disk q)) (old : State) where
   abbrev was : View
   was = users_view disk q
 
-  few : (n : ℕ) → IsTrue (is_sound_at geo was n) → blocks_of (was.inode n).size ≤ 268
-  few n sound = few_blocks (was.inode n) (and_parts (is_number geo n) (is_sound (was.inode n)) sound).1
-
   in_place_firm : (n k : ℕ) (piece bytes : List ℕ) → MayWriteInPlace geo (now disk q old) n k piece bytes → Firm geo (Put geo n k bytes) disk q (written n (was.inode n) (block_of geo was n k) bytes (size_after was n k piece) q)
   in_place_firm n k piece bytes may =
       let inside = may.inside in
-      let most = few n may.write.sound in
-      written_firm geo n k bytes disk q rules may.write.file may.write.sound (block_of geo was n k) (size_after was n k piece)
-      (block_claimed geo was rules n k may.write.sound inside (omega (arith, inside, most))) (λ e. omega (arith, e, inside, most)) (same_blocks (was.inode n).size k (length piece) inside may.write.few)
+      let most = few_blocks geo was n may.write.sound in
+      written_firm geo n k bytes disk q may.write.file may.write.sound rules (block_of geo was n k) (size_after was n k piece)
+      (block_claimed geo was rules n k may.write.sound inside) (lt-leb (most_blocks geo) k (omega (arith, inside, most))) (same_blocks (was.inode n).size k (length piece) inside may.write.few)
 
-  apart : (b a n : ℕ) → IsClaim geo was n 268 a → was.block_marked b ≡ false → b ≡ a → ⊥
-  apart b a n claim unmarked e = both_ways (was.block_marked b) unmarked (subst (λ y. IsTrue (was.block_marked y)) (sym e) (rules.rule3.marked n 268 a claim))
+  appended_firm : (safe : ℕ → Bool) → AllAgree geo disk q (at_rest old.held safe) → (n k b : ℕ) (piece bytes : List ℕ) (holder : Holder) → MayWriteAppended geo (now disk q old) n k b piece bytes holder
+      → Firm geo (Put geo n k bytes) disk q (appended geo n (was.inode n) k b bytes (size_after was n k piece) holder q)
+  appended_firm safe all n k b piece bytes holder may =
+      append_firm geo n k bytes disk q may.write.file may.write.sound (at_rest old.held safe) b (size_after was n k piece) holder (may_append geo disk q old safe n k b piece bytes holder may) all
+      (unmarked_no_files geo was rules b may.free.unmarked)
 
-  appended_firm : (n k b : ℕ) (piece bytes : List ℕ) (holder : Holder) → MayWriteAppended geo (now disk q old) n k b piece bytes holder → Firm geo (Put geo n k bytes) disk q (appended n (was.inode n) k b bytes (size_after was n k piece) holder q)
-  appended_firm n k b piece bytes holder may = by holder may
-    where
-      grows : (h : Holder) → MayWriteAppended geo (now disk q old) n k b piece bytes h → (j : ℕ) → j < blocks_of (size_after was n k piece) → (j ≡ k → ⊥) → j < blocks_of (was.inode n).size
-      grows h m j low differs = let next = m.next in let more = one_more (was.inode n).size k (length piece) next m.write.some m.write.few in omega (arith, low, differs, next, more)
-
-      by : (h : Holder) → MayWriteAppended geo (now disk q old) n k b piece bytes h → Firm geo (Put geo n k bytes) disk q (appended n (was.inode n) k b bytes (size_after was n k piece) h q)
-      by InRecord m =
-          in_record_firm geo n k bytes disk q rules m.write.file m.write.sound b (size_after was n k piece) (unmarked_no_files geo was rules b m.free.unmarked) (grows InRecord m) m.kept
-          (m.whole.pointers n (and_parts (is_number geo n) (is_sound (was.inode n)) m.write.sound).0)
-      by (InTable table) m =
-          let high = m.kept.0 in
-          let next = m.next in
-          let claim = claims_indirect geo was rules n m.write.sound (omega (arith, high, next)) in
-          in_table_firm geo n k bytes disk q rules m.write.file m.write.sound b (size_after was n k piece) (unmarked_no_files geo was rules b m.free.unmarked) (grows (InTable table) m)
-          (m.whole.blocks (was.inode n).indirect claim.1) claim (omega (arith, high)) m.room (small_address geo m.whole.geometry b m.free.address) (apart b (was.inode n).indirect n claim m.free.unmarked) table m.kept.1
-      by (InNewTable x table) m =
-          let next = m.next in
-          let twelve = m.kept.0 in
-          in_new_table_firm geo n k bytes disk q rules m.write.file m.write.sound b (size_after was n k piece) (unmarked_no_files geo was rules b m.free.unmarked) (grows (InNewTable x table) m) x table twelve (omega (arith, next, twelve))
-          (unmarked_no_files geo was rules x m.kept.1.free.unmarked) m.kept.1.other m.kept.1.first
-
-  moved_firm : (n k b : ℕ) (piece bytes : List ℕ) (holder : Holder) → MayWriteMoved geo (now disk q old) n k b piece bytes holder → Firm geo (Put geo n k bytes) disk q (relocated n (was.inode n) k b bytes (size_after was n k piece) holder q)
-  moved_firm n k b piece bytes holder may = by holder may
-    where
-      same : (h : Holder) → MayWriteMoved geo (now disk q old) n k b piece bytes h → blocks_of (was.inode n).size ≡ blocks_of (size_after was n k piece)
-      same h m = same_blocks (was.inode n).size k (length piece) m.inside m.write.few
-
-      grows : (h : Holder) → MayWriteMoved geo (now disk q old) n k b piece bytes h → (j : ℕ) → j < blocks_of (size_after was n k piece) → (j ≡ k → ⊥) → j < blocks_of (was.inode n).size
-      grows h m j low differs = subst (λ x. j < x) (sym (same h m)) low
-
-      by : (h : Holder) → MayWriteMoved geo (now disk q old) n k b piece bytes h → Firm geo (Put geo n k bytes) disk q (relocated n (was.inode n) k b bytes (size_after was n k piece) h q)
-      by InRecord m =
-          in_record_firm geo n k bytes disk q rules m.write.file m.write.sound b (size_after was n k piece) (unmarked_no_files geo was rules b m.free.unmarked) (grows InRecord m) m.moved
-          (m.whole.pointers n (and_parts (is_number geo n) (is_sound (was.inode n)) m.write.sound).0)
-      by (InTable table) m =
-          let high = m.moved.0 in
-          let inside = m.inside in
-          let most = few n m.write.sound in
-          let claim = claims_indirect geo was rules n m.write.sound (omega (arith, high, inside)) in
-          relocated_firm geo n k bytes disk q rules m.write.file m.write.sound b (size_after was n k piece) (unmarked_no_files geo was rules b m.free.unmarked) (grows (InTable table) m)
-          (m.whole.blocks (was.inode n).indirect claim.1) claim high (omega (arith, inside, most)) (small_address geo m.whole.geometry b m.free.address) (apart b (was.inode n).indirect n claim m.free.unmarked) table m.moved.1
-          (same (InTable table) m)
-      by (InNewTable x table) m = absurd m.moved
+  moved_firm : (safe : ℕ → Bool) → AllAgree geo disk q (at_rest old.held safe) → (n k b : ℕ) (piece bytes : List ℕ) (holder : Holder) → MayWriteMoved geo (now disk q old) n k b piece bytes holder
+      → Firm geo (Put geo n k bytes) disk q (relocated geo n (was.inode n) k b bytes (size_after was n k piece) holder q)
+  moved_firm safe all n k b piece bytes holder may =
+      move_firm geo n k bytes disk q may.write.file may.write.sound old safe b (size_after was n k piece) holder (may_move geo disk q old safe n k b piece bytes all holder may)
+      (unmarked_no_files geo was rules b may.free.unmarked)
 
 -- ---- each plan
 
@@ -161,8 +117,8 @@ module _ (geo : Geometry) (mounted : View) (P : ℕ → ℕ → ℕ → List ℕ
   own_block : (n k : ℕ) → IsTrue (is_sound_at geo (users_view disk q) n) → ((users_view disk q).inode n).mode ≡ 1 → k < blocks_of ((users_view disk q).inode n).size
       → P n (generation mounted before n) k ((users_view disk q).bytes (block_of geo (users_view disk q) n k))
   own_block n k sound one inside =
-      let most = few geo disk q rules old n sound in
-      saw n k (block_of geo (users_view disk q) n k) (block_claimed geo (users_view disk q) rules n k sound inside (omega (arith, inside, most)), λ e. omega (arith, e, inside, most), one)
+      let most = few_blocks geo (users_view disk q) n sound in
+      saw n k (block_of geo (users_view disk q) n k) (block_claimed geo (users_view disk q) rules n k sound inside, lt-leb (most_blocks geo) k (omega (arith, inside, most)), one)
 
   quietly : (file : ℕ) (p : List Pending) (held' safe' : ℕ → Bool) (plan : IsPlan geo disk q old safe file p held' safe') → Still geo disk file q p → Named geo mounted file before q h' p → HoldsAt geo mounted P disk h p h'
   quietly file p held' safe' plan s named = calm file p named (still geo disk q file (at_rest old.held safe) p (at_rest held' safe') (plan_chain geo disk q old safe all file p held' safe' plan) s)
@@ -179,10 +135,10 @@ module _ (geo : Geometry) (mounted : View) (P : ℕ → ℕ → ℕ → List ℕ
       puts file p named n k bytes (in_place_firm geo disk q rules old n k piece bytes may)
       (subst (P n (generation mounted before n) k) (sym rest) (closed n k piece _ (refl, refl, refl) (inr (own_block n k may.write.sound may.write.file may.inside))))
   plan_holds file p held' safe' (WritesAppended n k b piece bytes holder may) rest closed named =
-      puts file p named n k bytes (appended_firm geo disk q rules old n k b piece bytes holder may)
+      puts file p named n k bytes (appended_firm geo disk q rules old safe all n k b piece bytes holder may)
       (subst (P n (generation mounted before n) k) (sym rest) (closed n k piece _ (refl, refl, refl) (inl refl)))
   plan_holds file p held' safe' (WritesMoved n k b piece bytes holder may) rest closed named =
-      puts file p named n k bytes (moved_firm geo disk q rules old n k b piece bytes holder may)
+      puts file p named n k bytes (moved_firm geo disk q rules old safe all n k b piece bytes holder may)
       (subst (P n (generation mounted before n) k) (sym rest) (closed n k piece _ (refl, refl, refl) (inr (own_block n k may.write.sound may.write.file may.inside))))
   plan_holds file p held' safe' (Truncates n size blocks may) rest closed named = quietly file p held' safe' (Truncates n size blocks may) (cleared_still geo disk file q n blocks (record { change = SetInode n (sized ((users_view disk q).inode n) size); after = [] } ∷ q) (record_still geo disk file q n (sized ((users_view disk q).inode n) size) q (nothing_yet geo disk file q))) named
   plan_holds file p held' safe' (Relinks n links blocks may) rest closed named = quietly file p held' safe' (Relinks n links blocks may) (relinking_fits geo disk q rules file n ((users_view disk q).inode n) links (is_open old n) blocks) named
@@ -208,7 +164,7 @@ module _ (geo : Geometry) (mounted : View) (P : ℕ → ℕ → ℕ → List ℕ
       (slot_still geo disk q rules file d s block (Good i name) ((users_view disk q).bytes block) s no_entry after r can.from (linking_fits geo disk q rules file i d' s' block' name' entry after' can.to))
       (sym (ap (λ (y : Inode). with_links y ((users_view disk q).inode i).links) (put_here (users_view disk q).inode i (with_links ((users_view disk q).inode i) (((users_view disk q).inode i).links + 1))))) named
   plan_holds file p held' safe' (MovesGrown i d' b kept s' name' entry after' d s block name after spare can) rest closed named =
-      let r = linking_grown i ((users_view disk q).inode i) d' ((users_view disk q).inode d') b kept s' entry after' q in
+      let r = linking_grown geo i ((users_view disk q).inode i) d' ((users_view disk q).inode d') b kept s' entry after' q in
       let one = can.to.file in
       let other : i ≡ d' → ⊥ = λ e. let mode = ap (λ j. ((users_view disk q).inode j).mode) e in let two = reachable_mode geo (users_view disk q) d' can.to.enter.reachable in omega (arith, one, two, mode) in
       linked_at_the_end file (slot_written block ((users_view disk q).bytes block) s no_entry after ∷ r) i ((users_view disk q).inode i).links ((users_view disk q).inode i) (Block block ∷ []) held' safe'

@@ -61,8 +61,8 @@ plan_parts geo disk q old safe all file p held' safe' plan = by file p held' saf
 
     by : (f : ℕ) (r : List Pending) (held safe'' : ℕ → Bool) → IsPlan geo disk q old safe f r held safe'' → Parts geo disk q old safe f r held safe''
     by f r held safe'' (WritesInPlace n k piece bytes may) = leads f r held safe'' (in_place_issues geo disk q old safe n k piece bytes may all) (in_place_fits geo disk q rules old n k piece bytes may)
-    by f r held safe'' (WritesAppended n k b piece bytes holder may) = leads f r held safe'' (appended_issues geo disk q old safe n k b piece bytes holder may all) (extended_fits geo disk q rules old n k b piece bytes holder may)
-    by f r held safe'' (WritesMoved n k b piece bytes holder may) = leads f r held safe'' (moved_issues geo disk q old safe n k b piece bytes all holder may) (moved_fits geo disk q rules old n k b piece bytes holder may)
+    by f r held safe'' (WritesAppended n k b piece bytes holder may) = leads f r held safe'' (appended_issues geo disk q old safe n k b piece bytes holder may all) (extended_fits geo disk q rules old safe all n k b piece bytes holder may)
+    by f r held safe'' (WritesMoved n k b piece bytes holder may) = leads f r held safe'' (moved_issues geo disk q old safe n k b piece bytes all holder may) (moved_fits geo disk q rules old safe all n k b piece bytes holder may)
     by f r held safe'' (Truncates n size blocks may) = leads f r held safe'' (truncate_issues geo disk q old safe n size blocks may all) (truncation_fits geo disk q rules f n ((users_view disk q).inode n) size blocks)
     by f r held safe'' (Relinks n links blocks may) = still f r held safe'' (relink_issues geo disk q old safe n blocks all links may) (relinking_fits geo disk q rules f n ((users_view disk q).inode n) links (is_open old n) blocks)
     by f r held safe'' (Closes k n blocks may) = still f r held safe'' (close_issues geo disk q old safe n blocks all k may) (closing_fits geo disk q rules f n ((users_view disk q).inode n) (is_open (without_handle k old) n) blocks)

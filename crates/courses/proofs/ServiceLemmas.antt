@@ -68,7 +68,7 @@ module _ (geo : Geometry) (mounted : View) (h : List Written) (cut : List Bool) 
   done_spares disk q old safe command answer file plan new safe' same (RemovesName p after all stays) f spares t = t
   done_spares disk q old safe command answer file plan new safe' same (RemovesDirectory p blocks after all two goes) f spares t = t
   done_spares disk q old safe command answer file plan new safe' same (WritesInPlace h k piece bytes over inside free) f spares t = t
-  done_spares disk q old safe command answer file plan new safe' same (WritesBehind h k piece bytes b x table over choice past) f spares t = t
+  done_spares disk q old safe command answer file plan new safe' same (WritesBehind h k piece bytes b news over choice past) f spares t = t
   done_spares disk q old safe command answer file plan new safe' same (WritesElsewhere h k piece bytes b over free inside kept) f spares t = t
   done_spares disk q old safe command answer file plan new safe' same (TruncatesFile h size) f spares t = t
   done_spares disk q old safe command answer file plan new safe' same (ClosesHandle h) f spares t = t

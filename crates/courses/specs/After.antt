@@ -1,12 +1,13 @@
 -- The cells that the update of an entry comes after: those that it needs, and no others. A block's own updates keep their order, so that its cell may be among those of its update or not.
-use Rattle.std.specs.Prelude.{◌≡◌, ℕ, zero, suc, ◌<◌, ◌/◌, ◌⊎◌, List}
-use Rattle.std.specs.List.{All}
+use Rattle.std.specs.Prelude.{◌≡◌, ℕ, zero, suc, ◌<◌, ◌/◌, ◌⊎◌, List, IsTrue}
+use Rattle.std.specs.List.{All, Contains}
 use Rattle.model.specs.Layout.{Geometry, root}
 use Rattle.model.specs.View.{View}
-use Rattle.model.specs.Uses.{IsClaim, indirect_position}
+use Rattle.model.specs.Shape.{most_blocks, is_table}
+use Rattle.model.specs.Uses.{IsClaim}
 use Rattle.model.specs.Reach.{Path}
 use Rattle.ordering.specs.Cuts.{Cell, Record, Block}
-use Rattle.plans_data.specs.Append.{Holder, InRecord, InTable, InNewTable}
+use Rattle.plans_data.specs.Append.{Holder, new_blocks}
 use Rattle.plans_naming.specs.Entries.{HasBlocks, HasOtherBlocks}
 use Rattle.plans_naming.specs.Move.{HasGrounds}
 
@@ -18,7 +19,7 @@ IsBlockAt geo view d k c = (b : ℕ) × IsClaim geo view d k b × (c ≡ Block b
 
 -- and so at a position of a block of slots
 abbrev pub IsBlockOf : Geometry → View → ℕ → Cell → Type 0
-IsBlockOf geo view d c = (k : ℕ) × (k < indirect_position) × IsBlockAt geo view d k c
+IsBlockOf geo view d c = (k : ℕ) × (k < most_blocks geo) × IsBlockAt geo view d k c
 
 -- These cells are directory d's blocks.
 pub record AreBlocks (geo : Geometry) (view : View) (d : ℕ) (after : List Cell) : Type 0 where
@@ -36,9 +37,9 @@ IsBeforeEntry geo view d number c = (c ≡ Record number) ⊎ IsBlockOf geo view
 
 -- ---- the grounds of a directory
 
--- a cell is the record of directory d, or its indirect block
+-- a cell is the record of directory d, or one of its tables
 abbrev pub IsOfDirectory : Geometry → View → ℕ → Cell → Type 0
-IsOfDirectory geo view d c = (c ≡ Record d) ⊎ IsBlockAt geo view d indirect_position c
+IsOfDirectory geo view d c = (c ≡ Record d) ⊎ ((m : ℕ) × IsTrue (is_table geo m) × IsBlockAt geo view d m c)
 
 -- a cell is one of the grounds of a directory: it is of the directory or of one on its path, or is a block where the name of one of them stands
 abbrev pub IsGround : (geo : Geometry) (view : View) → Cell → (n d : ℕ) → Path geo view n d → Type 0
@@ -50,8 +51,6 @@ pub record AreGroundsWith (geo : Geometry) (view : View) (d block : ℕ) (is_new
   pub needs : HasGrounds geo view d block after
   pub only : All (λ c. is_new c ⊎ IsGround geo view c needs.steps d needs.path) after
 
--- a cell is the new block b of a directory, or the new indirect block that comes with it
+-- a cell is the new block b of a directory, or one of the new tables that come with it
 abbrev pub IsNewCell : ℕ → Holder → Cell → Type 0
-IsNewCell b InRecord c = c ≡ Block b
-IsNewCell b (InTable table) c = c ≡ Block b
-IsNewCell b (InNewTable x table) c = (c ≡ Block b) ⊎ (c ≡ Block x)
+IsNewCell b kept c = (c ≡ Block b) ⊎ ((x : ℕ) × Contains (new_blocks kept) x × (c ≡ Block x))

@@ -1,10 +1,10 @@
 -- How a command that no cause refuses is carried out by updates: what it chooses, and what it issues.
-use Rattle.std.specs.Prelude.{◌≡◌, ◌≢◌, ℕ, ◌<◌, ◌≤◌, ◌-◌, ◌/◌, Bool, true, List, ◌++◌, length, drop, replicate, Some, slice_get, IsTrue, IsFalse}
+use Rattle.std.specs.Prelude.{◌≡◌, ◌≢◌, ℕ, ◌<◌, ◌≤◌, ◌-◌, ◌/◌, Bool, true, List, [], ◌∷◌, ◌++◌, length, drop, replicate, Some, slice_get, IsTrue, IsFalse}
 use Rattle.std.specs.List.{All, Contains}
 use Rattle.model.specs.Layout.{Geometry}
 use Rattle.model.specs.View.{View, free_inode}
 use Rattle.model.specs.Cells.{put_at}
-use Rattle.model.specs.Uses.{blocks_of, direct_positions}
+use Rattle.model.specs.Uses.{blocks_of}
 use Rattle.model.specs.Slots.{Empty, slot}
 use Rattle.findings.specs.declared.repair.Repair.{Repair}
 use Rattle.ordering.specs.Cuts.{Cell, Record, Block, Pending, users_view}
@@ -17,13 +17,13 @@ use Rattle.machine.specs.Cells.{IsEntryFor, block_of, seen}
 use Rattle.machine.specs.Causes.{file_of}
 use Rattle.machine.specs.Effects.{AreDots, IsOverwritten, size_after}
 use Rattle.plans_data.specs.Now.{now, becomes}
-use Rattle.plans_data.specs.Append.{Holder, IsKeptIn, appended, pointed, sized}
+use Rattle.plans_data.specs.Append.{Holder, IsKeptIn, AreApart, new_blocks, blocks_on_way, appended, sized}
 use Rattle.plans_data.specs.Freeing.{AreGivenUp, held_with}
 use Rattle.plans_data.specs.Write.{written, relocated, held_besides}
 use Rattle.plans_data.specs.Truncate.{truncation}
 use Rattle.plans_data.specs.Relink.{closing, repairing, goes_away, held_if, held_after, inode_of, open_of, without_handle}
 use Rattle.plans_data.specs.Lists.{given_up_with}
-use Rattle.plans_data.specs.Plans.{IsChoice, holder_of, holder_in_use, named_by}
+use Rattle.plans_data.specs.Plans.{IsChoice, holder_of, named_by}
 use Rattle.plans_naming.specs.Entries.{HasBlocks, HasOtherBlocks}
 use Rattle.plans_naming.specs.Grow.{AreOther}
 use Rattle.plans_naming.specs.Unlink.{StaysWith, safe_but}
@@ -45,6 +45,7 @@ pub record InNewBlock (geo : Geometry) (view : View) (path : List ℕ) (number b
   pub free : IsFreeBlock geo view b
   -- the pointer to the block is kept where its position has its pointer
   pub keeps : IsKeptIn geo view (holder geo view path) (blocks_of (view.inode (holder geo view path)).size) b kept
+  pub apart : AreApart (b ∷ new_blocks kept)
   pub stands : s / 16 ≡ blocks_of (view.inode (holder geo view path)).size
   pub says : IsEntryFor number (name_in path) entry
   -- it is written after the number's record and the directory's blocks, and after nothing else
@@ -88,8 +89,7 @@ pub data IsDoneBy (geo : Geometry) (disk : View) (q : List Pending) (old : State
   MovesToNewBlock : (p r : List ℕ) (b : ℕ) (kept : Holder) (s : ℕ) (entry : List ℕ) (after' after : List Cell) → holder geo (users_view disk q) p ≢ holder geo (users_view disk q) r
       → InNewBlock geo (users_view disk q) r (number_at geo (users_view disk q) p) b kept s entry after' → Contains after (Block b)
       → AreGroundsWith geo (users_view disk q) (holder geo (users_view disk q) r) (entry_block geo (users_view disk q) p) (IsNewCell b kept) after
-      → (direct_positions ≤ blocks_of ((users_view disk q).inode (holder geo (users_view disk q) r)).size
-      → IsKnown after (entry_block geo (users_view disk q) p) (Block (pointed ((users_view disk q).inode (holder geo (users_view disk q) r)) (blocks_of ((users_view disk q).inode (holder geo (users_view disk q) r)).size) b kept).indirect))
+      → ((x : ℕ) → Contains (blocks_on_way kept) x → IsKnown after (entry_block geo (users_view disk q) p) (Block x))
       → IsDoneBy geo disk q old safe (Rename p r) Done (number_at geo (users_view disk q) p) (move_plan_grown geo (users_view disk q) p r b kept s entry after' after q) (now disk (move_plan_grown geo (users_view disk q) p r b kept s entry after' after q) old) safe
   -- a name of a file goes, and the file stays, or goes with it
   UnlinksName : (p : List ℕ) → StaysWith old (number_at geo (users_view disk q) p) (((users_view disk q).inode (number_at geo (users_view disk q) p)).links - 1)
@@ -111,16 +111,16 @@ pub data IsDoneBy (geo : Geometry) (disk : View) (q : List Pending) (old : State
       → IsDoneBy geo disk q old safe (Write h k piece) Done (file_of old h)
       (written (file_of old h) ((users_view disk q).inode (file_of old h)) (block_of geo (users_view disk q) (file_of old h) k) bytes (size_after (users_view disk q) (file_of old h) k piece) q)
       (becomes disk (written (file_of old h) ((users_view disk q).inode (file_of old h)) (block_of geo (users_view disk q) (file_of old h) k) bytes (size_after (users_view disk q) (file_of old h) k piece) q) old.held old) safe
-  WritesBehind : (h k : ℕ) (piece bytes : List ℕ) (b x : ℕ) (table : List ℕ) → IsOverwritten piece (seen geo (users_view disk q) (file_of old h) k) bytes
-      → IsChoice geo (users_view disk q) k b x table → blocks_of ((users_view disk q).inode (file_of old h)).size ≤ k
+  WritesBehind : (h k : ℕ) (piece bytes : List ℕ) (b : ℕ) (news : List ℕ) → IsOverwritten piece (seen geo (users_view disk q) (file_of old h) k) bytes
+      → IsChoice geo (users_view disk q) k b news → blocks_of ((users_view disk q).inode (file_of old h)).size ≤ k
       → IsDoneBy geo disk q old safe (Write h k piece) Done (file_of old h)
-      (appended (file_of old h) ((users_view disk q).inode (file_of old h)) k b bytes (size_after (users_view disk q) (file_of old h) k piece) (holder_of k ((users_view disk q).bytes ((users_view disk q).inode (file_of old h)).indirect) x table) q)
-      (becomes disk (appended (file_of old h) ((users_view disk q).inode (file_of old h)) k b bytes (size_after (users_view disk q) (file_of old h) k piece) (holder_of k ((users_view disk q).bytes ((users_view disk q).inode (file_of old h)).indirect) x table) q) old.held old) safe
+      (appended geo (file_of old h) ((users_view disk q).inode (file_of old h)) k b bytes (size_after (users_view disk q) (file_of old h) k piece) (holder_of geo (users_view disk q) (file_of old h) k b news) q)
+      (becomes disk (appended geo (file_of old h) ((users_view disk q).inode (file_of old h)) k b bytes (size_after (users_view disk q) (file_of old h) k piece) (holder_of geo (users_view disk q) (file_of old h) k b news) q) old.held old) safe
   WritesElsewhere : (h k : ℕ) (piece bytes : List ℕ) (b : ℕ) → IsOverwritten piece (seen geo (users_view disk q) (file_of old h) k) bytes → IsFreeBlock geo (users_view disk q) b
       → k < blocks_of ((users_view disk q).inode (file_of old h)).size → IsTrue (is_kept old (block_of geo (users_view disk q) (file_of old h) k))
       → IsDoneBy geo disk q old safe (Write h k piece) Done (file_of old h)
-      (relocated (file_of old h) ((users_view disk q).inode (file_of old h)) k b bytes (size_after (users_view disk q) (file_of old h) k piece) (holder_in_use k ((users_view disk q).bytes ((users_view disk q).inode (file_of old h)).indirect)) q)
-      (becomes disk (relocated (file_of old h) ((users_view disk q).inode (file_of old h)) k b bytes (size_after (users_view disk q) (file_of old h) k piece) (holder_in_use k ((users_view disk q).bytes ((users_view disk q).inode (file_of old h)).indirect)) q) (held_besides geo (now disk q old) (file_of old h) k) old) safe
+      (relocated geo (file_of old h) ((users_view disk q).inode (file_of old h)) k b bytes (size_after (users_view disk q) (file_of old h) k piece) (holder_of geo (users_view disk q) (file_of old h) k b []) q)
+      (becomes disk (relocated geo (file_of old h) ((users_view disk q).inode (file_of old h)) k b bytes (size_after (users_view disk q) (file_of old h) k piece) (holder_of geo (users_view disk q) (file_of old h) k b []) q) (held_besides geo (now disk q old) (file_of old h) k) old) safe
   -- a file gets a size that is no larger
   TruncatesFile : (h size : ℕ)
       → IsDoneBy geo disk q old safe (Truncate h size) Done (file_of old h)
@@ -144,7 +144,7 @@ abbrev pub LeavesTheRest : {geo : Geometry} {disk : View} {q : List Pending} {ol
     → IsDoneBy geo disk q old safe command answer file plan new safe' → Type 0
 LeavesTheRest {geo = geo} {disk = disk} {q = q} {old = old} (WritesInPlace h k piece bytes over inside free) =
     bytes ≡ piece ++ drop (length piece) ((users_view disk q).bytes (block_of geo (users_view disk q) (file_of old h) k))
-LeavesTheRest (WritesBehind h k piece bytes b x table over choice past) = bytes ≡ piece ++ drop (length piece) (replicate 1024 0)
+LeavesTheRest (WritesBehind h k piece bytes b news over choice past) = bytes ≡ piece ++ drop (length piece) (replicate 1024 0)
 LeavesTheRest {geo = geo} {disk = disk} {q = q} {old = old} (WritesElsewhere h k piece bytes b over free inside kept) =
     bytes ≡ piece ++ drop (length piece) ((users_view disk q).bytes (block_of geo (users_view disk q) (file_of old h) k))
 LeavesTheRest _ = Unit {0}

@@ -28,9 +28,9 @@ pub data IsPlan (geo : Geometry) (disk : View) (q : List Pending) (old : State) 
   WritesInPlace : (n k : ℕ) (piece bytes : List ℕ) → MayWriteInPlace geo (now disk q old) n k piece bytes
       → IsPlan geo disk q old safe n (written n ((users_view disk q).inode n) (block_of geo (users_view disk q) n k) bytes (size_after (users_view disk q) n k piece) q) old.held safe
   WritesAppended : (n k b : ℕ) (piece bytes : List ℕ) (holder : Holder) → MayWriteAppended geo (now disk q old) n k b piece bytes holder
-      → IsPlan geo disk q old safe n (appended n ((users_view disk q).inode n) k b bytes (size_after (users_view disk q) n k piece) holder q) old.held safe
+      → IsPlan geo disk q old safe n (appended geo n ((users_view disk q).inode n) k b bytes (size_after (users_view disk q) n k piece) holder q) old.held safe
   WritesMoved : (n k b : ℕ) (piece bytes : List ℕ) (holder : Holder) → MayWriteMoved geo (now disk q old) n k b piece bytes holder
-      → IsPlan geo disk q old safe n (relocated n ((users_view disk q).inode n) k b bytes (size_after (users_view disk q) n k piece) holder q) (held_besides geo (now disk q old) n k) safe
+      → IsPlan geo disk q old safe n (relocated geo n ((users_view disk q).inode n) k b bytes (size_after (users_view disk q) n k piece) holder q) (held_besides geo (now disk q old) n k) safe
   -- a file gets a smaller size
   Truncates : (n size : ℕ) (blocks : List ℕ) → MayTruncate geo (now disk q old) n size blocks
       → IsPlan geo disk q old safe n (truncation n ((users_view disk q).inode n) size blocks q) (held_with geo (now disk q old) n (sized ((users_view disk q).inode n) size)) safe
@@ -47,12 +47,12 @@ pub data IsPlan (geo : Geometry) (disk : View) (q : List Pending) (old : State) 
   Creates : (n d s block : ℕ) (name entry : List ℕ) (after : List Cell) → CanCreate geo (users_view disk q) n d s block name entry after
       → IsPlan geo disk q old safe n (creating n block ((users_view disk q).bytes block) s entry after q) old.held safe
   CreatesGrown : (n d b : ℕ) (kept : Holder) (s : ℕ) (name entry : List ℕ) (after : List Cell) → UnmarkedAreNotHeld (users_view disk q) old.held → CanCreateGrown geo (users_view disk q) n d b kept s name entry after
-      → IsPlan geo disk q old safe n (creating_grown n d ((users_view disk q).inode d) b kept s entry after q) old.held safe
+      → IsPlan geo disk q old safe n (creating_grown geo n d ((users_view disk q).inode d) b kept s entry after q) old.held safe
   -- a file gets one more name
   Links : (i d s block : ℕ) (name entry : List ℕ) (after : List Cell) → CanLink geo (users_view disk q) i d s block name entry after
       → IsPlan geo disk q old safe i (linking i ((users_view disk q).inode i) block ((users_view disk q).bytes block) s entry after q) old.held safe
   LinksGrown : (i d b : ℕ) (kept : Holder) (s : ℕ) (name entry : List ℕ) (after : List Cell) → UnmarkedAreNotHeld (users_view disk q) old.held → CanLinkGrown geo (users_view disk q) i d b kept s name entry after
-      → IsPlan geo disk q old safe i (linking_grown i ((users_view disk q).inode i) d ((users_view disk q).inode d) b kept s entry after q) old.held safe
+      → IsPlan geo disk q old safe i (linking_grown geo i ((users_view disk q).inode i) d ((users_view disk q).inode d) b kept s entry after q) old.held safe
   -- a name of a file goes, and the file stays or goes with it
   Unlinks : (i d s block : ℕ) (name : List ℕ) → CanUnlink geo (users_view disk q) i d s block name
       → IsPlan geo disk q old safe i (unlinking i ((users_view disk q).inode i) block ((users_view disk q).bytes block) s q) old.held (safe_but i safe)
@@ -62,7 +62,7 @@ pub data IsPlan (geo : Geometry) (disk : View) (q : List Pending) (old : State) 
   Makes : (i b : ℕ) (dots : List ℕ) (d s block : ℕ) (name entry : List ℕ) (after : List Cell) → CanMakeIn geo (users_view disk q) i b dots d s block name entry after → UnmarkedAreNotHeld (users_view disk q) old.held
       → IsPlan geo disk q old safe i (making i b dots d ((users_view disk q).inode d) block ((users_view disk q).bytes block) s entry after q) old.held safe
   MakesGrown : (i a : ℕ) (dots : List ℕ) (d b : ℕ) (kept : Holder) (s : ℕ) (name entry : List ℕ) (after : List Cell) → UnmarkedAreNotHeld (users_view disk q) old.held → CanMakeGrown geo (users_view disk q) i a dots d b kept s name entry after
-      → IsPlan geo disk q old safe i (making_grown i a dots d ((users_view disk q).inode d) b kept s entry after q) old.held safe
+      → IsPlan geo disk q old safe i (making_grown geo i a dots d ((users_view disk q).inode d) b kept s entry after q) old.held safe
   -- a directory is removed, and its inode goes or stays
   Removes : (i b d s block : ℕ) (name : List ℕ) (after : List Cell) (blocks : List ℕ) → CanRemove geo (users_view disk q) i b d s block name after → CanFree geo (now disk q old) i blocks → ((users_view disk q).inode i).links ≡ 2 → IsFalse (safe i)
       → IsPlan geo disk q old safe i (removing i blocks d ((users_view disk q).inode d) block ((users_view disk q).bytes block) s after q) (held_with geo (now disk q old) i free_inode) safe
@@ -76,4 +76,4 @@ pub data IsPlan (geo : Geometry) (disk : View) (q : List Pending) (old : State) 
       → IsPlan geo disk q old safe i (moving i ((users_view disk q).inode i) block' ((users_view disk q).bytes block') s' entry after' block ((users_view disk q).bytes block) s after q) old.held safe
   MovesGrown : (i d' b : ℕ) (kept : Holder) (s' : ℕ) (name' entry : List ℕ) (after' : List Cell) (d s block : ℕ) (name : List ℕ) (after : List Cell) → UnmarkedAreNotHeld (users_view disk q) old.held
       → CanMoveGrown geo (users_view disk q) i d' b kept s' name' entry after' d s block name after
-      → IsPlan geo disk q old safe i (moving_grown i ((users_view disk q).inode i) d' ((users_view disk q).inode d') b kept s' entry after' block ((users_view disk q).bytes block) s after q) old.held safe
+      → IsPlan geo disk q old safe i (moving_grown geo i ((users_view disk q).inode i) d' ((users_view disk q).inode d') b kept s' entry after' block ((users_view disk q).bytes block) s after q) old.held safe

@@ -1,3 +1,4 @@
+pub mod Bytes
 pub mod Writes
 pub mod Memory
 pub mod Zeroes

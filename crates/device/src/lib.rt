@@ -1,11 +1,14 @@
-//! Devices of blocks: what a device answers, one in memory, and one that fails on purpose; and how one is formatted.
+//! Devices of blocks: what a device answers, one in memory, and one that fails on purpose; how one is formatted, and how single
+//! bytes of it are put.
 #![tactic(auto)]
 
+mod bytes;
 mod formatting;
 mod fuse;
 mod interface;
 mod memory;
 
+pub use bytes::{Byte, set_byte, set_bytes};
 pub use formatting::{Before, format};
 pub use fuse::Fuse;
 pub use interface::{Device, DeviceFault};

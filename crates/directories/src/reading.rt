@@ -5,7 +5,8 @@ ghost use Rattle.model.specs.Named.{named_below, named_from, number_of};
 ghost use Rattle.model.specs.Slots.{Absent, slot};
 ghost use Rattle.model.specs.Tables.{Puts};
 ghost use Rattle.model.specs.Units.{only};
-ghost use Rattle.model.specs.Uses.{indirect_position, is_directory_at};
+ghost use Rattle.model.specs.Shape.{most_blocks};
+ghost use Rattle.model.specs.Uses.{is_directory_at};
 ghost use Rattle.directories.specs.Named.{IsNamed};
 
 use crate::table::Named;
@@ -72,7 +73,7 @@ pub fn numbers_named(
 
 /// How many blocks of slots a directory has, and none where the number is no sound directory's.
 fn block_count(frozen: &Frozen, directory: u32) -> u32
-    ensures few { result ≤ indirect_position }
+    ensures few { result ≤ most_blocks frozen.now.geometry }
     ensures past { (s : ℕ) → 16 * result ≤ s → slot frozen.now.geometry (frozen_view frozen.now) directory s ≡ Absent }
 {
     if !frozen.is_directory_at(directory) {
@@ -89,7 +90,7 @@ fn add_block(
     position: u32,
     first: u32,
 ) -> Result<(), Refusal>
-    requires { position < indirect_position }
+    requires { position < most_blocks frozen.now.geometry }
     ensures added { OnOk result (numbers.old.items ≡ named_below frozen.now.geometry (frozen_view frozen.now) first directory (16 * position)
         → numbers.new.items ≡ named_below frozen.now.geometry (frozen_view frozen.now) first directory (16 * (position + 1))) }
     ensures error { IsOkUnless result Refusal.NoMemory }

@@ -1,9 +1,8 @@
 -- A block of a directory, and its slots.
-use Rattle.std.specs.Prelude.{◌≡◌, ℕ, ◌+◌, ◌*◌, ◌<◌, ◌≤◌, ◌⊎◌, List, ◌∷◌, ◌++◌, length, take, drop, map, replicate, slice_index, ◌-◌}
+use Rattle.std.specs.Prelude.{◌≡◌, ℕ, ◌+◌, ◌*◌, ◌^◌, ◌<◌, ◌≤◌, ◌⊎◌, List, ◌∷◌, ◌++◌, length, take, drop, map, replicate, slice_index, ◌-◌}
 use Rattle.std.specs.List.{range_with_len}
 use Rattle.byteorder.specs.Endian.{little_bytes}
 use Rattle.model.specs.Slots.{Slot, Good, slot_of}
-use Rattle.model.specs.Uses.{indirect_position}
 
 -- a block's bytes, its position in its directory, and how many inode numbers the volume has
 pub record DirectoryBlock : Type 0 where
@@ -15,9 +14,9 @@ pub record DirectoryBlock : Type 0 where
 abbrev pub block_from : List ℕ → ℕ → ℕ → DirectoryBlock
 block_from bytes position inodes = record { bytes = bytes; position = position; inodes = inodes }
 
--- the position is one of a block of entries, and a block has 1,024 bytes
+-- the numbers of its slots fit in 32 bits, and a block has 1,024 bytes
 pub record IsInDirectory (block : DirectoryBlock) : Type 0 where
-  pub position : block.position < indirect_position
+  pub position : block.position < 2 ^ 28
   pub length : length block.bytes ≡ 1024
 
 -- slot j of the block

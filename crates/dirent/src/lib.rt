@@ -13,10 +13,9 @@
 //! list of bytes, in no encoding. No call takes memory.
 #![tactic(auto)]
 
-ghost use Rattle.std.specs.Prelude.{◌≡◌, ℕ, ◌+◌, ◌*◌, ◌<◌, ◌≤◌, ◌↔◌, IsTrue, IfSome, IfNone, length, replicate};
+ghost use Rattle.std.specs.Prelude.{◌≡◌, ℕ, ◌+◌, ◌*◌, ◌<◌, ◌≤◌, ◌^◌, ◌↔◌, IsTrue, IfSome, IfNone, length, replicate};
 ghost use Rattle.std.specs.List.{list_all};
 ghost use Rattle.model.specs.Layout.{Geometry, inode_count};
-ghost use Rattle.model.specs.Uses.{indirect_position};
 ghost use Rattle.model.specs.Slots as model;
 ghost use Rattle.dirent.specs.Seen.{seen};
 ghost use Rattle.dirent.specs.DirectoryBlock.{block_from, IsInDirectory, slot_at, slots_of, HasName, IsFirst, HasNone, slot_bytes, entry_bytes, with_slot, ChangesSlot};
@@ -136,10 +135,10 @@ impl Model for Slots {
 }
 
 impl Slots {
-    /// Takes a copy of the block at `position` of a directory, on a volume with this many inode numbers. The position
-    /// is that of a block of entries, which the indirect block is not.
+    /// Takes a copy of the block at `position` of a directory, on a volume with this many inode numbers. The numbers of
+    /// the block's slots fit in 32 bits.
     pub fn read(block: &Block, position: u32, inodes: u32) -> Slots
-        requires { position < indirect_position }
+        requires { position < 2 ^ 28 }
         ensures value { result ≡ block_from block.now position inodes }
         ensures slots { (geo : Geometry) → inode_count geo ≡ inodes → (j : ℕ) → j < 16
             → slot_at result j ≡ model.slot_in geo block.now (16 * position + j) }

@@ -25,14 +25,14 @@ module _ (geo : Geometry) (state : State) (b : Balance geo state) (exact : Exact
   not_soft : (f : Finding) → IsTrue (is_soft f) → IsFinding geo state.view f → ⊥
   not_soft (LostInode i) soft h =
       let sound = sound_parts geo state.view i h.0 in
-      h.1 (reachable i ((exact.numbers i sound.0).0 (b.rules.rule4 i sound.0 (sound_mode (state.view.inode i) sound.1))))
+      h.1 (reachable i ((exact.numbers i sound.0).0 (b.rules.rule4 i sound.0 (sound_mode geo (state.view.inode i) sound.1))))
   not_soft (CountHigh i l e) soft h = let same = exact.links i e (inl h.0) h.2 in omega (arith, same, h.1, h.3)
   not_soft (LostBlock a) soft h = elim ((exact.blocks a h.0).0 h.1) [
     | inl c ↦ h.2 (c.0, c.1, c.3)
     | inr held ↦ both_ways (state.held a) (free a) held
   ]
   not_soft (LostNumber i) soft h =
-      sound_mode (state.view.inode i) (sound_parts geo state.view i (reachable_sound geo state.view i (reachable i ((exact.numbers i h.0).0 h.1)))).1 h.2
+      sound_mode geo (state.view.inode i) (sound_parts geo state.view i (reachable_sound geo state.view i (reachable i ((exact.numbers i h.0).0 h.1)))).1 h.2
   not_soft _ soft h = cc
 
   finds_nothing : (f : Finding) → IsFinding geo state.view f → ⊥

@@ -1,5 +1,5 @@
 use crate::{FileDevice, OpenError};
-use device::{Before, Device, format};
+use device::{Before, Device, format, set_byte};
 use layout::{BLOCK_BYTES, Block, Geometry, Refusal};
 use std::fs::File;
 use std::marker::Brand;
@@ -19,23 +19,6 @@ pub(crate) fn read_block<D: Device>(device: &mut D, address: u32) -> Option<Bloc
         Ok(()) => Some(block),
         Err(_) => None,
     }
-}
-
-/// Changes one byte of a block.
-pub(crate) fn set_byte<D: Device>(
-    device: &mut D,
-    address: u32,
-    byte: usize,
-    value: u8,
-) -> Result<(), Refusal> {
-    if address >= device.blocks() || byte >= BLOCK_BYTES {
-        return Err(Refusal::BadIndex);
-    }
-    let mut block = [0; BLOCK_BYTES];
-    device.read(address, &mut block)?;
-    block[byte] = value;
-    device.write(address, &block)?;
-    Ok(())
 }
 
 /// Writes a fresh image of so many groups, each of 16 blocks and 16 inodes, which the device has to have room for.
@@ -62,7 +45,7 @@ fn shows_a_format(
 ) -> Result<bool, Refusal> {
     format_groups(made, 1)?;
     let maps = read_block(opened, 1).ok_or(Refusal::Device)?;
-    let refused = set_byte(opened, 1, 0, 2).err();
+    let refused = set_byte(opened, (1, 0, 2)).err();
     let is_kept = read_block(opened, 1) == Some(maps);
     Ok(maps[..4] == b"GCUS"[..] && refused == Some(Refusal::Device) && is_kept)
 }
@@ -132,7 +115,7 @@ fn change_a_byte(rt: &HostRuntime, path: &str) -> Result<(), Refusal> {
         return Err(Refusal::BadLength);
     }
     let mut opened: FileDevice<File, Brand> = FileDevice::open_to_write(rt, path)?;
-    set_byte(&mut opened, 2, 5, 9)?;
+    set_byte(&mut opened, (2, 5, 9))?;
     Ok(opened.sync()?)
 }
 

@@ -19,7 +19,7 @@ module _ (geo : Geometry) (ok : IsGeometry geo) where
     where
       of_soft : (f : Finding) → IsTrue (is_soft f) → IsFinding geo (fresh_view geo) f → ⊥
       of_soft (LostInode i) soft h =
-          h.1 (inl (subst (λ k. IsReachableDirectory geo (fresh_view geo) k) (sym ((only_root_sound geo ok) i (and_parts (is_number geo i) (is_sound ((fresh_view geo).inode i)) h.0).1)) (root_reached geo ok)))
+          h.1 (inl (subst (λ k. IsReachableDirectory geo (fresh_view geo) k) (sym ((only_root_sound geo ok) i (and_parts (is_number geo i) (is_sound geo ((fresh_view geo).inode i)) h.0).1)) (root_reached geo ok)))
       of_soft (CountHigh i l e) soft h =
           let two = (two_entries geo ok) e (subst (λ k. HasEntries geo (fresh_view geo) k e) ((only_root_reachable geo ok) i h.0) h.2) in
           let links : l ≡ 2 = h.1 ∙ ap (λ k. ((fresh_view geo).inode k).links) ((only_root_reachable geo ok) i h.0) in

@@ -6,3 +6,5 @@ pub mod FoundBelow
 pub mod Owners
 pub mod RepairLemmas
 pub mod FindingOrder
+pub mod JoinLemmas
+pub mod PlaceLemmas

@@ -35,7 +35,7 @@ module _ (geo : Geometry) (v w : View) (h : SameUses geo v w) where
   mode_of i n = ap (λ (r : Inode). r.mode) (sym (h.inode i n))
 
 used_there : (geo : Geometry) (v w : View) (h : SameUses geo v w) (f : Finding) → IsTrue (is_of_blocks f || is_of_maps f) → IsFinding geo v f → IsFinding geo w f
-used_there geo v w h (BadInode i) t f = (f.0, (λ z. f.1 (sym (mode_of geo v w h i f.0) ∙ z)), ap is_sound (sym (h.inode i f.0)) ∙ f.2)
+used_there geo v w h (BadInode i) t f = (f.0, (λ z. f.1 (sym (mode_of geo v w h i f.0) ∙ z)), ap (is_sound geo) (sym (h.inode i f.0)) ∙ f.2)
 used_there geo v w h (BadPointer i k x) t f = (sym (h.uses i k) ∙ f.0, f.1)
 used_there geo v w h (Duplicate i k a) t f = (claim_of geo v w h i k a f.0, f.1, f.2, claim_of geo v w h f.1 f.2 a f.3, f.4)
 used_there geo v w h (LostBlock a) t f = (f.0, sym (h.block_marked a f.0) ∙ f.1, λ c. f.2 (claimed_of geo w v (uses_back h) a c))
@@ -62,7 +62,7 @@ finding_there geo v w h (DupName d s) f =
 finding_there geo v w h (BadDot d) f = (reached_there geo v w h d f.0, λ n. f.1 (names_there geo w v (other_way h) d 0 d n))
 finding_there geo v w h (BadDotDot d) f = (reached_there geo v w h d f.0, λ n. f.1 (parent_there geo w v (other_way h) d n))
 finding_there geo v w h (ToUnsound d s) f =
-    (f.0, entry_there geo v w h d s f.0 f.1, ap is_sound (sym (h.inode f.0 (entry_number geo v d s f.0 f.1))) ∙ f.2)
+    (f.0, entry_there geo v w h d s f.0 f.1, ap (is_sound geo) (sym (h.inode f.0 (entry_number geo v d s f.0 f.1))) ∙ f.2)
 finding_there geo v w h (ExtraName d s) f = (
   f.0,
   entry_there geo v w h d s f.0 f.1,

@@ -22,7 +22,7 @@ not_before : (i k j l : ℕ) → i ≡ j → k ≡ l → Before j l i k → ⊥
 not_before i k j l p q h = omega arith
 
 pub breaks_rule : (geo : Geometry) (view : View) (f : Finding) → IsFinding geo view f → 1 ≤ rule_of f → Rule geo view (rule_of f) → ⊥
-breaks_rule geo view (BadInode i) f hard rule = elim (rule i f.0) [ inl z ↦ f.1 z | inr s ↦ both_ways (is_sound (view.inode i)) f.2 s ]
+breaks_rule geo view (BadInode i) f hard rule = elim (rule i f.0) [ inl z ↦ f.1 z | inr s ↦ both_ways (is_sound geo (view.inode i)) f.2 s ]
 breaks_rule geo view (BadPointer i k v) f hard rule = both_ways (is_data_address geo v) f.1 (rule.claims i k v f.0)
 breaks_rule geo view (Duplicate i k a) f hard rule = let e = rule.once i k f.1 f.2 a f.0 f.3 in not_before i k f.1 f.2 e.0 e.1 f.4
 breaks_rule geo view RootBad f hard rule = both_ways (is_directory_at geo view root) f rule
@@ -31,7 +31,7 @@ breaks_rule geo view (DupName d s) f hard rule =
     let same = rule.distinct d s f.1 f.2 f.3 f.4 f.0 (omega (arith, f.5, f.6)) f.5 f.8 f.7 in omega (arith, same, f.6)
 breaks_rule geo view (BadDot d) f hard rule = f.1 (rule d f.0).0
 breaks_rule geo view (BadDotDot d) f hard rule = f.1 (rule d f.0).1
-breaks_rule geo view (ToUnsound d s) f hard rule = both_ways (is_sound (view.inode f.0)) f.2 (rule.sound d s f.0 f.1.reachable f.1.names)
+breaks_rule geo view (ToUnsound d s) f hard rule = both_ways (is_sound geo (view.inode f.0)) f.2 (rule.sound d s f.0 f.1.reachable f.1.names)
 breaks_rule geo view (ExtraName d s) f hard rule =
     elim f.2 [
       | inl r ↦ rule.no_root d s (subst (λ i. IsEntry geo view d s i) r f.1)
@@ -78,7 +78,7 @@ module _ (geo : Geometry) (view : View) (set : ℕ → Bool) (is_set : IsReachab
       decided_along
       (λ h. (h.0, h.2))
       (λ h. (h.0, (names_stands geo view e h.0 i h.1.names).place.below, h.1))
-      (decide_below (λ s. IsEntry geo view e s i) (λ s. decide_entry e s i p) slot_count)
+      (decide_below (λ s. IsEntry geo view e s i) (λ s. decide_entry e s i p) (slot_count geo))
 
   parent_from : (d e : ℕ) → (d ≡ root → ⊥) → Names geo view d 1 e → Decided ((s : ℕ) × IsEntry geo view e s d) → Decided (HasParent geo view d)
   parent_from d e other h (inl k) = inl (inr (other, e, k.0, h, k.1))
@@ -117,7 +117,7 @@ module _ (geo : Geometry) (view : View) (n : ℕ) (none : NoneBreaksUpTo geo vie
   second_rule low i number =
       elim (cases_eq (view.inode i).mode 0) [
         | inl z ↦ inl z
-        | inr used ↦ inr (true_unless (is_sound (view.inode i)) (λ u. refused (BadInode i) (omega arith) low (number, used, u)))
+        | inr used ↦ inr (true_unless (is_sound geo (view.inode i)) (λ u. refused (BadInode i) (omega arith) low (number, used, u)))
       ]
 
   third_rule : 3 ≤ n → UsesAreClaims geo view
@@ -150,11 +150,11 @@ module _ (geo : Geometry) (view : View) (n : ℕ) (none : NoneBreaksUpTo geo vie
       ],
     )
 
-    good_parent : (d : ℕ) → HasParent geo view d → (i : ℕ) → Names geo view d 1 i → IsReachableDirectory geo view d → IsTrue (is_sound (view.inode i))
+    good_parent : (d : ℕ) → HasParent geo view d → (i : ℕ) → Names geo view d 1 i → IsReachableDirectory geo view d → IsTrue (is_sound geo (view.inode i))
     good_parent d p i h r =
         elim p [
-          | inl t ↦ subst (λ q. IsTrue (is_sound (view.inode q))) (names_one geo view d 1 root i t.1 h) (directory_sound geo view root (path_root geo view r.0 d r.1))
-          | inr t ↦ subst (λ q. IsTrue (is_sound (view.inode q))) (names_one geo view d 1 t.1 i t.3 h) (directory_sound geo view t.1 (reachable_directory geo view t.1 t.4.reachable))
+          | inl t ↦ subst (λ q. IsTrue (is_sound geo (view.inode q))) (names_one geo view d 1 root i t.1 h) (directory_sound geo view root (path_root geo view r.0 d r.1))
+          | inr t ↦ subst (λ q. IsTrue (is_sound geo (view.inode q))) (names_one geo view d 1 t.1 i t.3 h) (directory_sound geo view t.1 (reachable_directory geo view t.1 t.4.reachable))
         ]
 
     parent_named : (d : ℕ) → HasParent geo view d → (i : ℕ) × Names geo view d 1 i
@@ -169,12 +169,12 @@ module _ (geo : Geometry) (view : View) (n : ℕ) (none : NoneBreaksUpTo geo vie
       not_bad d (suc zero) r b = let h = parent_named d (dots d r).1 in let e : Good h.0 h.1.0 ≡ Bad = sym h.1.1 ∙ b in cc
       not_bad d (suc (suc s)) r b = refused (BadSlot d (suc (suc s))) (omega arith) low (r, omega arith, b)
 
-      names_sound : (d s i : ℕ) → IsReachableDirectory geo view d → Names geo view d s i → IsTrue (is_sound (view.inode i))
+      names_sound : (d s i : ℕ) → IsReachableDirectory geo view d → Names geo view d s i → IsTrue (is_sound geo (view.inode i))
       names_sound d zero i r h =
-          subst (λ q. IsTrue (is_sound (view.inode q))) (names_one geo view d 0 d i (dots d r).0 h) (directory_sound geo view d (reachable_directory geo view d r))
+          subst (λ q. IsTrue (is_sound geo (view.inode q))) (names_one geo view d 0 d i (dots d r).0 h) (directory_sound geo view d (reachable_directory geo view d r))
       names_sound d (suc zero) i r h = good_parent d (dots d r).1 i h r
       names_sound d (suc (suc s)) i r h =
-          true_unless (is_sound (view.inode i))
+          true_unless (is_sound geo (view.inode i))
           (λ f. refused (ToUnsound d (suc (suc s))) (omega arith) low (i, record { reachable = r; after_dots = omega arith; names = h }, f))
 
       sixth_rule : SlotsAreRight geo view

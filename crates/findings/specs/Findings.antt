@@ -16,7 +16,7 @@ use Rattle.model.specs.Reach.{IsReachableDirectory, IsReachable, IsEntry, HasEnt
 -- what a finding says
 abbrev pub IsFinding : Geometry → View → Finding → Type 0
 -- a record that is neither free nor sound
-IsFinding geo view (BadInode i) = IsTrue (is_number geo i) × ((view.inode i).mode ≢ 0) × IsFalse (is_sound (view.inode i))
+IsFinding geo view (BadInode i) = IsTrue (is_number geo i) × ((view.inode i).mode ≢ 0) × IsFalse (is_sound geo (view.inode i))
 -- a use that is no claim
 IsFinding geo view (BadPointer i k v) = IsUse geo view i k v × IsFalse (is_data_address geo v)
 -- a claim of a block that an earlier claim owns
@@ -32,7 +32,7 @@ IsFinding geo view (BadDot d) = IsReachableDirectory geo view d × (Names geo vi
 -- a reachable directory whose slot 1 does not name its parent
 IsFinding geo view (BadDotDot d) = IsReachableDirectory geo view d × (HasParent geo view d → ⊥)
 -- an entry that names an inode that is not sound
-IsFinding geo view (ToUnsound d s) = (i : ℕ) × IsEntry geo view d s i × IsFalse (is_sound (view.inode i))
+IsFinding geo view (ToUnsound d s) = (i : ℕ) × IsEntry geo view d s i × IsFalse (is_sound geo (view.inode i))
 -- an entry that names the root, or a sound directory that an earlier entry names
 IsFinding geo view (ExtraName d s) = (i : ℕ) × IsEntry geo view d s i × ((i ≡ root) ⊎ (IsTrue (is_directory_at geo view i) × (e : ℕ) × (t : ℕ) × IsEntry geo view e t i × Before e t d s))
 -- a sound inode that nothing reaches

@@ -1,4 +1,5 @@
 pub mod Findings
+pub mod Groups
 pub mod Numbers
 pub mod Report
 pub mod Rules

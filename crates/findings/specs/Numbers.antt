@@ -4,6 +4,7 @@ use Rattle.findings.specs.declared.finding.Finding.{Finding}
 use Rattle.findings.specs.declared.finding.Finding.TheVariants.{LostNumber, UnmarkedInode}
 use Rattle.model.specs.Layout.{Geometry, is_number}
 use Rattle.model.specs.View.{View}
+unfoldable pub use Rattle.model.specs.Below.{found_below}
 
 -- looked at, marked and free
 abbrev pub is_lost_number : Geometry → View → ℕ → Bool
@@ -12,11 +13,6 @@ is_lost_number geo view i = is_number geo i && view.number_marked i && (view.ino
 -- looked at, unmarked and not free
 abbrev pub is_unmarked_number : Geometry → View → ℕ → Bool
 is_unmarked_number geo view i = is_number geo i && not (view.number_marked i) && not ((view.inode i).mode == 0)
-
--- what make gives of the numbers below n that pass the test, in order
-unfoldable pub found_below : {K : Type 0} → (ℕ → Bool) → (ℕ → K) → ℕ → List K
-found_below test make zero = []
-found_below test make (suc n) = if test n then found_below test make n ++ make n ∷ [] else found_below test make n
 
 abbrev pub lost_below : Geometry → View → ℕ → List Finding
 lost_below geo view n = found_below (is_lost_number geo view) LostNumber n

@@ -1,6 +1,7 @@
 //! What a check finds on an image of the volume: the findings with their order, the repairs that mend the soft ones,
-//! the verdict, and the report in which they are printed. The laws at the end say what findings mean for the rules
-//! that an image obeys.
+//! the verdict, and the report in which they are printed. Workers of a check make what they find of their cylinder
+//! groups; what is found of each group is joined here, and the findings of all groups together are those of the
+//! volume. The laws at the end say what findings mean for the rules that an image obeys.
 #![tactic(auto)]
 
 ghost use Rattle.std.specs.Prelude.{◌≡◌, ◌≤◌, ◌++◌, ◌↔◌, ℕ, List, []};
@@ -15,12 +16,14 @@ ghost use Rattle.findings.specs.Findings.{AllSoft, AreFindings, AreFindingsOf, I
 ghost use Rattle.findings.specs.Numbers.{lost_below, unmarked_below};
 ghost use Rattle.findings.specs.Rules.{NoneBreaksUpTo, rule_of};
 
+mod by_group;
 mod finding;
 mod order;
 mod repair;
 mod reports;
 mod verdicts;
 
+pub use by_group::{OfGroup, all_found, findings_are_of_groups, joined};
 pub use finding::Finding;
 pub use order::in_order;
 pub use repair::{Repair, repairs};

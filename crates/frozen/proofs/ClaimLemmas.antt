@@ -1,15 +1,14 @@
--- More blocks that are kept change no record and no claim that was there; and with the indirect blocks no claim comes either.
-use Rattle.std.proofs.Common.{◌≡◌, ◌*◌, ◌-◌, ℕ, ◌&&◌, Bool, List, [], zero, suc, Option, Some, None, IsSome, is_some, unwrap_or, drop, ltb, cond, get_or, IsTrue, false, true, refl, sym, ap, ◌∙◌, subst}
-use Rattle.std.specs.Prelude.{◌||◌, ◌==◌, ◌%◌, nat_lt, nat_le}
-use Rattle.std.specs.Bool.{then_some}
-use Rattle.std.proofs.lemmas.Bool.{cond-true, cond-false}
+-- More blocks that are kept change no record and no claim that was there; and where the tables on its way are kept no claim comes either.
+use Rattle.std.proofs.Common.{◌≡◌, ◌*◌, ℕ, ◌&&◌, Bool, List, [], zero, suc, Option, Some, None, IsSome, is_some, unwrap_or, drop, cond, IsTrue, false, true, refl, sym, ap, ◌∙◌, subst}
 use Rattle.model.specs.Layout.{Geometry, inode_block, inode_byte, is_data_address, is_number}
 use Rattle.model.specs.View.{View, Inode, inode_at, free_inode, u32_at}
-use Rattle.model.specs.Uses.{blocks_of, is_sound, is_directory, is_directory_at, is_used, value_at, record_use, use_at, IsClaim, indirect_position, direct_positions}
+use Rattle.model.specs.Shape.{is_table, table_of, place_in_table, pointer_in}
+use Rattle.model.specs.Uses.{has_position, is_sound, is_directory, is_directory_at, IsClaim}
 use Rattle.model.proofs.Addresses.{number_in_group}
-use Rattle.model.proofs.Same.{same_cond, same_else, same_use}
-use Rattle.model.proofs.UseLemmas.{use_parts, use_from, use_of_record}
-use Rattle.frozen.specs.Kept.{Kept, KeepsFrame, KeepsMore, KeepsClaim, KeepsIndirect, KeepsDirectory, frozen_view, kept_at, kept_bytes}
+use Rattle.model.proofs.Alike.{same_cond}
+use Rattle.model.proofs.Shape.{by_way, IsAbove}
+use Rattle.model.proofs.Uses.{PointerAt, OfRecord, OfTable, use_parts, use_from, use_number, number_use, uses_agree, above_table}
+use Rattle.frozen.specs.Kept.{Kept, KeepsFrame, KeepsMore, KeepsClaim, KeepsTables, KeepsTablesOf, KeepsDirectory, frozen_view, kept_at, kept_bytes}
 use Rattle.frozen.proofs.FrozenLemmas.{records_are_frame}
 
 -- a block that is there
@@ -48,52 +47,45 @@ module _ (geo : Geometry) (old new : List (Option (List ℕ))) (frame : KeepsFra
       same_cond (is_number geo n) (inode_at (kept_bytes old (inode_block geo n)) (inode_byte n)) (inode_at (kept_bytes new (inode_block geo n)) (inode_byte n)) free_inode
       (λ t. ap (λ b. inode_at b (inode_byte n)) (same_bytes (inode_block geo n) (frame.frame (inode_block geo n) (records_are_frame (record { geometry = geo; blocks = old }) frame n (number_in_group geo frame.geometry n t)))))
 
-  -- a pointer that is no 0 was read in an indirect block that is kept
-  same_pointer_value : (inode : Inode) (k a : ℕ) → value_at before inode k ≡ a → IsTrue (is_data_address geo a) → value_at after inode k ≡ a
-  same_pointer_value inode k a value is_data =
-      sym (same_else (ltb k direct_positions) _ _ (get_or inode.direct k 0) (λ low.
-      same_cond (ltb k indirect_position) _ _ inode.indirect (λ high. in_block low high (kept_at old inode.indirect) refl))) ∙ value
+  -- a pointer to a data block was read in a table that is kept
+  same_pointer : (t place a : ℕ) → a ≡ pointer_in (before.bytes t) place → IsTrue (is_data_address geo a) → a ≡ pointer_in (after.bytes t) place
+  same_pointer t place a is is_data = go (kept_at old t) refl
     where
-      in_block : ltb k direct_positions ≡ false → ltb k indirect_position ≡ true → (o : Option (List ℕ)) → kept_at old inode.indirect ≡ o
-          → u32_at (before.bytes inode.indirect) (4 * (k - direct_positions)) ≡ u32_at (after.bytes inode.indirect) (4 * (k - direct_positions))
-      in_block low high (Some b) at = ap (λ bytes. u32_at bytes (4 * (k - direct_positions))) (same_data inode.indirect (ap is_some at))
-      in_block low high None at = absurd (
-          let none : before.bytes inode.indirect ≡ [] = no_data (is_data_address geo inode.indirect) (kept_bytes old inode.indirect) (ap (λ o. unwrap_or o []) at) in
-          let here : u32_at (before.bytes inode.indirect) (4 * (k - direct_positions)) ≡ a =
-          sym (cond-true (ltb k indirect_position) (u32_at (before.bytes inode.indirect) (4 * (k - direct_positions))) inode.indirect high)
-          ∙ sym (cond-false (ltb k direct_positions) (get_or inode.direct k 0) (cond (ltb k indirect_position) (u32_at (before.bytes inode.indirect) (4 * (k - direct_positions))) inode.indirect) low) ∙ value in
-          let zero : a ≡ 0 = sym here ∙ ap (λ bytes. u32_at bytes (4 * (k - direct_positions))) none ∙ no_bytes_zero (4 * (k - direct_positions)) in
+      no_data : (b : Bool) (bytes : List ℕ) → bytes ≡ [] → cond b bytes [] ≡ []
+      no_data true bytes e = e
+      no_data false bytes e = refl
+
+      go : (o : Option (List ℕ)) → kept_at old t ≡ o → a ≡ pointer_in (after.bytes t) place
+      go (Some b) at = is ∙ ap (λ bytes. pointer_in bytes place) (same_data t (ap is_some at))
+      go None at = absurd (
+          let none : before.bytes t ≡ [] = no_data (is_data_address geo t) (kept_bytes old t) (ap (λ o. unwrap_or o []) at) in
+          let zero : a ≡ 0 = is ∙ ap (λ bytes. pointer_in bytes place) none ∙ no_bytes_zero (4 * place) in
           let bad : false ≡ true = subst (λ n. IsTrue (is_data_address geo n)) zero is_data in cc
           )
-        where
-          no_data : (b : Bool) (bytes : List ℕ) → bytes ≡ [] → cond b bytes [] ≡ []
-          no_data true bytes e = e
-          no_data false bytes e = refl
 
   claim_stays_here : (i k a : ℕ) → IsClaim geo before i k a → IsClaim geo after i k a
-  claim_stays_here i k a c =
-      let parts = use_parts geo before i k a c.0 in (
-        use_from geo after i k a (record {
-          sound = subst (λ (r : Inode). IsTrue (is_number geo i && is_sound r)) (same_record i) parts.sound;
-          used = subst (λ (r : Inode). IsTrue (is_used geo r k)) (same_record i) parts.used;
-          value = ap (λ (r : Inode). value_at after r k) (sym (same_record i)) ∙ same_pointer_value (before.inode i) k a parts.value c.1;
-        }),
-        c.1,
-      )
+  claim_stays_here i = by_way geo (λ k. (a : ℕ) → IsClaim geo before i k a → IsClaim geo after i k a) step
+    where
+      pointer_stays : (k a : ℕ) → ((m : ℕ) → table_of geo k ≡ Some m → (t : ℕ) → IsClaim geo before i m t → IsClaim geo after i m t)
+          → IsTrue (is_number geo i) → IsTrue (is_data_address geo a) → PointerAt geo before (before.inode i) k a → PointerAt geo after (after.inode i) k a
+      pointer_stays k a tables number is_data (OfRecord none has is) = subst (λ r. PointerAt geo after r k a) (same_record i) (OfRecord none has is)
+      pointer_stays k a tables number is_data (OfTable m t one has uses address is) =
+          let claim = tables m one t (number_use geo before i m t number uses, address) in
+          OfTable m t one (subst (λ r. IsTrue (has_position geo r k)) (same_record i) has) (use_number geo after i m t claim.0).1 address (same_pointer t (place_in_table geo k) a is is_data)
 
-  -- what the indirect pointer of a record says
-  abbrev pointer : ℕ → Inode → Option ℕ
-  pointer i inode = then_some ((is_number geo i && is_sound inode) && is_used geo inode indirect_position) inode.indirect
+      step : (k : ℕ) → ((m : ℕ) → table_of geo k ≡ Some m → (t : ℕ) → IsClaim geo before i m t → IsClaim geo after i m t) → (a : ℕ) → IsClaim geo before i k a → IsClaim geo after i k a
+      step k tables a c =
+          let u = use_parts geo before i k a c.0 in (
+            use_from geo after i k a (record {
+              sound = subst (λ (r : Inode). IsTrue (is_number geo i && is_sound geo r)) (same_record i) u.sound;
+              pointer = pointer_stays k a tables (use_number geo before i k a c.0).0 c.1 u.pointer;
+            }),
+            c.1,
+          )
 
-  pointer_use : (view : View) (i : ℕ) → use_at geo view i indirect_position ≡ pointer i (view.inode i)
-  unfolding use_at
-  pointer_use view i = refl
-
-  pointer_back_here : (i a : ℕ) → IsClaim geo after i indirect_position a → IsClaim geo before i indirect_position a
-  pointer_back_here i a c = (pointer_use before i ∙ ap (pointer i) (same_record i) ∙ sym (pointer_use after i) ∙ c.0, c.1)
-
-  claim_back_here : KeepsIndirect (record { geometry = geo; blocks = old }) → (i k a : ℕ) → IsClaim geo after i k a → IsClaim geo before i k a
-  claim_back_here indirect i k a c = (same_use geo before after (λ j _. same_record j) (λ j b claim. same_data b (indirect j b claim)) i k ∙ c.0, c.1)
+  -- where the tables on its way are kept no claim comes
+  claim_back_here : (i k a : ℕ) → ((m : ℕ) → IsAbove geo k m → KeepsClaim (record { geometry = geo; blocks = old }) i m) → IsClaim geo after i k a → IsClaim geo before i k a
+  claim_back_here i k a tables c = (uses_agree geo before after i k (λ number. same_record i) (λ m b above claim. same_data b (tables m above b claim)) ∙ c.0, c.1)
 
 -- ---- the same of frozen images
 
@@ -113,41 +105,38 @@ module _ (kept more : Kept) (frame : KeepsFrame kept) (grows : KeepsMore kept mo
   claim_stays i k a c =
       subst (λ (m : Kept). IsClaim m.geometry (frozen_view m) i k a) grown (claim_stays_here kept.geometry kept.blocks more.blocks frame grows.blocks i k a c)
 
-  -- a claim of an indirect block was there before, and so was each claim if the indirect blocks are kept
-  pub pointer_back : (i a : ℕ) → IsClaim more.geometry (frozen_view more) i indirect_position a → IsClaim kept.geometry (frozen_view kept) i indirect_position a
-  pointer_back i a c =
-      pointer_back_here kept.geometry kept.blocks more.blocks frame grows.blocks i a (subst (λ (m : Kept). IsClaim m.geometry (frozen_view m) i indirect_position a) (sym grown) c)
-
-  pub claim_back : KeepsIndirect kept → (i k a : ℕ) → IsClaim more.geometry (frozen_view more) i k a → IsClaim kept.geometry (frozen_view kept) i k a
-  claim_back indirect i k a c =
-      claim_back_here kept.geometry kept.blocks more.blocks frame grows.blocks indirect i k a (subst (λ (m : Kept). IsClaim m.geometry (frozen_view m) i k a) (sym grown) c)
+  -- where the tables on its way are kept a claim was there before
+  pub claim_back : (i k a : ℕ) → ((m : ℕ) → IsAbove kept.geometry k m → KeepsClaim kept i m) → IsClaim more.geometry (frozen_view more) i k a → IsClaim kept.geometry (frozen_view kept) i k a
+  claim_back i k a tables c =
+      claim_back_here kept.geometry kept.blocks more.blocks frame grows.blocks i k a tables (subst (λ (m : Kept). IsClaim m.geometry (frozen_view m) i k a) (sym grown) c)
 
   -- a sound directory was one before
   pub directory_back : (d : ℕ) → is_directory_at more.geometry (frozen_view more) d ≡ is_directory_at kept.geometry (frozen_view kept) d
   directory_back d =
-      ap (λ (geo : Geometry). (is_number geo d && is_sound ((frozen_view more).inode d)) && is_directory ((frozen_view more).inode d)) grows.geometry
-      ∙ ap (λ (r : Inode). (is_number kept.geometry d && is_sound r) && is_directory r) (sym (inode_stays d))
+      ap (λ (geo : Geometry). (is_number geo d && is_sound geo ((frozen_view more).inode d)) && is_directory ((frozen_view more).inode d)) grows.geometry
+      ∙ ap (λ (r : Inode). (is_number kept.geometry d && is_sound kept.geometry r) && is_directory r) (sym (inode_stays d))
 
   -- what is kept stays kept
-  pub indirect_stays : KeepsIndirect kept → KeepsIndirect more
-  indirect_stays indirect i a c = still_there a (indirect i a (pointer_back i a c))
+  pub claim_kept_stays : (i k : ℕ) → ((m : ℕ) → IsAbove kept.geometry k m → KeepsClaim kept i m) → KeepsClaim kept i k → KeepsClaim more i k
+  claim_kept_stays i k tables h a c = still_there a (h a (claim_back i k a tables c))
 
-  pub claim_kept_stays : KeepsIndirect kept → (i k : ℕ) → KeepsClaim kept i k → KeepsClaim more i k
-  claim_kept_stays indirect i k h a c = still_there a (h a (claim_back indirect i k a c))
+  above_kept : (i k : ℕ) → KeepsTablesOf kept i → (m : ℕ) → IsAbove kept.geometry k m → KeepsClaim kept i m
+  above_kept i k tables m above = tables m (above_table kept.geometry k m above)
 
-  pub directory_stays : KeepsIndirect kept → (d : ℕ) → KeepsDirectory kept d → KeepsDirectory more d
-  directory_stays indirect d h t k = claim_kept_stays indirect d k (h (sym (directory_back d) ∙ t) k)
+  pub tables_stay : (i : ℕ) → KeepsTablesOf kept i → KeepsTablesOf more i
+  tables_stay i tables m is = claim_kept_stays i m (above_kept i m tables) (tables m (subst (λ geo. IsTrue (is_table geo m)) grows.geometry is))
+
+  pub all_tables_stay : KeepsTables kept → KeepsTables more
+  all_tables_stay tables i = tables_stay i (tables i)
+
+  pub directory_stays : (d : ℕ) → KeepsTablesOf kept d → KeepsDirectory kept d → KeepsDirectory more d
+  directory_stays d tables h t k = claim_kept_stays d k (above_kept d k tables) (h (sym (directory_back d) ∙ t) k)
+
+  pub position_stays : (d k : ℕ) → KeepsTablesOf kept d → KeepsClaim kept d k → KeepsClaim more d k
+  position_stays d k tables = claim_kept_stays d k (above_kept d k tables)
 
 pub more_of_more : (kept more most : Kept) → KeepsMore kept more → KeepsMore more most → KeepsMore kept most
 more_of_more kept more most h k = record {
   geometry = k.geometry ∙ h.geometry;
   blocks = λ a b e. k.blocks a b (h.blocks a b e);
 }
-
--- a free record uses nothing
-free_uses_nothing : (geo : Geometry) (view : View) (r : Inode) (k : ℕ) → r.mode ≡ 0 → record_use geo view r k ≡ None
-free_uses_nothing geo view r k e =
-    ap (λ m. then_some (((m == 1 || m == 2 && nat_lt 0 r.size && r.size % 1024 == 0) && nat_le (blocks_of r.size) indirect_position) && is_used geo r k) (value_at view r k)) e
-
-pub free_no_use : (geo : Geometry) (view : View) (i k : ℕ) → IsTrue (is_number geo i) → (view.inode i).mode ≡ 0 → use_at geo view i k ≡ None
-free_no_use geo view i k t e = use_of_record geo view i k t ∙ free_uses_nothing geo view (view.inode i) k e

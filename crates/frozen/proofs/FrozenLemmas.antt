@@ -4,10 +4,11 @@ use Rattle.std.proofs.lemmas.Bool.{and_from, cases_eq, false_from_ne_true, lt-lt
 use Rattle.std.proofs.lemmas.List.{length-set}
 use Rattle.std.proofs.lemmas.Option.{same_Some}
 use Rattle.model.specs.Layout.{Geometry, block_count, group_block, group_of_address, inode_block, inode_byte, is_data_address, is_number, data_bit}
-use Rattle.model.specs.Uses.{is_directory_at, IsClaim, indirect_position}
+use Rattle.model.specs.Shape.{is_table}
+use Rattle.model.specs.Uses.{is_directory_at, IsClaim}
 use Rattle.model.specs.View.{inode_at, map_bit, free_inode}
 use Rattle.model.specs.Image.{IsBlock, IsSuper, IsGroupBlock, block_at, image_view}
-use Rattle.model.proofs.Same.{same_and, same_cond}
+use Rattle.model.proofs.Alike.{same_and, same_cond}
 use Rattle.model.proofs.Places.{maps_are_no_data, inodes_are_no_data}
 use Rattle.model.proofs.Addresses.{maps_below, inode_below, number_in_group, address_in_group, data_range}
 use Rattle.frozen.specs.Kept.{Kept, KeepsFrame, IsKeptOf, frozen_view, kept_at, kept_bytes, is_frame}
@@ -46,12 +47,12 @@ module _ (kept : Kept) (frame : KeepsFrame kept) where
         same_cond (is_number kept.geometry n) (inode_at (kept_bytes kept.blocks (inode_block kept.geometry n)) (inode_byte n)) (inode_at (block_at image (inode_block kept.geometry n)) (inode_byte n)) free_inode
         (λ t. ap (λ b. inode_at b (inode_byte n)) (same_block (inode_block kept.geometry n) (records_are_frame n (number_in_group kept.geometry frame.geometry n t))))
 
-    -- with the bytes of the claimed indirect blocks and of the directories' blocks, they have its metadata
+    -- with the bytes of the claimed tables and of the directories' blocks, they have its metadata
     pub kept_of : length image ≡ block_count kept.geometry → All IsBlock image
-        → ((i a : ℕ) → IsClaim kept.geometry (frozen_view kept) i indirect_position a → (frozen_view kept).bytes a ≡ (image_view kept.geometry image).bytes a)
+        → ((i m a : ℕ) → IsTrue (is_table kept.geometry m) → IsClaim kept.geometry (frozen_view kept) i m a → (frozen_view kept).bytes a ≡ (image_view kept.geometry image).bytes a)
         → ((d k a : ℕ) → IsTrue (is_directory_at kept.geometry (frozen_view kept) d) → IsClaim kept.geometry (frozen_view kept) d k a → (frozen_view kept).bytes a ≡ (image_view kept.geometry image).bytes a)
         → IsKeptOf kept image
-    kept_of count whole indirect directories = record {
+    kept_of count whole tables directories = record {
       is_image = record {
         geometry = frame.geometry;
         count = count;
@@ -68,7 +69,7 @@ module _ (kept : Kept) (frame : KeepsFrame kept) where
         block_marked = λ a _. same_and (is_data_address kept.geometry a) (map_bit (kept_bytes kept.blocks (group_block kept.geometry (group_of_address kept.geometry a))) 160 (data_bit kept.geometry a))
             (map_bit (block_at image (group_block kept.geometry (group_of_address kept.geometry a))) 160 (data_bit kept.geometry a))
             (λ t. ap (λ b. map_bit b 160 (data_bit kept.geometry a)) (same_maps (group_of_address kept.geometry a) (address_in_group kept.geometry frame.geometry a (data_range kept.geometry frame.geometry a t).1)));
-        indirect_blocks = indirect;
+        tables = tables;
         directory_blocks = directories;
       };
     }

@@ -1,41 +1,62 @@
 -- The steps of keeping the blocks that inodes claim.
-use Rattle.std.proofs.Common.{◌≡◌, ◌<◌, ◌+◌, ℕ, ◌&&◌, not, Bool, List, [], length, All, Option, Some, None, IsSome, is_some, unwrap_or, eqb, ltb, cond, IsTrue, false, true, refl, sym, ap, ◌∙◌, subst, arith, inl, inr, set as slice_set, get_or-set_same, get_or-set_other}
-use Rattle.std.proofs.lemmas.Bool.{and_parts, cases_eq}
-use Rattle.std.proofs.lemmas.Bool.Decides.{nat_tests}
+use Rattle.std.proofs.Common.{◌≡◌, ◌<◌, ◌+◌, ℕ, not, Bool, List, [], length, All, Option, Some, None, IsSome, is_some, unwrap_or, IsTrue, IsFalse, false, true, refl, sym, ap, ◌∙◌, subst, arith, inl, inr, set as slice_set, get_or-set_same, get_or-set_other}
+use Rattle.std.proofs.lemmas.Bool.{cases_eq, leb-true, false≢true}
 use Rattle.std.specs.Option.{option_map}
 use Rattle.std.proofs.lemmas.Option.{none-some, same_Some}
-use Rattle.model.specs.Layout.{Geometry, block_count, inode_count, is_data_address, is_number}
-use Rattle.model.specs.View.{View}
-use Rattle.model.specs.Uses.{is_sound, claim_at, IsClaim, indirect_position, blocks_of}
+use Rattle.model.specs.Layout.{block_count, inode_count, is_data_address}
+use Rattle.model.specs.Shape.{is_table, most_blocks, tables}
+use Rattle.model.specs.Uses.{blocks_of, claim_at, is_sound_at}
 use Rattle.model.specs.Image.{IsBlock, block_at, image_view}
 use Rattle.model.proofs.Addresses.{data_range}
-use Rattle.model.proofs.Same.{same_cond}
+use Rattle.model.proofs.Alike.{same_cond}
+use Rattle.model.proofs.Shape.{above_before}
 use Rattle.model.proofs.SlotLemmas.{directory_number, number_below}
-use Rattle.model.proofs.UseLemmas.{use_parts, claim_parts}
-use Rattle.frozen.specs.Kept.{Kept, KeepsFrame, KeepsClaim, KeepsIndirect, KeepsDirectory, KeepsMetadata, KeepsMore, IsKeptOf, frozen_view, kept_at, kept_bytes}
+use Rattle.model.proofs.UseLemmas.{claim_parts}
+use Rattle.model.proofs.Ranges.{table_below, use_places}
+use Rattle.model.proofs.Uses.{above_table, use_number, use_parts}
+use Rattle.frozen.specs.Kept.{Kept, KeepsFrame, KeepsClaim, KeepsTables, KeepsTablesOf, KeepsDirectory, KeepsMetadata, KeepsMore, IsKeptOf, frozen_view, kept_at, kept_bytes}
 use Rattle.frozen.specs.Loading.{AreBlocksOf}
 use Rattle.frozen.proofs.FrozenLemmas.{kept_of}
-use Rattle.frozen.proofs.ClaimLemmas.{there, still_there, claim_stays, pointer_back, claim_kept_stays, directory_stays}
+use Rattle.frozen.proofs.ClaimLemmas.{there, claim_stays, claim_kept_stays, position_stays, tables_stay, directory_stays}
 
--- ---- indirect blocks
+-- ---- tables
 
--- those of the inodes below n
-abbrev pub KeepsIndirectBelow : Kept → ℕ → Type 0
-KeepsIndirectBelow kept n = (i : ℕ) → i < n → KeepsClaim kept i indirect_position
+-- those of one inode at positions below n
+abbrev pub KeepsTablesUpTo : Kept → ℕ → ℕ → Type 0
+KeepsTablesUpTo kept i n = (m : ℕ) → m < n → IsTrue (is_table kept.geometry m) → KeepsClaim kept i m
 
-pub one_indirect_more : (kept more : Kept) → KeepsFrame kept → KeepsMore kept more → (n : ℕ) → KeepsIndirectBelow kept n → KeepsClaim more n indirect_position → KeepsIndirectBelow more (n + 1)
-one_indirect_more kept more frame grows n before here i low a c = elim (cases_eq i n) [
-  | inl e ↦ here a (subst (λ j. IsClaim more.geometry (frozen_view more) j indirect_position a) e c)
-  | inr differs ↦ still_there kept more frame grows a (before i (omega (arith, low, differs)) a (pointer_back kept more frame grows i a c))
+pub one_table_more : (kept more : Kept) → KeepsFrame kept → KeepsMore kept more → (i n : ℕ) → KeepsTablesUpTo kept i n → KeepsClaim more i n → KeepsTablesUpTo more i (n + 1)
+one_table_more kept more frame grows i n before here m low is = elim (cases_eq m n) [
+  | inl e ↦ subst (KeepsClaim more i) (sym e) here
+  | inr differs ↦
+      let table : IsTrue (is_table kept.geometry m) = subst (λ geo. IsTrue (is_table geo m)) grows.geometry is in
+      let first = leb-true (most_blocks kept.geometry) m table in
+      claim_kept_stays kept more frame grows i m
+      (λ x above. before x (omega (arith, low, differs, above_before kept.geometry m x first above)) (above_table kept.geometry m x above))
+      (before m (omega (arith, low, differs)) table)
 ]
 
-claiming_number : (geo : Geometry) (view : View) (i k a : ℕ) → IsClaim geo view i k a → IsTrue (is_number geo i)
-claiming_number geo view i k a c =
-    (and_parts (is_number geo i) (is_sound (view.inode i)) (use_parts geo view i k a c.0).sound).0
+-- with those below the end of its tables all of a sound inode are kept, and one that is not sound has none
+pub all_tables_of : (kept : Kept) (i n : ℕ) → n ≡ most_blocks kept.geometry + tables (blocks_of ((frozen_view kept).inode i).size) → KeepsTablesUpTo kept i n → KeepsTablesOf kept i
+all_tables_of kept i n end below m is a c =
+    below m (subst (λ x. m < x) (sym end) (table_below kept.geometry (frozen_view kept) i m a is c.0)) is a c
 
-pub all_indirect : (kept : Kept) (n : ℕ) → inode_count kept.geometry ≡ n → KeepsIndirectBelow kept n → KeepsIndirect kept
-all_indirect kept n all below i a c =
-    below i (omega (arith, all, number_below kept.geometry i (claiming_number kept.geometry (frozen_view kept) i indirect_position a c))) a c
+pub no_tables_of : (kept : Kept) (i : ℕ) → IsFalse (is_sound_at kept.geometry (frozen_view kept) i) → KeepsTablesOf kept i
+no_tables_of kept i unsound m is a c = absurd (false≢true (sym unsound ∙ (use_parts kept.geometry (frozen_view kept) i m a c.0).sound))
+
+-- those of the inodes below n
+abbrev pub KeepsTablesBelow : Kept → ℕ → Type 0
+KeepsTablesBelow kept n = (i : ℕ) → i < n → KeepsTablesOf kept i
+
+pub one_inode_more : (kept more : Kept) → KeepsFrame kept → KeepsMore kept more → (n : ℕ) → KeepsTablesBelow kept n → KeepsTablesOf more n → KeepsTablesBelow more (n + 1)
+one_inode_more kept more frame grows n before here i low = elim (cases_eq i n) [
+  | inl e ↦ subst (KeepsTablesOf more) (sym e) here
+  | inr differs ↦ tables_stay kept more frame grows i (before i (omega (arith, low, differs)))
+]
+
+pub all_tables : (kept : Kept) (n : ℕ) → inode_count kept.geometry ≡ n → KeepsTablesBelow kept n → KeepsTables kept
+all_tables kept n all below i m is a c =
+    below i (omega (arith, all, number_below kept.geometry i (use_number kept.geometry (frozen_view kept) i m a c.0).0)) m is a c
 
 -- ---- blocks of directories
 
@@ -43,41 +64,33 @@ all_indirect kept n all below i a c =
 abbrev pub KeepsPositionsBelow : Kept → ℕ → ℕ → Type 0
 KeepsPositionsBelow kept d n = (k : ℕ) → k < n → KeepsClaim kept d k
 
-pub one_position_more : (kept more : Kept) → KeepsFrame kept → KeepsMore kept more → KeepsIndirect kept → (d n : ℕ) → KeepsPositionsBelow kept d n → KeepsClaim more d n → KeepsPositionsBelow more d (n + 1)
-one_position_more kept more frame grows indirect d n before here k low = elim (cases_eq k n) [
+pub one_position_more : (kept more : Kept) → KeepsFrame kept → KeepsMore kept more → KeepsTables kept → (d n : ℕ) → KeepsPositionsBelow kept d n → KeepsClaim more d n → KeepsPositionsBelow more d (n + 1)
+one_position_more kept more frame grows tables d n before here k low = elim (cases_eq k n) [
   | inl e ↦ subst (KeepsClaim more d) (sym e) here
-  | inr differs ↦ claim_kept_stays kept more frame grows indirect d k (before k (omega (arith, low, differs)))
+  | inr differs ↦ position_stays kept more frame grows d k (tables d) (before k (omega (arith, low, differs)))
 ]
 
--- a position that is used is below the blocks, or it is the indirect pointer's
-used_below : (k blocks : ℕ) (is_data : Bool) → (k ≡ 268 → ⊥)
-    → cond (ltb k 12) (ltb k blocks) (cond (ltb k 268) (ltb k blocks && is_data) (eqb k 268 && ltb 12 blocks)) ≡ true → k < blocks
-used_below k blocks is_data differs used = grind (arith, nat_tests)
-
--- with those below a directory's blocks and its indirect block all of them are kept
-pub all_positions : (kept : Kept) (d n : ℕ) → n ≡ blocks_of ((frozen_view kept).inode d).size → KeepsIndirect kept → KeepsPositionsBelow kept d n → KeepsDirectory kept d
-all_positions kept d n count indirect below t k a c = elim (cases_eq k indirect_position) [
-  | inl e ↦ indirect d a (subst (λ j. IsClaim kept.geometry (frozen_view kept) d j a) e c)
-  | inr differs ↦
-      let inode = (frozen_view kept).inode d in
-      let used = (use_parts kept.geometry (frozen_view kept) d k a c.0).used in
-      below k (subst (λ m. k < m) (sym count) (used_below k (blocks_of inode.size) (is_data_address kept.geometry inode.indirect) differs used)) a c
+-- with those below a directory's blocks and its tables all of them are kept
+pub all_positions : (kept : Kept) (d n : ℕ) → n ≡ blocks_of ((frozen_view kept).inode d).size → KeepsTables kept → KeepsPositionsBelow kept d n → KeepsDirectory kept d
+all_positions kept d n count tables below t k a c = elim (use_places kept.geometry (frozen_view kept) d k a c.0) [
+  | inl low ↦ below k (subst (λ m. k < m) (sym count) low) a c
+  | inr table ↦ tables d k table.0 a c
 ]
 
 -- those of the sound directories below n
 abbrev pub KeepsDirectoriesBelow : Kept → ℕ → Type 0
 KeepsDirectoriesBelow kept n = (d : ℕ) → d < n → KeepsDirectory kept d
 
-pub one_directory_more : (kept more : Kept) → KeepsFrame kept → KeepsMore kept more → KeepsIndirect kept → (n : ℕ) → KeepsDirectoriesBelow kept n → KeepsDirectory more n → KeepsDirectoriesBelow more (n + 1)
-one_directory_more kept more frame grows indirect n before here d low = elim (cases_eq d n) [
+pub one_directory_more : (kept more : Kept) → KeepsFrame kept → KeepsMore kept more → KeepsTables kept → (n : ℕ) → KeepsDirectoriesBelow kept n → KeepsDirectory more n → KeepsDirectoriesBelow more (n + 1)
+one_directory_more kept more frame grows tables n before here d low = elim (cases_eq d n) [
   | inl e ↦ subst (KeepsDirectory more) (sym e) here
-  | inr differs ↦ directory_stays kept more frame grows indirect d (before d (omega (arith, low, differs)))
+  | inr differs ↦ directory_stays kept more frame grows d (tables d) (before d (omega (arith, low, differs)))
 ]
 
-pub all_directories : (kept : Kept) (n : ℕ) → inode_count kept.geometry ≡ n → KeepsFrame kept → KeepsIndirect kept → KeepsDirectoriesBelow kept n → KeepsMetadata kept
-all_directories kept n all frame indirect below = record {
+pub all_directories : (kept : Kept) (n : ℕ) → inode_count kept.geometry ≡ n → KeepsFrame kept → KeepsTables kept → KeepsDirectoriesBelow kept n → KeepsMetadata kept
+all_directories kept n all frame tables below = record {
   frame = frame;
-  indirect_blocks = indirect;
+  tables = tables;
   directory_blocks = λ d t.
       below d (omega (arith, all, number_below kept.geometry d (directory_number kept.geometry (frozen_view kept) d t))) t;
 }
@@ -89,7 +102,7 @@ pub all_kept_of : (kept : Kept) (image : List (List ℕ)) → KeepsMetadata kept
     → length image ≡ block_count kept.geometry → All IsBlock image → IsKeptOf kept image
 all_kept_of kept image metadata are count whole =
     kept_of kept metadata.frame image are count whole
-    (λ i a c. same a (metadata.indirect_blocks i a c)) (λ d k a t c. same a (metadata.directory_blocks d t k a c))
+    (λ i m a is c. same a (metadata.tables i m is a c)) (λ d k a t c. same a (metadata.directory_blocks d t k a c))
   where
     same : (a : ℕ) → IsSome (kept_at kept.blocks a) → (frozen_view kept).bytes a ≡ (image_view kept.geometry image).bytes a
     same a some =

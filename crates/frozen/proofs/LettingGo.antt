@@ -7,11 +7,10 @@ use Rattle.model.specs.Image.{IsGroupBlock, IsSuper}
 use Rattle.model.specs.Layout.{Geometry, block_count, group_block, is_data_address, is_number}
 use Rattle.model.specs.View.{Inode, View, view_of}
 use Rattle.model.specs.Cells.{SetBytes, put_at, updated}
-use Rattle.model.specs.Uses.{IsClaim, indirect_position, is_directory, is_directory_at, is_sound, is_used}
+use Rattle.model.specs.Uses.{IsClaim, is_directory, is_directory_at, is_sound, use_at}
 use Rattle.model.proofs.Addresses.{data_range}
 use Rattle.model.proofs.Places.{data_write, maps_are_no_data, put_here, put_there}
-use Rattle.model.proofs.Same.{same_use}
-use Rattle.model.proofs.UseLemmas.{use_parts, use_from}
+use Rattle.model.proofs.Uses.{bytes_leave_uses}
 use Rattle.frozen.specs.Installed.{IsPlain, without_block}
 use Rattle.frozen.specs.Kept.{Kept, KeepsFrame, KeepsMetadata, frozen_view, is_frame, kept_at, kept_bytes}
 
@@ -65,36 +64,20 @@ module _ (kept : Kept) (frame : KeepsFrame kept) (a : ℕ) (of_data : IsTrue (is
     abbrev geo : Geometry
     geo = kept.geometry
 
-    -- the pointer to an indirect block stands in the record
-    pointer_before : (i b : ℕ) → IsClaim geo (frozen_view kept') i indirect_position b → IsClaim geo (frozen_view kept) i indirect_position b
-    pointer_before i b claim =
-        let u = use_parts geo (frozen_view kept') i indirect_position b claim.0 in
-        let e : (frozen_view kept').inode i ≡ (frozen_view kept).inode i = inode i in (
-          use_from geo (frozen_view kept) i indirect_position b (record {
-            sound = subst (λ r. IsTrue (is_number geo i && is_sound r)) e u.sound;
-            used = subst (λ r. IsTrue (is_used geo r indirect_position)) e u.used;
-            value = sym (ap (λ (r : Inode). r.indirect) e) ∙ u.value;
-          }),
-          claim.1,
-        )
-
-    no_indirect : (i b : ℕ) → IsClaim geo (frozen_view kept) i indirect_position b → b ≡ a → ⊥
-    no_indirect i b claim same = plain.no_indirect i (subst (λ c. IsClaim geo (frozen_view kept) i indirect_position c) same claim)
-
-    indirect_bytes : (i b : ℕ) → IsClaim geo (frozen_view kept') i indirect_position b → (frozen_view kept').bytes b ≡ (frozen_view kept).bytes b
-    indirect_bytes i b claim = bytes_without b (no_indirect i b (pointer_before i b claim))
+    same_uses : (i k : ℕ) → use_at geo (frozen_view kept) i k ≡ use_at geo (frozen_view kept') i k
+    same_uses i k = bytes_leave_uses geo (frozen_view kept) a [] i (plain.no_table i) k ∙ ap (λ v. use_at geo v i k) (sym view_without)
 
     claim_before : (i k b : ℕ) → IsClaim geo (frozen_view kept') i k b → IsClaim geo (frozen_view kept) i k b
-    claim_before i k b claim = (sym (same_use geo (frozen_view kept') (frozen_view kept) (λ j n. inode j) indirect_bytes i k) ∙ claim.0, claim.1)
+    claim_before i k b claim = (same_uses i k ∙ claim.0, claim.1)
 
     pub keeps_without : KeepsMetadata kept'
     keeps_without = record {
       frame = frame_without;
-      indirect_blocks = λ i b claim.
-          let before = claim_before i indirect_position b claim in
-          subst IsSome (sym (other b (no_indirect i b before))) (keeps.indirect_blocks i b before);
+      tables = λ i m is b claim.
+          let before = claim_before i m b claim in
+          subst IsSome (sym (other b (λ same. plain.no_table i m is (subst (λ c. IsClaim geo (frozen_view kept) i m c) same before)))) (keeps.tables i m is b before);
       directory_blocks = λ d t k b claim.
           let before = claim_before d k b claim in
-          let is : IsTrue (is_directory_at geo (frozen_view kept) d) = subst (λ r. IsTrue ((is_number geo d && is_sound r) && is_directory r)) (inode d) t in
+          let is : IsTrue (is_directory_at geo (frozen_view kept) d) = subst (λ r. IsTrue ((is_number geo d && is_sound geo r) && is_directory r)) (inode d) t in
           subst IsSome (sym (other b (λ same. plain.no_directory d k is (subst (λ c. IsClaim geo (frozen_view kept) d k c) same before)))) (keeps.directory_blocks d is k b before);
     }

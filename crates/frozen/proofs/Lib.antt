@@ -1,5 +1,6 @@
 pub mod LoadLemmas
 pub mod FrozenLemmas
+pub mod PointerLemmas
 pub mod ClaimLemmas
 pub mod KeepingLemmas
 pub mod SlotLemmas

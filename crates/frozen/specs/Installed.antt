@@ -3,7 +3,8 @@ use Rattle.std.specs.Prelude.{◌≡◌, ℕ, ◌<◌, List, [], ◌∷◌, None
 use Rattle.std.specs.Arc.{arc_value}
 use Rattle.model.specs.Layout.{Geometry, block_count, group_block, is_data_address}
 use Rattle.model.specs.Image.{IsBlock, IsGroupBlock}
-use Rattle.model.specs.Uses.{IsClaim, indirect_position, is_directory_at}
+use Rattle.model.specs.Shape.{is_table}
+use Rattle.model.specs.Uses.{IsClaim, is_directory_at}
 use Rattle.frozen.specs.declared.frozen.Placed.{Placed}
 use Rattle.frozen.specs.Kept.{Kept, frozen_view}
 
@@ -34,8 +35,8 @@ FitsIn geo p = FitsAt geo p.address (arc_value p.block)
 abbrev pub without_block : Kept → ℕ → Kept
 without_block kept a = record kept { blocks = slice_set kept.blocks a None }
 
--- No metadata stands in this block: it is one of data, and neither the indirect block of an inode nor a block of a directory.
+-- No metadata stands in this block: it is one of data, and neither a table of an inode nor a block of a directory.
 pub record IsPlain (kept : Kept) (a : ℕ) : Type 0 where
   pub of_data : IsTrue (is_data_address kept.geometry a)
-  pub no_indirect : (i : ℕ) → IsClaim kept.geometry (frozen_view kept) i indirect_position a → ⊥
+  pub no_table : (i m : ℕ) → IsTrue (is_table kept.geometry m) → IsClaim kept.geometry (frozen_view kept) i m a → ⊥
   pub no_directory : (d k : ℕ) → IsTrue (is_directory_at kept.geometry (frozen_view kept) d) → IsClaim kept.geometry (frozen_view kept) d k a → ⊥

@@ -2,7 +2,8 @@
 use Rattle.std.specs.Prelude.{◌≡◌, ℕ, ◌<◌, Bool, not, ◌&&◌, nat_lt, List, [], length, Option, Some, None, IsTrue, IsSome, slice_index_or, unwrap_or}
 use Rattle.model.specs.Layout.{Geometry, IsGeometry, block_count, group_block, is_data_address}
 use Rattle.model.specs.View.{View, view_of}
-use Rattle.model.specs.Uses.{IsClaim, indirect_position, is_directory_at}
+use Rattle.model.specs.Shape.{is_table}
+use Rattle.model.specs.Uses.{IsClaim, is_directory_at}
 use Rattle.model.specs.Metadata.{SameMetadata}
 use Rattle.model.specs.Image.{IsBlock, IsSuper, IsGroupBlock, IsImage, block_at, image_view}
 
@@ -39,18 +40,21 @@ pub record KeepsFrame (kept : Kept) : Type 0 where
 abbrev pub KeepsClaim : Kept → ℕ → ℕ → Type 0
 KeepsClaim kept i k = (a : ℕ) → IsClaim kept.geometry (frozen_view kept) i k a → IsSome (kept_at kept.blocks a)
 
--- the indirect blocks that inodes claim are kept
-abbrev pub KeepsIndirect : Kept → Type 0
-KeepsIndirect kept = (i : ℕ) → KeepsClaim kept i indirect_position
+-- the tables that inode i claims are kept, and those of all inodes
+abbrev pub KeepsTablesOf : Kept → ℕ → Type 0
+KeepsTablesOf kept i = (m : ℕ) → IsTrue (is_table kept.geometry m) → KeepsClaim kept i m
+
+abbrev pub KeepsTables : Kept → Type 0
+KeepsTables kept = (i : ℕ) → KeepsTablesOf kept i
 
 -- the blocks that d claims are kept, if it is a sound directory
 abbrev pub KeepsDirectory : Kept → ℕ → Type 0
 KeepsDirectory kept d = IsTrue (is_directory_at kept.geometry (frozen_view kept) d) → (k : ℕ) → KeepsClaim kept d k
 
--- All that a check reads is kept: the frame, the claimed indirect blocks, and the claimed blocks of sound directories.
+-- All that a check reads is kept: the frame, the claimed tables, and the claimed blocks of sound directories.
 pub record KeepsMetadata (kept : Kept) : Type 0 where
   pub frame : KeepsFrame kept
-  pub indirect_blocks : KeepsIndirect kept
+  pub tables : KeepsTables kept
   pub directory_blocks : (d : ℕ) → KeepsDirectory kept d
 
 -- The second one keeps all blocks that the first one keeps.

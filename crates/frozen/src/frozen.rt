@@ -9,15 +9,15 @@ ghost use Rattle.std.specs.List.{All};
 ghost use Rattle.frozen.specs.Installed.{FitsIn, IsPlain, standing, with_blocks, without_block};
 
 use crate::Held;
-use inode::{INDIRECT_POSITION, Record};
+use inode::Record;
 use layout::{Block, Geometry};
 use spares::Spares;
 use std::alloc::{AllocError, Global};
 use std::marker::Model;
 use std::sync::Arc;
 
-/// The metadata of an image as it was at one moment: its superblock, its blocks of maps and of inodes, the indirect
-/// blocks that sound inodes claim, and the blocks that sound directories claim. None of them is missing.
+/// The metadata of an image as it was at one moment: its superblock, its blocks of maps and of inodes, the blocks of
+/// pointers that sound inodes claim, and the blocks that sound directories claim. None of them is missing.
 #[derive(Drop)]
 pub struct Frozen {
     held: Held,
@@ -112,9 +112,8 @@ impl Frozen {
         self.held.is_directory_at(number)
     }
 
-    /// The value that an inode uses at a position: below 12 one of its record's pointers, below 268 one of its
-    /// indirect block's, and at 268 the pointer to that block. `None` where the inode is not sound or does not use the
-    /// position.
+    /// The value that an inode uses at a position: a pointer of its record's, or one of a table's that it claims. `None`
+    /// where the inode is not sound or does not use the position.
     pub fn use_at(&self, inode: u32, position: u32) -> Option<u32>
         ensures { result ≡ use_at self.now.geometry (frozen_view self.now) inode position }
     {
@@ -138,13 +137,13 @@ impl Frozen {
 
     /// The block of a directory's slots at this position, which holds its slots `16 * position` to
     /// `16 * position + 15`. `None` where the slots are left out: the number is no sound directory's, or it claims no
-    /// block there. Position 268, the indirect pointer, has no slots.
+    /// block there. A table has no slots.
     #[tactic(auto, using(crate::proofs::SlotLemmas::no_slot_past, crate::proofs::SlotLemmas::no_slot_of))]
     pub fn directory_block(&self, directory: u32, position: u32) -> Option<&Block>
         ensures slots { (s : ℕ) → s / 16 ≡ position → slot self.now.geometry (frozen_view self.now) directory s
             ≡ option_map_or (λ block. slot_in self.now.geometry block s) (option_copied result) Absent }
     {
-        if position >= INDIRECT_POSITION || !self.held.is_directory_at(directory) {
+        if position >= self.geometry().most_blocks() || !self.held.is_directory_at(directory) {
             return None;
         }
         let claimed = self.held.claim_at(directory, position)?;

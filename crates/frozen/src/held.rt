@@ -1,20 +1,19 @@
-ghost use Rattle.std.specs.Prelude.{◌≡◌, ◌<◌, ◌*◌, IfOk, IsTrue, Some, OnOk, OnErr, slice_set, map};
+ghost use Rattle.std.specs.Prelude.{◌≡◌, ℕ, ◌<◌, IfOk, IsTrue, Some, OnOk, OnErr, slice_set, map};
 ghost use Rattle.std.specs.Arc.{arc_value};
+ghost use Rattle.std.specs.Bool.{then_some};
 ghost use Rattle.std.specs.Option.{option_copied};
 ghost use Rattle.frozen.specs.Kept.{KeepsFrame, frozen_view, kept_at, kept_bytes, is_frame};
 ghost use Rattle.model.specs.Layout.{inode_count, group_block, inode_block, is_data_address, is_number};
-ghost use Rattle.model.specs.Uses.{record_use, is_used, value_at, use_at, claim_at, is_sound_at, is_directory_at};
-ghost use Rattle.model.specs.View.{inode_at, u32_at};
+ghost use Rattle.model.specs.Shape.{pointer_in, table_of};
+ghost use Rattle.model.specs.Uses.{record_use, use_at, claim_at, has_position, is_sound, is_sound_at, is_directory_at};
+ghost use Rattle.model.specs.View.{inode_at};
 ghost use Rattle.model.specs.Image.{IsGroupBlock};
 ghost use Rattle.frozen.specs.Installed.{FitsIn, standing, with_block, with_blocks, without_block};
 ghost use Rattle.std.specs.List.{All};
 
 use crate::Placed;
-use inode::{
-    DIRECT_POINTERS, DIRECTORY, FREE, INDIRECT_POSITION, RECORD_BYTES, Record,
-    a_record_is_read_from_its_bytes, mode_of,
-};
-use layout::{Block, Geometry, INODES_PER_BLOCK, ROOT, u32_at};
+use inode::{DIRECTORY, FREE, RECORD_BYTES, Record, a_record_is_read_from_its_bytes, mode_of};
+use layout::{Block, Geometry, INODES_PER_BLOCK, ROOT, TablePlace, u32_at};
 use spares::Spares;
 use std::alloc::{AllocError, Global};
 use std::marker::Model;
@@ -126,7 +125,9 @@ impl Held {
     pub(crate) fn is_sound_at(&self, number: u32) -> bool
         ensures { result ≡ is_sound_at self.now.geometry (frozen_view self.now) number }
     {
-        self.is_number(number) && self.mode(number) != FREE && self.record(number).is_sound()
+        self.is_number(number)
+            && self.mode(number) != FREE
+            && self.record(number).is_sound(&self.geometry())
     }
 
     /// Whether the number is that of a sound directory.
@@ -136,12 +137,11 @@ impl Held {
         if !self.is_number(number) || self.mode(number) != DIRECTORY {
             return false;
         }
-        self.record(number).is_sound()
+        self.record(number).is_sound(&self.geometry())
     }
 
-    /// The value that an inode uses at a position: below 12 one of its record's pointers, below 268 one of its
-    /// indirect block's, and at 268 the pointer to that block. `None` where the inode is not sound or does not use the
-    /// position.
+    /// The value that an inode uses at a position: a pointer of its record's, or one of a table's that it claims. `None`
+    /// where the inode is not sound or does not use the position.
     pub(crate) fn use_at(&self, inode: u32, position: u32) -> Option<u32>
         ensures { result ≡ use_at self.now.geometry (frozen_view self.now) inode position }
     {
@@ -158,10 +158,14 @@ impl Held {
     pub(crate) fn use_of(&self, inode: &Record, position: u32) -> Option<u32>
         ensures { result ≡ record_use self.now.geometry (frozen_view self.now) inode.now position }
     {
-        if !inode.is_sound() || !self.is_used(inode, position) {
+        let geometry = self.geometry();
+        if !inode.is_sound(&geometry) || !geometry.reaches(inode.blocks(), position) {
             return None;
         }
-        Some(self.value_at(inode, position))
+        match geometry.pointer_place(position) {
+            Some(TablePlace { table, place }) => self.pointer(self.table_use(inode, table)?, place),
+            None => Some(inode.field(&geometry, position)),
+        }
     }
 
     /// The block that an inode claims at a position: the value that it uses there, if that is the address of a data
@@ -230,42 +234,30 @@ impl Held {
         ROOT <= number && number < self.geometry().inodes()
     }
 
-    /// Whether a sound record uses a position.
-    fn is_used(&self, inode: &Record, position: u32) -> bool
-        ensures { result ≡ is_used self.now.geometry inode.now position }
+    /// The value that a sound record uses at the position of a table that it has.
+    fn table_use(&self, inode: &Record, table: u32) -> Option<u32>
+        requires sound { IsTrue (is_sound self.now.geometry inode.now) }
+        requires has { IsTrue (has_position self.now.geometry inode.now table) }
+        requires holds { (k : ℕ) × (table_of self.now.geometry k ≡ Some table) }
+        ensures { result ≡ record_use self.now.geometry (frozen_view self.now) inode.now table }
     {
-        let blocks = inode.blocks();
-        if position < DIRECT_POINTERS as u32 {
-            position < blocks
-        } else if position < INDIRECT_POSITION {
-            position < blocks && self.geometry().place_of(inode.indirect).is_some()
-        } else {
-            position == INDIRECT_POSITION && blocks > DIRECT_POINTERS as u32
+        let geometry = self.geometry();
+        match geometry.pointer_place(table) {
+            Some(above) => self.pointer(inode.field(&geometry, above.table), above.place),
+            None => Some(inode.field(&geometry, table)),
         }
     }
 
-    /// The value at a position that the record uses.
-    fn value_at(&self, inode: &Record, position: u32) -> u32
-        requires { IsTrue (is_used self.now.geometry inode.now position) }
-        ensures { result ≡ value_at (frozen_view self.now) inode.now position }
+    /// The pointer at a place of the table that stands in a block, and 0 where the block is not held. `None` where this is
+    /// no data block: nothing is used below a pointer to such a one.
+    fn pointer(&self, block: u32, place: usize) -> Option<u32>
+        requires { place < 256 }
+        ensures { result ≡ then_some (is_data_address self.now.geometry block) (pointer_in ((frozen_view self.now).bytes block) place) }
     {
-        if position < DIRECT_POINTERS as u32 {
-            inode.direct[position as usize]
-        } else if position < INDIRECT_POSITION {
-            self.pointer(inode.indirect, position as usize - DIRECT_POINTERS)
-        } else {
-            inode.indirect
-        }
-    }
-
-    /// The pointer in this slot of an indirect block, and 0 where the block is not held.
-    fn pointer(&self, indirect: u32, slot: usize) -> u32
-        requires { slot < 256 }
-        ensures { result ≡ u32_at (kept_bytes self.now.blocks indirect) (4 * slot) }
-    {
-        match self.block(indirect) {
-            Some(block) => u32_at(block, 4 * slot),
-            None => 0,
+        self.geometry().place_of(block)?;
+        match self.block(block) {
+            Some(table) => Some(u32_at(table, 4 * place)),
+            None => Some(0),
         }
     }
 

@@ -3,7 +3,7 @@ ghost use Rattle.std.specs.Option.{option_map};
 ghost use Rattle.std.specs.Arc.{arc_value};
 ghost use Rattle.model.specs.Layout.{block_count, group_block};
 ghost use Rattle.model.specs.Image.{IsBlock, IsSuper, IsGroupBlock, block_at};
-ghost use Rattle.frozen.specs.Kept.{KeepsFrame, KeepsClaim, KeepsIndirect, KeepsDirectory, KeepsMetadata, KeepsMore, IsKeptOf};
+ghost use Rattle.frozen.specs.Kept.{KeepsFrame, KeepsClaim, KeepsTables, KeepsTablesOf, KeepsDirectory, KeepsMetadata, KeepsMore, IsKeptOf};
 ghost use Rattle.frozen.specs.Shared.{shared_blocks};
 ghost use Rattle.device.specs.Reading.{ReadsOnly};
 ghost use Rattle.device.specs.Writes.{HasFailed};
@@ -12,12 +12,11 @@ ghost use Rattle.frozen.specs.Loading.{LoadRefuses, GivesOut, FrameRefuses, Bloc
 use crate::{Frozen, Held};
 use cgmaps::read_group;
 use device::Device;
-use inode::INDIRECT_POSITION;
 use layout::{BLOCK_BYTES, Block, Geometry, Refusal, read_super};
 use std::alloc::Global;
 use std::sync::Arc;
 
-/// Reads the metadata of a device's image: the blocks that each volume has, then the indirect blocks that sound inodes
+/// Reads the metadata of a device's image: the blocks that each volume has, then the tables that sound inodes
 /// claim, then the blocks that sound directories claim. A block that is there already is not read again. It is refused
 /// with `BadLength` where the device has no block, or not as many as its superblock tells; with `BadSuper` where block 0
 /// is no superblock; with `BadGroup` where the block of maps of this group is not its own, and of no group before it;
@@ -44,18 +43,18 @@ pub fn load<D: Device>(alloc: Global, device: &mut D) -> Result<Frozen, Refusal>
     }
     let blocks = read_frame(alloc, device, &geometry, &first)?;
     let mut held = Held::new(geometry, blocks);
-    read_indirect(alloc, device, &mut held)?;
+    read_tables(alloc, device, &mut held)?;
     read_directories(alloc, device, &mut held)?;
     Ok(Frozen::new(held))
 }
 
-/// Reads the indirect blocks that sound inodes claim, each once.
-fn read_indirect<D: Device>(alloc: Global, device: &mut D, held: &mut Held) -> Result<(), Refusal>
+/// Reads the tables that sound inodes claim, each once.
+fn read_tables<D: Device>(alloc: Global, device: &mut D, held: &mut Held) -> Result<(), Refusal>
     requires { length (D.image device.old) ≡ block_count held.old.geometry }
 
     ensures frame { OnOk result (KeepsFrame held.new) }
     ensures more { OnOk result (KeepsMore held.old held.new) }
-    ensures indirect { OnOk result (KeepsIndirect held.new) }
+    ensures tables { OnOk result (KeepsTables held.new) }
     ensures blocks { OnOk result (D.honest device.new → AreBlocksOf held.old.blocks (D.image device.old)
         → AreBlocksOf held.new.blocks (D.image device.old)) }
     ensures refused { IfErr result GivesOut }
@@ -65,7 +64,39 @@ fn read_indirect<D: Device>(alloc: Global, device: &mut D, held: &mut Held) -> R
     ensures reads { ReadsOnly D.honest D.image D.held device.old device.new }
 {
     for number in 0..held.geometry().inodes() {
-        keep_claimed(alloc, device, held, number, INDIRECT_POSITION)?;
+        read_tables_of(alloc, device, held, number)?;
+    }
+    Ok(())
+}
+
+/// Reads the tables that an inode claims, if it is sound, in order of their positions: the one that holds the pointer to
+/// another comes before it.
+fn read_tables_of<D: Device>(
+    alloc: Global,
+    device: &mut D,
+    held: &mut Held,
+    number: u32,
+) -> Result<(), Refusal>
+    requires count { length (D.image device.old) ≡ block_count held.old.geometry }
+    requires frame { KeepsFrame held.old }
+
+    ensures frame { OnOk result (KeepsFrame held.new) }
+    ensures more { OnOk result (KeepsMore held.old held.new) }
+    ensures tables { OnOk result (KeepsTablesOf held.new number) }
+    ensures blocks { OnOk result (D.honest device.new → AreBlocksOf held.old.blocks (D.image device.old)
+        → AreBlocksOf held.new.blocks (D.image device.old)) }
+    ensures refused { IfErr result GivesOut }
+    ensures cause { IsErrOf result Refusal.Device → HasFailed (D.failures device.old) (D.failures device.new) }
+    ensures failures { OnOk result (D.failures device.new ≡ D.failures device.old) }
+
+    ensures reads { ReadsOnly D.honest D.image D.held device.old device.new }
+{
+    if !held.is_sound_at(number) {
+        return Ok(());
+    }
+    let geometry = held.geometry();
+    for position in geometry.most_blocks()..geometry.tables_end(held.record(number).blocks()) {
+        keep_claimed(alloc, device, held, number, position)?;
     }
     Ok(())
 }
@@ -77,7 +108,7 @@ fn read_directories<D: Device>(
     held: &mut Held,
 ) -> Result<(), Refusal>
     requires count { length (D.image device.old) ≡ block_count held.old.geometry }
-    requires indirect { KeepsIndirect held.old }
+    requires tables { KeepsTables held.old }
 
     ensures metadata { OnOk result (KeepsMetadata held.new) }
     ensures more { OnOk result (KeepsMore held.old held.new) }
@@ -94,7 +125,7 @@ fn read_directories<D: Device>(
     Ok(())
 }
 
-/// Reads the blocks that an inode claims, if it is a sound directory, but for its indirect block, which is there.
+/// Reads the blocks that an inode claims, if it is a sound directory, but for its tables, which are there.
 fn read_directory<D: Device>(
     alloc: Global,
     device: &mut D,
@@ -103,7 +134,7 @@ fn read_directory<D: Device>(
 ) -> Result<(), Refusal>
     requires count { length (D.image device.old) ≡ block_count held.old.geometry }
     requires frame { KeepsFrame held.old }
-    requires indirect { KeepsIndirect held.old }
+    requires tables { KeepsTables held.old }
 
     ensures frame { OnOk result (KeepsFrame held.new) }
     ensures more { OnOk result (KeepsMore held.old held.new) }
@@ -125,8 +156,8 @@ fn read_directory<D: Device>(
     Ok(())
 }
 
-/// Reads the block that an inode claims at a position, unless it is there already. For positions from 12 to 267 the
-/// inode's indirect block has to be there, or they claim nothing.
+/// Reads the block that an inode claims at a position, unless it is there already. Where a table holds the pointer of
+/// the position, that table has to be there, or nothing is claimed.
 fn keep_claimed<D: Device>(
     alloc: Global,
     device: &mut D,

@@ -2,14 +2,16 @@
 use Rattle.std.proofs.Common.{◌≡◌, ◌<◌, ◌≤◌, ◌+◌, ◌*◌, ℕ, Bool, true, false, ◌||◌, eqb, ltb, leb, max, List, length, ◌⊎◌, inl, inr, refl, sym, ap, ◌∙◌, subst, arith, IsTrue, IsFalse, Option, Some, None}
 use Rattle.std.specs.Prelude.{is_none, unwrap_or}
 use Rattle.std.specs.Option.{option_and_then}
-use Rattle.std.proofs.lemmas.Bool.{cases_lt, and_parts, both_ways, leb-true, leb-false, ltb-false}
+use Rattle.std.proofs.lemmas.Bool.{cases_lt, cases_eq, eq-eqb, both_ways, leb-true, leb-false, ltb-false}
 use Rattle.model.specs.Layout.{Geometry, IsGeometry}
 use Rattle.model.specs.View.{View}
 use Rattle.model.specs.Cells.{SetBytes, put_at, updated}
 use Rattle.model.specs.Rules.{ObeysRules}
-use Rattle.model.specs.Uses.{blocks_of, is_sound_at, is_used, is_directory_at, value_at, IsClaim}
+use Rattle.model.specs.Shape.{most_blocks}
+use Rattle.model.specs.Uses.{blocks_of, is_sound_at, is_directory_at, IsClaim}
 use Rattle.model.proofs.Places.{put_there}
-use Rattle.model.proofs.UseLemmas.{use_from, claim_from}
+use Rattle.model.proofs.UseLemmas.{claim_from}
+use Rattle.model.proofs.Uses.{below_has, has_claims, sound_few}
 use Rattle.findings.specs.declared.repair.Repair.{Repair}
 use Rattle.findings.specs.declared.repair.Repair.TheVariants.{DropInode, LowerCount, FreeBlock, FreeNumber}
 use Rattle.layout.specs.declared.refusal.Refusal.TheVariants.{BadHandle, BadPiece, BadIndex, TooBig, AlreadyDone}
@@ -23,7 +25,7 @@ use Rattle.machine.specs.Repairs.{CarriesOut, repaired}
 use Rattle.machine.specs.Balance.{Balance, Owes, OwesBy}
 use Rattle.machine.proofs.Decisions.{sound_parts}
 use Rattle.machine.proofs.Walks.{quiet, when_none}
-use Rattle.frozen_files.proofs.Used.{Direct, Middle, Last, used, value_last}
+use Rattle.machine.proofs.FileRecords.{file_mode, file_sound}
 use Rattle.frozen_files.proofs.Metadata.{marks_within}
 use Rattle.frozen_files.proofs.Good.{Good, bytes_good, record_good}
 use Rattle.frozen_files.proofs.Placed.{placed}
@@ -37,29 +39,16 @@ opened_file s h e = go (open_at s h) (when_none (is_none (open_at s h)) BadHandl
     go None f = absurd (both_ways true f refl)
     go (Some i) f = refl
 
-neither : (p q : Bool) → (p || q) ≡ false → q ≡ false
+neither : (p q : Bool) → (p || q) ≡ false → (p ≡ false) × (q ≡ false)
 neither true q e = absurd (both_ways true e refl)
-neither false q e = e
+neither false q e = (refl, e)
 
 -- the block at a position below the blocks of a sound inode
 module _ (geo : Geometry) (v : View) (o : ObeysRules geo v) (i k : ℕ) (sound : IsTrue (is_sound_at geo v i)) (inside : k < blocks_of (v.inode i).size) where
-  few : blocks_of (v.inode i).size ≤ 268
-  few = leb-true (blocks_of (v.inode i).size) 268 (and_parts _ (leb (blocks_of (v.inode i).size) 268) (sound_parts geo v i sound).1).1
-
-  position_used : IsTrue (is_used geo (v.inode i) k)
-  position_used = elim (cases_lt k 12) [
-    | inl low ↦ used geo (v.inode i) k (Direct low inside)
-    | inr high ↦
-        let many : 12 < blocks_of (v.inode i).size = omega (arith, high, inside) in
-        let table = o.rule3.claims i 268 (v.inode i).indirect (use_from geo v i 268 (v.inode i).indirect (record { sound = sound; used = used geo (v.inode i) 268 (Last refl many); value = value_last v (v.inode i) 268 refl })) in
-        used geo (v.inode i) k (Middle high (omega (arith, inside, few)) inside table)
-  ]
-
   block_claimed : IsClaim geo v i k (block_of geo v i k)
   block_claimed =
-      let u = use_from geo v i k (value_at v (v.inode i) k) (record { sound = sound; used = position_used; value = refl }) in
-      let c : IsClaim geo v i k (value_at v (v.inode i) k) = (u, o.rule3.claims i k (value_at v (v.inode i) k) u) in
-      subst (λ x. IsClaim geo v i k x) (sym (ap (λ p. unwrap_or p 0) (claim_from geo v i k (value_at v (v.inode i) k) c))) c
+      let c = has_claims geo v i (λ q x u. o.rule3.claims i q x u) sound k (below_has geo (v.inode i) k inside (sound_few geo (v.inode i) (sound_parts geo v i sound).1)) in
+      subst (λ x. IsClaim geo v i k x) (sym (ap (λ p. unwrap_or p 0) (claim_from geo v i k c.0 c.1))) c.1
 
 -- the blocks of a file after a piece at block k
 pub blocks_after : (size k n q : ℕ) → k ≤ blocks_of size → n ≤ 1024 → q < blocks_of (max size (1024 * k + n)) → (q < blocks_of size) ⊎ (q ≡ k)
@@ -102,11 +91,11 @@ module _ (geo : Geometry) (g : IsGeometry geo) (old new : State) (b : Balance ge
       let q = quiet (causes geo old (Truncate h n)) none in
       let p = b.open_file i (h, opened_file old h q.0) in
       let less = ltb-false (v.inode i).size n (when_none (ltb (v.inode i).size n) BadIndex q.1.0) in
-      is_here (truncated geo old i n) e (truncated_holds geo a content old begin i n p.0 p.1 (λ many. omega (arith, many, less)))
+      is_here (truncated geo old i n) e (truncated_holds geo a content old begin i n p.0 p.1 (omega (arith, less)))
 
   -- ---- writes
 
-  module _ (i k : ℕ) (piece bytes : List ℕ) (sound : IsTrue (is_sound_at geo v i)) (file : IsFalse (is_directory_at geo v i)) (short : length piece ≤ 1024) (low : k < 268) where
+  module _ (i k : ℕ) (piece bytes : List ℕ) (sound : IsTrue (is_sound_at geo v i)) (file : IsFalse (is_directory_at geo v i)) (some : 1 ≤ length piece) (short : length piece ≤ 1024) (low : k < most_blocks geo) where
     abbrev size : ℕ
     size = size_after v i k piece
 
@@ -115,24 +104,37 @@ module _ (geo : Geometry) (g : IsGeometry geo) (old new : State) (b : Balance ge
     moved w next p = placed geo v i k bytes size w p a content start (record {
       geometry = g;
       number = (sound_parts geo v i sound).0;
-      sound = λ some. (sound_parts geo v i sound).1;
-      low = low;
+      sound = λ l has. (sound_parts geo v i sound).1;
+      still = file_sound geo (v.inode i) size (file_mode geo v i sound file) few_after;
+      more = omega arith;
+      inside = omega (arith, some);
       came = λ q less. blocks_after (v.inode i).size k (length piece) q next short less;
-      free = p.free;
-      whole = λ c m. b.whole c (m.0).1;
+      whole = λ m c table t. b.whole c (t.0).1;
+      twelve = b.records i;
     })
+      where
+        few_before : blocks_of (v.inode i).size ≤ most_blocks geo
+        few_before = sound_few geo (v.inode i) (sound_parts geo v i sound).1
+
+        few_after : blocks_of size ≤ most_blocks geo
+        few_after = elim (cases_lt (most_blocks geo) (blocks_of size)) [
+          | inr few ↦ few
+          | inl many ↦ absurd (elim (blocks_after (v.inode i).size k (length piece) (most_blocks geo) next short many) [ inl was ↦ omega (arith, was, few_before) | inr at ↦ omega (arith, at, low) ])
+        ]
 
     stores_hold : Stores geo old i k bytes size new → Holding new
     stores_hold (InPlace inside free is) =
         let c = block_claimed geo v b.rules i k sound inside in
         let x = block_of geo v i k in
         let g1 = bytes_good geo a content v start x bytes (λ e. both_ways (is_kept old x) free (subst (λ q. IsTrue (is_kept old q)) e kept))
-        (λ j m. let at = (b.rules.rule3.once j 268 i k x m.0 c).1 in omega (arith, at, low)) in
-        let few_more : 12 < blocks_of size → 12 < blocks_of (v.inode i).size = λ many. elim (blocks_after (v.inode i).size k (length piece) 12 (omega (arith, inside)) short many) [ inl was ↦ was | inr at ↦ omega (arith, at, inside) ] in
+        (λ j m table t. let at = (b.rules.rule3.once j m i k x t.0 c).1 in let high = leb-true (most_blocks geo) m table in omega (arith, at, high, low)) in
+        let no_more : blocks_of size ≤ blocks_of (v.inode i).size = elim (cases_lt (blocks_of (v.inode i).size) (blocks_of size)) [
+          | inr few ↦ few
+          | inl many ↦ absurd (elim (blocks_after (v.inode i).size k (length piece) (blocks_of (v.inode i).size) (omega (arith, inside)) short many) [ inl was ↦ omega (arith, was) | inr at ↦ omega (arith, at, inside) ])
+        ] in
         let v1 : View = updated v (SetBytes x bytes) in
         is_here _ is (good_holds geo a content _ kept
-        (record_good geo a content v1 g1 i (record (v.inode i) { size = size }) (λ number s many. start.tables i number (sound_parts geo v i sound).1 (few_more many))
-        (file_claims geo v1 i size sound file few_more)))
+        (record_good geo a content v1 g1 i (record (v.inode i) { size = size }) (file_claims geo v1 i size sound file no_more)))
     stores_hold (Moved w inside is_kept_too p is) =
         let h = moved w (omega (arith, inside)) p in
         is_here _ is (lets_go_holds geo a content old kept i w h.bytes h.mark h.other)
@@ -144,9 +146,10 @@ module _ (geo : Geometry) (g : IsGeometry geo) (old new : State) (b : Balance ge
       let i = file_of old h in
       let q = quiet (causes geo old (Write h k piece)) none in
       let p = b.open_file i (h, opened_file old h q.0) in
-      let short = ltb-false 1024 (length piece) (neither (eqb (length piece) 0) (ltb 1024 (length piece)) (when_none (eqb (length piece) 0 || ltb 1024 (length piece)) BadPiece q.1.0)) in
-      let low = leb-false 268 k (when_none (leb 268 k) TooBig q.1.1.0) in
-      stores_hold i k piece w.bytes p.0 p.1 short low w.stores
+      let sizes = neither (eqb (length piece) 0) (ltb 1024 (length piece)) (when_none (eqb (length piece) 0 || ltb 1024 (length piece)) BadPiece q.1.0) in
+      let some : 1 ≤ length piece = elim (cases_eq (length piece) 0) [ inl e ↦ absurd (both_ways (eqb (length piece) 0) sizes.0 (eq-eqb (length piece) 0 e)) | inr d ↦ omega (arith, d) ] in
+      let low = leb-false (most_blocks geo) k (when_none (leb (most_blocks geo) k) TooBig q.1.1.0) in
+      stores_hold i k piece w.bytes p.0 p.1 some (ltb-false 1024 (length piece) sizes.1) low w.stores
 
   -- ---- repairs
 

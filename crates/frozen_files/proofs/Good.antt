@@ -1,20 +1,15 @@
 -- A view in which block a is marked, has its bytes and is no metadata, while a command goes on.
-use Rattle.std.proofs.Common.{◌≡◌, ◌<◌, ℕ, true, List, inl, inr, refl, sym, ◌∙◌, subst, IsTrue, IsFalse, ◌⊎◌}
-use Rattle.std.proofs.lemmas.Bool.{cases_eq, both_ways, and_from}
-use Rattle.model.specs.Layout.{Geometry, is_number, is_data_address}
+use Rattle.std.proofs.Common.{◌≡◌, ℕ, true, List, inl, inr, refl, ◌∙◌, subst, IsTrue, IsFalse, ◌⊎◌}
+use Rattle.std.proofs.lemmas.Bool.{both_ways}
+use Rattle.model.specs.Layout.{Geometry, is_data_address}
 use Rattle.model.specs.View.{View, Inode}
-use Rattle.model.specs.Cells.{SetInode, SetNumber, SetBlock, SetBytes, put_at, updated}
-use Rattle.model.specs.Uses.{is_sound, blocks_of}
+use Rattle.model.specs.Cells.{SetInode, SetNumber, SetBlock, SetBytes, updated}
+use Rattle.model.specs.Shape.{is_table}
 use Rattle.model.specs.Rules.{ObeysRules}
-use Rattle.model.proofs.Places.{put_here, put_there}
-use Rattle.model.proofs.UseLemmas.{use_from}
+use Rattle.model.proofs.Places.{put_there}
 use Rattle.machine.specs.Effects.{with_links}
-use Rattle.frozen_files.proofs.Used.{Last, used, value_last}
+use Rattle.machine.proofs.Pointing.{still_marked}
 use Rattle.frozen_files.proofs.Metadata.{IsMetadata, Within, MetadataOf, marks_within, links_within, record_within, bytes_within}
-
--- the record has an indirect block at a data address, if it is sound and has one
-abbrev pub HasTable : Geometry → ℕ → Inode → Type 0
-HasTable geo i x = IsTrue (is_number geo i) → IsTrue (is_sound x) → 12 < blocks_of x.size → IsTrue (is_data_address geo x.indirect)
 
 pub record Good (geo : Geometry) (a : ℕ) (content : List ℕ) (w : View) : Type 0 where
   pub bytes : w.bytes a ≡ content
@@ -24,7 +19,6 @@ pub record Good (geo : Geometry) (a : ℕ) (content : List ℕ) (w : View) : Typ
   -- each block of metadata is marked, and claimed once
   pub marked : (i k c : ℕ) → IsMetadata geo w i k c → IsTrue (w.block_marked c)
   pub once : (i k j l c : ℕ) → IsMetadata geo w i k c → IsMetadata geo w j l c → (i ≡ j) × (k ≡ l)
-  pub tables : (i : ℕ) → HasTable geo i (w.inode i)
 
 module _ (geo : Geometry) (a : ℕ) (content : List ℕ) where
   -- where the rules are obeyed
@@ -36,11 +30,6 @@ module _ (geo : Geometry) (a : ℕ) (content : List ℕ) where
     other = other;
     marked = λ i k c m. o.rule3.marked i k c m.0;
     once = λ i k j l c m n. o.rule3.once i k j l c m.0 n.0;
-    tables = λ i number sound many. o.rule3.claims i 268 (v.inode i).indirect (use_from geo v i 268 (v.inode i).indirect (record {
-      sound = and_from (is_number geo i) (is_sound (v.inode i)) number sound;
-      used = used geo (v.inode i) 268 (Last refl many);
-      value = value_last v (v.inode i) 268 refl;
-    }));
   }
 
   module _ (v : View) (g : Good geo a content v) where
@@ -55,8 +44,8 @@ module _ (geo : Geometry) (a : ℕ) (content : List ℕ) where
     pub gains : (w : View) (New : ℕ → ℕ → ℕ → Type 0) → ((i k c : ℕ) → IsMetadata geo w i k c → IsMetadata geo v i k c ⊎ New i k c)
         → ((i k c : ℕ) → New i k c → IsFalse (v.block_marked c) × IsTrue (w.block_marked c))
         → ((i k j l c : ℕ) → New i k c → New j l c → (i ≡ j) × (k ≡ l))
-        → ((c : ℕ) → IsTrue (v.block_marked c) → IsTrue (w.block_marked c)) → w.bytes a ≡ v.bytes a → ((i : ℕ) → HasTable geo i (w.inode i)) → Good geo a content w
-    gains w New claims fresh one marks bytes tables = record {
+        → ((c : ℕ) → IsTrue (v.block_marked c) → IsTrue (w.block_marked c)) → w.bytes a ≡ v.bytes a → Good geo a content w
+    gains w New claims fresh one marks bytes = record {
       bytes = bytes ∙ g.bytes;
       mark = marks a g.mark;
       address = g.address;
@@ -66,41 +55,26 @@ module _ (geo : Geometry) (a : ℕ) (content : List ℕ) where
         | inl old ↦ elim (claims j l c n) [ inl old' ↦ g.once i k j l c old old' | inr new' ↦ absurd (free_none c i k (fresh j l c new').0 old) ]
         | inr new ↦ elim (claims j l c n) [ inl old' ↦ absurd (free_none c j l (fresh i k c new).0 old') | inr new' ↦ one i k j l c new new' ]
       ];
-      tables = tables;
     }
 
     -- one that claims no more
-    pub within : (w : View) → Within geo v w → ((c : ℕ) → IsTrue (v.block_marked c) → IsTrue (w.block_marked c)) → w.bytes a ≡ v.bytes a → ((i : ℕ) → HasTable geo i (w.inode i)) → Good geo a content w
-    within w less marks bytes tables = gains w (λ i k c. ⊥) (λ i k c m. inl (less i k c m)) (λ i k c n. absurd n) (λ i k j l c n m. absurd n) marks bytes tables
+    pub within : (w : View) → Within geo v w → ((c : ℕ) → IsTrue (v.block_marked c) → IsTrue (w.block_marked c)) → w.bytes a ≡ v.bytes a → Good geo a content w
+    within w less marks bytes = gains w (λ i k c. ⊥) (λ i k c m. inl (less i k c m)) (λ i k c n. absurd n) (λ i k j l c n m. absurd n) marks bytes
 
     -- ---- one update
 
     pub number_good : (i : ℕ) → Good geo a content (updated v (SetNumber i true))
-    number_good i = within (updated v (SetNumber i true)) (marks_within geo v (updated v (SetNumber i true)) refl refl) (λ c m. m) refl g.tables
-
-    -- marks are only set
-    pub set_marks : (b c : ℕ) → IsTrue (v.block_marked c) → IsTrue (put_at v.block_marked b true c)
-    set_marks b c m = elim (cases_eq c b) [
-      | inl e ↦ subst (λ d. IsTrue (put_at v.block_marked b true d)) (sym e) (put_here v.block_marked b true)
-      | inr d ↦ put_there v.block_marked b c true d ∙ m
-    ]
+    number_good i = within (updated v (SetNumber i true)) (marks_within geo v (updated v (SetNumber i true)) refl refl) (λ c m. m) refl
 
     pub block_good : (b : ℕ) → Good geo a content (updated v (SetBlock b true))
-    block_good b = within (updated v (SetBlock b true)) (marks_within geo v (updated v (SetBlock b true)) refl refl) (set_marks b) refl g.tables
+    block_good b = within (updated v (SetBlock b true)) (marks_within geo v (updated v (SetBlock b true)) refl refl) (still_marked v.block_marked b) refl
 
-    -- bytes of another block that is nobody's indirect block
-    pub bytes_good : (b : ℕ) (bytes : List ℕ) → (a ≡ b → ⊥) → ((i : ℕ) → IsMetadata geo v i 268 b → ⊥) → Good geo a content (updated v (SetBytes b bytes))
-    bytes_good b bytes apart none = within (updated v (SetBytes b bytes)) (bytes_within geo v b bytes none) (λ c m. m) (put_there v.bytes b a bytes apart) g.tables
+    -- bytes of another block that is nobody's table
+    pub bytes_good : (b : ℕ) (bytes : List ℕ) → (a ≡ b → ⊥) → ((i m : ℕ) → IsTrue (is_table geo m) → IsMetadata geo v i m b → ⊥) → Good geo a content (updated v (SetBytes b bytes))
+    bytes_good b bytes apart none = within (updated v (SetBytes b bytes)) (bytes_within geo v b bytes none) (λ c m. m) (put_there v.bytes b a bytes apart)
 
-    -- the tables of records after one is set
-    pub set_tables : (n : ℕ) (x : Inode) → HasTable geo n x → (i : ℕ) → HasTable geo i (put_at v.inode n x i)
-    set_tables n x here i = elim (cases_eq i n) [
-      | inl e ↦ subst (λ j. HasTable geo j (put_at v.inode n x j)) (sym e) (subst (λ y. HasTable geo n y) (sym (put_here v.inode n x)) here)
-      | inr d ↦ subst (λ y. HasTable geo i y) (sym (put_there v.inode n i x d)) (g.tables i)
-    ]
-
-    pub record_good : (n : ℕ) (x : Inode) → HasTable geo n x → ((k c : ℕ) → MetadataOf geo v n x k c → IsMetadata geo v n k c) → Good geo a content (updated v (SetInode n x))
-    record_good n x table mine = within (updated v (SetInode n x)) (record_within geo v n x mine) (λ c m. m) refl (set_tables n x table)
+    pub record_good : (n : ℕ) (x : Inode) → ((k c : ℕ) → MetadataOf geo v n x k c → IsMetadata geo v n k c) → Good geo a content (updated v (SetInode n x))
+    record_good n x mine = within (updated v (SetInode n x)) (record_within geo v n x mine) (λ c m. m) refl
 
     pub links_good : (n l : ℕ) → Good geo a content (updated v (SetInode n (with_links (v.inode n) l)))
-    links_good n l = within (updated v (SetInode n (with_links (v.inode n) l))) (links_within geo v n l) (λ c m. m) refl (set_tables n (with_links (v.inode n) l) (g.tables n))
+    links_good n l = within (updated v (SetInode n (with_links (v.inode n) l))) (links_within geo v n l) (λ c m. m) refl

@@ -1,16 +1,18 @@
 -- A state in which block a is kept and marked, has its bytes and is no metadata, after a command that lets blocks go.
-use Rattle.std.proofs.Common.{◌≡◌, ◌<◌, ℕ, Bool, false, not, ◌&&◌, eqb, List, [], ◌∷◌, inl, inr, refl, sym, ap, ◌∙◌, subst, IsTrue, IsFalse, arith}
+use Rattle.std.proofs.Common.{◌≡◌, ◌≤◌, ℕ, Bool, false, not, ◌&&◌, eqb, List, [], ◌∷◌, inl, inr, refl, sym, ap, ◌∙◌, subst, IsTrue, IsFalse, arith}
 use Rattle.std.proofs.lemmas.Bool.{cases_Bool, and_from, both_ways, cond-true, cond-false}
 use Rattle.model.specs.Layout.{Geometry}
 use Rattle.model.specs.View.{View, Inode, free_inode}
 use Rattle.model.specs.Cells.{SetInode, SetNumber, updated, updated_all}
 use Rattle.model.specs.Uses.{blocks_of, is_sound_at, is_directory, is_directory_at}
+use Rattle.model.proofs.Shape.{reach_parts, more_reach}
+use Rattle.model.proofs.Steps.{use_sound}
+use Rattle.model.proofs.Uses.{use_has, same_field}
 use Rattle.machine.specs.State.{State, is_open, is_kept}
 use Rattle.machine.specs.Cells.{claims}
 use Rattle.machine.specs.Effects.{lets_go, swept, with_links, relinked, truncated}
 use Rattle.machine.proofs.Decisions.{sound_parts}
 use Rattle.machine.proofs.Tests.{and_true, and_false}
-use Rattle.frozen_files.proofs.Used.{Direct, Middle, Last, uses, used, value_last}
 use Rattle.frozen_files.proofs.Metadata.{IsMetadata, MetadataOf, metadata_from, marks_within, links_within, record_within}
 use Rattle.frozen_files.proofs.Good.{Good}
 
@@ -22,33 +24,23 @@ pub record Holds (geo : Geometry) (a : ℕ) (content : List ℕ) (s : State) : T
 
 -- a record without blocks claims nothing
 pub nothing_claimed : (geo : Geometry) (w : View) (n k c : ℕ) (x : Inode) → blocks_of x.size ≡ 0 → MetadataOf geo w n x k c → ⊥
-nothing_claimed geo w n k c x none m = elim (uses geo x k m.used) [
-  | Direct low few ↦ omega (arith, few, none)
-  | Middle low high few address ↦ omega (arith, few, none)
-  | Last at few ↦ omega (arith, few, none)
-]
+nothing_claimed geo w n k c x none m = let few = (reach_parts geo (blocks_of x.size) k (use_has geo w x k c m.uses)).1 in omega (arith, few, none)
 
--- a file with another size claims no more, if it has no indirect block that it had not
-pub file_claims : (geo : Geometry) (w : View) (i n : ℕ) → IsTrue (is_sound_at geo w i) → IsFalse (is_directory_at geo w i) → (12 < blocks_of n → 12 < blocks_of (w.inode i).size)
+-- a file with no more blocks claims no more
+pub file_claims : (geo : Geometry) (w : View) (i n : ℕ) → IsTrue (is_sound_at geo w i) → IsFalse (is_directory_at geo w i) → blocks_of n ≤ blocks_of (w.inode i).size
     → (k c : ℕ) → MetadataOf geo w i (record (w.inode i) { size = n }) k c → IsMetadata geo w i k c
 file_claims geo w i n sound file few k c m =
-    let x : Inode = record (w.inode i) { size = n } in
-    let at : k ≡ 268 = elim m.kind [
-      | inl e ↦ e
-      | inr d ↦ absurd (both_ways (is_directory_at geo w i) file (and_from (is_sound_at geo w i) (is_directory (w.inode i)) sound d))
-    ] in
-    let many : 12 < blocks_of n = elim (uses geo x k m.used) [
-      | Direct low b ↦ absurd (omega (arith, low, at))
-      | Middle low high b address ↦ absurd (omega (arith, high, at))
-      | Last e b ↦ b
-    ] in
+    let y : Inode = record (w.inode i) { size = n } in
+    let has = use_has geo w y k c m.uses in
+    let same = same_field geo w y (w.inode i) (use_sound geo w y k c m.uses) (sound_parts geo w i sound).1 k has (more_reach geo (blocks_of n) (blocks_of (w.inode i).size) k few has) refl in
     metadata_from geo w i k c (record {
       number = m.number;
-      sound = (sound_parts geo w i sound).1;
-      used = used geo (w.inode i) k (Last at (few many));
-      value = value_last w (w.inode i) k at ∙ sym (value_last w x k at) ∙ m.value;
+      uses = sym same ∙ m.uses;
       address = m.address;
-      kind = inl at;
+      kind = elim m.kind [
+        | inl table ↦ inl table
+        | inr d ↦ absurd (both_ways (is_directory_at geo w i) file (and_from (is_sound_at geo w i) (is_directory (w.inode i)) sound d))
+      ];
     })
 
 module _ (geo : Geometry) (a : ℕ) (content : List ℕ) where
@@ -90,7 +82,7 @@ module _ (geo : Geometry) (a : ℕ) (content : List ℕ) where
       (record { kept = h.kept; bytes = h.bytes; mark = h.mark; other = λ j k m. h.other j k (links_within geo s.view i n j k a m) }) i
 
   -- a file is truncated
-  pub truncated_holds : (s : State) → Holds geo a content s → (i n : ℕ) → IsTrue (is_sound_at geo s.view i) → IsFalse (is_directory_at geo s.view i) → (12 < blocks_of n → 12 < blocks_of (s.view.inode i).size)
+  pub truncated_holds : (s : State) → Holds geo a content s → (i n : ℕ) → IsTrue (is_sound_at geo s.view i) → IsFalse (is_directory_at geo s.view i) → blocks_of n ≤ blocks_of (s.view.inode i).size
       → Holds geo a content (truncated geo s i n)
   truncated_holds s h i n sound file few = lets_go_holds s h.kept i (updated s.view (SetInode i (record (s.view.inode i) { size = n }))) h.bytes h.mark
       (λ j k m. h.other j k (record_within geo s.view i (record (s.view.inode i) { size = n }) (file_claims geo s.view i n sound file few) j k a m))

@@ -1,9 +1,10 @@
 -- Each step keeps the files of snapshots, and so does each run.
 use Rattle.std.proofs.Common.{◌≡◌, ◌-◌, ◌*◌, ℕ, Bool, false, List, [], ◌∷◌, take, inl, inr, refl, sym, ap, ◌∙◌, subst, IsTrue, IsFalse, Some, None, Ok, Err}
 use Rattle.std.specs.Prelude.{unwrap_or}
-use Rattle.std.proofs.lemmas.Bool.{cases_eq, cases_Bool, and_from, both_ways}
+use Rattle.std.proofs.lemmas.Bool.{cases_eq, cases_Bool, and_from, both_ways, false_from_ne_true}
 use Rattle.model.specs.Layout.{Geometry, IsGeometry, is_data_address}
 use Rattle.model.specs.View.{View}
+use Rattle.model.specs.Shape.{is_table}
 use Rattle.model.specs.Uses.{is_directory_at, IsClaim}
 use Rattle.model.proofs.UseLemmas.{claim_from}
 use Rattle.findings.specs.declared.repair.Repair.TheVariants.{FreeBlock}
@@ -51,7 +52,7 @@ module _ (geo : Geometry) (s : State) (b : Balance geo s) where
   of_file_other a (inr c) i k m =
       let same = b.rules.rule3.once i k c.0 c.1 a m.0 (c.2).1 in
       elim m.1 [
-        | inl at ↦ (c.2).2 (sym same.1 ∙ at)
+        | inl table ↦ both_ways (is_table geo c.1) (c.2).2 (subst (λ q. IsTrue (is_table geo q)) same.1 table)
         | inr dir ↦ both_ways (is_directory_at geo s.view c.0) ((c.2).0).1 (subst (λ j. IsTrue (is_directory_at geo s.view j)) same.0 dir)
       ]
 
@@ -73,7 +74,7 @@ module _ (geo : Geometry) (s : State) (b : Balance geo s) where
     | inl c ↦
         let claim : IsClaim geo s.view c.0 c.1 a = c.3 in
         let file : IsFalse (is_directory_at geo s.view c.0) = elim (cases_Bool (is_directory_at geo s.view c.0)) [ inl d ↦ absurd (other c.0 c.1 (claim, inr d)) | inr f ↦ f ] in
-        inr (c.0, c.1, ((claim_sound geo s.view c.0 c.1 a claim, file), claim, λ at. other c.0 c.1 (claim, inl at)))
+        inr (c.0, c.1, ((claim_sound geo s.view c.0 c.1 a claim, file), claim, false_from_ne_true (is_table geo c.1) (λ table. other c.0 c.1 (claim, inl table))))
   ]
 
 module _ (geo : Geometry) (old new : State) (b : Balance geo old) (b' : Balance geo new) (debts : MakesNoDebt geo old new) (k : KeepsFiles geo old) where

@@ -1,8 +1,5 @@
-mod Used
 mod Metadata
 mod Good
-mod Numbers
-mod Grows
 mod Placed
 mod Enters
 mod Holds

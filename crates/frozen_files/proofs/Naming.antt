@@ -1,14 +1,17 @@
 -- The commands that change names leave a block of a snapshot's files as it is.
-use Rattle.std.proofs.Common.{◌≡◌, ◌<◌, ◌+◌, ◌/◌, ℕ, true, ◌&&◌, List, [], ◌∷◌, ◌⊎◌, inl, inr, refl, sym, ap, ◌∙◌, subst, arith, IsTrue, IsFalse, None}
+use Rattle.std.proofs.Common.{◌≡◌, ◌<◌, ◌+◌, ◌/◌, ℕ, true, ◌&&◌, List, length, [], ◌∷◌, ◌⊎◌, inl, inr, refl, sym, ap, ◌∙◌, subst, arith, IsTrue, IsFalse, None}
 use Rattle.std.specs.Prelude.{replicate}
+use Rattle.std.proofs.lemmas.Bool.{leb-true}
 use Rattle.model.specs.Layout.{Geometry, IsGeometry, is_number}
 use Rattle.model.specs.View.{View, new_file}
 use Rattle.model.specs.Cells.{SetInode, SetNumber, SetBlock, SetBytes, updated, updated_all}
 use Rattle.model.specs.Image.{IsBlock}
 use Rattle.model.specs.Slots.{Good as Named}
-use Rattle.model.specs.Uses.{is_sound, is_directory, is_directory_at, value_at}
+use Rattle.model.specs.Shape.{most_blocks, direct_positions, is_table}
+use Rattle.model.specs.Uses.{is_sound, is_directory, is_directory_at}
 use Rattle.model.proofs.Places.{put_here, put_there}
-use Rattle.model.proofs.SlotLemmas.{slot_content, reachable_directory}
+use Rattle.model.proofs.SlotLemmas.{reachable_directory}
+use Rattle.model.proofs.Shape.{many_blocks}
 use Rattle.machine.specs.State.{State, is_kept}
 use Rattle.machine.specs.Command.{Unlink, Rmdir, Rename}
 use Rattle.machine.specs.Causes.{causes, refusal_of}
@@ -18,9 +21,12 @@ use Rattle.machine.specs.Effects.{Creates, MakesDirectory, Links, Renames, Withi
 use Rattle.machine.specs.Balance.{Balance}
 use Rattle.machine.proofs.Renaming.{IsPlace, place_at}
 use Rattle.machine.proofs.Walks.{quiet}
-use Rattle.frozen_files.proofs.Used.{Direct, Middle, Last, uses}
+use Rattle.machine.proofs.Records.{new_directory_uses}
+use Rattle.machine.proofs.Pointing.{still_marked}
+use Rattle.machine.proofs.Putting.{slot_low}
+use Rattle.machine.proofs.WholeBlocks.{put_records}
 use Rattle.frozen_files.proofs.Metadata.{IsMetadata, Within, MetadataOf, marks_within, links_within, bytes_within, record_metadata}
-use Rattle.frozen_files.proofs.Good.{Good, gains, free_other, free_none, number_good, block_good, bytes_good, links_good, record_good, set_marks, set_tables}
+use Rattle.frozen_files.proofs.Good.{Good, gains, free_other, free_none, number_good, block_good, bytes_good, links_good, record_good}
 use Rattle.frozen_files.proofs.Placed.{resized, resized_there}
 use Rattle.frozen_files.proofs.Enters.{entry_good, enters_good}
 use Rattle.frozen_files.proofs.Holds.{Holds, nothing_claimed, good_holds, relinked_holds}
@@ -44,16 +50,17 @@ module _ (geo : Geometry) (g : IsGeometry geo) (old new : State) (b : Balance ge
   create_holds p i c =
       let v1 : View = updated v (SetNumber i true) in
       let g1 = number_good geo a content v start i in
-      let g2 = record_good geo a content v1 g1 i new_file (λ number sound many. absurd (omega (arith, many))) (λ k q m. absurd (nothing_claimed geo v1 i k q new_file refl m)) in
+      let g2 = record_good geo a content v1 g1 i new_file (λ k q m. absurd (nothing_claimed geo v1 i k q new_file refl m)) in
       is_here (record old { view = c.view }) c.whole
-      (with_view c.view (enters_good geo a content g (updated_all v (SetNumber i true ∷ SetInode i new_file ∷ [])) g2 (holder geo v p) (λ q m. b.whole q (m.0).1) (name_in p) i c.view c.enters))
+      (with_view c.view (enters_good geo a content g (updated_all v (SetNumber i true ∷ SetInode i new_file ∷ [])) g2 (holder geo v p) (λ m q table t. b.whole q (t.0).1)
+      (put_records v1 i new_file b.records refl (holder geo v p)) (name_in p) i c.view c.enters))
 
   pub link_holds : (p q : List ℕ) → Links geo old p q new → Holding new
   link_holds p q c =
       let i = number_at geo v p in
       is_here (record old { view = c.view }) c.whole
       (with_view c.view (enters_good geo a content g (updated v (SetInode i (with_links (v.inode i) ((v.inode i).links + 1)))) (links_good geo a content v start i ((v.inode i).links + 1)) (holder geo v q)
-      (λ r m. b.whole r (m.0).1) (name_in q) i c.view c.enters))
+      (λ m r table t. b.whole r (t.0).1) (put_records v i (with_links (v.inode i) ((v.inode i).links + 1)) b.records (b.records i) (holder geo v q)) (name_in q) i c.view c.enters))
 
   -- a new directory
   module _ (p : List ℕ) (i : ℕ) (c : MakesDirectory geo old p i new) where
@@ -75,8 +82,8 @@ module _ (geo : Geometry) (g : IsGeometry geo) (old new : State) (b : Balance ge
     within3 : Within geo v v3
     within3 j q r m = marks_within geo v v2 refl refl j q r (links_within geo v2 d ((v.inode d).links + 1) j q r m)
 
-    no_table : (j : ℕ) → IsMetadata geo v3 j 268 c.block → ⊥
-    no_table j m = free_none geo a content v start c.block j 268 c.free_block.unmarked (within3 j 268 c.block m)
+    no_table : (j m : ℕ) → IsTrue (is_table geo m) → IsMetadata geo v3 j m c.block → ⊥
+    no_table j m table t = free_none geo a content v start c.block j m c.free_block.unmarked (within3 j m c.block t)
 
     within4 : Within geo v v4
     within4 j q r m = within3 j q r (bytes_within geo v3 c.block c.bytes no_table j q r m)
@@ -95,11 +102,7 @@ module _ (geo : Geometry) (g : IsGeometry geo) (old new : State) (b : Balance ge
     New j q r = (j ≡ i) × (q ≡ 0) × (r ≡ c.block)
 
     own : (q r : ℕ) → MetadataOf geo v4 i (new_directory c.block) q r → New i q r
-    own q r m = elim (uses geo (new_directory c.block) q m.used) [
-      | Direct low few ↦ let zero_is : q ≡ 0 = omega (arith, few) in (refl, zero_is, sym m.value ∙ ap (value_at v4 (new_directory c.block)) zero_is)
-      | Middle low high few address ↦ absurd (omega (arith, low, few))
-      | Last at few ↦ absurd (omega (arith, few))
-    ]
+    own q r m = let only = new_directory_uses geo v4 c.block q r m.uses in (refl, only.0, only.1)
 
     claims5 : (j q r : ℕ) → IsMetadata geo v5 j q r → IsMetadata geo v j q r ⊎ New j q r
     claims5 j q r m = elim (record_metadata geo v4 j q r i (new_directory c.block) m) [
@@ -111,18 +114,20 @@ module _ (geo : Geometry) (g : IsGeometry geo) (old new : State) (b : Balance ge
     good5 = gains geo a content v start v5 New claims5
         (λ j q r n. subst (λ e. IsFalse (v.block_marked e) × IsTrue (v5.block_marked e)) (sym n.2) (c.free_block.unmarked, put_here v.block_marked c.block true))
         (λ j q l m r n n'. (n.0 ∙ sym n'.0, n.1 ∙ sym n'.1))
-        (λ r m. set_marks geo a content v start c.block r m) (put_there v.bytes c.block a c.bytes apart)
-        (set_tables geo a content v4 good4 i (new_directory c.block) (λ number sound many. absurd (omega (arith, many))))
+        (λ r m. still_marked v.block_marked c.block r m) (put_there v.bytes c.block a c.bytes apart)
 
-    -- an indirect block was one before
-    whole5 : (r : ℕ) → IsMetadata geo v5 d 268 r → IsBlock (v5.bytes r)
-    whole5 r m = elim (claims5 d 268 r m) [
-      | inl old_one ↦ subst (λ (xs : List ℕ). IsBlock xs) (sym (put_there v.bytes c.block r c.bytes (λ e. free_none geo a content v start c.block d 268 c.free_block.unmarked (subst (λ q. IsMetadata geo v d 268 q) e old_one)))) (b.whole r (old_one.0).1)
-      | inr n ↦ absurd (let z : 268 ≡ 0 = n.1 in omega (arith, z))
+    -- a table was one before
+    whole5 : (m r : ℕ) → IsTrue (is_table geo m) → IsMetadata geo v5 d m r → IsBlock (v5.bytes r)
+    whole5 m r table t = elim (claims5 d m r t) [
+      | inl old_one ↦ subst (λ (xs : List ℕ). IsBlock xs) (sym (put_there v.bytes c.block r c.bytes (λ e. free_none geo a content v start c.block d m c.free_block.unmarked (subst (λ q. IsMetadata geo v d m q) e old_one)))) (b.whole r (old_one.0).1)
+      | inr n ↦ absurd (let first : m ≡ 0 = n.1 in let high = leb-true (most_blocks geo) m table in let many = many_blocks geo in omega (arith, first, high, many))
     ]
 
+    records5 : length (v5.inode d).direct ≡ direct_positions
+    records5 = put_records v4 i (new_directory c.block) (put_records v2 d (with_links (v.inode d) ((v.inode d).links + 1)) b.records (b.records d)) refl d
+
     pub make_holds : Holding new
-    make_holds = is_here (record old { view = c.view }) c.whole (with_view c.view (enters_good geo a content g v5 good5 d whole5 (name_in p) i c.view c.enters))
+    make_holds = is_here (record old { view = c.view }) c.whole (with_view c.view (enters_good geo a content g v5 good5 d whole5 records5 (name_in p) i c.view c.enters))
 
   -- ---- names that go
 
@@ -130,8 +135,8 @@ module _ (geo : Geometry) (g : IsGeometry geo) (old new : State) (b : Balance ge
   place_directory : (p : List ℕ) → IsPlace geo v p → IsTrue (is_directory_at geo v (holder geo v p))
   place_directory p at = reachable_directory geo v (holder geo v p) at.entry.reachable
 
-  place_low : (p : List ℕ) → IsPlace geo v p → slot_at geo v p / 16 < 268
-  place_low p at = let low = (slot_content geo v (holder geo v p) (slot_at geo v p) (Named (number_at geo v p) (name_in p)) (λ q. cc) at.good).below in omega (arith, low)
+  place_low : (p : List ℕ) → IsPlace geo v p → slot_at geo v p / 16 < most_blocks geo
+  place_low p at = slot_low geo v (holder geo v p) (slot_at geo v p) (Named (number_at geo v p) (name_in p)) (λ q. cc) at.good
 
   emptied_good : (p : List ℕ) → IsPlace geo v p → Good geo a content (emptied geo old (holder geo v p) (slot_at geo v p)).view
   emptied_good p at = entry_good geo a content v start (holder geo v p) (slot_at geo v p) (replicate 64 0) (place_directory p at) (place_low p at)
@@ -171,8 +176,8 @@ module _ (geo : Geometry) (g : IsGeometry geo) (old new : State) (b : Balance ge
       let here = entered_there (holder geo v q) d (name_in q) (number_at geo v p) w apart enters in
       is_here (emptied geo (record old { view = w }) d (slot_at geo v p)) is
       (with_view (with_entry geo w d (slot_at geo v p) (replicate 64 0))
-      (entry_good geo a content w (enters_good geo a content g v start (holder geo v q) (λ r m. b.whole r (m.0).1) (name_in q) (number_at geo v p) w enters) d (slot_at geo v p) (replicate 64 0)
-      (ap (λ y. is_number geo d && is_sound y && is_directory y) here ∙ place_directory p at) (place_low p at)))
+      (entry_good geo a content w (enters_good geo a content g v start (holder geo v q) (λ m r table t. b.whole r (t.0).1) (b.records (holder geo v q)) (name_in q) (number_at geo v p) w enters) d (slot_at geo v p) (replicate 64 0)
+      (ap (λ y. is_number geo d && is_sound geo y && is_directory y) here ∙ place_directory p at) (place_low p at)))
 
   pub rename_holds : (p q : List ℕ) → refusal_of geo old (Rename p q) ≡ None → Renames geo old p q new → Holding new
   unfolding causes

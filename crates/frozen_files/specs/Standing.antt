@@ -1,14 +1,15 @@
 -- The blocks of the files of snapshots, in the image that users see.
-use Rattle.std.specs.Prelude.{◌≡◌, ℕ, Some, ◌⊎◌, IsTrue}
+use Rattle.std.specs.Prelude.{◌≡◌, ℕ, Some, ◌⊎◌, IsTrue, IsFalse}
 use Rattle.model.specs.Layout.{Geometry}
 use Rattle.model.specs.View.{View}
-use Rattle.model.specs.Uses.{indirect_position, IsClaim}
+use Rattle.model.specs.Shape.{is_table}
+use Rattle.model.specs.Uses.{IsClaim}
 use Rattle.machine.specs.State.{State, snapshot_at}
 use Rattle.machine.specs.Files.{IsFile}
 
 -- block a has the bytes of file i at position k
 abbrev pub IsFileClaim : Geometry → View → ℕ → ℕ → ℕ → Type 0
-IsFileClaim geo view i k a = IsFile geo view i × IsClaim geo view i k a × (k ≡ indirect_position → ⊥)
+IsFileClaim geo view i k a = IsFile geo view i × IsClaim geo view i k a × IsFalse (is_table geo k)
 
 -- block a is held, or has bytes of a file
 abbrev pub IsOfFile : Geometry → State → ℕ → Type 0

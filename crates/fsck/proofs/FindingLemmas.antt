@@ -12,7 +12,7 @@ use Rattle.findings.specs.Findings.{finding_key}
 use Rattle.findings.specs.Report.{report_of, verdict_of, repairs_of}
 use Rattle.findings.proofs.Sorted.{same_sorted}
 use Rattle.findings.proofs.SameFindings.{same_findings}
-use Rattle.by_group.specs.Groups.{AreFoundOf}
+use Rattle.findings.specs.Groups.{AreFoundOf}
 use Rattle.model.specs.Layout.{Geometry}
 use Rattle.model.specs.View.{View}
 use Rattle.model.specs.Image.{image_view}

@@ -6,7 +6,7 @@ use Rattle.std.proofs.lemmas.Option.{none-some, same_Some}
 use Rattle.std.proofs.lemmas.Result.{IfOk-weaker}
 use Rattle.std.proofs.lemmas.List.Elements.{All-push}
 use Rattle.layout.specs.declared.refusal.Refusal.{Refusal}
-use Rattle.by_group.specs.Groups.{IsEach}
+use Rattle.findings.specs.Groups.{IsEach}
 use Rattle.model.specs.Layout.{Geometry}
 use Rattle.model.specs.Units.{IsEveryGroup, Units, either, only}
 use Rattle.workers.specs.Turns.{AreDone}

@@ -8,7 +8,7 @@ use Rattle.findings.specs.declared.finding.Finding.{Finding}
 use Rattle.findings.specs.Findings.{is_of_blocks, is_of_counts, is_of_maps}
 use Rattle.model.specs.Reached.{AreReached}
 use Rattle.model.specs.Units.{Units, only}
-use Rattle.by_group.specs.Groups.{AreFoundIn, IsEach}
+use Rattle.findings.specs.Groups.{AreFoundIn, IsEach}
 use Rattle.frozen.specs.Kept.{Kept, frozen_view}
 use Rattle.directories.specs.Named.{IsNamed}
 use Rattle.phase_blocks.specs.declared.parts.Claim.{Claim}

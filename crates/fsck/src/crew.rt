@@ -6,8 +6,7 @@ ghost use Rattle.fsck.specs.Parts.{MakesParts, are_links_if, are_maps_of, is_own
 
 use crate::hands::parts_of_crew;
 use crate::works::{Blocks, Counts, Links, Maps, Owners};
-use by_group::OfGroup;
-use findings::Finding;
+use findings::{Finding, OfGroup};
 use frozen::Frozen;
 use layout::Refusal;
 use phase_blocks::BlockOwners;

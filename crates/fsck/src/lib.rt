@@ -28,10 +28,9 @@ mod order;
 mod phases;
 mod works;
 
-use by_group::{OfGroup, all_found, joined};
 pub use checked::Checked;
 use crew::{links_by_crew, maps_by_crew, owners_by_crew};
-use findings::Finding;
+use findings::{Finding, OfGroup, all_found, joined};
 use frozen::Frozen;
 use hands::{parts_of_crew, parts_of_one};
 use layout::Refusal;

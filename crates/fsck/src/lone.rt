@@ -6,8 +6,7 @@ ghost use Rattle.fsck.specs.Parts.{MakesParts, Reaches, are_links_if, are_maps_o
 use crate::hands::parts_of_one;
 use crate::phases::walk_of;
 use crate::works::{Blocks, Counts, Entries, Links, Maps, Owners};
-use by_group::OfGroup;
-use findings::Finding;
+use findings::{Finding, OfGroup};
 use frozen::Frozen;
 use layout::Refusal;
 use phase_blocks::BlockOwners;

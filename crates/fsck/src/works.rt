@@ -6,8 +6,7 @@ ghost use Rattle.phase_blocks.specs.declared.parts.Claim.{Claim};
 ghost use Rattle.phase_blocks.specs.Owners.{AreOwners};
 ghost use Rattle.fsck.specs.Parts.{are_links_of, are_maps, are_maps_of, is_blocks_part, is_counts_part, is_entries_part, is_names_part, is_owned_of};
 
-use by_group::OfGroup;
-use findings::Finding;
+use findings::{Finding, OfGroup};
 use frozen::Frozen;
 use layout::Refusal;
 use phase_blocks::BlockOwners;

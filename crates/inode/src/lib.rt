@@ -4,13 +4,15 @@
 //! changed. No call takes memory.
 #![tactic(auto)]
 
-ghost use Rattle.std.specs.Prelude.{◌≡◌, ◌≢◌, ℕ, ◌+◌, ◌*◌, ◌≤◌, ◌<◌, ◌⊎◌, List, length, take, drop, slice_index, slice_index_or};
+ghost use Rattle.std.specs.Prelude.{◌≡◌, ◌≢◌, ℕ, ◌+◌, ◌*◌, ◌≤◌, ◌<◌, ◌⊎◌, List, None, length, take, drop, slice_index, slice_index_or};
 ghost use Rattle.std.specs.Simd.{first_chunks};
 ghost use Rattle.layout.specs.Fresh.{put};
+ghost use Rattle.model.specs.Shape.{field_at, position_count, table_of, with_field};
 ghost use Rattle.model.specs.View.{inode_at, u32s_at};
 ghost use Rattle.model.specs.Uses as uses;
 
 use byteorder::{ByteOrder, LittleEndian};
+use layout::Geometry;
 use std::marker::Model;
 
 #[cfg(test)]
@@ -20,10 +22,7 @@ mod tests;
 pub const RECORD_BYTES: usize = 128;
 
 /// How many pointers to blocks stand in the record itself.
-pub const DIRECT_POINTERS: usize = 12;
-
-/// How many blocks a file may have, which is the position of the indirect pointer.
-pub const INDIRECT_POSITION: u32 = 268;
+pub const DIRECT_POINTERS: usize = layout::DIRECT_POINTERS;
 
 /// The mode of a free record.
 pub const FREE: u16 = 0;
@@ -98,12 +97,41 @@ impl Record {
     }
 
     /// Whether the record is a file's, or a directory's with a size of one or more whole blocks, and its blocks are
-    /// few enough.
-    pub fn is_sound(&self) -> bool
-        ensures { result ≡ uses.is_sound self.now }
+    /// few enough for the layout.
+    pub fn is_sound(&self, geometry: &Geometry) -> bool
+        ensures { result ≡ uses.is_sound geometry.now self.now }
     {
         let is_whole = self.size > 0 && self.size % BLOCK_BYTES == 0;
-        (self.mode == FILE || self.is_directory() && is_whole) && self.blocks() <= INDIRECT_POSITION
+        let is_few = self.blocks() <= geometry.most_blocks();
+        (self.mode == FILE || self.is_directory() && is_whole) && is_few
+    }
+
+    /// The pointer of a position that no table holds: to a block, or to a table.
+    pub fn field(&self, geometry: &Geometry, position: u32) -> u32
+        requires position { position < position_count geometry.now }
+        requires of_record { table_of geometry.now position ≡ None }
+        ensures { result ≡ field_at geometry.now self.now position }
+    {
+        match self.direct.get(position as usize) {
+            Some(pointer) => *pointer,
+            None => self.indirect,
+        }
+    }
+
+    /// The record with another pointer for a position that no table holds.
+    pub fn with_field(&self, geometry: &Geometry, position: u32, address: u32) -> Record
+        requires position { position < position_count geometry.now }
+        requires of_record { table_of geometry.now position ≡ None }
+        ensures { result ≡ with_field geometry.now self.now position address }
+    {
+        let mut record = *self;
+        let place = position as usize;
+        if place < DIRECT_POINTERS {
+            record.direct[place] = address;
+        } else {
+            record.indirect = address;
+        }
+        record
     }
 
     /// Whether the record has the mode of a directory.

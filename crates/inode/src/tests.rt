@@ -1,4 +1,5 @@
 use crate::{DIRECT_POINTERS, DIRECTORY, FILE, FREE, RECORD_BYTES, Record, blocks_of_size};
+use layout::Geometry;
 
 /// A free record.
 const ZERO: Record = Record {
@@ -66,9 +67,14 @@ fn sound_records_are_told_apart(rt: HostRuntime) {
         (3, 1024, false),
         (0x0101, 1024, false),
     ];
+    let geometry = Geometry::new(1, 16, 16).expect(&rt, "a geometry");
     for (mode, size, is_sound) in table {
         let record = Record { mode, size, ..ZERO };
-        assert_eq!(rt; record.is_sound(), is_sound, "mode {mode} size {size}");
+        assert_eq!(rt;
+            record.is_sound(&geometry),
+            is_sound,
+            "mode {mode} size {size}"
+        );
         assert_eq!(rt; record.is_directory(), mode == DIRECTORY, "mode {mode}");
     }
 }

@@ -1,5 +1,5 @@
 -- Each command's plan gives new metadata its bytes.
-use Rattle.std.proofs.Common.{◌≡◌, ℕ, Bool, List, ◌++◌, ◌⊎◌, inl, inr, sym, ◌∙◌, subst}
+use Rattle.std.proofs.Common.{◌≡◌, ℕ, Bool, List, [], ◌++◌, ◌⊎◌, inl, inr, sym, ◌∙◌, subst}
 use Rattle.std.proofs.lemmas.List.{append_cancel_right}
 use Rattle.model.specs.Layout.{Geometry}
 use Rattle.model.specs.View.{View, free_inode}
@@ -13,7 +13,7 @@ use Rattle.plans_data.specs.Append.{sized}
 use Rattle.plans_data.specs.Carried.{Stands}
 use Rattle.plans_data.specs.Lists.{given_up_with}
 use Rattle.plans_data.specs.Now.{now}
-use Rattle.plans_data.specs.Plans.{holder_of, holder_in_use, named_by}
+use Rattle.plans_data.specs.Plans.{holder_of, named_by}
 use Rattle.plans_data.specs.Relink.{open_of, without_handle}
 use Rattle.plans_data.proofs.Plans.{plan_in_place, plan_appended, plan_moved, plan_truncate}
 use Rattle.plans_naming.specs.Plans.{slot_block, entry_block}
@@ -52,19 +52,19 @@ module _ (geo : Geometry) (disk : View) (q : List Pending) where
         (accepted_create geo st stands.balance stands.geometry p ok n s entry after free place.empty place.says place.record_first place.others_first))
     plans command answer file plan new safe' ok (CreatesInNewBlock p n b kept s entry after free place) = gives _ _
         (creating_grown_since geo disk q rules n (holder geo start p) b kept s (name_in p) entry after
-        (accepted_create_grown geo st stands.balance stands.geometry p ok n b kept s entry after free place.full place.free place.keeps place.stands place.says place.record_first place.blocks_first))
+        (accepted_create_grown geo st stands.balance stands.geometry p ok n b kept s entry after free place.full place.free place.keeps place.apart place.stands place.says place.record_first place.blocks_first))
     plans command answer file plan new safe' ok (MakesInSlot p i a dots s entry after free own are place) = gives _ _
         (making_since geo disk q rules i a dots (holder geo start p) s (slot_block geo start p s) (name_in p) entry after
         (accepted_make geo st stands.balance stands.geometry p ok i a dots s entry after free own are place.empty place.says place.record_first place.others_first))
     plans command answer file plan new safe' ok (MakesInNewBlock p i a dots b kept s entry after free own are other place) = gives _ _
         (making_grown_since geo disk q rules i a dots (holder geo start p) b kept s (name_in p) entry after
-        (accepted_make_grown geo st stands.balance stands.geometry p ok i a dots b kept s entry after free own are place.full place.free other place.keeps place.stands place.says place.record_first place.blocks_first))
+        (accepted_make_grown geo st stands.balance stands.geometry p ok i a dots b kept s entry after free own are place.full place.free other place.keeps place.apart place.stands place.says place.record_first place.blocks_first))
     plans command answer file plan new safe' ok (LinksInSlot p r s entry after place) = gives _ _
         (linking_since geo disk q rules (number_at geo start p) (holder geo start r) s (slot_block geo start r s) (name_in r) entry after
         (accepted_link geo st stands.balance stands.geometry p r ok s entry after place.empty place.says place.record_first place.others_first))
     plans command answer file plan new safe' ok (LinksInNewBlock p r b kept s entry after place) = gives _ _
         (linking_grown_since geo disk q rules (number_at geo start p) (holder geo start r) b kept s (name_in r) entry after
-        (accepted_link_grown geo st stands.balance stands.geometry p r ok b kept s entry after place.full place.free place.keeps place.stands place.says place.record_first place.blocks_first))
+        (accepted_link_grown geo st stands.balance stands.geometry p r ok b kept s entry after place.full place.free place.keeps place.apart place.stands place.says place.record_first place.blocks_first))
     plans command answer file plan new safe' ok (RenamesInSlot p r entry after same says others) = gives _ _
         (renaming_since geo disk q rules (number_at geo start p) (holder geo start p) (slot_at geo start p) (entry_block geo start p) (name_in p) (name_in r) entry after
         (accepted_rename geo st stands.balance stands.geometry p r ok same entry after says others.needs))
@@ -73,7 +73,7 @@ module _ (geo : Geometry) (disk : View) (q : List Pending) where
         (accepted_move geo st stands.balance stands.geometry p r ok apart s entry after' after place.empty place.says place.record_first place.others_first entered grounds.needs))
     plans command answer file plan new safe' ok (MovesToNewBlock p r b kept s entry after' after apart place entered grounds table) = gives _ _
         (moving_grown_since geo disk q rules (number_at geo start p) (holder geo start r) b kept s (name_in r) entry after' (holder geo start p) (slot_at geo start p) (entry_block geo start p) (name_in p) after
-        (accepted_move_grown geo st stands.balance stands.geometry p r ok apart b kept s entry after' after place.full place.free place.keeps place.stands place.says place.record_first place.blocks_first entered grounds.needs table))
+        (accepted_move_grown geo st stands.balance stands.geometry p r ok apart b kept s entry after' after place.full place.free place.keeps place.apart place.stands place.says place.record_first place.blocks_first entered grounds.needs table))
     plans command answer file plan new safe' ok (UnlinksName p stays) = gives _ _
         (unlinking_since geo disk q rules (number_at geo start p) (holder geo start p) (slot_at geo start p) (entry_block geo start p) (name_in p) (accepted_unlink geo st stands.balance stands.geometry p ok))
     plans command answer file plan new safe' ok (UnlinksFile p blocks one goes) = gives _ _
@@ -86,11 +86,11 @@ module _ (geo : Geometry) (disk : View) (q : List Pending) where
         (accepted_remove geo st stands.balance stands.geometry p ok after all.needs))
     plans command answer file plan new safe' ok (WritesInPlace h k piece bytes over inside free) = gives _ _
         (written_since geo disk q rules old (file_of old h) k piece bytes (plan_in_place geo stands.geometry st stands.balance h k piece ok bytes over inside free))
-    plans command answer file plan new safe' ok (WritesBehind h k piece bytes b x table over choice past) = gives _ _
-        (appended_since geo disk q rules old (file_of old h) k b piece bytes (holder_of k (start.bytes (start.inode (file_of old h)).indirect) x table)
-        (plan_appended geo stands.geometry st stands.balance h k piece ok bytes over b x table choice past))
+    plans command answer file plan new safe' ok (WritesBehind h k piece bytes b news over choice past) = gives _ _
+        (appended_since geo disk q rules old (file_of old h) k b piece bytes (holder_of geo start (file_of old h) k b news)
+        (plan_appended geo stands.geometry st stands.balance h k piece ok bytes over b news choice past))
     plans command answer file plan new safe' ok (WritesElsewhere h k piece bytes b over free inside kept) = gives _ _
-        (relocated_since geo disk q rules old (file_of old h) k b piece bytes (holder_in_use k (start.bytes (start.inode (file_of old h)).indirect))
+        (relocated_since geo disk q rules old (file_of old h) k b piece bytes (holder_of geo start (file_of old h) k b [])
         (plan_moved geo stands.geometry st stands.balance h k piece ok bytes over b free inside kept))
     plans command answer file plan new safe' ok (TruncatesFile h size) = gives _ _
         (truncation_since geo disk q old (file_of old h) size (given_up_with geo st (file_of old h) (sized (start.inode (file_of old h)) size)) (plan_truncate geo stands.geometry st stands.balance h size ok))

@@ -1,4 +1,4 @@
-//! What the commands of the live volume claim as metadata after them: indirect blocks, and the blocks of directories.
+//! What the commands of the live volume claim as metadata after them: tables, and the blocks of directories.
 //! Each command's plan gives bytes to each such block that was not one before, so that a volume that keeps in memory
 //! what is metadata, and what its plans write, keeps all metadata after each command.
 #![tactic(auto)]

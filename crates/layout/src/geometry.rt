@@ -1,6 +1,8 @@
 ghost use Rattle.std.specs.Prelude.{◌≡◌, ◌≢◌, ℕ, ◌<◌, ◌≤◌, ◌+◌, ◌/◌, is_some, IsOkUnless, MatchResult, IsTrue, IfSome};
+ghost use Rattle.std.specs.Option.{option_map};
 ghost use Rattle.std.specs.Result.{OkIff};
 ghost use Rattle.model.specs.Layout.{Geometry as Numbers, IsGeometry, block_count, inode_count, header_blocks, group_block, data_address, is_data_address, data_bit, group_of_address, inode_block, inode_byte};
+ghost use Rattle.model.specs.Shape.{most_blocks, place_in_table, position_count, reaches, table_of, tables};
 ghost use Rattle.model.specs.Image.{IsSuper};
 ghost use Rattle.model.specs.Units.{AreNumbers};
 
@@ -22,6 +24,13 @@ pub const INODES_PER_BLOCK: u32 = 8;
 
 /// How many bytes the record of an inode has.
 pub const INODE_BYTES: u32 = 128;
+
+/// How many pointers to blocks stand in a record; the others stand in blocks of pointers, which are a file's tables.
+pub const DIRECT_POINTERS: usize = 12;
+
+/// How many blocks a file may have, whatever volume it is in: no volume allows more. The positions of its tables come behind
+/// those of its blocks.
+pub const MOST_BLOCKS: u32 = 268;
 
 /// How many cylinder groups a volume has, how many blocks a group and how many inodes a group.
 #[derive(Clone, Copy, Debug, PartialEq, Eq)]
@@ -55,6 +64,14 @@ pub struct DataPlace {
 pub struct InodePlace {
     pub address: u32,
     pub byte: usize,
+}
+
+/// Where the pointer of a position stands that a table holds: the position of the table, and which of the pointers there
+/// it is.
+#[derive(Clone, Copy, Debug, PartialEq, Eq)]
+pub struct TablePlace {
+    pub table: u32,
+    pub place: usize,
 }
 
 impl Geometry {
@@ -179,6 +196,56 @@ impl Geometry {
         Some(DataPlace {
             group,
             bit: place - self.header_blocks(),
+        })
+    }
+
+    /// How many blocks a file may have, which is the position of its first table.
+    pub fn most_blocks(&self) -> u32
+        ensures count { result ≡ most_blocks self.now }
+        ensures few { result ≤ 65_804 }
+    {
+        MOST_BLOCKS
+    }
+
+    /// Whether a file of so many blocks has a position: that of one of its blocks, or of a table that they need.
+    pub fn reaches(&self, blocks: u32, position: u32) -> bool
+        ensures { result ≡ reaches self.now blocks position }
+    {
+        if position < MOST_BLOCKS {
+            position < blocks
+        } else {
+            position == MOST_BLOCKS && blocks > DIRECT_POINTERS as u32
+        }
+    }
+
+    /// The position behind that of the last table of a file of so many blocks: its tables stand at those from
+    /// `most_blocks` on.
+    pub fn tables_end(&self, blocks: u32) -> u32
+        requires { blocks ≤ most_blocks self.now }
+        ensures end { result ≡ most_blocks self.now + tables blocks }
+        ensures inside { result ≤ position_count self.now }
+        ensures few { result ≤ 66_062 }
+    {
+        if blocks > DIRECT_POINTERS as u32 {
+            MOST_BLOCKS + 1
+        } else {
+            MOST_BLOCKS
+        }
+    }
+
+    /// Where the pointer of a position stands if a table holds it; `None` where the record holds it.
+    pub fn pointer_place(&self, position: u32) -> Option<TablePlace>
+        requires { position < position_count self.now }
+        ensures table { option_map (λ place. place.table) result ≡ table_of self.now position }
+        ensures place { IfSome result (λ place. place.place ≡ place_in_table self.now position) }
+        ensures inside { IfSome result (λ place. (place.table < position_count self.now) × (place.place < 256)) }
+    {
+        if position < DIRECT_POINTERS as u32 || position >= MOST_BLOCKS {
+            return None;
+        }
+        Some(TablePlace {
+            table: MOST_BLOCKS,
+            place: position as usize - DIRECT_POINTERS,
         })
     }
 

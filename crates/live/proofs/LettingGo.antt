@@ -1,7 +1,8 @@
 -- A mounted volume without a block in memory that a file holds data in.
 use Rattle.std.proofs.Common.{◌≡◌, ◌<◌, ℕ, List, IsFalse, Ok, Some, false, sym, subst}
 use Rattle.model.specs.Image.{image_view}
-use Rattle.model.specs.Uses.{IsClaim, claim_at, indirect_position, is_directory_at}
+use Rattle.model.specs.Shape.{most_blocks}
+use Rattle.model.specs.Uses.{IsClaim, claim_at, is_directory_at}
 use Rattle.model.proofs.UseLemmas.{claim_parts}
 use Rattle.model.specs.View.{View}
 use Rattle.machine.specs.Command.{Answer, Command}
@@ -20,15 +21,18 @@ use Rattle.live.specs.Alive.{Alive, Answers, IsLive, disk_of, state_of}
 
 -- of metadata in memory that was looked at, where a file claims a block there
 module _ (honest : Type 0) (image : List (List ℕ)) (queue : Queued) (kept : Kept) (holdings : Holdings) (live : IsLive honest image queue kept holdings) (seen : Kept) (same : seen ≡ kept)
-    (f k a : ℕ) (found : claim_at seen.geometry (frozen_view seen) f k ≡ Some a) (inside : k < indirect_position) (no_directory : is_directory_at seen.geometry (frozen_view seen) f ≡ false) where
+    (f k a : ℕ) (found : claim_at seen.geometry (frozen_view seen) f k ≡ Some a) (inside : k < most_blocks seen.geometry) (no_directory : is_directory_at seen.geometry (frozen_view seen) f ≡ false) where
   claim : IsClaim kept.geometry (frozen_view kept) f k a
   claim = claim_parts kept.geometry (frozen_view kept) f k a (subst (λ (s : Kept). claim_at s.geometry (frozen_view s) f k ≡ Some a) same found)
 
   is_file : IsFalse (is_directory_at kept.geometry (frozen_view kept) f)
   is_file = subst (λ (s : Kept). is_directory_at s.geometry (frozen_view s) f ≡ false) same no_directory
 
+  below : k < most_blocks kept.geometry
+  below = subst (λ (s : Kept). k < most_blocks s.geometry) same inside
+
   pub live_plain : IsPlain kept a
-  live_plain = plain kept holdings (pending_of queue) live.alive.disk live.alive.keeps live.alive.some f k a claim inside is_file
+  live_plain = plain kept holdings (pending_of queue) live.alive.disk live.alive.keeps live.alive.some f k a claim below is_file
 
   pub live_without : IsLive honest image queue (without_block kept a) holdings
   live_without = record {
@@ -37,8 +41,8 @@ module _ (honest : Type 0) (image : List (List ℕ)) (queue : Queued) (kept : Ke
       count = live.alive.count;
       keeps = keeps_without kept live.alive.keeps.frame a claim.1 live.alive.keeps live_plain;
       disk = live.alive.disk;
-      some = volume_without kept holdings (pending_of queue) live.alive.disk live.alive.keeps live.alive.some f k a claim inside is_file;
-      true = λ h. volume_without kept holdings (pending_of queue) (image_view kept.geometry image) live.alive.keeps (live.alive.true h) f k a claim inside is_file;
+      some = volume_without kept holdings (pending_of queue) live.alive.disk live.alive.keeps live.alive.some f k a claim below is_file;
+      true = λ h. volume_without kept holdings (pending_of queue) (image_view kept.geometry image) live.alive.keeps (live.alive.true h) f k a claim below is_file;
     };
     marks = live.marks;
     repairs = live.repairs;

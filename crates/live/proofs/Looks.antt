@@ -29,7 +29,7 @@ pub shown : (kept : Kept) (holdings : Holdings) (q : List Pending) (disk : View)
 shown kept holdings q disk keeps volume = shows_metadata kept (users_view disk q) keeps volume.shows
 
 pub same_directory : (geo : Geometry) (view other : View) (d : ℕ) → view.inode d ≡ other.inode d → is_directory_at geo view d ≡ is_directory_at geo other d
-same_directory geo view other d e = ap (λ r. (is_number geo d && is_sound r) && is_directory r) e
+same_directory geo view other d e = ap (λ r. (is_number geo d && is_sound geo r) && is_directory r) e
 
 -- ---- refusals in order
 

@@ -4,7 +4,8 @@ ghost use Rattle.layout.specs.declared.refusal.Refusal.TheVariants.{Device as De
 ghost use Rattle.machine.specs.Command.{Bytes, Close, Done, Number, Open, Read, Truncate, Write};
 ghost use Rattle.frozen.specs.Kept.{frozen_view, kept_at};
 ghost use Rattle.model.specs.Layout.{is_data_address};
-ghost use Rattle.model.specs.Uses.{claim_at, indirect_position, is_directory_at};
+ghost use Rattle.model.specs.Shape.{most_blocks};
+ghost use Rattle.model.specs.Uses.{claim_at, is_directory_at};
 ghost use Rattle.live_states.specs.Planned.{AreSeen, IsRefusedWith};
 ghost use Rattle.live_writes.specs.Aimed.{seen_at, seen_before};
 ghost use Rattle.live.specs.Alive.{MayRefuse};
@@ -14,7 +15,6 @@ use crate::Live;
 use crate::bytes::{first_bytes, read_seen};
 use crate::ending::Ending;
 use device::Device;
-use inode::INDIRECT_POSITION;
 use layout::{BLOCK_BYTES, Block, Refusal};
 use live_files::{Reading, opening_of, reading_of};
 use live_writes::{Target, aim};
@@ -99,11 +99,12 @@ impl<D: Device> Live<D> {
         ensures queue { self.new.queue ≡ self.old.queue }
         ensures holdings { self.new.holdings ≡ self.old.holdings }
         ensures geometry { self.new.kept.geometry ≡ self.old.kept.geometry }
-        ensures gone { (a : ℕ) → target.now.index < indirect_position → IsFalse (is_directory_at self.old.kept.geometry (frozen_view self.old.kept) target.now.file)
+        ensures gone { (a : ℕ) → target.now.index < most_blocks self.old.kept.geometry
+            → IsFalse (is_directory_at self.old.kept.geometry (frozen_view self.old.kept) target.now.file)
             → claim_at self.old.kept.geometry (frozen_view self.old.kept) target.now.file target.now.index ≡ Some a → kept_at self.new.kept.blocks a ≡ None }
     {
         let frozen = self.metadata.frozen();
-        if target.index >= INDIRECT_POSITION || frozen.is_directory_at(target.file) {
+        if target.index >= frozen.geometry().most_blocks() || frozen.is_directory_at(target.file) {
             return;
         }
         if let Some(block) = frozen.claim_at(target.file, target.index) {

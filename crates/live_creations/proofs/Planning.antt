@@ -37,6 +37,7 @@ use Rattle.live_places.specs.declared.choosing.Place.{Place}
 use Rattle.live_places.specs.declared.choosing.Place.TheVariants.{Slot, NewBlock}
 use Rattle.live_states.specs.Drafts.{Draft, over}
 use Rattle.live_plans.specs.Entered.{EntersAt, EntersNewBlock, EntersSlot}
+use Rattle.live_plans.proofs.NewBlocks.{are_apart, others}
 use Rattle.live_states.specs.Planned.{IsOfVolume, IsPlanned}
 use Rattle.live_plans.specs.declared.entering.NewEntry.{NewEntry}
 use Rattle.live_creations.specs.Made.{Created, DirectoryMade, Linked, Makes}
@@ -69,6 +70,7 @@ module _ (geo : Geometry) (view : View) (path : List ℕ) (ps : List (List ℕ))
     full = subst (λ h. IsFalse (has_room geo view h)) (sym to) is.none;
     free = is.free;
     keeps = subst (λ h. IsKeptIn geo view h (blocks_of (view.inode h).size) block x.kept) (sym to) x.keeps;
+    apart = are_apart geo view d block table x.kept x.tables is.table;
     stands = subst (λ h. x.slot / 16 ≡ blocks_of (view.inode h).size) (sym to) x.stands;
     says = says_it x.entry x.says;
     record_first = x.record_first;
@@ -104,7 +106,7 @@ module _ (geo : Geometry) (disk : View) (q : List Pending) (old : State) (safe :
       (CreatesInSlot path n s x.entry x.after free (in_slot geo view path ps e d way n named draft s block is x))
   create_done (NewBlock block table) is x =
       done_as geo disk q old safe (Create path) Number n draft.file (create_plan_grown geo view path n block x.kept x.slot x.entry x.after q) (over q draft.updates) file
-      (x.goes_on.pending q ∙ ap₂ (λ h l. slot_written block empty_block x.slot x.entry x.after ∷ grown h (view.inode h) block x.kept l) (sym (to geo view path ps e d way n named draft)) names)
+      (x.goes_on.pending q ∙ ap₂ (λ h l. slot_written block empty_block x.slot x.entry x.after ∷ grown geo h (view.inode h) block x.kept l) (sym (to geo view path ps e d way n named draft)) names)
       (CreatesInNewBlock path n block x.kept x.slot x.entry x.after free (in_new_block geo view path ps e d way n named draft (view.inode d) block table is x))
 
 pub entered_geometry : (geo : Geometry) (v : View) (d : ℕ) (inode : Inode) (n : ℕ) (name : List ℕ) (place : Place) (old new : Draft) → EntersAt geo v d inode n name place old new → new.geometry ≡ old.geometry
@@ -170,7 +172,7 @@ module _ (geo : Geometry) (disk : View) (q : List Pending) (old : State) (safe :
   linked_done (NewBlock block table) is x =
       let m = number_at geo users path in
       done_as geo disk q old safe (Link path other) (λ k. Done) m draft.file (link_plan_grown geo users path other block x.kept x.slot x.entry x.after q) (over q draft.updates) (file ∙ sym number_is)
-      (x.goes_on.pending q ∙ ap₂ (λ h l. slot_written block empty_block x.slot x.entry x.after ∷ grown h (users.inode h) block x.kept l) (sym (to geo users other qs e d way n named draft))
+      (x.goes_on.pending q ∙ ap₂ (λ h l. slot_written block empty_block x.slot x.entry x.after ∷ grown geo h (users.inode h) block x.kept l) (sym (to geo users other qs e d way n named draft))
       (names ∙ ap (λ k. raised k (users.inode k) q) (sym number_is)))
       (LinksInNewBlock path other block x.kept x.slot x.entry x.after
       (subst (λ k. InNewBlock geo users other k block x.kept x.slot x.entry x.after) (sym number_is) (in_new_block geo users other qs e d way n named draft (users.inode d) block table is x)))
@@ -241,8 +243,8 @@ module _ (geo : Geometry) (disk : View) (q : List Pending) (old : State) (safe :
   mkdir_done (NewBlock block table) has x =
       done_as geo disk q old safe (Mkdir path) Number n draft.file (make_plan_grown geo seen_by path n own dots block x.kept x.slot x.entry x.after q) (over q draft.updates) file
       (x.goes_on.pending q
-      ∙ ap₂ (λ h l. slot_written block empty_block x.slot x.entry x.after ∷ grown h (with_links (seen_by.inode h) ((seen_by.inode h).links + 1)) block x.kept l) (sym is_to) names_there)
-      (MakesInNewBlock path n own dots block x.kept x.slot x.entry x.after free has.free dots_there (x.other own has.apart)
+      ∙ ap₂ (λ h l. slot_written block empty_block x.slot x.entry x.after ∷ grown geo h (with_links (seen_by.inode h) ((seen_by.inode h).links + 1)) block x.kept l) (sym is_to) names_there)
+      (MakesInNewBlock path n own dots block x.kept x.slot x.entry x.after free has.free dots_there (others own block table x.kept x.tables has.apart)
       (in_new_block geo seen_by path ps e d way n named draft (with_links (seen_by.inode d) ((seen_by.inode d).links + 1)) block table has.fits x))
 
 pub mkdir_planned : (kept : Kept) (path : List ℕ) (ps : List (List ℕ)) (new : NewEntry) (own : ℕ) (draft : Draft) → KeepsMetadata kept → IsOfVolume kept → parts_of path ≡ Some ps

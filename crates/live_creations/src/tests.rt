@@ -1,7 +1,7 @@
 use crate::linking::file_at;
 use crate::making::{dots, new_directory};
 use crate::placing::directory_for;
-use device::{Before, Device, MemDevice, format};
+use device::MemDevice;
 use frozen::{Frozen, load};
 use inode::{DIRECTORY, Record};
 use layout::{BLOCK_BYTES, Geometry, ROOT, Refusal};
@@ -27,28 +27,8 @@ const CHANGES: [(u32, usize, u8); 10] = [
 /// The metadata of this image.
 fn image(alloc: Global) -> Result<Frozen, Refusal> {
     let geometry = Geometry::new(1, 16, 16)?;
-    let bytes = vec![in alloc; 0u8; geometry.blocks() as usize * BLOCK_BYTES]?;
-    let mut device = MemDevice::from_bytes(alloc, bytes.as_slice())?;
-    if device.blocks() != geometry.blocks() {
-        return Err(Refusal::BadLength);
-    }
-    format(&mut device, &geometry, Before::Anything)?;
-    for (address, byte, value) in &CHANGES {
-        set_byte(&mut device, *address, *byte, *value)?;
-    }
+    let mut device = MemDevice::formatted(alloc, &geometry, &CHANGES)?;
     load(alloc, &mut device)
-}
-
-/// Changes one byte of a block.
-fn set_byte(device: &mut MemDevice, address: u32, byte: usize, value: u8) -> Result<(), Refusal> {
-    if address >= device.blocks() || byte >= BLOCK_BYTES {
-        return Err(Refusal::BadIndex);
-    }
-    let mut block = [0; BLOCK_BYTES];
-    device.read(address, &mut block)?;
-    block[byte] = value;
-    device.write(address, &block)?;
-    Ok(())
 }
 
 /// Where the name of a path may be entered.

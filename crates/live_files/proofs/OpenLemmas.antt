@@ -94,7 +94,7 @@ module _ (frozen kept : Kept) (same : frozen ≡ kept) (keeps : KeepsMetadata ke
 
   same_kind : (old : State) → Shows kept old.view → (i : ℕ) → is_directory_at frozen.geometry (frozen_view frozen) i ≡ is_directory_at kept.geometry old.view i
   same_kind old shows i =
-      ap (λ (k : Kept). is_directory_at k.geometry (frozen_view k) i) same ∙ ap (λ r. (is_number kept.geometry i && is_sound r) && is_directory r) (shows.inode i)
+      ap (λ (k : Kept). is_directory_at k.geometry (frozen_view k) i) same ∙ ap (λ r. (is_number kept.geometry i && is_sound kept.geometry r) && is_directory r) (shows.inode i)
 
   pub to_nowhere : (r : Refusal) → found ≡ Err r → IsFirstCauseWith kept holdings (Open path) r
   to_nowhere r e old shows has = inl (nowhere kept.geometry old path parts is r (sym (leads_to old shows) ∙ e))

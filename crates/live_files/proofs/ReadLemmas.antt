@@ -94,15 +94,12 @@ module _ (kept : Kept) (holdings : Holdings) (keeps : KeepsMetadata kept) (volum
   pub claimed : k < blocks_of ((frozen_view kept).inode n).size → claim_at kept.geometry (frozen_view kept) n k ≡ None → ⊥
   claimed inside none =
       let shows = volume.volume.shows in
-      let sound = subst (λ r. IsTrue (is_number kept.geometry n && is_sound r)) (shows.inode n) (opened_sound kept holdings volume h n is) in
+      let sound = subst (λ r. IsTrue (is_number kept.geometry n && is_sound kept.geometry r)) (shows.inode n) (opened_sound kept holdings volume h n is) in
       let rules = volume.volume.stands.balance.rules in
       let within = subst (λ (i : Inode). k < blocks_of i.size) (shows.inode n) inside in
-      let claims = block_claimed kept.geometry there.view rules n k sound within (few kept.geometry there.view n k sound within) in
+      let claims = block_claimed kept.geometry there.view rules n k sound within in
       none-some (block_of kept.geometry there.view n k)
       (sym none ∙ same_claim kept.geometry (frozen_view kept) there.view (shows_metadata kept there.view keeps shows) n k ∙ claim_from kept.geometry there.view n k (block_of kept.geometry there.view n k) claims)
-    where
-      few : (geo : Geometry) (v : View) (i j : ℕ) → IsTrue (is_sound_at geo v i) → j < blocks_of (v.inode i).size → j < 268
-      few geo v i j sound within = let parts = and_parts (is_number geo i) (is_sound (v.inode i)) sound in omega (arith, within, leb-true (blocks_of (v.inode i).size) 268 (and_parts _ (leb (blocks_of (v.inode i).size) 268) parts.1).1)
 
   pub of_data : (a : ℕ) → claim_at kept.geometry (frozen_view kept) n k ≡ Some a → IsTrue (is_data_address kept.geometry a)
   of_data a e = (claim_parts kept.geometry (frozen_view kept) n k a e).1

@@ -52,10 +52,10 @@ module _ (kept : Kept) (holdings : Holdings) (volume : IsOfVolumeWith kept holdi
   file_of_there = volume.volume.stands.balance.open_file n (h, handle_there holdings there h volume.has ∙ is)
 
   pub opened_sound : IsTrue (is_sound_at kept.geometry (frozen_view kept) n)
-  opened_sound = subst (λ r. IsTrue (is_number kept.geometry n && is_sound r)) (sym (volume.volume.shows.inode n)) file_of_there.0
+  opened_sound = subst (λ r. IsTrue (is_number kept.geometry n && is_sound kept.geometry r)) (sym (volume.volume.shows.inode n)) file_of_there.0
 
   pub opened_file : IsFalse (is_directory_at kept.geometry (frozen_view kept) n)
-  opened_file = subst (λ r. IsFalse ((is_number kept.geometry n && is_sound r) && is_directory r)) (sym (volume.volume.shows.inode n)) file_of_there.1
+  opened_file = subst (λ r. IsFalse ((is_number kept.geometry n && is_sound kept.geometry r) && is_directory r)) (sym (volume.volume.shows.inode n)) file_of_there.1
 
   pub opened_number : IsTrue (is_number kept.geometry n)
   opened_number = (sound_parts kept.geometry (frozen_view kept) n opened_sound).0

@@ -3,17 +3,18 @@ use Rattle.std.proofs.Common.{◌≡◌, ◌<◌, ◌/◌, ℕ, cond, List, [], 
 use Rattle.std.specs.Option.{option_map_or}
 use Rattle.std.proofs.lemmas.Bool.{and_parts}
 use Rattle.model.specs.Layout.{is_data_address, is_number}
-use Rattle.model.specs.Uses.{claim_at, indirect_position, is_directory, is_directory_at, is_sound, is_sound_at, record_use, use_at}
+use Rattle.model.specs.Shape.{most_blocks}
+use Rattle.model.specs.Uses.{claim_at, is_directory, is_directory_at, is_sound, is_sound_at, record_use, use_at}
 use Rattle.model.specs.Slots.{Absent, slot, slot_in}
 use Rattle.model.proofs.UseLemmas.{claim_from, no_claim_of_use, no_use_no_claim, use_of_record}
 use Rattle.frozen.specs.Kept.{Kept, frozen_view, kept_at}
 use Rattle.frozen.proofs.SlotLemmas.{slot_of_claim}
 
-module _ (kept : Kept) (d k s : ℕ) (at : s / 16 ≡ k) (is : IsTrue (is_directory_at kept.geometry (frozen_view kept) d)) (low : k < indirect_position) where
+module _ (kept : Kept) (d k s : ℕ) (at : s / 16 ≡ k) (is : IsTrue (is_directory_at kept.geometry (frozen_view kept) d)) (low : k < most_blocks kept.geometry) where
   number : IsTrue (is_number kept.geometry d)
   number =
       let sound = and_parts (is_sound_at kept.geometry (frozen_view kept) d) (is_directory ((frozen_view kept).inode d)) is in
-      (and_parts (is_number kept.geometry d) (is_sound ((frozen_view kept).inode d)) sound.0).0
+      (and_parts (is_number kept.geometry d) (is_sound kept.geometry ((frozen_view kept).inode d)) sound.0).0
 
   uses : use_at kept.geometry (frozen_view kept) d k ≡ record_use kept.geometry (frozen_view kept) ((frozen_view kept).inode d) k
   uses = use_of_record kept.geometry (frozen_view kept) d k number

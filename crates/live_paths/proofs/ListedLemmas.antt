@@ -59,7 +59,7 @@ module _ (geo : Geometry) (view : View) (d : ℕ) where
   dots_more s old before e = e ∙ sym (names_dots s before) ∙ ap (names_below geo view d) (sym (add-one s))
 
   -- the blocks up to the last have all names
-  pub names_whole : (s : ℕ) → s ≤ slot_count → ((q : ℕ) → s ≤ q → slot geo view d q ≡ Absent) → names_below geo view d s ≡ names_below geo view d slot_count
+  pub names_whole : (s : ℕ) → s ≤ slot_count geo → ((q : ℕ) → s ≤ q → slot geo view d q ≡ Absent) → names_below geo view d s ≡ names_below geo view d (slot_count geo)
   names_whole s low absent =
-      let all : s + (slot_count - s) ≡ slot_count = omega arith in
-      sym (some_absent s (slot_count - s) (λ q from below. absent q from)) ∙ ap (names_below geo view d) all
+      let all : s + (slot_count geo - s) ≡ slot_count geo = omega arith in
+      sym (some_absent s (slot_count geo - s) (λ q from below. absent q from)) ∙ ap (names_below geo view d) all

@@ -42,40 +42,40 @@ module _ (kept : Kept) (view : View) (shown : IsShownBy kept view) (d : ℕ) whe
 
   -- ---- a name
   module _ (name : Bor (List ℕ)) where
-    pub name_good : (e : Entry) → IsFirst kept d (Name name) 0 slot_count e → slot kept.geometry view d e.slot ≡ Good e.number name.now
+    pub name_good : (e : Entry) → IsFirst kept d (Name name) 0 (slot_count kept.geometry) e → slot kept.geometry view d e.slot ≡ Good e.number name.now
     name_good e first =
         named_is (slot kept.geometry view d e.slot) name.now (there (Name name) e.slot true first.met)
         ∙ ap (λ n. Good n name.now) (ap number_in (sym (shown_slot kept view shown d e.slot)) ∙ first.number)
 
-    pub name_found : (o : Option Entry) → IfSome o (IsFirst kept d (Name name) 0 slot_count) → IfNone o (NoneIsSought kept d (Name name) 0 slot_count)
+    pub name_found : (o : Option Entry) → IfSome o (IsFirst kept d (Name name) 0 (slot_count kept.geometry)) → IfNone o (NoneIsSought kept d (Name name) 0 (slot_count kept.geometry))
         → MatchOption o (slot_of kept.geometry view d name.now ≡ None) (λ e. (slot_of kept.geometry view d name.now ≡ Some e.slot) × (number_in (slot kept.geometry view d e.slot) ≡ e.number))
     unfolding slot_of
-    name_found None first none = first_none slot_count (λ s. has_name (slot kept.geometry view d s) name.now) (none_there (Name name) slot_count none)
+    name_found None first none = first_none (slot_count kept.geometry) (λ s. has_name (slot kept.geometry view d s) name.now) (none_there (Name name) (slot_count kept.geometry) none)
     name_found (Some e) first none = (
-      first_here slot_count (λ s. has_name (slot kept.geometry view d s) name.now) e.slot first.below (there (Name name) e.slot true first.met) (none_there (Name name) e.slot first.before),
+      first_here (slot_count kept.geometry) (λ s. has_name (slot kept.geometry view d s) name.now) e.slot first.below (there (Name name) e.slot true first.met) (none_there (Name name) e.slot first.before),
       ap number_in (name_good e first),
     )
 
-    pub entry_found : (o : Option Entry) → IfSome o (IsFirst kept d (Name name) 0 slot_count) → IfSome o (λ e. slot kept.geometry view d e.slot ≡ Good e.number name.now)
+    pub entry_found : (o : Option Entry) → IfSome o (IsFirst kept d (Name name) 0 (slot_count kept.geometry)) → IfSome o (λ e. slot kept.geometry view d e.slot ≡ Good e.number name.now)
     entry_found None first = tt
     entry_found (Some e) first = name_good e first
 
   -- ---- an empty slot
-  pub no_room : NoneIsSought kept d Room 0 slot_count → IsFalse (has_room kept.geometry view d)
-  no_room none = any_none slot_count (λ s. is_empty (slot kept.geometry view d s)) (none_there Room slot_count none)
+  pub no_room : NoneIsSought kept d Room 0 (slot_count kept.geometry) → IsFalse (has_room kept.geometry view d)
+  no_room none = any_none (slot_count kept.geometry) (λ s. is_empty (slot kept.geometry view d s)) (none_there Room (slot_count kept.geometry) none)
 
-  pub room_found : (e : Entry) → IsFirst kept d Room 0 slot_count e
-      → (e.slot < slot_count) × (slot kept.geometry view d e.slot ≡ Empty) × ((t : ℕ) → t < e.slot → slot kept.geometry view d t ≢ Empty)
+  pub room_found : (e : Entry) → IsFirst kept d Room 0 (slot_count kept.geometry) e
+      → (e.slot < slot_count kept.geometry) × (slot kept.geometry view d e.slot ≡ Empty) × ((t : ℕ) → t < e.slot → slot kept.geometry view d t ≢ Empty)
   room_found e first = (
     first.below,
     empty_is (slot kept.geometry view d e.slot) (there Room e.slot true first.met),
     (λ t below empty. both_ways (is_empty (slot kept.geometry view d t)) (none_there Room e.slot first.before t below) (ap is_empty empty)),
   )
 
-  pub has_the_room : (e : Entry) → IsFirst kept d Room 0 slot_count e → IsTrue (has_room kept.geometry view d)
-  has_the_room e first = any_here slot_count (λ s. is_empty (slot kept.geometry view d s)) e.slot first.below (there Room e.slot true first.met)
+  pub has_the_room : (e : Entry) → IsFirst kept d Room 0 (slot_count kept.geometry) e → IsTrue (has_room kept.geometry view d)
+  has_the_room e first = any_here (slot_count kept.geometry) (λ s. is_empty (slot kept.geometry view d s)) e.slot first.below (there Room e.slot true first.met)
 
   -- ---- any name
-  pub names_found : (o : Option Entry) → IfSome o (IsFirst kept d AnyName 0 slot_count) → IfNone o (NoneIsSought kept d AnyName 0 slot_count) → is_some o ≡ has_names kept.geometry view d
-  names_found None first none = sym (any_none slot_count (λ s. leb 2 s && not (eqb (number_in (slot kept.geometry view d s)) 0)) (none_there AnyName slot_count none))
-  names_found (Some e) first none = sym (any_here slot_count (λ s. leb 2 s && not (eqb (number_in (slot kept.geometry view d s)) 0)) e.slot first.below (there AnyName e.slot true first.met))
+  pub names_found : (o : Option Entry) → IfSome o (IsFirst kept d AnyName 0 (slot_count kept.geometry)) → IfNone o (NoneIsSought kept d AnyName 0 (slot_count kept.geometry)) → is_some o ≡ has_names kept.geometry view d
+  names_found None first none = sym (any_none (slot_count kept.geometry) (λ s. leb 2 s && not (eqb (number_in (slot kept.geometry view d s)) 0)) (none_there AnyName (slot_count kept.geometry) none))
+  names_found (Some e) first none = sym (any_here (slot_count kept.geometry) (λ s. leb 2 s && not (eqb (number_in (slot kept.geometry view d s)) 0)) e.slot first.below (there AnyName e.slot true first.met))

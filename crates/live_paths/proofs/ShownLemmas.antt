@@ -19,7 +19,7 @@ self_shown kept = record {
   inode = λ i n. refl;
   number_marked = λ i n. refl;
   block_marked = λ a n. refl;
-  indirect_blocks = λ i a c. refl;
+  tables = λ i m a t c. refl;
   directory_blocks = λ d k a t c. refl;
 }
 
@@ -33,7 +33,7 @@ module _ (kept : Kept) (view : View) (shown : IsShownBy kept view) where
   shown_slot_of : (d : ℕ) (name : List ℕ) → slot_of kept.geometry (frozen_view kept) d name ≡ slot_of kept.geometry view d name
   unfolding slot_of
   shown_slot_of d name =
-      first_same slot_count (λ s. has_name (slot kept.geometry (frozen_view kept) d s) name) (λ s. has_name (slot kept.geometry view d s) name)
+      first_same (slot_count kept.geometry) (λ s. has_name (slot kept.geometry (frozen_view kept) d s) name) (λ s. has_name (slot kept.geometry view d s) name)
       (λ s. ap (λ x. has_name x name) (shown_slot d s))
 
   number_at : (d : ℕ) (o : Option ℕ) → option_map (λ s. number_in (slot kept.geometry (frozen_view kept) d s)) o ≡ option_map (λ s. number_in (slot kept.geometry view d s)) o

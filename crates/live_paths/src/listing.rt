@@ -3,7 +3,7 @@ ghost use Rattle.frozen.specs.Kept.{frozen_view};
 ghost use Rattle.dirent.specs.Seen.{seen};
 ghost use Rattle.machine.specs.Effects as machine;
 ghost use Rattle.model.specs.Reach.{slot_count};
-ghost use Rattle.model.specs.Uses.{indirect_position};
+ghost use Rattle.model.specs.Shape.{most_blocks};
 ghost use Rattle.model.specs.View.{View};
 ghost use Rattle.live_paths.specs.Listed.{name_of};
 ghost use Rattle.live_paths.specs.Shown.{IsShownBy};
@@ -25,7 +25,7 @@ pub struct Named {
 /// The names in a directory behind its dots, in the order of the slots; none where the number is no sound directory's.
 pub fn names(alloc: Global, frozen: &Frozen, directory: u32) -> Result<Vec<Named>, AllocError>
     ensures { IfOk result (λ names. (view : View) → IsShownBy frozen.now view
-        → map name_of names.items ≡ machine.names_below frozen.now.geometry view directory slot_count) }
+        → map name_of names.items ≡ machine.names_below frozen.now.geometry view directory (slot_count frozen.now.geometry)) }
 {
     let mut names = Vec::new(alloc);
     for position in 0..block_count(frozen, directory) {
@@ -42,7 +42,7 @@ fn add_block(
     directory: u32,
     position: u32,
 ) -> Result<(), AllocError>
-    requires { position < indirect_position }
+    requires { position < most_blocks frozen.now.geometry }
     ensures { OnOk result (map name_of names.old.items ≡ machine.names_below frozen.now.geometry (frozen_view frozen.now) directory (16 * position)
         → map name_of names.new.items ≡ machine.names_below frozen.now.geometry (frozen_view frozen.now) directory (16 * (position + 1))) }
 {

@@ -15,7 +15,7 @@ pub fn find(frozen: &Frozen, directory: u32, name: &[u8]) -> Option<Entry>
     ensures found { (view : View) → IsShownBy frozen.now view → MatchOption result (slot_of frozen.now.geometry view directory name.now ≡ None)
         (λ e. (slot_of frozen.now.geometry view directory name.now ≡ Some e.slot) × (number_in (slot frozen.now.geometry view directory e.slot) ≡ e.number)) }
     ensures entry { (view : View) → IsShownBy frozen.now view → IfSome result (λ e. slot frozen.now.geometry view directory e.slot ≡ Good e.number name.now) }
-    ensures within { IfSome result (λ e. e.slot < slot_count) }
+    ensures within { IfSome result (λ e. e.slot < slot_count frozen.now.geometry) }
 {
     first(frozen, directory, &Sought::Name(name))
 }
@@ -24,7 +24,7 @@ pub fn find(frozen: &Frozen, directory: u32, name: &[u8]) -> Option<Entry>
 /// slots, so a full directory may still have room for one more block.
 pub fn empty_slot(frozen: &Frozen, directory: u32) -> Option<u32>
     ensures found { (view : View) → IsShownBy frozen.now view → MatchOption result (IsFalse (has_room frozen.now.geometry view directory))
-        (λ s. (s < slot_count) × (slot frozen.now.geometry view directory s ≡ Empty) × ((t : ℕ) → t < s → slot frozen.now.geometry view directory t ≢ Empty)) }
+        (λ s. (s < slot_count frozen.now.geometry) × (slot frozen.now.geometry view directory s ≡ Empty) × ((t : ℕ) → t < s → slot frozen.now.geometry view directory t ≢ Empty)) }
     ensures room { (view : View) → IsShownBy frozen.now view → IfSome result (λ s. IsTrue (has_room frozen.now.geometry view directory)) }
 {
     let found = first(frozen, directory, &Sought::Room)?;

@@ -6,7 +6,8 @@ ghost use Rattle.machine.specs.Paths as machine;
 ghost use Rattle.machine.specs.Room as room;
 ghost use Rattle.model.specs.Reach.{slot_count};
 ghost use Rattle.model.specs.Slots as model;
-ghost use Rattle.model.specs.Uses.{indirect_position, is_directory_at};
+ghost use Rattle.model.specs.Shape.{most_blocks};
+ghost use Rattle.model.specs.Uses.{is_directory_at};
 ghost use Rattle.model.specs.View as view;
 ghost use Rattle.live_paths.specs.Sought.{is_sought, IsFirst, NoneIsSought};
 
@@ -41,8 +42,8 @@ pub(crate) enum Sought<'a> {
 /// The first slot of a directory that is sought, with the number that stands there, 0 where the slot is empty. A number
 /// that is no sound directory's has no slots.
 pub(crate) fn first(frozen: &Frozen, directory: u32, sought: &Sought) -> Option<Entry>
-    ensures found { IfSome result (IsFirst frozen.now directory sought.now 0 slot_count) }
-    ensures none { IfNone result (NoneIsSought frozen.now directory sought.now 0 slot_count) }
+    ensures found { IfSome result (IsFirst frozen.now directory sought.now 0 (slot_count frozen.now.geometry)) }
+    ensures none { IfNone result (NoneIsSought frozen.now directory sought.now 0 (slot_count frozen.now.geometry)) }
 {
     if !frozen.is_directory_at(directory) {
         return None;
@@ -58,7 +59,7 @@ pub(crate) fn first(frozen: &Frozen, directory: u32, sought: &Sought) -> Option<
 
 /// How many blocks of slots a directory has, and none where the number is no sound directory's.
 pub(crate) fn block_count(frozen: &Frozen, directory: u32) -> u32
-    ensures few { result ≤ indirect_position }
+    ensures few { result ≤ most_blocks frozen.now.geometry }
     ensures past { (s : ℕ) → 16 * result ≤ s → model.slot frozen.now.geometry (frozen_view frozen.now) directory s ≡ model.Absent }
 {
     if !frozen.is_directory_at(directory) {
@@ -77,7 +78,7 @@ fn block_at<'a>(
 ) -> Option<&'a Block>
     requires directory { IsTrue (is_directory_at frozen.now.geometry (frozen_view frozen.now) directory) }
     requires inode { (frozen_view frozen.now).inode directory ≡ inode.now }
-    requires position { position < indirect_position }
+    requires position { position < most_blocks frozen.now.geometry }
     ensures slots { (s : ℕ) → s / 16 ≡ position → model.slot frozen.now.geometry (frozen_view frozen.now) directory s
         ≡ option_map_or (λ block. model.slot_in frozen.now.geometry block s) (option_copied result) model.Absent }
 {
@@ -101,7 +102,7 @@ fn first_in_block(
 ) -> Option<Entry>
     requires directory { IsTrue (is_directory_at frozen.now.geometry (frozen_view frozen.now) directory) }
     requires inode { (frozen_view frozen.now).inode directory ≡ inode.now }
-    requires position { position < indirect_position }
+    requires position { position < most_blocks frozen.now.geometry }
     ensures found { IfSome result (IsFirst frozen.now directory sought.now (16 * position) (16 * (position + 1))) }
     ensures none { IfNone result (NoneIsSought frozen.now directory sought.now (16 * position) (16 * (position + 1))) }
 {

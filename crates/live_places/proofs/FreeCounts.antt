@@ -6,7 +6,7 @@ use Rattle.model.specs.View.{View}
 use Rattle.model.specs.Reach.{sum_below}
 use Rattle.model.proofs.Sums.{sum-split, sum-none, sum_from}
 use Rattle.machine.specs.Room.{IsFreeBlock, unmarked_blocks}
-use Rattle.free_space.specs.Free.{IsNextBlock}
+use Rattle.metadata.specs.Free.{IsNextBlock}
 use Rattle.live_places.specs.Taken.{free_below}
 
 -- ---- a sum between two bounds

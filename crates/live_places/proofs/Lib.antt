@@ -1,4 +1,4 @@
 mod ChoiceLemmas
 pub mod FreeCounts
-mod RoomLemmas
+pub mod RoomLemmas
 pub mod ShownLemmas

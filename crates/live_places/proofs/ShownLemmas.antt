@@ -1,16 +1,18 @@
 -- What is chosen on the kept blocks holds in each view of which they hold the metadata.
-use Rattle.std.proofs.Common.{◌≡◌, ◌+◌, ◌/◌, ℕ, Bool, not, ◌&&◌, cond, leb, refl, sym, ap, ap₂, ◌∙◌, arith, IsTrue, IsFalse, Option, Some, None}
+use Rattle.std.proofs.Common.{◌≡◌, ◌+◌, ◌/◌, ℕ, Bool, not, ◌&&◌, cond, leb, refl, sym, ap, ap₂, ◌∙◌, arith, length, IsTrue, IsFalse, Option, Some, None}
 use Rattle.std.specs.Bool.{then_some}
 use Rattle.std.specs.Option.{option_and_then, IfSome}
 use Rattle.model.specs.Layout.{Geometry, is_data_address, block_count}
 use Rattle.model.specs.View.{View, Inode}
-use Rattle.model.specs.Uses.{blocks_of, claim_at, is_directory_at, indirect_position}
+use Rattle.model.specs.Shape.{most_blocks, new_tables}
+use Rattle.model.specs.Uses.{blocks_of, claim_at, is_directory_at}
 use Rattle.model.specs.Slots.{slot}
 use Rattle.model.specs.Reach.{slot_count}
-use Rattle.model.proofs.Same.{SameFacts, same_facts, same_and}
+use Rattle.model.proofs.Alike.{same_and}
+use Rattle.model.proofs.Same.{SameFacts, same_facts}
 use Rattle.model.proofs.Sums.{sum-same}
 use Rattle.frozen.specs.Kept.{Kept, frozen_view}
-use Rattle.free_space.specs.Free.{IsNextBlock}
+use Rattle.metadata.specs.Free.{IsNextBlock}
 use Rattle.machine.specs.Room.{IsFreeBlock, has_room, is_empty, is_full, unmarked_blocks, blocks_to_append}
 use Rattle.machine.proofs.Decisions.{any_same, directory_is_sound, sound_parts}
 use Rattle.live_paths.specs.Shown.{IsShownBy}
@@ -25,7 +27,7 @@ self_shown kept = record {
   inode = λ i n. refl;
   number_marked = λ i n. refl;
   block_marked = λ a n. refl;
-  indirect_blocks = λ i a c. refl;
+  tables = λ i m a t c. refl;
   directory_blocks = λ d k a t c. refl;
 }
 
@@ -64,7 +66,7 @@ module _ (kept : Kept) (view : View) (shown : IsShownBy kept view) where
 
   room_there : (d : ℕ) → has_room kept.geometry (frozen_view kept) d ≡ has_room kept.geometry view d
   room_there d =
-      any_same slot_count (λ s. is_empty (slot kept.geometry (frozen_view kept) d s)) (λ s. is_empty (slot kept.geometry view d s))
+      any_same (slot_count kept.geometry) (λ s. is_empty (slot kept.geometry (frozen_view kept) d s)) (λ s. is_empty (slot kept.geometry view d s))
       (λ s b. ap is_empty (same.slots d s))
 
   claim_there : (d k : ℕ) → claim_at kept.geometry (frozen_view kept) d k ≡ claim_at kept.geometry view d k
@@ -93,14 +95,17 @@ module _ (kept : Kept) (view : View) (shown : IsShownBy kept view) where
     size_there = ap (λ (n : Inode). blocks_of n.size) inode_there
 
     pub full_there : is_full kept.geometry (frozen_view kept) d ≡ is_full kept.geometry view d
-    full_there = ap₂ (λ r n. not r && leb indirect_position n) (room_there d) size_there
+    full_there = ap₂ (λ r n. not r && leb (most_blocks kept.geometry) n) (room_there d) size_there
 
     pub needed_there : (own : Bool) → blocks_needed kept.geometry (frozen_view kept) d own ≡ blocks_needed kept.geometry view d own
-    needed_there own = ap₂ (λ r n. cond own 1 0 + cond r 0 (blocks_to_append n)) (room_there d) inode_there
+    needed_there own = ap₂ (λ r n. cond own 1 0 + cond r 0 (blocks_to_append kept.geometry n)) (room_there d) inode_there
+
+    same_tables : length (new_tables kept.geometry (blocks_of ((frozen_view kept).inode d).size)) ≡ length (new_tables kept.geometry (blocks_of (view.inode d).size))
+    same_tables = ap (λ n. length (new_tables kept.geometry n)) size_there
 
     table_there : (block : ℕ) (table : Option ℕ) → IsTableOf kept.geometry (frozen_view kept) d block table → IsTableOf kept.geometry view d block table
-    table_there block None is = λ e. is (size_there ∙ e)
-    table_there block (Some x) is = (sym size_there ∙ is.0, free_there x is.1, is.2)
+    table_there block None is = (is.0 ∙ same_tables, tt)
+    table_there block (Some x) is = (is.0 ∙ same_tables, (free_there x is.1.0, is.1.1))
 
     place_there : (place : Place) → IsPlace kept.geometry (frozen_view kept) d place → IsPlace kept.geometry view d place
     place_there (Slot s block) is = record {

@@ -1,12 +1,13 @@
 -- What a command chose that enters a name into a directory.
-use Rattle.std.specs.Prelude.{◌≡◌, ◌≢◌, ℕ, ◌<◌, ◌+◌, ◌/◌, Bool, if◌then◌else◌, Option, Some, MatchOption, IfSome, IsTrue, IsFalse}
+use Rattle.std.specs.Prelude.{◌≡◌, ◌≢◌, ℕ, ◌<◌, ◌+◌, ◌/◌, Bool, if◌then◌else◌, List, [], ◌∷◌, length, Option, Some, None, MatchOption, IfSome, IsTrue, IsFalse}
 use Rattle.std.specs.Option.{option_map_or}
 use Rattle.model.specs.Layout.{Geometry}
 use Rattle.model.specs.View.{View}
-use Rattle.model.specs.Uses.{blocks_of, claim_at, direct_positions}
+use Rattle.model.specs.Shape.{new_tables}
+use Rattle.model.specs.Uses.{blocks_of, claim_at}
 use Rattle.model.specs.Slots.{Empty, slot}
 use Rattle.machine.specs.Room.{IsFreeBlock, has_room, blocks_to_enter}
-use Rattle.free_space.specs.Free.{IsNextBlock}
+use Rattle.metadata.specs.Free.{IsNextBlock}
 use Rattle.live_places.specs.declared.choosing.Place.{Place}
 use Rattle.live_places.specs.declared.choosing.Place.TheVariants.{Slot, NewBlock}
 use Rattle.live_places.specs.declared.choosing.Places.{Places}
@@ -26,11 +27,15 @@ pub record IsEmptySlot (geo : Geometry) (view : View) (d s block : ℕ) : Type 0
   pub stands : claim_at geo view d (s / 16) ≡ Some block
   pub room : IsTrue (has_room geo view d)
 
--- a block for the pointers of directory d, exactly where all places for pointers in its record are in use and it has none
+-- the blocks that were chosen for new tables
+abbrev pub listed : Option ℕ → List ℕ
+listed None = []
+listed (Some x) = x ∷ []
+
+-- as many blocks for new tables as come with the next block of directory d, each of them free and another one than that block
 abbrev pub IsTableOf : Geometry → View → ℕ → ℕ → Option ℕ → Type 0
 IsTableOf geo view d block table =
-    MatchOption table (blocks_of (view.inode d).size ≢ direct_positions)
-    (λ x. (blocks_of (view.inode d).size ≡ direct_positions) × IsFreeBlock geo view x × (x ≢ block))
+    (length (listed table) ≡ length (new_tables geo (blocks_of (view.inode d).size))) × IfSome table (λ x. IsFreeBlock geo view x × (x ≢ block))
 
 -- Directory d has no empty slot, and these blocks may be given out.
 pub record IsNewBlock (geo : Geometry) (view : View) (d block : ℕ) (pointers : Option ℕ) : Type 0 where

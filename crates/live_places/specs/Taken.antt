@@ -4,7 +4,7 @@ use Rattle.model.specs.Layout.{Geometry, is_data_address}
 use Rattle.model.specs.View.{View}
 use Rattle.model.specs.Reach.{sum_below}
 use Rattle.machine.specs.Room.{unmarked_blocks}
-use Rattle.free_space.specs.Free.{IsNextBlock}
+use Rattle.metadata.specs.Free.{IsNextBlock}
 
 abbrev pub free_below : Geometry → View → ℕ → ℕ
 free_below geo view n = sum_below n (λ a. if is_data_address geo a && not (view.block_marked a) then 1 else 0)

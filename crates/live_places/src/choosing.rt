@@ -19,8 +19,8 @@ use metadata::Metadata;
 pub enum Place {
     /// Into an empty slot, in this block of the directory.
     Slot { slot: u32, block: u32 },
-    /// Into a new block of the directory, whose pointer stands in the record or in the indirect block; with a new
-    /// indirect block where one is needed and there was none.
+    /// Into a new block of the directory, whose pointer stands in the record or in a table; with a new table where one
+    /// comes with this block.
     NewBlock { block: u32, table: Option<u32> },
 }
 

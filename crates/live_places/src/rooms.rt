@@ -7,7 +7,6 @@ ghost use Rattle.live_places.specs.Rooms.{IsRoomOf};
 
 use dirent::SLOTS;
 use frozen::Frozen;
-use inode::{DIRECT_POINTERS, INDIRECT_POSITION};
 use layout::Refusal;
 use live_paths::empty_slot;
 
@@ -18,7 +17,7 @@ pub(crate) enum Room {
     Slot { slot: u32, block: u32 },
     /// In a new block, for whose pointer there is a place.
     Pointer,
-    /// In a new block, for whose pointer there has to be a new indirect block.
+    /// In a new block, with which a new table comes for its pointer.
     Table,
 }
 
@@ -34,10 +33,11 @@ pub(crate) fn room_in(frozen: &Frozen, directory: u32) -> Result<Room, Refusal>
             None => unreachable!(),
         };
     }
+    let geometry = frozen.geometry();
     let blocks = frozen.record(directory).blocks();
-    if blocks >= INDIRECT_POSITION {
+    if blocks >= geometry.most_blocks() {
         Err(Refusal::TooBig)
-    } else if blocks == DIRECT_POINTERS as u32 {
+    } else if geometry.tables_end(blocks + 1) > geometry.tables_end(blocks) {
         Ok(Room::Table)
     } else {
         Ok(Room::Pointer)

@@ -5,9 +5,11 @@ use Rattle.std.proofs.lemmas.Option.{none-some, same_Some}
 use Rattle.std.proofs.lemmas.List.Elements.{All-contains_itself, All-push, All-weaker, Contains-append_left, Contains-push}
 use Rattle.model.specs.Layout.{Geometry}
 use Rattle.model.specs.View.{Inode, View}
-use Rattle.model.specs.Uses.{IsClaim, blocks_of, claim_at, indirect_position, is_sound, is_sound_at}
+use Rattle.model.specs.Shape.{most_blocks}
+use Rattle.model.specs.Uses.{IsClaim, blocks_of, claim_at, is_sound, is_sound_at}
 use Rattle.model.proofs.Same.{same_facts}
-use Rattle.model.proofs.UseLemmas.{claim_from, claim_parts, use_parts}
+use Rattle.model.proofs.UseLemmas.{claim_from, claim_parts}
+use Rattle.model.proofs.Uses.{has_below, use_parts, used_has}
 use Rattle.ordering.specs.Cuts.{Block, Cell}
 use Rattle.updates.specs.declared.cell.Cell as program
 use Rattle.updates.specs.Places.{IsCell}
@@ -15,21 +17,12 @@ use Rattle.updates.specs.Values.{cell}
 use Rattle.frozen.specs.Kept.{Kept, KeepsMetadata, frozen_view}
 use Rattle.metadata.specs.Shown.{Shows}
 use Rattle.metadata.proofs.ShownLemmas.{shows_metadata}
-use Rattle.plans_data.proofs.Used.{Direct, Middle, Last, uses}
 use Rattle.plans_naming.specs.Entries.{HasBlocks}
 use Rattle.courses.specs.After.{AreBlocks, IsBlockOf}
 
--- a sound record has no more blocks than there are positions for them
-pub few_blocks : (x : Inode) → IsTrue (is_sound x) → blocks_of x.size ≤ indirect_position
-few_blocks x h = leb-true (blocks_of x.size) indirect_position (and_parts _ (leb (blocks_of x.size) indirect_position) h).1
-
 -- a position below the last that is claimed is one of the blocks
-pub claimed_below : (geo : Geometry) (v : View) (d k a : ℕ) → IsClaim geo v d k a → k < indirect_position → k < blocks_of (v.inode d).size
-claimed_below geo v d k a claim low = elim (uses geo (v.inode d) k (use_parts geo v d k a claim.0).used) [
-  | Direct small inside ↦ inside
-  | Middle large small inside address ↦ inside
-  | Last at many ↦ absurd (omega (arith, at, low))
-]
+pub claimed_below : (geo : Geometry) (v : View) (d k a : ℕ) → IsClaim geo v d k a → k < most_blocks geo → k < blocks_of (v.inode d).size
+claimed_below geo v d k a claim low = has_below geo (v.inode d) k low (used_has geo v d k a claim.0)
 
 -- To these cells were added the blocks of d at the positions below n, and no others.
 pub record AddsBlocks (geo : Geometry) (v : View) (d n : ℕ) (old new : List Cell) : Type 0 where
@@ -50,7 +43,7 @@ module _ (geo : Geometry) (v : View) (d : ℕ) (old : List Cell) where
     cells = λ all. all;
   }
 
-  pub adds_block : (n b : ℕ) (now : List Cell) → n < indirect_position → claim_at geo v d n ≡ Some b → AddsBlocks geo v d n old now → AddsBlocks geo v d (n + 1) old (now ++ Block b ∷ [])
+  pub adds_block : (n b : ℕ) (now : List Cell) → n < most_blocks geo → claim_at geo v d n ≡ Some b → AddsBlocks geo v d n old now → AddsBlocks geo v d (n + 1) old (now ++ Block b ∷ [])
   adds_block n b now below claimed adds = record {
     kept = λ c m. Contains-append_left now (Block b ∷ []) c (adds.kept c m);
     blocks = λ k e low claim. elim (cases_lt k n) [

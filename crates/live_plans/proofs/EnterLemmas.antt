@@ -29,14 +29,13 @@ module _ (geo : Geometry) (view : View) (d number : ℕ) (name entry : List ℕ)
     goes_on = goes_as old new _ (λ q. slot_written block (view.bytes block) s entry after ∷ q) (λ q. ap (λ bs. slot_written block bs s entry after ∷ q) (sym same)) goes;
   }
 
-  pub enters_new_block : (inode : Inode) (block : ℕ) (pointers : Option ℕ) (slot : ℕ) (old between new : Draft) → slot / 16 ≡ blocks_of (view.inode d).size → Grows geo view d inode block pointers old between
+  pub enters_new_block : (inode : Inode) (block : ℕ) (table : Option ℕ) (slot : ℕ) (old between new : Draft) → slot / 16 ≡ blocks_of (view.inode d).size → Grows geo view d inode block table old between
       → GoesOn between new (λ q. slot_written block empty_block slot entry after ∷ q)
-      → EntersNewBlock geo view d inode number name block pointers old new
-  enters_new_block inode block pointers slot old between new stands grows goes = record {
+      → EntersNewBlock geo view d inode number name block table old new
+  enters_new_block inode block table slot old between new stands grows goes = record {
     kept = grows.kept;
     keeps = grows.keeps;
-    other = grows.other;
-    indirect = grows.indirect;
+    tables = grows.tables;
     slot = slot;
     stands = stands;
     entry = entry;
@@ -45,7 +44,7 @@ module _ (geo : Geometry) (view : View) (d number : ℕ) (name entry : List ℕ)
     record_first = first;
     blocks_first = blocks;
     only = only;
-    goes_on = goes_then old between new (grown d inode block grows.kept) (λ q. slot_written block empty_block slot entry after ∷ q) grows.goes_on goes;
+    goes_on = goes_then old between new (grown geo d inode block grows.kept) (λ q. slot_written block empty_block slot entry after ∷ q) grows.goes_on goes;
   }
 
 -- the cells that the entry comes after: the record of the number, and those that were added to it

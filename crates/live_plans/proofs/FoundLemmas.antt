@@ -1,15 +1,17 @@
 -- Where a path leads, by the slot in which its last part was found.
-use Rattle.std.proofs.Common.{◌≡◌, ◌/◌, ℕ, List, [], ◌∷◌, refl, sym, ap, ◌∙◌, Option, Some, None, Result, Ok, Err}
+use Rattle.std.proofs.Common.{◌≡◌, ◌/◌, ℕ, List, [], ◌∷◌, refl, sym, ap, ◌∙◌, true, is_some, Option, Some, None, Result, Ok, Err}
 use Rattle.std.specs.Bool.{then_some}
 use Rattle.std.specs.Option.{option_map, option_and_then}
+use Rattle.std.proofs.lemmas.Bool.{false≢true}
 use Rattle.std.proofs.lemmas.Option.{none-some}
 use Rattle.model.specs.Layout.{Geometry, root, is_data_address}
 use Rattle.model.specs.View.{View}
 use Rattle.model.specs.Metadata.{SameMetadata}
-use Rattle.model.specs.Uses.{claim_at}
+use Rattle.model.specs.Uses.{IsClaim, claim_at}
 use Rattle.model.specs.Slots.{Good, slot, number_in}
 use Rattle.model.proofs.Same.{same_facts}
 use Rattle.model.proofs.SlotLemmas.{slot_content}
+use Rattle.model.proofs.UseLemmas.{claim_parts}
 use Rattle.layout.specs.declared.refusal.Refusal.{Refusal}
 use Rattle.layout.specs.declared.refusal.Refusal.TheVariants.{NotFound}
 use Rattle.frozen.specs.Kept.{Kept, frozen_view}
@@ -22,7 +24,7 @@ self_shown kept = record {
   inode = λ i n. refl;
   number_marked = λ i n. refl;
   block_marked = λ a n. refl;
-  indirect_blocks = λ i a c. refl;
+  tables = λ i m a t c. refl;
   directory_blocks = λ d k a t c. refl;
 }
 
@@ -31,6 +33,11 @@ unfolding claim_at
 same_claim geo v w m d k = ap (option_and_then (λ a. then_some (is_data_address geo a) a)) ((same_facts geo v w m).uses d k)
 
 module _ (geo : Geometry) (view : View) where
+  -- a claim that is found is one
+  pub is_claimed : (n k : ℕ) (found : Option ℕ) → is_some found ≡ true → found ≡ claim_at geo view n k → (x : ℕ) × IsClaim geo view n k x
+  is_claimed n k None some is = absurd (false≢true some)
+  is_claimed n k (Some x) some is = (x, claim_parts geo view n k x (sym is))
+
   -- an entry stands in a block that its directory claims
   pub entry_claims : (d s i : ℕ) (name : List ℕ) → slot geo view d s ≡ Good i name → claim_at geo view d (s / 16) ≡ None → ⊥
   entry_claims d s i name e none =

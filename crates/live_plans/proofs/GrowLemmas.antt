@@ -1,60 +1,51 @@
 -- What a new block of a directory, and the pointer to it, add to the updates in the making.
-use Rattle.std.proofs.Common.{◌≡◌, ◌≢◌, ◌<◌, ◌≤◌, ◌+◌, ◌^◌, ℕ, Bool, true, false, not, ◌&&◌, leb, List, [], ◌∷◌, replicate, slice_set, refl, sym, ap, ap₂, ◌∙◌, subst, arith, IsTrue, IsFalse, Option, Some, None}
-use Rattle.std.proofs.lemmas.Bool.{and_from, both_ways, leb-false}
-use Rattle.std.proofs.lemmas.List.{length-replicate}
-use Rattle.std.proofs.lemmas.List.Elements.{All-replicate}
-use Rattle.model.specs.Layout.{Geometry, is_data_address, is_number}
+use Rattle.std.proofs.Common.{◌≡◌, ◌<◌, ◌+◌, ℕ, Bool, true, false, not, ◌&&◌, leb, List, [], ◌∷◌, length, refl, sym, ap, ap₂, ◌∙◌, subst, arith, IsTrue, IsFalse, Option, Some, None}
+use Rattle.std.proofs.lemmas.Bool.{and_from, both_ways, le-leb, leb-false}
+use Rattle.std.proofs.lemmas.Option.{none-some}
+use Rattle.model.specs.Layout.{Geometry, IsGeometry, is_number}
 use Rattle.model.specs.View.{View, Inode}
-use Rattle.model.specs.Image.{IsBlock}
 use Rattle.model.specs.Cells.{SetBlock, SetBytes, SetInode}
-use Rattle.model.specs.Uses.{IsClaim, blocks_of, direct_positions, indirect_position, is_directory_at, is_sound}
-use Rattle.model.proofs.UseLemmas.{use_from}
-use Rattle.machine.specs.Cells.{with_pointer}
+use Rattle.model.specs.Shape.{Next, first_block, is_table, most_blocks, new_tables, position_count, table_of}
+use Rattle.model.specs.Uses.{IsClaim, blocks_of, has_position, is_directory_at, is_sound, is_sound_at}
+use Rattle.model.proofs.Same.{same_facts}
+use Rattle.model.proofs.Shape.{New, NoNew, OneNew, TwoNew, new, numbers, reach_from, shallow, some_table, table_inside, table_is_table}
+use Rattle.machine.specs.Cells.{block_of}
 use Rattle.machine.specs.Effects.{with_links}
 use Rattle.machine.specs.Room.{IsFreeBlock, has_room, is_full}
-use Rattle.machine.proofs.Decisions.{directory_is_sound}
-use Rattle.machine.proofs.PointerTables.{pointer_here, pointer_whole}
-use Rattle.ordering.specs.Cuts.{Block, Cell}
-use Rattle.frozen.specs.Kept.{Kept, frozen_view}
+use Rattle.ordering.specs.Cuts.{Cell}
+use Rattle.frozen.specs.Kept.{Kept, KeepsMetadata, frozen_view}
 use Rattle.metadata.specs.Shown.{Shows}
-use Rattle.plans_data.specs.Append.{InRecord, InTable, InNewTable, filled, linked, pointed, sized}
-use Rattle.plans_data.proofs.Blocks.{claims_indirect}
-use Rattle.plans_data.proofs.Used.{Last, used, value_last}
+use Rattle.metadata.proofs.ShownLemmas.{shows_metadata}
+use Rattle.plans_data.specs.Append.{Holder, filled, known, linked, pointed, sized}
+use Rattle.plans_data.specs.Plans.{AllFree, IsChoice, holder_of}
+use Rattle.plans_data.proofs.Blocks.{block_is, position_claimed}
+use Rattle.plans_data.proofs.Tables.{Keeps, kept_next}
 use Rattle.plans_naming.specs.Grow.{empty_block, grown}
-use Rattle.live_places.specs.Chosen.{IsTableOf}
+use Rattle.live_places.specs.Chosen.{IsNewBlock, IsTableOf, listed}
 use Rattle.live_states.specs.Drafts.{Draft, GoesOn}
-use Rattle.live_plans.specs.Grown.{Grows, HasPointers, PointsTo}
 use Rattle.live_states.specs.Planned.{IsOfVolume}
+use Rattle.live_plans.specs.Grown.{Grows}
+use Rattle.live_plans.specs.Linked.{CanLink, HasPointers, IsLinked}
 use Rattle.live_plans.proofs.DraftLemmas.{goes_as, goes_then}
+use Rattle.live_plans.proofs.LinkLemmas.{holder_there}
 
--- a directory of more than 12 blocks claims its indirect block, if that is a data block
-pub claims_pointers : (geo : Geometry) (view : View) (d : ℕ) → IsTrue (is_directory_at geo view d) → IsTrue (is_data_address geo (view.inode d).indirect) → 12 < blocks_of (view.inode d).size → IsClaim geo view d indirect_position (view.inode d).indirect
-claims_pointers geo view d directory address many = (
-  use_from geo view d indirect_position (view.inode d).indirect
-      (record { sound = directory_is_sound geo view d directory; used = used geo (view.inode d) indirect_position (Last refl many); value = value_last view (view.inode d) indirect_position refl }),
-  address,
-)
-
--- which it is on a volume
-pub volume_claims : (kept : Kept) → IsOfVolume kept → (d : ℕ) → IsTrue (is_directory_at kept.geometry (frozen_view kept) d) → HasPointers kept d
-volume_claims kept volume d directory many =
+-- a sound inode claims the tables that it has, on a volume
+pub volume_claims : (kept : Kept) → KeepsMetadata kept → IsOfVolume kept → (d : ℕ) → IsTrue (is_sound_at kept.geometry (frozen_view kept) d) → HasPointers kept d
+volume_claims kept keeps volume d sound m is has =
     let users = volume.old.view in
-    let same : (frozen_view kept).inode d ≡ users.inode d = volume.shows.inode d in
-    let there = claims_indirect kept.geometry users volume.stands.balance.rules d
-    (subst (λ (n : Inode). IsTrue (is_number kept.geometry d && is_sound n)) same (directory_is_sound kept.geometry (frozen_view kept) d directory))
-    (subst (λ (n : Inode). 12 < blocks_of n.size) same many) in
-    claims_pointers kept.geometry (frozen_view kept) d directory (subst (λ (n : Inode). IsTrue (is_data_address kept.geometry n.indirect)) (sym same) there.1) many
+    let same = same_facts kept.geometry (frozen_view kept) users (shows_metadata kept users keeps volume.shows) in
+    let inode = volume.shows.inode d in
+    let claim = position_claimed kept.geometry users volume.stands.balance.rules d m
+    (subst (λ (n : Inode). IsTrue (is_number kept.geometry d && is_sound kept.geometry n)) inode sound) (subst (λ (n : Inode). IsTrue (has_position kept.geometry n m)) inode has) in
+    (block_of kept.geometry users d m, (same.uses d m ∙ claim.0, claim.1))
 
 -- a directory without an empty slot that is not full has a position left
-pub position_left : (geo : Geometry) (view : View) (d : ℕ) → IsFalse (has_room geo view d) → IsFalse (is_full geo view d) → blocks_of (view.inode d).size < indirect_position
-position_left geo view d none left = by (leb indirect_position (blocks_of (view.inode d).size)) refl
+pub position_left : (geo : Geometry) (view : View) (d : ℕ) → IsFalse (has_room geo view d) → IsFalse (is_full geo view d) → blocks_of (view.inode d).size < most_blocks geo
+position_left geo view d none left = by (leb (most_blocks geo) (blocks_of (view.inode d).size)) refl
   where
-    by : (t : Bool) → leb indirect_position (blocks_of (view.inode d).size) ≡ t → blocks_of (view.inode d).size < indirect_position
-    by false e = leb-false indirect_position (blocks_of (view.inode d).size) e
-    by true e = absurd (both_ways (is_full geo view d) left (and_from (not (has_room geo view d)) (leb indirect_position (blocks_of (view.inode d).size)) (ap not none) e))
-
-pub zeroes_whole : IsBlock (replicate 1024 0)
-zeroes_whole = record { length = length-replicate {A = ℕ} 1024 0; bytes = All-replicate (λ b. b < 256) 1024 0 (omega arith) }
+    by : (t : Bool) → leb (most_blocks geo) (blocks_of (view.inode d).size) ≡ t → blocks_of (view.inode d).size < most_blocks geo
+    by false e = leb-false (most_blocks geo) (blocks_of (view.inode d).size) e
+    by true e = absurd (both_ways (is_full geo view d) left (and_from (not (has_room geo view d)) (leb (most_blocks geo) (blocks_of (view.inode d).size)) (ap not none) e))
 
 -- a block that may be given out by what is kept may be by what users see
 pub free_there : (kept : Kept) (view : View) → Shows kept view → (a : ℕ) → IsFreeBlock kept.geometry (frozen_view kept) a → IsFreeBlock kept.geometry view a
@@ -64,83 +55,115 @@ free_there kept view shows a free = record { address = free.address; unmarked = 
 pub size_is : (inode old : Inode) (links : ℕ) → inode ≡ with_links old links → blocks_of inode.size ≡ blocks_of old.size
 size_is inode old links e = ap (λ (n : Inode). blocks_of n.size) e
 
+-- so its next position is a small number, whatever its links
+pub few_before : (geo : Geometry) (view : View) (d : ℕ) (inode : Inode) (links : ℕ) → inode ≡ with_links (view.inode d) links → IsFalse (has_room geo view d) → IsFalse (is_full geo view d)
+    → (blocks_of inode.size < position_count geo) × (blocks_of inode.size < 65804)
+few_before geo view d inode links is none left =
+    let small = (numbers geo).1 in
+    let same = size_is inode (view.inode d) links is in
+    let low = position_left geo view d none left in (
+      omega (arith, low, same, some_table geo),
+      omega (arith, low, same, small.most, small.few),
+    )
+
+-- ---- the pointer to the block behind the last one of an inode can be put, with as many new tables as come with it
+module _ (kept : Kept) (n k : ℕ) (claims : HasPointers kept n) (next : k ≡ blocks_of ((frozen_view kept).inode n).size) (room : k < most_blocks kept.geometry) where
+  abbrev geo : Geometry
+  geo = kept.geometry
+
+  inside : k < position_count geo
+  inside = omega (arith, room, some_table geo)
+
+  was : (m l : ℕ) → table_of geo l ≡ Some m → m < position_count geo → first_block geo m < k → (x : ℕ) × IsClaim geo (frozen_view kept) n m x
+  was m l one low early =
+      claims m (le-leb (most_blocks geo) m (table_is_table geo l m one)) (reach_from geo (blocks_of ((frozen_view kept).inode n).size) m low (omega (arith, early, next)))
+
+  can_by : (news : List ℕ) → length news ≡ length (new_tables geo k) → AllFree geo (frozen_view kept) news → New geo k → CanLink kept n k news
+  can_by [] many free (NoNew none list) = λ m one. was m k one (table_inside geo k m inside one) (none m (Next one))
+  can_by (x ∷ xs) many free (NoNew none list) = absurd (let few = ap length list in omega (arith, many, few))
+  can_by [] many free (OneNew m one is early list) = absurd (let few = ap length list in omega (arith, many, few))
+  can_by (x ∷ []) many free (OneNew m one is early list) =
+      (m, one, (free.0).address, (λ t two. was t m two (table_inside geo m t (table_inside geo k m inside one) two) (early t two)))
+  can_by (x ∷ y ∷ ys) many free (OneNew m one is early list) = absurd (let few = ap length list in omega (arith, many, few))
+  can_by [] many free (TwoNew m t one two is also list) = absurd (let few = ap length list in omega (arith, many, few))
+  can_by (x ∷ []) many free (TwoNew m t one two is also list) = absurd (let few = ap length list in omega (arith, many, few))
+  can_by (x ∷ y ∷ []) many free (TwoNew m t one two is also list) =
+      (m, one, (free.0).address, (t, two, ((free.1).0).address, (λ u three. absurd (none-some u (sym (shallow geo k m t one two) ∙ three)))))
+  can_by (x ∷ y ∷ z ∷ zs) many free (TwoNew m t one two is also list) = absurd (let few = ap length list in omega (arith, many, few))
+
+  pub can_link : (news : List ℕ) → length news ≡ length (new_tables geo k) → AllFree geo (frozen_view kept) news → CanLink kept n k news
+  can_link news many free = can_by news many free (new geo k room)
+
+-- ---- what was chosen
+pub all_free : (geo : Geometry) (view : View) (d b : ℕ) (table : Option ℕ) → IsTableOf geo view d b table → AllFree geo view (listed table)
+all_free geo view d b None is = tt
+all_free geo view d b (Some x) is = ((is.1).0, tt)
+
+pub chosen : (geo : Geometry) (view : View) (d b : ℕ) (table : Option ℕ) → IsFreeBlock geo view b → IsTableOf geo view d b table → IsChoice geo view (blocks_of (view.inode d).size) b (listed table)
+chosen geo view d b None free is = record { free = free; many = is.0; tables = tt; apart = (tt, tt) }
+chosen geo view d b (Some x) free is = record { free = free; many = is.0; tables = ((is.1).0, tt); apart = (((is.1).1, tt), (tt, tt)) }
+
+pub table_there : (kept : Kept) (view : View) → Shows kept view → (d b : ℕ) (table : Option ℕ) → IsTableOf kept.geometry (frozen_view kept) d b table → IsTableOf kept.geometry view d b table
+table_there kept view shows d b None is = (is.0 ∙ ap (λ (n : Inode). length (new_tables kept.geometry (blocks_of n.size))) (shows.inode d), tt)
+table_there kept view shows d b (Some x) is =
+    (is.0 ∙ ap (λ (n : Inode). length (new_tables kept.geometry (blocks_of n.size))) (shows.inode d), (free_there kept view shows x (is.1).0, (is.1).1))
+
+pub can_grow : (kept : Kept) (d b : ℕ) (inode : Inode) (links : ℕ) (table : Option ℕ) → HasPointers kept d → inode ≡ with_links ((frozen_view kept).inode d) links → IsNewBlock kept.geometry (frozen_view kept) d b table
+    → IsFalse (is_full kept.geometry (frozen_view kept) d) → CanLink kept d (blocks_of inode.size) (listed table)
+can_grow kept d b inode links table claims is place left =
+    let size = size_is inode ((frozen_view kept).inode d) links is in
+    subst (λ k. CanLink kept d k (listed table)) (sym size)
+    (can_link kept d (blocks_of ((frozen_view kept).inode d).size) claims refl (position_left kept.geometry (frozen_view kept) d place.none left) (listed table) place.table.0 (all_free kept.geometry (frozen_view kept) d b table place.table))
+
 module _ (kept : Kept) (view : View) (shows : Shows kept view) (d b : ℕ) (inode : Inode) (links : ℕ) (is : inode ≡ with_links ((frozen_view kept).inode d) links) where
   pub same_size : blocks_of inode.size ≡ blocks_of (view.inode d).size
   same_size = size_is inode ((frozen_view kept).inode d) links is ∙ ap (λ (n : Inode). blocks_of n.size) (shows.inode d)
 
-  same_indirect : inode.indirect ≡ (view.inode d).indirect
-  same_indirect = ap (λ (n : Inode). n.indirect) is ∙ ap (λ (n : Inode). n.indirect) (shows.inode d)
+  module _ (keeps : KeepsMetadata kept) (ok : IsGeometry kept.geometry) (claims : HasPointers kept d) (table : Option ℕ) (place : IsNewBlock kept.geometry (frozen_view kept) d b table) (left : IsFalse (is_full kept.geometry (frozen_view kept) d)) where
+    k : ℕ
+    k = blocks_of (view.inode d).size
 
-  pub grows_in_record : (old filled_in new : Draft) (given : Inode) (cells : List Cell) → blocks_of inode.size < direct_positions
-      → given ≡ sized (pointed inode (blocks_of inode.size) b InRecord) (inode.size + 1024) → cells ≡ Block b ∷ []
-      → GoesOn old filled_in (filled b empty_block) → GoesOn filled_in new (λ q. record { change = SetInode d given; after = cells } ∷ q)
-      → Grows kept.geometry view d inode b None old new
-  grows_in_record old filled_in new given cells few e f fills sets = record {
-    kept = InRecord;
-    keeps = omega (arith, few, same_size);
-    other = λ a other. other.0;
-    indirect = refl;
-    goes_on = goes_as old new _ (grown d inode b InRecord) (λ q. ap₂ (λ n after. record { change = SetInode d n; after = after } ∷ filled b empty_block q) e f)
-        (goes_then old filled_in new (filled b empty_block) (λ q. record { change = SetInode d given; after = cells } ∷ q) fills sets);
-  }
+    holder : Holder
+    holder = holder_of kept.geometry view d (blocks_of (view.inode d).size) b (listed table)
 
-  pub points_behind : (table : List ℕ) (old new : Draft) → direct_positions ≤ blocks_of inode.size → blocks_of ((frozen_view kept).inode d).size ≢ direct_positions → view.bytes inode.indirect ≡ table
-      → GoesOn old new (linked d inode (blocks_of inode.size) b (InTable table))
-      → PointsTo kept.geometry view d inode b None inode.indirect old new
-  points_behind table old new past apart bytes goes = record {
-    kept = InTable table;
-    keeps = (omega (arith, past, same_size, apart, size_is inode ((frozen_view kept).inode d) links is), sym bytes ∙ ap view.bytes same_indirect);
-    other = λ a other. other.0;
-    indirect = refl;
-    record_points = refl;
-    record_after = refl;
-    goes_on = goes;
-  }
+    claims_there : (m : ℕ) → IsTrue (is_table kept.geometry m) → IsTrue (has_position kept.geometry (view.inode d) m) → IsClaim kept.geometry view d m (block_of kept.geometry view d m)
+    claims_there m table has =
+        let same = same_facts kept.geometry (frozen_view kept) view (shows_metadata kept view keeps shows) in
+        let c = claims m table (subst (λ (n : Inode). IsTrue (has_position kept.geometry n m)) (sym (shows.inode d)) has) in
+        let there : IsClaim kept.geometry view d m c.0 = (sym (same.uses d m) ∙ c.1.0, c.1.1) in
+        subst (λ a. IsClaim kept.geometry view d m a) (sym (block_is kept.geometry view d m c.0 there)) there
 
-  pub points_first : (x : ℕ) (old new : Draft) → b < 2 ^ 32 → IsTableOf kept.geometry (frozen_view kept) d b (Some x)
-      → GoesOn old new (linked d inode (blocks_of inode.size) b (InNewTable x (with_pointer (replicate 1024 0) 0 b)))
-      → PointsTo kept.geometry view d inode b (Some x) x old new
-  points_first x old new small new_table goes = record {
-    kept = InNewTable x (with_pointer (replicate 1024 0) 0 b);
-    keeps = (
-      sym (ap (λ (n : Inode). blocks_of n.size) (shows.inode d)) ∙ new_table.0,
-      record {
-        free = free_there kept view shows x new_table.1;
-        other = new_table.2;
-        whole = pointer_whole (replicate 1024 0) zeroes_whole 0 b (omega arith) small;
-        first = pointer_here (replicate 1024 0) zeroes_whole 0 b (omega arith) small;
-      },
-    );
-    other = λ a other. (other.0, other.1);
-    indirect = refl;
-    record_points = refl;
-    record_after = refl;
-    goes_on = goes;
-  }
+    room : blocks_of (view.inode d).size < most_blocks kept.geometry
+    room = let low = position_left kept.geometry (frozen_view kept) d place.none left in let e = ap (λ (n : Inode). blocks_of n.size) (shows.inode d) in omega (arith, low, e)
 
--- the record comes behind the pointer
-pub grows_by_table : (geo : Geometry) (view : View) (d b : ℕ) (inode : Inode) (pointers : Option ℕ) (table : ℕ) (old filled_in linked_in new : Draft) (given : Inode) (cells : List Cell)
-    → given ≡ sized (record inode { indirect = table }) (inode.size + 1024) → cells ≡ Block table ∷ Block b ∷ []
-    → GoesOn old filled_in (filled b empty_block) → PointsTo geo view d inode b pointers table filled_in linked_in
-    → GoesOn linked_in new (λ q. record { change = SetInode d given; after = cells } ∷ q)
-    → Grows geo view d inode b pointers old new
-grows_by_table geo view d b inode pointers table old filled_in linked_in new given cells e f fills points sets =
-    let pointer = linked d inode (blocks_of inode.size) b points.kept in
-    let same : given ≡ sized (pointed inode (blocks_of inode.size) b points.kept) (inode.size + 1024) = e ∙ ap (λ n. sized n (inode.size + 1024)) (sym points.record_points) in
-    record {
-      kept = points.kept;
-      keeps = points.keeps;
-      other = points.other;
-      indirect = points.indirect;
-      goes_on = goes_as old new _ (grown d inode b points.kept)
-          (λ q. ap₂ (λ n after. record { change = SetInode d n; after = after } ∷ pointer (filled b empty_block q)) same (f ∙ sym points.record_after))
-          (goes_then old linked_in new _ (λ q. record { change = SetInode d given; after = cells } ∷ q) (goes_then old filled_in linked_in (filled b empty_block) pointer fills points.goes_on) sets);
-    }
+    holds : Keeps kept.geometry view d (blocks_of (view.inode d).size) b holder (listed table)
+    unfolding holder
+    holds = kept_next kept.geometry view d ok claims_there (blocks_of (view.inode d).size) b refl room (listed table)
+        (chosen kept.geometry view d b table (free_there kept view shows b place.free) (table_there kept view shows d b table place.table))
 
--- a record that points to fewer than 12 blocks needs no indirect block
-pub no_table : (geo : Geometry) (view : View) (d b : ℕ) (table : Option ℕ) → IsTableOf geo view d b table → blocks_of (view.inode d).size < direct_positions → table ≡ None
-no_table geo view d b None is few = refl
-no_table geo view d b (Some x) is few = absurd (omega (arith, is.0, few))
+    same_holder : holder_of kept.geometry (frozen_view kept) d (blocks_of inode.size) b (listed table) ≡ holder
+    unfolding holder
+    same_holder =
+        holder_there kept view (shows_metadata kept view keeps shows) d (blocks_of inode.size) b (listed table) (can_grow kept d b inode links table claims is place left)
+        ∙ ap (λ j. holder_of kept.geometry view d j b (listed table)) same_size
+
+    -- the record comes behind the pointer
+    pub grows : (old filled_in linked_in new : Draft) (given pointing : Inode) (cells : List Cell) → GoesOn old filled_in (filled b empty_block)
+        → IsLinked kept.geometry d inode (blocks_of inode.size) b (holder_of kept.geometry (frozen_view kept) d (blocks_of inode.size) b (listed table)) filled_in linked_in pointing cells
+        → given ≡ sized pointing (inode.size + 1024) → GoesOn linked_in new (λ q. record { change = SetInode d given; after = cells } ∷ q)
+        → Grows kept.geometry view d inode b table old new
+    grows old filled_in linked_in new given pointing cells fills links' e sets =
+        let links = subst (λ h. IsLinked kept.geometry d inode (blocks_of inode.size) b h filled_in linked_in pointing cells) same_holder links' in
+        record {
+          kept = holder;
+          keeps = holds.kept;
+          tables = holds.tables;
+          goes_on = goes_as old new _ (grown kept.geometry d inode b holder)
+              (λ q. ap₂ (λ (n : Inode) after. record { change = SetInode d n; after = after } ∷ linked kept.geometry d (blocks_of inode.size) b holder (filled b empty_block q))
+              (e ∙ ap (λ n. sized n (inode.size + 1024)) links.record_points) links.record_after)
+              (goes_then old linked_in new _ (λ q. record { change = SetInode d given; after = cells } ∷ q)
+              (goes_then old filled_in linked_in (filled b empty_block) (linked kept.geometry d (blocks_of inode.size) b holder) fills links.goes_on) sets);
+        }
 
 -- a block is marked and then written
 pub marks_then_writes : (old marked new : Draft) (a : ℕ) (bytes given : List ℕ) (none after cells : List Cell) → none ≡ [] → given ≡ bytes → after ≡ cells
@@ -151,12 +174,3 @@ marks_then_writes old marked new a bytes given none after cells e f g marks writ
     goes_as old new _ (λ q. record { change = SetBytes a bytes; after = cells } ∷ record { change = SetBlock a true; after = [] } ∷ q)
     (λ q. rw (e, f, g) refl)
     (goes_then old marked new _ _ marks writes)
-
--- the record with the pointer, by parts that make the record before
-pub record_with_pointer : (given inode : Inode) (k b : ℕ) → given ≡ inode → k ≡ blocks_of inode.size
-    → ◌≡◌ {A = Inode} (record given { size = given.size + 1024; direct = slice_set given.direct k b }) (sized (pointed inode (blocks_of inode.size) b InRecord) (inode.size + 1024))
-record_with_pointer given inode k b e f = ap₂ (λ (n : Inode) (j : ℕ). record n { size = n.size + 1024; direct = slice_set n.direct j b }) e f
-
-pub record_with_table : (given inode : Inode) (table : ℕ) → given ≡ inode
-    → ◌≡◌ {A = Inode} (record given { size = given.size + 1024; indirect = table }) (sized (record inode { indirect = table }) (inode.size + 1024))
-record_with_table given inode table e = ap (λ (n : Inode). record n { size = n.size + 1024; indirect = table }) e

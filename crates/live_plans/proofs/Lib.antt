@@ -1,5 +1,7 @@
 pub mod DraftLemmas
 pub mod FoundLemmas
 pub mod BlockLemmas
+pub mod LinkLemmas
 pub mod GrowLemmas
 pub mod EnterLemmas
+pub mod NewBlocks

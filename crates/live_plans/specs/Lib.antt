@@ -1,3 +1,4 @@
 pub mod Entered
 pub mod Found
 pub mod Grown
+pub mod Linked

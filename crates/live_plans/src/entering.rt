@@ -8,7 +8,7 @@ ghost use Rattle.machine.specs.Room.{is_full};
 ghost use Rattle.metadata.specs.Shown.{Shows};
 ghost use Rattle.live_places.specs.Chosen.{IsPlace};
 ghost use Rattle.live_plans.specs.Entered.{EntersAt};
-ghost use Rattle.live_plans.specs.Grown.{HasPointers};
+ghost use Rattle.live_plans.specs.Linked.{HasPointers};
 ghost use Rattle.live_states.specs.Planned.{IsOfVolume};
 
 use crate::growing::grow;
@@ -55,10 +55,12 @@ pub fn enter(
     ensures { OnOk result ((view : View) → Shows metadata.now view
         → EntersAt metadata.now.geometry view new.now.directory new.now.parent new.now.number new.now.name.now new.now.place plan.old plan.new) }
 {
+    // What is kept is all metadata.
+    metadata.frozen();
     enter_at(alloc, metadata, plan, new)
 }
 
-/// The same, where the directory's indirect block is one.
+/// The same, where the directory claims the tables that it has.
 pub(crate) fn enter_at(
     alloc: Global,
     metadata: &Metadata,

@@ -2,7 +2,7 @@ ghost use Rattle.std.specs.Prelude.{◌≡◌, ◌≤◌, ◌<◌, ◌∷◌, �
 ghost use Rattle.std.specs.List.{All, Contains};
 ghost use Rattle.frozen.specs.Kept.{frozen_view};
 ghost use Rattle.model.specs.Layout.{is_data_address, is_number};
-ghost use Rattle.model.specs.Uses.{IsClaim, claim_at, indirect_position, is_directory_at};
+ghost use Rattle.model.specs.Uses.{IsClaim, claim_at, is_directory_at};
 ghost use Rattle.model.specs.View.{View};
 ghost use Rattle.machine.specs.Cells.{IsEntryFor};
 ghost use Rattle.metadata.specs.Shown.{Shows};

@@ -8,6 +8,7 @@
 mod entering;
 mod entries;
 mod growing;
+mod linking;
 mod locating;
 mod plan;
 #[cfg(test)]
@@ -15,6 +16,7 @@ mod tests;
 
 pub use entering::{NewEntry, enter};
 pub use entries::{add_blocks, bytes_of, entry, put_slot};
-pub use growing::{fill, point_at, point_first};
+pub use growing::fill;
+pub use linking::{Linked, link};
 pub use locating::{Found, locate};
 pub use plan::{Plan, Planned};

@@ -1,12 +1,12 @@
 ghost use Rattle.std.specs.Prelude.{◌<◌, IsTrue};
 ghost use Rattle.frozen.specs.Kept.{frozen_view};
 ghost use Rattle.model.specs.Uses.{is_directory_at};
-ghost use Rattle.live_plans.specs.Grown.{HasPointers};
+ghost use Rattle.live_plans.specs.Linked.{HasPointers};
 
 use crate::entering::enter_at;
-use crate::growing::pointer_after;
+use crate::linking::pointer_after;
 use crate::{Found, NewEntry, Plan, locate};
-use device::{Before, Device, MemDevice, format};
+use device::{Device, MemDevice, set_bytes};
 use frozen::{Frozen, load};
 use inode::{DIRECTORY, Record};
 use layout::{BLOCK_BYTES, Block, Geometry, ROOT, Refusal};
@@ -63,16 +63,9 @@ const CHANGES: [(u32, usize, u8); 37] = [
 /// The metadata of this image. Each slot of block 5 is bad.
 fn image(alloc: Global) -> Result<Metadata, Refusal> {
     let geometry = Geometry::new(1, 16, 16)?;
-    let bytes = vec![in alloc; 0u8; geometry.blocks() as usize * BLOCK_BYTES]?;
-    let mut device = MemDevice::from_bytes(alloc, bytes.as_slice())?;
-    if device.blocks() != geometry.blocks() {
-        return Err(Refusal::BadLength);
-    }
-    format(&mut device, &geometry, Before::Anything)?;
+    let mut device = MemDevice::formatted(alloc, &geometry, &[])?;
     fill(&mut device, 5, 255)?;
-    for (address, byte, value) in &CHANGES {
-        set_byte(&mut device, *address, *byte, *value)?;
-    }
+    set_bytes(&mut device, &CHANGES)?;
     Ok(Metadata::new(alloc, load(alloc, &mut device)?)?)
 }
 
@@ -85,28 +78,18 @@ fn fill(device: &mut MemDevice, address: u32, value: u8) -> Result<(), Refusal> 
     Ok(())
 }
 
-/// Changes one byte of a block.
-fn set_byte(device: &mut MemDevice, address: u32, byte: usize, value: u8) -> Result<(), Refusal> {
-    if address >= device.blocks() || byte >= BLOCK_BYTES {
-        return Err(Refusal::BadIndex);
-    }
-    let mut block = [0; BLOCK_BYTES];
-    device.read(address, &mut block)?;
-    block[byte] = value;
-    device.write(address, &block)?;
-    Ok(())
-}
-
-/// Whether a directory with more blocks than its record points to has an indirect block.
+/// Whether a directory claims each table that it has.
 fn has_pointers(frozen: &Frozen, directory: u32) -> bool
     requires { IsTrue (is_directory_at frozen.now.geometry (frozen_view frozen.now) directory) }
     ensures { IsTrue result → HasPointers frozen.now directory }
 {
-    let record = frozen.record(directory);
-    if record.blocks() <= 12 {
-        return true;
+    let geometry = frozen.geometry();
+    for position in geometry.most_blocks()..geometry.tables_end(frozen.record(directory).blocks()) {
+        if frozen.claim_at(directory, position).is_none() {
+            return false;
+        }
     }
-    frozen.geometry().place_of(record.indirect).is_some()
+    true
 }
 
 /// The updates that enter the name `ab` of number 9 into a directory of the image.
@@ -318,7 +301,7 @@ fn expect_after(
 {
     let mut pointers = [0; BLOCK_BYTES];
     pointers[4] = 9;
-    let after = pointer_after(rt.alloc(), 5, place, 7, &pointers)?;
+    let after = pointer_after(rt.alloc(), 5, place, 7, &pointers, None)?;
     assert_eq!(rt; after.as_slice(), wanted);
     Ok(())
 }

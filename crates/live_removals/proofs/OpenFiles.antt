@@ -91,7 +91,7 @@ module _ (kept : Kept) (holdings : Holdings) (h n : ℕ) (at : handle_at holding
   number_is volume =
       let old = volume.volume.old in
       let file = accepted_close kept.geometry old volume.volume.stands.balance h (close_accepted kept.geometry holdings h old volume.has n at) in
-      subst (λ m. IsTrue (is_number kept.geometry m)) (file_is kept.geometry holdings h old volume.has n at) (and_parts (is_number kept.geometry (file_of old h)) (is_sound (old.view.inode (file_of old h))) file.sound).0
+      subst (λ m. IsTrue (is_number kept.geometry m)) (file_is kept.geometry holdings h old volume.has n at) (and_parts (is_number kept.geometry (file_of old h)) (is_sound kept.geometry (old.view.inode (file_of old h))) file.sound).0
 
   module _ (disk : View) (q : List Pending) (old : State) (safe : ℕ → Bool) (stands : Stands kept.geometry disk q old safe) (has : Has holdings old) (wide : block_count kept.geometry ≤ length holdings.held) where
     abbrev view : View
@@ -169,7 +169,7 @@ module _ (kept : Kept) (holdings : Holdings) (h n : ℕ) (at : handle_at holding
       cut_so : IsCut kept.geometry (view.inode n) (sized (view.inode n) size) (blocks_of size)
       cut_so =
           let file = (accepted_truncate kept.geometry st balance h size (truncate_accepted kept.geometry holdings h st st_has size n at small)).0 in
-          let sound = subst (λ m. IsTrue (is_sound (view.inode m))) same_file (and_parts (is_number kept.geometry (file_of old h)) (is_sound (view.inode (file_of old h))) file.sound).1 in
+          let sound = subst (λ m. IsTrue (is_sound kept.geometry (view.inode m))) same_file (and_parts (is_number kept.geometry (file_of old h)) (is_sound kept.geometry (view.inode (file_of old h))) file.sound).1 in
           sized_is_cut kept.geometry (view.inode n) size sound (subst (λ m. (view.inode m).mode ≡ 1) same_file file.file) small
 
       abbrev shorter : ℕ → Inode

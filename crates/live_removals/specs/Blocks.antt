@@ -1,15 +1,12 @@
 -- The blocks that an inode gives up where so many of its blocks are left.
-use Rattle.std.specs.Prelude.{ℕ, ◌+◌, Bool, not, ◌&&◌, List, [], ◌∷◌, is_some, nat_lt, if◌then◌else◌}
+use Rattle.std.specs.Prelude.{ℕ, Bool, not, ◌&&◌, List, [], ◌∷◌, is_some, if◌then◌else◌}
 use Rattle.findings.specs.Numbers.{found_below}
 use Rattle.model.specs.Layout.{Geometry}
 use Rattle.model.specs.View.{View}
-use Rattle.model.specs.Uses.{claim_at, direct_positions, indirect_position}
+use Rattle.model.specs.Shape.{position_count, reaches}
+use Rattle.model.specs.Uses.{claim_at}
 use Rattle.machine.specs.Cells.{block_of}
 use Rattle.live_states.specs.Holdings.{Holdings, is_kept_by}
-
--- whether an inode with so many blocks left uses a position: one below them, or the indirect pointer where they are more than the direct ones
-abbrev pub stays : ℕ → ℕ → Bool
-stays left k = if nat_lt k indirect_position then nat_lt k left else nat_lt direct_positions left
 
 -- n claims a block of this kind at position k
 abbrev pub is_claimed_at : (ℕ → Bool) → Geometry → View → ℕ → ℕ → Bool
@@ -19,17 +16,17 @@ is_claimed_at which geo view n k = is_some (claim_at geo view n k) && which (blo
 abbrev pub claimed_at : (ℕ → Bool) → Geometry → View → ℕ → ℕ → List ℕ
 claimed_at which geo view n k = if is_claimed_at which geo view n k then block_of geo view n k ∷ [] else []
 
--- and does not stay there
+-- and does not have that position where so many blocks are left
 abbrev pub goes_at : (ℕ → Bool) → Geometry → View → ℕ → ℕ → ℕ → Bool
-goes_at which geo view n left k = is_some (claim_at geo view n k) && not (stays left k) && which (block_of geo view n k)
+goes_at which geo view n left k = is_some (claim_at geo view n k) && not (reaches geo left k) && which (block_of geo view n k)
 
 -- the blocks of this kind that go at the positions below this one, in their order
 abbrev pub gone_below : (ℕ → Bool) → Geometry → View → ℕ → ℕ → ℕ → List ℕ
 gone_below which geo view n left end = found_below (goes_at which geo view n left) (block_of geo view n) end
 
--- and at all positions, the indirect block the last
+-- and at all positions, the tables the last
 abbrev pub gone : (ℕ → Bool) → Geometry → View → ℕ → ℕ → List ℕ
-gone which geo view n left = gone_below which geo view n left (indirect_position + 1)
+gone which geo view n left = gone_below which geo view n left (position_count geo)
 
 -- a block that no snapshot keeps
 abbrev pub is_loose : Holdings → ℕ → Bool

@@ -18,7 +18,7 @@ ghost use Rattle.live_removals.specs.Entries.{IsEntry};
 
 use dirent::{SLOT_BYTES, SLOTS};
 use frozen::Frozen;
-use inode::{DIRECT_POINTERS, FREE, INDIRECT_POSITION, Record};
+use inode::{DIRECT_POINTERS, FREE, Record};
 use live_holdings::Holdings;
 use live_plans::{Found, Plan, bytes_of, put_slot};
 use metadata::Metadata;
@@ -149,20 +149,16 @@ pub(crate) fn give_up(
     ensures holds { IfOk result (λ holds. holds.items ≡ held_back frozen.now.geometry (frozen_view frozen.now) holdings.now number left) }
 {
     let mut holds = Vec::new(alloc);
-    let end = frozen.record(number).blocks().min(INDIRECT_POSITION);
-    for position in left..end {
+    let geometry = frozen.geometry();
+    let end = frozen.record(number).blocks().min(geometry.most_blocks());
+    let start = left.min(end);
+    for position in start..end {
         give_up_at(alloc, frozen, holdings, plan, &mut holds, number, position)?;
     }
-    if left <= DIRECT_POINTERS as u32 {
-        give_up_at(
-            alloc,
-            frozen,
-            holdings,
-            plan,
-            &mut holds,
-            number,
-            INDIRECT_POSITION,
-        )?;
+    let first = geometry.tables_end(start);
+    let last = geometry.tables_end(end);
+    for table in first..last {
+        give_up_at(alloc, frozen, holdings, plan, &mut holds, number, table)?;
     }
     Ok(holds)
 }

@@ -5,7 +5,7 @@
 //! The slot of a name is emptied first, for a directory after the directory's own blocks. After the block of the slot
 //! a record loses its links: one of a file, two of a directory. Where a link is left, or a handle is open on the file,
 //! that is all that becomes of it. Else the record is freed, and after it the number's bit and those of all blocks that it
-//! claims are cleared, the indirect block's among them. The parent of a directory loses a link at last, after the block of
+//! claims are cleared, those of its tables among them. The parent of a directory loses a link at last, after the block of
 //! the slot too. A file without links goes with its last handle. A file that is truncated gets its record first, and after
 //! it the bits of the blocks behind its end are cleared.
 //!

@@ -1,10 +1,10 @@
 use crate::removing::{directory_at, removed};
 use crate::shortening::{let_go, shortened};
 use crate::unlinking::{file_at, unlinked, unnamed};
-use device::{Before, Device, MemDevice, format};
+use device::MemDevice;
 use dirent::{SLOT_BYTES, SLOTS, replace};
 use frozen::load;
-use layout::{BLOCK_BYTES, Block, Geometry, Refusal};
+use layout::{Block, Geometry, Refusal};
 use live_holdings::Holdings;
 use live_paths::Path;
 use live_plans::Planned;
@@ -140,28 +140,8 @@ enum Act<'a> {
 /// The metadata of this image.
 fn image(alloc: Global) -> Result<Metadata, Refusal> {
     let geometry = Geometry::new(1, 32, 16)?;
-    let bytes = vec![in alloc; 0u8; geometry.blocks() as usize * BLOCK_BYTES]?;
-    let mut device = MemDevice::from_bytes(alloc, bytes.as_slice())?;
-    if device.blocks() != geometry.blocks() {
-        return Err(Refusal::BadLength);
-    }
-    format(&mut device, &geometry, Before::Anything)?;
-    for (address, byte, value) in &CHANGES {
-        set_byte(&mut device, *address, *byte, *value)?;
-    }
+    let mut device = MemDevice::formatted(alloc, &geometry, &CHANGES)?;
     Ok(Metadata::new(alloc, load(alloc, &mut device)?)?)
-}
-
-/// Changes one byte of a block.
-fn set_byte(device: &mut MemDevice, address: u32, byte: usize, value: u8) -> Result<(), Refusal> {
-    if address >= device.blocks() || byte >= BLOCK_BYTES {
-        return Err(Refusal::BadIndex);
-    }
-    let mut block = [0; BLOCK_BYTES];
-    device.read(address, &mut block)?;
-    block[byte] = value;
-    device.write(address, &block)?;
-    Ok(())
 }
 
 /// Its updates, where no block is held for a snapshot.

@@ -1,8 +1,7 @@
 -- The grounds of a directory, as they are gathered part after part.
-use Rattle.std.proofs.Common.{◌≡◌, ◌<◌, ◌≤◌, ◌/◌, ◌++◌, ◌⊎◌, ℕ, zero, suc, true, false, List, [], ◌∷◌, inl, inr, refl, sym, ap, ◌∙◌, subst, arith, IsTrue, Option, Some, None, Result, Ok, Err, Contains, ltb, All, map}
+use Rattle.std.proofs.Common.{◌≡◌, ◌<◌, ◌+◌, ◌/◌, ◌++◌, ◌⊎◌, ℕ, zero, suc, List, [], ◌∷◌, inl, inr, refl, sym, ap, ◌∙◌, subst, arith, IsTrue, Option, Some, None, Result, Ok, Err, Contains, All, map}
 use Rattle.std.specs.Option.{option_map}
-use Rattle.std.proofs.lemmas.Bool.{and_parts}
-use Rattle.std.proofs.lemmas.Bool.Decides.{nat_tests}
+use Rattle.std.proofs.lemmas.Bool.{cases_lt, leb-true}
 use Rattle.std.proofs.lemmas.List.Elements.{All-contains, All-contains_itself, All-push, All-weaker, Contains-append_left, Contains-push, Contains-push_cases}
 use Rattle.std.proofs.lemmas.List.{map-append}
 use Rattle.updates.specs.declared.cell.Cell as program
@@ -10,11 +9,13 @@ use Rattle.updates.specs.declared.cell.Cell.TheVariants as variants
 use Rattle.updates.specs.Values.{cell}
 use Rattle.model.specs.Layout.{Geometry, is_number, root}
 use Rattle.model.specs.View.{View}
-use Rattle.model.specs.Uses.{IsClaim, claim_at, direct_positions, indirect_position, is_directory_at, is_sound_at, is_directory, is_used}
+use Rattle.model.specs.Shape.{is_table, most_blocks, tables}
+use Rattle.model.specs.Uses.{IsClaim, blocks_of, claim_at, is_directory_at}
 use Rattle.model.specs.Slots.{Good, slot, number_in}
 use Rattle.model.specs.Reach.{Path}
-use Rattle.model.proofs.Same.{SameFacts, same_facts, claims_indirect_of}
+use Rattle.model.proofs.Same.{SameFacts, same_facts}
 use Rattle.model.proofs.SlotLemmas.{chosen, slot_content, slot_stands}
+use Rattle.model.proofs.Ranges.{table_below}
 use Rattle.model.proofs.UseLemmas.{claim_from, claim_parts}
 use Rattle.ordering.specs.Cuts.{Cell, Record, Block}
 use Rattle.ordering.specs.OneSlot.{AreGrounds, ArePointersKnown, IsKnown}
@@ -78,7 +79,7 @@ module _ (geo : Geometry) (v : View) (old new : List Cell) (kept : (c : Cell) �
   known_more block c (inr e) = inr e
 
   pointers_more : (block d : ℕ) → ArePointersKnown geo v old block d → ArePointersKnown geo v new block d
-  pointers_more block d known = λ k used low high. known_more block (Block (v.inode d).indirect) (known k used low high)
+  pointers_more block d known = λ m x table claim. known_more block (Block x) (known m x table claim)
 
   pub grounds_more : (block n d : ℕ) (p : Path geo v n d) → AreGrounds geo v old block n d p → AreGrounds geo v new block n d p
   grounds_more block zero d p g = (known_more block (Record root) g.0, pointers_more block root g.1)
@@ -87,26 +88,6 @@ module _ (geo : Geometry) (v : View) (old new : List Cell) (kept : (c : Cell) �
 
 -- ---- one directory
 module _ (geo : Geometry) (v : View) where
-  -- pointers that are in use stand in the indirect block that is claimed
-  pub table_claimed : (d k : ℕ) → IsTrue (is_directory_at geo v d) → IsTrue (is_used geo (v.inode d) k) → direct_positions ≤ k → k < indirect_position → claim_at geo v d indirect_position ≡ Some (v.inode d).indirect
-  table_claimed d k dir used low high =
-      let sound = (and_parts (is_sound_at geo v d) (is_directory (v.inode d)) dir).0 in
-      let past : ltb k direct_positions ≡ false = grind (arith, nat_tests) in
-      let below : ltb k indirect_position ≡ true = grind (arith, nat_tests) in
-      claim_from geo v d indirect_position (v.inode d).indirect (claims_indirect_of geo v d k sound past below used)
-
-  pub has_table : (d table : ℕ) (after : List Cell) → IsTrue (is_directory_at geo v d) → claim_at geo v d indirect_position ≡ Some table → Contains after (Record d) → Contains after (Block table) → HasDirectory geo v d after
-  has_table d table after dir claim first known = record {
-    record_first = first;
-    pointers = λ block k used low high. inl (subst (λ a. Contains after (Block a)) (some_same table (v.inode d).indirect (sym claim ∙ table_claimed d k dir used low high)) known);
-  }
-
-  pub has_none : (d : ℕ) (after : List Cell) → IsTrue (is_directory_at geo v d) → claim_at geo v d indirect_position ≡ None → Contains after (Record d) → HasDirectory geo v d after
-  has_none d after dir none first = record {
-    record_first = first;
-    pointers = λ block k used low high. not_some (v.inode d).indirect (sym (table_claimed d k dir used low high) ∙ none);
-  }
-
   pub root_grounded : (first after : List Cell) → IsTrue (is_directory_at geo v root) → HasDirectory geo v root after → All (λ c. Contains first c ⊎ IsOfDirectory geo v root c) after → IsGrounded geo v root first after
   root_grounded first after dir has only = record { steps = 0; path = (refl, dir); needs = λ block. (inl has.record_first, has.pointers block); only = only }
 
@@ -214,19 +195,56 @@ module _ (geo : Geometry) (v : View) where
   pub pointers_of : (after : List Cell) (block d : ℕ) → HasGrounds geo v d block after → ArePointersKnown geo v after block d
   pointers_of after block d h = pointers_last after block h.steps d h.path h.grounds
 
--- ---- no cell came but these
--- the record of a directory, and its indirect block where it has one
+-- ---- the tables of a directory
+-- The record is among these cells, and so are the tables that the directory claims at positions below this one; no others came.
+pub record HasTables (geo : Geometry) (v : View) (d : ℕ) (old new : List Cell) (end : ℕ) : Type 0 where
+  pub gathers : Gathers geo old new
+  pub record_first : Contains new (Record d)
+  pub tables : (m x : ℕ) → IsTrue (is_table geo m) → m < end → IsClaim geo v d m x → Contains new (Block x)
+  pub only : All (λ c. Contains old c ⊎ IsOfDirectory geo v d c) new
+
 module _ (geo : Geometry) (v : View) (d : ℕ) (xs : List program.Cell) where
   abbrev IsThere : Cell → Type 0
   IsThere c = Contains (map cell xs) c ⊎ IsOfDirectory geo v d c
 
-  pub only_record : (ys : List program.Cell) → ys ≡ xs ++ variants.Record d ∷ [] → All IsThere (map cell ys)
-  only_record ys is =
-      all_pushed geo xs ys (variants.Record d) is IsThere (All-weaker (Contains (map cell xs)) IsThere (λ c m. inl m) (map cell xs) (All-contains_itself (map cell xs))) (inr (inl refl))
+  pub record_alone : (ys : List program.Cell) → IsTrue (is_number geo d) → ys ≡ xs ++ variants.Record d ∷ [] → HasTables geo v d (map cell xs) (map cell ys) (most_blocks geo)
+  record_alone ys number is = record {
+    gathers = pushed geo xs ys (variants.Record d) is number;
+    record_first = holds_pushed geo xs ys (variants.Record d) is;
+    tables = λ m x table low claim. absurd (let high = leb-true (most_blocks geo) m table in omega (arith, low, high));
+    only = all_pushed geo xs ys (variants.Record d) is IsThere (All-weaker (Contains (map cell xs)) IsThere (λ c m. inl m) (map cell xs) (All-contains_itself (map cell xs))) (inr (inl refl));
+  }
 
-  pub only_table : (ys zs : List program.Cell) (table : ℕ) → ys ≡ xs ++ variants.Record d ∷ [] → zs ≡ ys ++ variants.Block table ∷ [] → claim_at geo v d indirect_position ≡ Some table → All IsThere (map cell zs)
-  only_table ys zs table first second claim =
-      all_pushed geo ys zs (variants.Block table) second IsThere (only_record ys first) (inr (inr (table, claim_parts geo v d indirect_position table claim, refl)))
+  -- a position more, where nothing is claimed
+  pub no_table_more : (ys : List program.Cell) (m : ℕ) → claim_at geo v d m ≡ None → HasTables geo v d (map cell xs) (map cell ys) m → HasTables geo v d (map cell xs) (map cell ys) (m + 1)
+  no_table_more ys m none has = record {
+    gathers = has.gathers;
+    record_first = has.record_first;
+    tables = λ l x table low claim. elim (cases_lt l m) [
+      | inl less ↦ has.tables l x table less claim
+      | inr more ↦ not_some x (sym (claim_from geo v d m x (subst (λ k. IsClaim geo v d k x) (omega (arith, low, more)) claim)) ∙ none)
+    ];
+    only = has.only;
+  }
+
+  -- or a table
+  pub table_more : (ys zs : List program.Cell) (m x : ℕ) → IsTrue (is_table geo m) → claim_at geo v d m ≡ Some x → zs ≡ ys ++ variants.Block x ∷ [] → HasTables geo v d (map cell xs) (map cell ys) m
+      → HasTables geo v d (map cell xs) (map cell zs) (m + 1)
+  table_more ys zs m x table at is has =
+      let own = claim_parts geo v d m x at in
+      let more = pushed geo ys zs (variants.Block x) is own.1 in record {
+        gathers = gathers_both geo (map cell xs) (map cell ys) (map cell zs) has.gathers more;
+        record_first = more.kept (Record d) has.record_first;
+        tables = λ l y t low claim. elim (cases_lt l m) [
+          | inl less ↦ more.kept (Block y) (has.tables l y t less claim)
+          | inr past ↦ subst (λ b. Contains (map cell zs) (Block b)) (some_same x y (sym at ∙ claim_from geo v d m y (subst (λ k. IsClaim geo v d k y) (omega (arith, low, past)) claim))) (holds_pushed geo ys zs (variants.Block x) is)
+        ];
+        only = all_pushed geo ys zs (variants.Block x) is IsThere has.only (inr (inr (m, table, (x, own, refl))));
+      }
+
+  -- all tables
+  pub all_tables : (new : List Cell) → HasTables geo v d (map cell xs) new (most_blocks geo + tables (blocks_of (v.inode d).size)) → HasDirectory geo v d new
+  all_tables new has = record { record_first = has.record_first; pointers = λ block m x table claim. inl (has.tables m x table (table_below geo v d m x table claim.0) claim) }
 
 -- a block, and behind it what is of a directory
 pub only_next : (geo : Geometry) (v : View) (xs ys : List program.Cell) (e b : ℕ) (new : List Cell) → ys ≡ xs ++ variants.Block b ∷ [] → All (λ c. Contains (map cell ys) c ⊎ IsOfDirectory geo v e c) new
@@ -262,8 +280,7 @@ module _ (kept : Kept) (view : View) (keeps : KeepsMetadata kept) (shows : Shows
 
   module _ (after : List Cell) (block : ℕ) where
     pointers_there : (d : ℕ) → ArePointersKnown kept.geometry (frozen_view kept) after block d → ArePointersKnown kept.geometry view after block d
-    pointers_there d known =
-        subst (λ x. (k : ℕ) → IsTrue (is_used kept.geometry x k) → direct_positions ≤ k → k < indirect_position → IsKnown after block (Block x.indirect)) (shows.inode d) known
+    pointers_there d known = λ m x table claim. known m x table (facts.uses d m ∙ claim.0, claim.1)
 
     grounds_there : (n d : ℕ) (p : Path kept.geometry (frozen_view kept) n d) → AreGrounds kept.geometry (frozen_view kept) after block n d p → AreGrounds kept.geometry view after block n d (path_there n d p)
     unfolding path_there
@@ -276,7 +293,7 @@ module _ (kept : Kept) (view : View) (keeps : KeepsMetadata kept) (shows : Shows
 
   of_directory_there : (d : ℕ) (c : Cell) → IsOfDirectory kept.geometry (frozen_view kept) d c → IsOfDirectory kept.geometry view d c
   of_directory_there d c (inl is) = inl is
-  of_directory_there d c (inr h) = inr (block_there d indirect_position c h)
+  of_directory_there d c (inr h) = inr (h.0, h.1, block_there d h.0 c h.2)
 
   ground_there : (c : Cell) (n d : ℕ) (p : Path kept.geometry (frozen_view kept) n d) → IsGround kept.geometry (frozen_view kept) c n d p → IsGround kept.geometry view c n d (path_there n d p)
   unfolding path_there

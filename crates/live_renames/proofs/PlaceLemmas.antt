@@ -44,7 +44,7 @@ module _ (geo : Geometry) (view : View) (d : ℕ) (place : Place) (at : IsPlace 
   pub blocks_placed : (block table : ℕ) (middle new : List Cell) → place ≡ NewBlock block (Some table) → middle ≡ old ++ Block block ∷ [] → new ≡ middle ++ Block table ∷ [] → Placed geo place old new
   blocks_placed block table middle new is first second =
       let there : IsNewBlock geo view d block (Some table) = subst (IsPlace geo view d) is at in
-      let last = pushed geo middle new (Block table) second there.table.1.address in (
+      let last = pushed geo middle new (Block table) second there.table.1.0.address in (
         gathers_both geo (map cell old) (map cell middle) (map cell new) (pushed geo old middle (Block block) first there.free.address) last,
         subst (λ p. IsPlaceIn p (map cell new)) (sym is)
             (last.kept (cell (Block block)) (holds_pushed geo old middle (Block block) first), holds_pushed geo middle new (Block table) second),

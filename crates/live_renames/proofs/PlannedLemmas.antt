@@ -1,6 +1,5 @@
 -- A rename that no cause refuses is planned by its updates.
 use Rattle.std.proofs.Common.{◌≡◌, ℕ, Bool, List, Some, None, eqb, true, false, subst, sym}
-use Rattle.model.specs.Rules.{UsesAreClaims}
 use Rattle.model.specs.View.{View}
 use Rattle.ordering.specs.Cuts.{Pending, users_view}
 use Rattle.frozen.specs.Kept.{Kept, KeepsMetadata, frozen_view}
@@ -55,7 +54,6 @@ module _ (kept : Kept) (keeps : KeepsMetadata kept) (path other : List ℕ) (ps 
     done = λ disk q old safe stands shows.
         let there = seen kept disk q old safe stands shows in
         let shown = shows_metadata kept (users_view disk q) keeps there in
-        let uses = subst (λ v. UsesAreClaims kept.geometry v) (sym stands.same) stands.balance.rules.rule3 in
-        moved_done kept keeps path other ps qs e f ends disk q old safe (are (users_view disk q) shown) (are (frozen_view kept) (self_shown kept)).directory there uses apart draft place
+        moved_done kept keeps path other ps qs e f ends disk q old safe (are (users_view disk q) shown) (are (frozen_view kept) (self_shown kept)).directory there apart draft place
         (may.fits (users_view disk q) shown) is;
   }

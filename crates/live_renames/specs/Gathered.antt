@@ -14,7 +14,7 @@ pub record Gathers (geo : Geometry) (old new : List Cell) : Type 0 where
   pub kept : (c : Cell) → Contains old c → Contains new c
   pub cells : All (IsCell geo) old → All (IsCell geo) new
 
--- The record of directory d is among these cells, and the indirect block of its pointers where it uses some.
+-- The record of directory d is among these cells, and the tables of its pointers.
 pub record HasDirectory (geo : Geometry) (view : View) (d : ℕ) (after : List Cell) : Type 0 where
   pub record_first : Contains after (Record d)
   pub pointers : (block : ℕ) → ArePointersKnown geo view after block d

@@ -27,7 +27,7 @@ pub record MayEnter (kept : Kept) (number d : ℕ) (place : Place) : Type 0 wher
   pub fits : (view : View) → IsShownBy kept view → IsPlace kept.geometry view d place
   pub room : IsFalse (is_full kept.geometry (frozen_view kept) d)
 
--- the block of an entry in this place, and the new indirect block with it, are among these cells
+-- the block of an entry in this place, and the new table with it, are among these cells
 abbrev pub IsPlaceIn : Place → List Cell → Type 0
 IsPlaceIn (Slot s block) after = Contains after (Block block)
 IsPlaceIn (NewBlock block table) after = Contains after (Block block) × IfSome table (λ x. Contains after (Block x))

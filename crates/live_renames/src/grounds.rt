@@ -11,14 +11,13 @@ ghost use Rattle.live_renames.specs.Gathered.{Gathers, HasDirectory, IsGrounded}
 
 use dirent::SLOTS;
 use frozen::Frozen;
-use inode::INDIRECT_POSITION;
 use layout::ROOT;
 use live_paths::{Path, find};
 use std::alloc::AllocError;
 use updates::Cell;
 
 /// Adds the grounds of the directory that holds the last part of a path, behind these cells: for each directory from the
-/// root to it its record, its indirect block where it has one, and the block in which its name stands. Nothing else is added.
+/// root to it its record, its tables, and the block in which its name stands. Nothing else is added.
 pub(crate) fn add_grounds(
     frozen: &Frozen,
     path: &Path,
@@ -71,7 +70,7 @@ fn add_name(
     Ok(entry.number)
 }
 
-/// Adds the record of a directory, and its indirect block where it has one, and nothing else.
+/// Adds the record of a directory, and each of its tables, and nothing else.
 fn add_directory(frozen: &Frozen, directory: u32, cells: &mut Vec<Cell>) -> Result<(), AllocError>
     requires { IsTrue (is_directory_at frozen.now.geometry (frozen_view frozen.now) directory) }
     ensures gathers { OnOk result (Gathers frozen.now.geometry (map cell cells.old.items) (map cell cells.new.items)) }
@@ -80,8 +79,12 @@ fn add_directory(frozen: &Frozen, directory: u32, cells: &mut Vec<Cell>) -> Resu
         ⊎ IsOfDirectory frozen.now.geometry (frozen_view frozen.now) directory c) (map cell cells.new.items)) }
 {
     cells.push(Cell::Record(directory))?;
-    if let Some(table) = frozen.claim_at(directory, INDIRECT_POSITION) {
-        cells.push(Cell::Block(table))?;
+    let geometry = frozen.geometry();
+    let end = geometry.tables_end(frozen.record(directory).blocks());
+    for table in geometry.most_blocks()..end {
+        if let Some(block) = frozen.claim_at(directory, table) {
+            cells.push(Cell::Block(block))?;
+        }
     }
     Ok(())
 }

@@ -5,7 +5,7 @@
 //! file's goes: the file gets a link more, then the new entry comes, for which the directory may have to grow; then the old
 //! slot is emptied, and last the file gets its record as it was. The old slot is emptied after the new entry and after
 //! the grounds of its directory, which are what leads there from the root: of each directory on the way its record, its
-//! indirect block and the block in which the next name stands. So no stop finds the file without a name.
+//! tables and the block in which the next name stands. So no stop finds the file without a name.
 //!
 //! A plan is made on the metadata of the volume that is held in memory, and changes nothing.
 #![tactic(auto)]

@@ -116,7 +116,7 @@ fn raise(alloc: Global, metadata: &Metadata, plan: &mut Plan, number: u32) -> Re
 }
 
 /// The cells that come before an old name goes: the block of the new entry in this place, and the grounds of its
-/// directory, with the indirect block that it is to get.
+/// directory, with the new table that it is to get where there is one.
 fn first_cells(
     alloc: Global,
     frozen: &Frozen,

@@ -1,8 +1,8 @@
 use crate::moving::refuse_taken;
 use crate::renaming::{find_ends, rename_in_slot};
-use device::{Before, Device, MemDevice, format};
+use device::MemDevice;
 use frozen::load;
-use layout::{BLOCK_BYTES, Geometry, Refusal};
+use layout::{Geometry, Refusal};
 use live_paths::Path;
 use metadata::Metadata;
 use std::alloc::Global;
@@ -38,28 +38,8 @@ const CHANGES: [(u32, usize, u8); 20] = [
 /// The metadata of this image.
 fn image(alloc: Global) -> Result<Metadata, Refusal> {
     let geometry = Geometry::new(1, 16, 16)?;
-    let bytes = vec![in alloc; 0u8; geometry.blocks() as usize * BLOCK_BYTES]?;
-    let mut device = MemDevice::from_bytes(alloc, bytes.as_slice())?;
-    if device.blocks() != geometry.blocks() {
-        return Err(Refusal::BadLength);
-    }
-    format(&mut device, &geometry, Before::Anything)?;
-    for (address, byte, value) in &CHANGES {
-        set_byte(&mut device, *address, *byte, *value)?;
-    }
+    let mut device = MemDevice::formatted(alloc, &geometry, &CHANGES)?;
     Ok(Metadata::new(alloc, load(alloc, &mut device)?)?)
-}
-
-/// Changes one byte of a block.
-fn set_byte(device: &mut MemDevice, address: u32, byte: usize, value: u8) -> Result<(), Refusal> {
-    if address >= device.blocks() || byte >= BLOCK_BYTES {
-        return Err(Refusal::BadIndex);
-    }
-    let mut block = [0; BLOCK_BYTES];
-    device.read(address, &mut block)?;
-    block[byte] = value;
-    device.write(address, &block)?;
-    Ok(())
 }
 
 /// The number that a path leads to, its directory, and the directory of a free name.

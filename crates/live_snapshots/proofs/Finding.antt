@@ -84,7 +84,7 @@ module _ (kept : Kept) (holdings : Holdings) where
   bare_number : (i : ℕ) → bare i ≡ true → i < numbers
   bare_number i is =
       let sound = (and_parts (is_sound_at kept.geometry (frozen_view kept) i) (eqb ((frozen_view kept).inode i).links 0) is).0 in
-      let number = (and_parts (is_number kept.geometry i) (is_sound ((frozen_view kept).inode i)) sound).0 in
+      let number = (and_parts (is_number kept.geometry i) (is_sound kept.geometry ((frozen_view kept).inode i)) sound).0 in
       ltb-true i numbers (and_parts _ _ number).1
 
   -- one number more

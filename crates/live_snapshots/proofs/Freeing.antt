@@ -1,22 +1,22 @@
 -- Updates that free numbers and blocks, one after the other.
-use Rattle.std.proofs.Common.{◌≡◌, ◌<◌, ◌+◌, ℕ, zero, suc, Bool, true, false, not, ◌&&◌, ◌||◌, cond, eqb, eqb-true, eq-eqb, List, [], ◌∷◌, ◌++◌, length, map, All, Option, Some, None, IsTrue, refl, sym, ap, ◌∙◌, subst, arith}
+use Rattle.std.proofs.Common.{◌≡◌, ◌<◌, ◌≤◌, ◌+◌, ◌-◌, ℕ, zero, suc, Bool, true, false, not, ◌&&◌, ◌||◌, cond, eqb, eqb-true, eq-eqb, List, [], Option, Some, None, IsTrue, ◌⊎◌, inl, inr, refl, sym, ap, ◌∙◌, subst, arith}
 use Rattle.std.specs.Option.{option_map_or}
-use Rattle.std.proofs.lemmas.List.{map-append}
-use Rattle.std.proofs.lemmas.List.Elements.{All-push}
 use Rattle.model.specs.Layout.{Geometry, is_data_address, is_number}
 use Rattle.model.specs.View.{Inode, View, free_inode}
 use Rattle.model.specs.Cells.{Update, SetInode, SetNumber, SetBlock, updated, updated_all}
-use Rattle.model.specs.Uses.{claim_at}
+use Rattle.model.specs.Shape.{most_blocks, position_count, tables}
+use Rattle.model.specs.Uses.{blocks_of, claim_at, has_position, is_sound}
+use Rattle.model.proofs.UseLemmas.{claim_parts}
+use Rattle.model.proofs.Shape.{more_reach, tables_range}
+use Rattle.model.proofs.Steps.{use_sound}
+use Rattle.model.proofs.Uses.{has_below, sound_few, use_has, use_number}
 use Rattle.machine.specs.Below.{any_below}
 use Rattle.machine.specs.Cells.{claims}
-use Rattle.ordering.specs.Cuts.{cell_of}
 use Rattle.queue_model.proofs.Lists.{bool_same}
 use Rattle.updates.specs.declared.change.Update as program
-use Rattle.updates.specs.Places.{IsCell, IsUpdate}
-use Rattle.updates.specs.Values.{change}
 use Rattle.metadata.specs.Staged.{changes}
 use Rattle.metadata.proofs.Steps.{updated_push}
-use Rattle.live_snapshots.specs.Orphans.{Adds, Frees, FreesToo, is_claimed_below}
+use Rattle.live_snapshots.specs.Orphans.{Adds, Frees, FreesToo, is_claimed_at, is_claimed_below}
 
 -- ---- what is freed
 
@@ -120,26 +120,63 @@ module _ (geo : Geometry) (view : View) (n : ℕ) where
       frees_as geo (λ i. ns i || eqb i n) bs (λ i. ns i || eqb i n) (λ a. bs a || claimed 0 a) new (λ i. refl) (λ a. sym (or_false (bs a)))
       (number_more geo ns bs old is n mid new number first second)
 
-  -- and one position more, where a block is claimed
-  pub block_goes : (k b : ℕ) (old mid new : List program.Update) → claim_at geo view n k ≡ Some b → IsTrue (is_data_address geo b) → Goes k old mid → Adds (SetBlock b false) mid new → Goes (suc k) old new
-  unfolding any_below
-  block_goes k b old mid new claim address goes more ns bs is =
-      frees_as geo (λ i. ns i || eqb i n) (λ a. (bs a || claimed k a) || eqb a b) (λ i. ns i || eqb i n) (λ a. bs a || claimed (suc k) a) new (λ i. refl)
-      (λ a. or_then (bs a) (claimed k a) (eqb a b) ∙ ap (λ t. bs a || (claimed k a || t)) (other_way a ∙ sym (ap (λ (o : Option ℕ). option_map_or (λ c. eqb c a) o false) claim)))
-      (block_more geo (λ i. ns i || eqb i n) (λ a. bs a || claimed k a) mid (goes ns bs is) b new address more)
+  -- what goes at one position, where a block is claimed
+  pub block_goes : (k b : ℕ) (old new : List program.Update) → claim_at geo view n k ≡ Some b → IsTrue (is_data_address geo b) → Adds (SetBlock b false) old new
+      → FreesToo geo (λ i. false) (is_claimed_at geo view n k) old new
+  block_goes k b old new claim address more ns bs is =
+      frees_as geo ns (λ a. bs a || eqb a b) (λ i. ns i || false) (λ a. bs a || is_claimed_at geo view n k a) new (λ i. sym (or_false (ns i)))
+      (λ a. ap (λ t. bs a || t) (other_way a ∙ sym (ap (λ (o : Option ℕ). option_map_or (λ c. eqb c a) o false) claim)))
+      (block_more geo ns bs old is b new address more)
     where
       other_way : (a : ℕ) → eqb a b ≡ eqb b a
       other_way a = bool_same (eqb a b) (eqb b a) (λ t. eq-eqb b a (sym (eqb-true a b t))) (λ t. eq-eqb a b (sym (eqb-true b a t)))
 
   -- or none
-  pub nothing_goes : (k : ℕ) (old new : List program.Update) → claim_at geo view n k ≡ None → Goes k old new → Goes (suc k) old new
-  unfolding any_below
-  nothing_goes k old new none goes ns bs is =
-      frees_as geo (λ i. ns i || eqb i n) (λ a. bs a || claimed k a) (λ i. ns i || eqb i n) (λ a. bs a || claimed (suc k) a) new (λ i. refl)
-      (λ a. ap (λ t. bs a || t) (sym (or_false (claimed k a)) ∙ ap (λ t. claimed k a || t) (sym (ap (λ (o : Option ℕ). option_map_or (λ c. eqb c a) o false) none))))
-      (goes ns bs is)
+  pub nothing_goes : (k : ℕ) (old : List program.Update) → claim_at geo view n k ≡ None → FreesToo geo (λ i. false) (is_claimed_at geo view n k) old old
+  nothing_goes k old none ns bs is =
+      frees_as geo ns bs (λ i. ns i || false) (λ a. bs a || is_claimed_at geo view n k a) old (λ i. sym (or_false (ns i)))
+      (λ a. sym (or_false (bs a)) ∙ ap (λ t. bs a || t) (sym (ap (λ (o : Option ℕ). option_map_or (λ c. eqb c a) o false) none))) is
 
-  -- all positions
-  pub all_go : (old new : List program.Update) → Goes 269 old new → FreesToo geo (λ i. eqb i n) (claims geo view n) old new
+  -- one position more
+  pub goes_on : (k : ℕ) (old mid new : List program.Update) → Goes k old mid → FreesToo geo (λ i. false) (is_claimed_at geo view n k) mid new → Goes (suc k) old new
+  unfolding any_below
+  goes_on k old mid new goes more ns bs is =
+      frees_as geo (λ i. (ns i || eqb i n) || false) (λ a. (bs a || claimed k a) || is_claimed_at geo view n k a) (λ i. ns i || eqb i n) (λ a. bs a || claimed (suc k) a) new
+      (λ i. or_false (ns i || eqb i n)) (λ a. or_then (bs a) (claimed k a) (is_claimed_at geo view n k a))
+      (more (λ i. ns i || eqb i n) (λ a. bs a || claimed k a) (goes ns bs is))
+
+  -- more positions, at which nothing is claimed
+  pub goes_past : (d k : ℕ) (old new : List program.Update) → ((j : ℕ) → k ≤ j → j < d + k → claim_at geo view n j ≡ None) → Goes k old new → Goes (d + k) old new
+  goes_past zero k old new none goes = let e : k ≡ zero + k = omega arith in subst (λ j. Goes j old new) e goes
+  goes_past (suc d) k old new none goes =
+      let e : suc (d + k) ≡ suc d + k = omega arith in
+      subst (λ j. Goes j old new) e
+      (goes_on (d + k) old new new (goes_past d k old new (λ j low high. none j low (omega (arith, high))) goes) (nothing_goes (d + k) new (none (d + k) (omega arith) (omega arith))))
+
+  pub goes_to : (k m : ℕ) (old new : List program.Update) → k ≤ m → ((j : ℕ) → k ≤ j → j < m → claim_at geo view n j ≡ None) → Goes k old new → Goes m old new
+  goes_to k m old new low none goes =
+      let e : (m - k) + k ≡ m = omega (arith, low) in
+      subst (λ j. Goes j old new) e (goes_past (m - k) k old new (λ j l h. none j l (omega (arith, h, e))) goes)
+
+  -- a position that the inode does not have claims nothing
+  unclaimed : (k : ℕ) → (IsTrue (is_sound geo (view.inode n)) → IsTrue (has_position geo (view.inode n) k) → ⊥) → claim_at geo view n k ≡ None
+  unclaimed k none = by (claim_at geo view n k) refl
+    where
+      by : (o : Option ℕ) → claim_at geo view n k ≡ o → claim_at geo view n k ≡ None
+      by None e = e
+      by (Some b) e =
+          let u = (use_number geo view n k b (claim_parts geo view n k b e).0).1 in
+          absurd (none (use_sound geo view (view.inode n) k b u) (use_has geo view (view.inode n) k b u))
+
+  -- between its blocks and its tables, and behind them
+  pub to_tables : (end : ℕ) (old new : List program.Update) → end ≤ most_blocks geo → (blocks_of (view.inode n).size ≤ end) ⊎ (most_blocks geo ≤ end) → Goes end old new → Goes (most_blocks geo) old new
+  to_tables end old new inside all = goes_to end (most_blocks geo) old new inside (λ k l h. unclaimed k (λ sound has.
+      let below = has_below geo (view.inode n) k h has in elim all [ inl e ↦ omega (arith, e, below, l) | inr e ↦ omega (arith, e, h, l) ]))
+
+  pub all_go : (end : ℕ) (old new : List program.Update) → end ≤ most_blocks geo → (blocks_of (view.inode n).size ≤ end) ⊎ (most_blocks geo ≤ end) → most_blocks geo + tables end ≤ position_count geo
+      → Goes (most_blocks geo + tables end) old new → FreesToo geo (λ i. eqb i n) (claims geo view n) old new
   unfolding claims
-  all_go old new goes = goes
+  all_go end old new inside all within = goes_to (most_blocks geo + tables end) (position_count geo) old new within (λ k l h. unclaimed k (λ sound has.
+      let few = sound_few geo (view.inode n) sound in
+      let fewer : blocks_of (view.inode n).size ≤ end = elim all [ inl e ↦ e | inr e ↦ omega (arith, e, few) ] in
+      let past = (tables_range geo end k inside (omega (arith, l))).0 (more_reach geo (blocks_of (view.inode n).size) end k fewer has) in omega (arith, past, l)))

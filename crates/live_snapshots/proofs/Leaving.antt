@@ -1,15 +1,16 @@
 -- What is left without the orphans: what users see without them, and all of its metadata.
-use Rattle.std.proofs.Common.{◌≡◌, ◌+◌, ℕ, Bool, false, not, ◌&&◌, eqb, List, [], ◌∷◌, Option, unwrap_or, IsTrue, ◌⊎◌, inl, inr, refl, sym, ap, ◌∙◌, subst}
+use Rattle.std.proofs.Common.{◌≡◌, ℕ, Bool, false, not, ◌&&◌, eqb, List, [], ◌∷◌, Option, unwrap_or, IsTrue, ◌⊎◌, inl, inr, refl, sym, ap, ◌∙◌, subst}
 use Rattle.std.specs.Bool.{then_some}
 use Rattle.std.specs.Option.{option_and_then, option_map_or}
-use Rattle.std.proofs.lemmas.Bool.{and_parts, cases_Bool, cond-true, cond-false}
+use Rattle.std.proofs.lemmas.Bool.{and_from, and_parts, cases_Bool, cond-true, cond-false}
 use Rattle.model.specs.Layout.{Geometry, inode_count, is_data_address, is_number}
-use Rattle.model.specs.View.{Inode, View, free_inode}
+use Rattle.model.specs.View.{View, free_inode}
 use Rattle.model.specs.Cells.{updated_all}
-use Rattle.model.specs.Uses.{IsClaim, claim_at, indirect_position, is_directory, is_directory_at, is_sound, is_sound_at, is_used, value_at}
+use Rattle.model.specs.Shape.{is_table, position_count}
+use Rattle.model.specs.Uses.{IsClaim, claim_at, is_directory, is_directory_at, is_sound, is_sound_at}
 use Rattle.model.proofs.Same.{same_facts}
-use Rattle.model.proofs.UseLemmas.{use_from, use_parts}
-use Rattle.machine.specs.Below.{any_below}
+use Rattle.model.proofs.Steps.{use_sound}
+use Rattle.model.proofs.Uses.{use_number, uses_agree}
 use Rattle.machine.specs.Cells.{claims}
 use Rattle.machine.proofs.Decisions.{any_same, sound_mode}
 use Rattle.ordering.specs.Cuts.{Pending, users_view}
@@ -25,9 +26,9 @@ use Rattle.live_states.specs.Holdings.{Holdings}
 use Rattle.live_states.proofs.Staging.{keeps'}
 use Rattle.live_snapshots.specs.Orphans.{Frees, LacksOrphans, is_of_orphan_below, is_orphan_of}
 
--- inode i claims block a as its indirect block, or as a block of the directory that it is
+-- inode i claims block a as one of its tables, or as a block of the directory that it is
 abbrev IsOfMetadata : Geometry → View → ℕ → ℕ → ℕ → Type 0
-IsOfMetadata geo view i k a = IsClaim geo view i k a × ((k ≡ indirect_position) ⊎ IsTrue (is_directory_at geo view i))
+IsOfMetadata geo view i k a = IsClaim geo view i k a × (IsTrue (is_table geo k) ⊎ IsTrue (is_directory_at geo view i))
 
 users_over : (disk : View) (q : List Pending) (us : List program.Update) → users_view disk (over q us) ≡ updated_all (users_view disk q) (changes us)
 users_over disk q [] = refl
@@ -55,7 +56,7 @@ module _ (kept : Kept) (keeps : KeepsMetadata kept) (holdings : Holdings) (us : 
   unfolding claims claim_at
   same_claims users shows i a =
       let same = same_facts geo (frozen_view kept) users (shows_metadata kept users keeps shows) in
-      any_same (indirect_position + 1) (claimed_by (frozen_view kept)) (claimed_by users)
+      any_same (position_count geo) (claimed_by (frozen_view kept)) (claimed_by users)
       (λ k low. ap (λ (o : Option ℕ). option_map_or (λ b. eqb b a) (option_and_then (λ b. then_some (is_data_address geo b) b) o) false) (same.uses i k))
     where
       claimed_by : View → ℕ → Bool
@@ -83,25 +84,19 @@ module _ (kept : Kept) (keeps : KeepsMetadata kept) (holdings : Holdings) (us : 
   record_stays i sound = elim (cases_Bool (orphan i)) [
     | inl t ↦ absurd (
         let free : now.inode i ≡ free_inode = frees.inode before i ∙ cond-true (orphan i) free_inode (before.inode i) t in
-        sound_mode free_inode (and_parts (is_number geo i) (is_sound free_inode) (subst (λ r. IsTrue (is_number geo i && is_sound r)) free sound)).1 refl)
+        sound_mode geo free_inode (and_parts (is_number geo i) (is_sound geo free_inode) (subst (λ r. IsTrue (is_number geo i && is_sound geo r)) free sound)).1 refl)
     | inr f ↦ frees.inode before i ∙ cond-false (orphan i) free_inode (before.inode i) f
   ]
 
   claim_before : (i k a : ℕ) → IsClaim geo now i k a → IsClaim geo before i k a
   claim_before i k a (used, address) =
-      let parts = use_parts geo now i k a used in
-      let same = record_stays i parts.sound in (
-        use_from geo before i k a (record {
-          sound = subst (λ r. IsTrue (is_number geo i && is_sound r)) same parts.sound;
-          used = subst (λ r. IsTrue (is_used geo r k)) same parts.used;
-          value = ap (λ (r : Inode). value_at before r k) (sym same) ∙ ap (λ (f : ℕ → List ℕ). value_at (record before { bytes = f }) (now.inode i) k) (sym (frees.bytes before)) ∙ parts.value;
-        }),
-        address,
-      )
+      let u = use_number geo now i k a used in
+      let same = record_stays i (and_from (is_number geo i) (is_sound geo (now.inode i)) u.0 (use_sound geo now (now.inode i) k a u.1)) in
+      (sym (uses_agree geo now before i k (λ number. same) (λ m t above claim. ap (λ (f : ℕ → List ℕ). f t) (frees.bytes before))) ∙ used, address)
 
   directory_before : (i : ℕ) → IsTrue (is_directory_at geo now i) → IsTrue (is_directory_at geo before i)
   directory_before i t =
-      subst (λ r. IsTrue ((is_number geo i && is_sound r) && is_directory r)) (record_stays i (and_parts (is_sound_at geo now i) (is_directory (now.inode i)) t).0) t
+      subst (λ r. IsTrue ((is_number geo i && is_sound geo r) && is_directory r)) (record_stays i (and_parts (is_sound_at geo now i) (is_directory (now.inode i)) t).0) t
 
   was_there : (i k a : ℕ) → IsOfMetadata geo now i k a → IsOfMetadata geo before i k a
   was_there i k a (claim, inl e) = (claim_before i k a claim, inl e)

@@ -27,7 +27,7 @@ module _ (kept : Kept) (holdings : Holdings) where
     open_sound i t =
         let there : State = volume.volume.old in
         let file = volume.volume.stands.balance.open_file i (open_tested there i (sym (open_same there volume.has i) ∙ t)) in
-        subst (λ r. IsTrue (is_number kept.geometry i && is_sound r)) (sym (volume.volume.shows.inode i)) file.0
+        subst (λ r. IsTrue (is_number kept.geometry i && is_sound kept.geometry r)) (sym (volume.volume.shows.inode i)) file.0
 
     orphan_same : (old : State) → Shows kept old.view → Has holdings old → (i : ℕ) → is_orphan_of kept holdings i ≡ is_orphan old i
     orphan_same old shows has i =

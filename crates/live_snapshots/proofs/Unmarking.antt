@@ -6,10 +6,11 @@ use Rattle.marks.specs.Marks.{IsNextMarked, NothingMarkedFrom}
 use Rattle.model.specs.Cells.{SetBlock, put_at, updated}
 use Rattle.model.specs.Image.{IsBlock, IsGroupBlock}
 use Rattle.model.specs.Layout.{Geometry, block_count, data_bit, group_block, group_of_address, is_data_address}
-use Rattle.model.specs.Uses.{IsClaim, indirect_position, is_directory_at, use_at}
+use Rattle.model.specs.Uses.{IsClaim, is_directory_at}
 use Rattle.model.specs.View.{View, map_bit, view_of}
 use Rattle.model.proofs.Addresses.{maps_below, maps_group}
 use Rattle.model.proofs.Places.{put_here, put_there, maps_are_no_data}
+use Rattle.model.proofs.Uses.{uses_agree}
 use Rattle.queue_model.proofs.Lists.{bool_same}
 use Rattle.frozen.specs.Kept.{Kept, KeepsFrame, KeepsMetadata, frozen_view, kept_at, kept_bytes}
 use Rattle.std.specs.Arc.{arc_value}
@@ -230,8 +231,9 @@ module _ (kept : Kept) (keeps : KeepsMetadata kept) (g : ℕ) (group : g < kept.
   ]
 
   claim_before : (i k a : ℕ) → IsClaim geo (frozen_view kept') i k a → IsClaim geo (frozen_view kept) i k a
-  unfolding use_at
-  claim_before i k a c = subst (λ v. IsClaim geo v i k a) view_then c
+  claim_before i k a c =
+      let there = subst (λ v. IsClaim geo v i k a) view_then c in
+      (uses_agree geo (frozen_view kept) (without_bits gone (frozen_view kept)) i k (λ number. refl) (λ m b above claim. refl) ∙ there.0, there.1)
 
   directory_before : (d : ℕ) → IsTrue (is_directory_at geo (frozen_view kept') d) → IsTrue (is_directory_at geo (frozen_view kept) d)
   directory_before d t = subst (λ v. IsTrue (is_directory_at geo v d)) view_then t
@@ -239,7 +241,7 @@ module _ (kept : Kept) (keeps : KeepsMetadata kept) (g : ℕ) (group : g < kept.
   installed_keeps : KeepsMetadata kept'
   installed_keeps = record {
     frame = frame_with kept h new keeps.frame (omega arith) on_volume whole is_maps;
-    indirect_blocks = λ i a c. stays_kept a (keeps.indirect_blocks i a (claim_before i indirect_position a c));
+    tables = λ i m is a c. stays_kept a (keeps.tables i m is a (claim_before i m a c));
     directory_blocks = λ d t k a c. stays_kept a (keeps.directory_blocks d (directory_before d t) k a (claim_before d k a c));
   }
 

@@ -43,9 +43,12 @@ is_of_orphan_below kept holdings n a = any_below n (λ i. is_orphan_of kept hold
 abbrev pub LacksOrphans : Kept → Holdings → Kept → Type 0
 LacksOrphans kept holdings left = (users : View) → Shows kept users → Shows left (without kept.geometry users (is_orphan_of kept holdings))
 
--- inode n claims block a at some position below this one
+-- inode n claims block a at position k, and at some position below this one
+abbrev pub is_claimed_at : Geometry → View → ℕ → ℕ → ℕ → Bool
+is_claimed_at geo view n k a = option_map_or (λ b. b == a) (claim_at geo view n k) false
+
 abbrev pub is_claimed_below : Geometry → View → ℕ → ℕ → ℕ → Bool
-is_claimed_below geo view n end a = any_below end (λ k. option_map_or (λ b. b == a) (claim_at geo view n k) false)
+is_claimed_below geo view n end a = any_below end (λ k. is_claimed_at geo view n k a)
 
 -- There is one more update, which makes this change, after nothing.
 pub record Adds (change : Update) (old new : List program.Update) : Type 0 where

@@ -1,13 +1,13 @@
-ghost use Rattle.std.specs.Prelude.{◌≡◌, ◌==◌, IfOk, IsTrue, OnOk};
+ghost use Rattle.std.specs.Prelude.{◌≡◌, ◌==◌, false, IfOk, IsTrue, OnOk};
 ghost use Rattle.frozen.specs.Kept.{KeepsMetadata, frozen_view};
 ghost use Rattle.machine.specs.Cells.{claims};
 ghost use Rattle.model.specs.Layout.{inode_count, is_number};
 ghost use Rattle.model.specs.View.{free_inode};
 ghost use Rattle.updates.specs.Values.{change as change_of};
-ghost use Rattle.live_snapshots.specs.Orphans.{Adds, Frees, FreesToo, LacksOrphans, is_of_orphan_below, is_open_below, is_orphan_of, orphan_by};
+ghost use Rattle.live_snapshots.specs.Orphans.{Adds, Frees, FreesToo, LacksOrphans, is_claimed_at, is_of_orphan_below, is_open_below, is_orphan_of, orphan_by};
 
 use frozen::Frozen;
-use inode::{DIRECT_POINTERS, FREE, INDIRECT_POSITION, Record};
+use inode::{DIRECT_POINTERS, FREE, Record};
 use live_holdings::Holdings;
 use metadata::Metadata;
 use spares::Spares;
@@ -86,10 +86,30 @@ fn free(
 {
     push(alloc, updates, Change::SetInode(number, free_record()))?;
     push(alloc, updates, Change::SetNumber(number, false))?;
-    for position in 0..=INDIRECT_POSITION {
-        if let Some(block) = frozen.claim_at(number, position) {
-            push(alloc, updates, Change::SetBlock(block, false))?;
-        }
+    let geometry = frozen.geometry();
+    let end = frozen.record(number).blocks().min(geometry.most_blocks());
+    for position in 0..end {
+        free_at(alloc, frozen, number, position, updates)?;
+    }
+    let last = geometry.tables_end(end);
+    for table in geometry.most_blocks()..last {
+        free_at(alloc, frozen, number, table, updates)?;
+    }
+    Ok(())
+}
+
+/// Adds the update that clears the bit of the block that a number claims at a position, if it claims one.
+fn free_at(
+    alloc: Global,
+    frozen: &Frozen,
+    number: u32,
+    position: u32,
+    updates: &mut Vec<Update>,
+) -> Result<(), AllocError>
+    ensures { OnOk result (FreesToo frozen.now.geometry (λ i. false) (is_claimed_at frozen.now.geometry (frozen_view frozen.now) number position) updates.old.items updates.new.items) }
+{
+    if let Some(block) = frozen.claim_at(number, position) {
+        push(alloc, updates, Change::SetBlock(block, false))?;
     }
     Ok(())
 }

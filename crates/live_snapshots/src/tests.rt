@@ -1,18 +1,17 @@
 use crate::held::unmark_held;
 use crate::orphans::without_orphans;
-use device::{Before, Device, MemDevice, format};
+use device::{Byte, MemDevice, set_bytes};
 use frozen::{Frozen, load};
-use layout::{BLOCK_BYTES, Geometry, Refusal};
+use layout::{Geometry, Refusal};
 use live_holdings::Holdings;
 use metadata::Metadata;
 use std::alloc::Global;
 use std::process::Abort;
 
-/// A byte that differs from a fresh image of one group of 32 blocks and 16 inodes: the block, the byte, the value.
-type Changed = (u32, usize, u8);
+// Each image is a fresh one of groups of 32 blocks and 16 inodes but for some bytes.
 
 /// File 6 has a link, and 1,024 bytes in block 20. File 8 has no link, and 1,024 bytes in block 21.
-const FILES: [Changed; 7] = [
+const FILES: [Byte; 7] = [
     (2, 768, 1),
     (2, 770, 1),
     (2, 773, 4),
@@ -23,7 +22,7 @@ const FILES: [Changed; 7] = [
 ];
 
 /// File 5 has no link, and 13 blocks in blocks 6 to 17 and 19. Its indirect block is block 18.
-const ORPHAN: [Changed; 16] = [
+const ORPHAN: [Byte; 16] = [
     (2, 640, 1),
     (2, 645, 52),
     (2, 648, 6),
@@ -43,7 +42,7 @@ const ORPHAN: [Changed; 16] = [
 ];
 
 /// Numbers 2, 5, 6 and 8 are marked, and so are blocks 4 and 6 to 21.
-const MARKS: [Changed; 5] = [
+const MARKS: [Byte; 5] = [
     (1, 32, 0b0110_0100),
     (1, 33, 1),
     (1, 160, 0b1111_1101),
@@ -52,7 +51,7 @@ const MARKS: [Changed; 5] = [
 ];
 
 /// Numbers 2, 6 and 8 are marked, and so are blocks 4, 20 and 21.
-const MARKS_LEFT: [Changed; 5] = [
+const MARKS_LEFT: [Byte; 5] = [
     (1, 32, 0b0100_0100),
     (1, 33, 1),
     (1, 160, 0b1),
@@ -61,43 +60,24 @@ const MARKS_LEFT: [Changed; 5] = [
 ];
 
 /// Of two groups: blocks 4, 7 and 8 of the first one are marked, and 37 and 38 of the second.
-const MARKED: [Changed; 2] = [(1, 160, 0b1_1001), (33, 160, 0b110)];
+const MARKED: [Byte; 2] = [(1, 160, 0b1_1001), (33, 160, 0b110)];
 
 /// The same without blocks 7, 37 and 38.
-const UNMARKED: [Changed; 2] = [(1, 160, 0b1_0001), (33, 160, 0)];
+const UNMARKED: [Byte; 2] = [(1, 160, 0b1_0001), (33, 160, 0)];
 
 /// The metadata of the image of one group with these bytes.
-fn image(alloc: Global, changes: &[&[Changed]]) -> Result<Metadata, Refusal> {
+fn image(alloc: Global, changes: &[&[Byte]]) -> Result<Metadata, Refusal> {
     image_of(alloc, 1, changes)
 }
 
 /// The metadata of the image of so many groups with these bytes.
-fn image_of(alloc: Global, groups: u32, changes: &[&[Changed]]) -> Result<Metadata, Refusal> {
+fn image_of(alloc: Global, groups: u32, changes: &[&[Byte]]) -> Result<Metadata, Refusal> {
     let geometry = Geometry::new(groups, 32, 16)?;
-    let bytes = vec![in alloc; 0u8; geometry.blocks() as usize * BLOCK_BYTES]?;
-    let mut device = MemDevice::from_bytes(alloc, bytes.as_slice())?;
-    if device.blocks() != geometry.blocks() {
-        return Err(Refusal::BadLength);
-    }
-    format(&mut device, &geometry, Before::Anything)?;
+    let mut device = MemDevice::formatted(alloc, &geometry, &[])?;
     for some in changes {
-        for (address, byte, value) in *some {
-            set_byte(&mut device, *address, *byte, *value)?;
-        }
+        set_bytes(&mut device, some)?;
     }
     Ok(Metadata::new(alloc, load(alloc, &mut device)?)?)
-}
-
-/// Changes one byte of a block.
-fn set_byte(device: &mut MemDevice, address: u32, byte: usize, value: u8) -> Result<(), Refusal> {
-    if address >= device.blocks() || byte >= BLOCK_BYTES {
-        return Err(Refusal::BadIndex);
-    }
-    let mut block = [0; BLOCK_BYTES];
-    device.read(address, &mut block)?;
-    block[byte] = value;
-    device.write(address, &block)?;
-    Ok(())
 }
 
 /// Opens one more handle on a number.
@@ -144,7 +124,7 @@ fn lacking(alloc: Global, wanted: &Metadata, numbers: &[u32]) -> Result<Option<u
 /// these numbers are opened.
 fn expect_lacking(
     rt: &(impl AllocGlobal + Abort),
-    changes: &[&[Changed]],
+    changes: &[&[Byte]],
     numbers: &[u32],
     wanted: Option<u32>,
 ) -> Result<(), Refusal> {
@@ -158,7 +138,7 @@ fn expect_lacking(
 fn other_than(
     alloc: Global,
     metadata: &Metadata,
-    changes: &[&[Changed]],
+    changes: &[&[Byte]],
 ) -> Result<Option<u32>, Refusal> {
     let one = image(alloc, changes)?;
     Ok(first_difference(one.frozen(), metadata.frozen()))
@@ -167,8 +147,8 @@ fn other_than(
 /// Aborts unless this is the first block in which one image is not the other.
 fn expect_other(
     rt: &(impl AllocGlobal + Abort),
-    one: &[&[Changed]],
-    other: &[&[Changed]],
+    one: &[&[Byte]],
+    other: &[&[Byte]],
     wanted: Option<u32>,
 ) -> Result<(), Refusal> {
     let metadata = image(rt.alloc(), other)?;

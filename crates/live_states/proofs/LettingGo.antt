@@ -1,8 +1,10 @@
 -- A volume stays one without a block in memory that a file holds data in.
 use Rattle.std.proofs.Common.{◌≡◌, ◌<◌, ℕ, List, IsFalse, true, false, sym, ap, ◌∙◌, arith}
+use Rattle.std.proofs.lemmas.Bool.{leb-true}
 use Rattle.model.specs.Layout.{Geometry}
 use Rattle.model.specs.Rules.{ObeysRules}
-use Rattle.model.specs.Uses.{IsClaim, indirect_position, is_directory_at}
+use Rattle.model.specs.Shape.{most_blocks}
+use Rattle.model.specs.Uses.{IsClaim, is_directory_at}
 use Rattle.model.specs.View.{View}
 use Rattle.model.proofs.Same.{SameFacts, claim_there, same_facts}
 use Rattle.ordering.specs.Cuts.{Pending, users_view}
@@ -14,7 +16,7 @@ use Rattle.live_states.specs.Holdings.{Holdings}
 use Rattle.live_states.specs.Volume.{IsVolume}
 
 module _ (kept : Kept) (holdings : Holdings) (q : List Pending) (disk : View) (keeps : KeepsMetadata kept) (volume : IsVolume kept holdings q disk)
-    (f k a : ℕ) (claim : IsClaim kept.geometry (frozen_view kept) f k a) (inside : k < indirect_position) (is_file : IsFalse (is_directory_at kept.geometry (frozen_view kept) f)) where
+    (f k a : ℕ) (claim : IsClaim kept.geometry (frozen_view kept) f k a) (inside : k < most_blocks kept.geometry) (is_file : IsFalse (is_directory_at kept.geometry (frozen_view kept) f)) where
   abbrev geo : Geometry
   geo = kept.geometry
 
@@ -34,7 +36,7 @@ module _ (kept : Kept) (holdings : Holdings) (q : List Pending) (disk : View) (k
   pub plain : IsPlain kept a
   plain = record {
     of_data = claim.1;
-    no_indirect = λ i other. let e = (once i indirect_position other).1 in omega (arith, inside, e);
+    no_table = λ i m is other. let e = (once i m other).1 in let from = leb-true (most_blocks geo) m is in omega (arith, inside, e, from);
     no_directory = λ d l t other. let bad : false ≡ true = sym is_file ∙ ap (is_directory_at geo (frozen_view kept)) (once d l other).0 ∙ t in cc;
   }
 

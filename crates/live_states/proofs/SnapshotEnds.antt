@@ -5,8 +5,8 @@ use Rattle.std.proofs.lemmas.List.{get_or-replicate, get_or_past, length-replica
 use Rattle.std.specs.Option.{option_or}
 use mathlib.Core.Path.{fun_ext}
 use Rattle.model.specs.Layout.{Geometry}
-use Rattle.model.specs.Uses.{use_at}
 use Rattle.model.specs.View.{View}
+use Rattle.model.proofs.Uses.{uses_agree}
 use Rattle.findings.specs.Numbers.{found_below}
 use Rattle.machine.proofs.Tests.{and_false, and_true}
 use Rattle.ordering.specs.Cuts.{Pending, users_view}
@@ -154,8 +154,9 @@ module _ (kept : Kept) (holdings : Holdings) (disk : View) (keeps : KeepsMetadat
     let_go_state = ap₂ (λ (v : View) (h : ℕ → Bool). record { view = v; opened = opened_by holdings; held = h; snapshots = ended beside.snapshots s; plan = plan_by holdings }) view_after held_after
 
   claimed_before : (i k a : ℕ) → IsMetadataClaim geo (users_view disk (over [] updates)) i k a → IsMetadataClaim geo (users_view disk []) i k a ⊎ GivesBytes (over [] updates) a
-  unfolding use_at
-  claimed_before i k a claim = inl (subst (λ v. IsMetadataClaim geo v i k a) view_then claim)
+  claimed_before i k a claim =
+      let there = subst (λ v. IsMetadataClaim geo v i k a) view_then claim in
+      inl ((uses_agree geo (users_view disk []) (released old s).view i k (λ number. refl) (λ m b above c. refl) ∙ there.0.0, there.0.1), there.1)
 
   pub let_go_keeps : KeepsMetadata (after kept staged)
   let_go_keeps = keeps_staged kept [] disk updates keeps volume.shows claimed_before staged is

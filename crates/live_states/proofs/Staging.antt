@@ -1,20 +1,22 @@
 -- What is kept after updates were staged is all metadata again, where they make no new claim on it but of blocks that they give their bytes.
 use Rattle.std.proofs.Common.{◌≡◌, ℕ, ◌&&◌, List, [], ◌∷◌, ◌++◌, map, unwrap_or, IsTrue, IsSome, ◌⊎◌, inl, inr, refl, sym, ap, ◌∙◌, subst}
 use Rattle.std.specs.List.{Contains}
-use Rattle.std.proofs.lemmas.Bool.{cond-true}
+use Rattle.std.proofs.lemmas.Bool.{cond-true, le-leb}
 use Rattle.model.specs.Layout.{Geometry, is_data_address, is_number}
-use Rattle.model.specs.View.{View, Inode}
+use Rattle.model.specs.View.{View}
 use Rattle.model.specs.Cells as model
-use Rattle.model.specs.Uses.{IsClaim, indirect_position, is_directory, is_sound, is_used}
-use Rattle.model.proofs.Same.{claim_there, directory_there, other_way, same_facts, same_use}
-use Rattle.model.proofs.UseLemmas.{use_parts, use_from}
+use Rattle.model.specs.Shape.{most_blocks, place_in_table, pointer_in}
+use Rattle.model.specs.Uses.{is_directory, is_sound, use_at}
+use Rattle.model.proofs.Same.{claim_there, directory_there, other_way, same_facts}
+use Rattle.model.proofs.Shape.{by_way, table_is_table}
+use Rattle.model.proofs.Uses.{uses_step}
 use Rattle.ordering.specs.Cuts.{Pending, users_view}
 use Rattle.queue_model.specs.Files.{Written}
 use Rattle.queue_model.proofs.Lists.{contains_cases, contains_head, contains_none, contains_tail}
 use Rattle.updates.specs.declared.change.Update.{Update}
 use Rattle.updates.specs.Values.{change, written}
 use Rattle.softdep.specs.Queued.{added}
-use Rattle.frozen.specs.Kept.{Kept, KeepsIndirect, KeepsDirectory, KeepsMetadata, frozen_view, kept_at, kept_bytes}
+use Rattle.frozen.specs.Kept.{Kept, KeepsTables, KeepsDirectory, KeepsMetadata, frozen_view, kept_at, kept_bytes}
 use Rattle.frozen.proofs.ClaimLemmas.{there}
 use Rattle.metadata.specs.declared.staged.Staged.{Staged}
 use Rattle.metadata.specs.Shown.{Shows}
@@ -86,7 +88,7 @@ module _ (kept : Kept) (q : List Pending) (disk : View) (updates : List Update) 
       let facts = other_way (same_facts geo (frozen_view kept) users (shows_metadata kept users keeps shows)) in
       let there = claim_there geo users (frozen_view kept) facts i k a claim in
       elim kind [
-        | inl e ↦ keeps.indirect_blocks i a (subst (λ j. IsClaim geo (frozen_view kept) i j a) e there)
+        | inl table ↦ keeps.tables i k table a there
         | inr d ↦ keeps.directory_blocks i (directory_there geo users (frozen_view kept) facts i d) k a there
       ]
 
@@ -97,37 +99,32 @@ module _ (kept : Kept) (q : List Pending) (disk : View) (updates : List Update) 
         | inr given ↦ is.more a (inr (gives updates a given))
       ]
 
-  -- the pointer to an indirect block is the same to users
-  pointer_shown : (i a : ℕ) → IsClaim kept'.geometry (frozen_view kept') i indirect_position a → IsClaim kept'.geometry users' i indirect_position a
-  pointer_shown i a claim =
-      let u = use_parts kept'.geometry (frozen_view kept') i indirect_position a claim.0 in
-      let e : (frozen_view kept').inode i ≡ users'.inode i = shows'.inode i in (
-        use_from kept'.geometry users' i indirect_position a (record {
-          sound = subst (λ r. IsTrue (is_number kept'.geometry i && is_sound r)) e u.sound;
-          used = subst (λ r. IsTrue (is_used kept'.geometry r indirect_position)) e u.used;
-          value = sym (ap (λ (r : Inode). r.indirect) e) ∙ u.value;
-        }),
-        claim.1,
-      )
+  bytes_shown : (a : ℕ) → IsTrue (is_data_address kept'.geometry a) → IsSome (kept_at kept'.blocks a) → (frozen_view kept').bytes a ≡ users'.bytes a
+  bytes_shown a address some =
+      let at = there (kept_at kept'.blocks a) some in
+      cond-true (is_data_address kept'.geometry a) (kept_bytes kept'.blocks a) [] address ∙ ap (λ o. unwrap_or o []) at.1 ∙ sym (shows'.bytes a at.0 address at.1)
 
-  indirect' : KeepsIndirect kept'
-  indirect' i a claim = kept_now i indirect_position a (pointer_shown i a claim, inl refl)
+  -- users use the same: the tables on the way are metadata, so they are kept
+  shown : (i k : ℕ) → use_at kept'.geometry (frozen_view kept') i k ≡ use_at kept'.geometry users' i k
+  shown i = by_way kept'.geometry (λ k. use_at kept'.geometry (frozen_view kept') i k ≡ use_at kept'.geometry users' i k)
+      (λ k tables. uses_step kept'.geometry (frozen_view kept') users' i k (λ number. shows'.inode i) tables
+      (λ m t h has claim.
+      let table = le-leb (most_blocks kept'.geometry) m (table_is_table kept'.geometry k m h) in
+      ap (λ bytes. pointer_in bytes (place_in_table kept'.geometry k)) (bytes_shown t claim.1 (kept_now i m t ((sym (tables m h) ∙ claim.0, claim.1), inl table)))))
 
-  indirect_bytes : (i a : ℕ) → IsClaim kept'.geometry (frozen_view kept') i indirect_position a → (frozen_view kept').bytes a ≡ users'.bytes a
-  indirect_bytes i a claim =
-      let at = there (kept_at kept'.blocks a) (indirect' i a claim) in
-      cond-true (is_data_address kept'.geometry a) (kept_bytes kept'.blocks a) [] claim.1 ∙ ap (λ o. unwrap_or o []) at.1 ∙ sym (shows'.bytes a at.0 claim.1 at.1)
+  tables' : KeepsTables kept'
+  tables' i m table a claim = kept_now i m a ((sym (shown i m) ∙ claim.0, claim.1), inl table)
 
   directory' : (d : ℕ) → KeepsDirectory kept' d
   directory' d t k a claim =
       kept_now d k a (
-        (sym (same_use kept'.geometry (frozen_view kept') users' (λ i n. shows'.inode i) indirect_bytes d k) ∙ claim.0, claim.1),
-        inr (subst (λ r. IsTrue ((is_number kept'.geometry d && is_sound r) && is_directory r)) (shows'.inode d) t),
+        (sym (shown d k) ∙ claim.0, claim.1),
+        inr (subst (λ r. IsTrue ((is_number kept'.geometry d && is_sound kept'.geometry r) && is_directory r)) (shows'.inode d) t),
       )
 
   pub keeps' : KeepsMetadata kept'
   keeps' = record {
     frame = frame_with_all kept staged.blocks.items keeps.frame is.fits;
-    indirect_blocks = indirect';
+    tables = tables';
     directory_blocks = directory';
   }

@@ -7,7 +7,8 @@ ghost use Rattle.std.specs.Prelude.{◌≡◌, ◌<◌, ℕ, Bool, false, List, 
 ghost use Rattle.model.specs.Image.{IsImage, image_view};
 ghost use Rattle.model.specs.Layout.{block_count};
 ghost use Rattle.model.specs.Rules.{ObeysRules};
-ghost use Rattle.model.specs.Uses.{IsClaim, indirect_position, is_directory_at};
+ghost use Rattle.model.specs.Shape.{most_blocks};
+ghost use Rattle.model.specs.Uses.{IsClaim, is_directory_at};
 ghost use Rattle.model.specs.View.{View};
 ghost use Rattle.ordering.specs.Cuts.{IsClosed, Pending, rest, seen, users_view};
 ghost use Rattle.machine.specs.Command.{Answer, Check, Command, Done, Install};
@@ -80,7 +81,7 @@ pub fn planned_commands_are_steps()
 /// A block that a file holds data in may be let go of in memory: no metadata stands in it, and a volume stays one without it.
 pub fn data_may_be_let_go()
     ensures { (kept : Kept) (holdings : Holdings) (q : List Pending) (disk : View) → KeepsMetadata kept → IsVolume kept holdings q disk
-        → (f k a : ℕ) → IsClaim kept.geometry (frozen_view kept) f k a → k < indirect_position → IsFalse (is_directory_at kept.geometry (frozen_view kept) f)
+        → (f k a : ℕ) → IsClaim kept.geometry (frozen_view kept) f k a → k < most_blocks kept.geometry → IsFalse (is_directory_at kept.geometry (frozen_view kept) f)
         → IsPlain kept a × IsVolume (without_block kept a) holdings q disk }
 {}
 

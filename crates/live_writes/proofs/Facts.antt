@@ -1,25 +1,31 @@
 -- What is known of the file that a handle is open on, where its volume stands so.
-use Rattle.std.proofs.Common.{◌≡◌, ◌<◌, ◌≤◌, ◌/◌, ◌&&◌, ℕ, Bool, true, false, eqb, ltb, cond, Option, Some, None, refl, sym, ap, ◌∙◌, subst, arith, IsTrue}
+use Rattle.std.proofs.Common.{◌≡◌, ◌<◌, ◌≤◌, ◌/◌, ◌&&◌, ℕ, Bool, true, false, eqb, ltb, cond, [], Option, Some, None, sym, ap, ◌∙◌, subst, arith, IsTrue}
+use Rattle.std.proofs.lemmas.Bool.{le-leb}
 use Rattle.std.proofs.lemmas.Bool.Decides.{nat_tests}
 use Rattle.std.specs.Prelude.{IfSome, unwrap_or}
-use Rattle.std.specs.Option.{option_map_or}
 use Rattle.model.specs.Layout.{is_data_address, is_number}
 use Rattle.model.specs.View.{Inode, View}
-use Rattle.model.specs.Uses.{IsClaim, blocks_of, claim_at, indirect_position, is_sound, is_sound_at, value_at}
-use Rattle.model.proofs.UseLemmas.{claim_from, claim_parts, use_from}
+use Rattle.model.specs.Shape.{first_block, most_blocks}
+use Rattle.model.specs.Uses.{blocks_of, claim_at, is_sound, is_sound_at}
+use Rattle.model.proofs.Shape.{earlier, own_first, reach_from, some_table, table_inside, table_is_table}
+use Rattle.model.proofs.UseLemmas.{claim_from, claim_parts}
 use Rattle.machine.specs.Cells.{block_of}
-use Rattle.machine.specs.State.{State, is_kept, open_at}
+use Rattle.machine.specs.Room.{IsFreeBlock}
+use Rattle.machine.specs.State.{State, open_at}
 use Rattle.machine.proofs.Decisions.{sound_parts}
-use Rattle.plans_data.proofs.Blocks.{claims_below, claims_indirect}
-use Rattle.plans_data.proofs.Used.{Last, used, value_last}
+use Rattle.plans_data.specs.Plans.{IsChoice}
+use Rattle.plans_data.proofs.Blocks.{block_claimed}
 use Rattle.frozen.specs.Kept.{Kept, KeepsMetadata, frozen_view}
 use Rattle.metadata.specs.Shown.{Shows}
 use Rattle.metadata.proofs.ShownLemmas.{shows_metadata}
 use Rattle.live_states.specs.Holdings.{Has, Holdings, is_kept_by}
 use Rattle.live_states.specs.Planned.{IsOfVolume, IsOfVolumeWith}
 use Rattle.live_holdings.specs.Handles.{handle_at}
+use Rattle.live_places.specs.Chosen.{listed}
+use Rattle.live_plans.specs.Linked.{CanLink, HasPointers}
 use Rattle.live_plans.proofs.FoundLemmas.{same_claim}
-use Rattle.live_writes.specs.Aimed.{IsPlaced, block_count_of, blocks_behind, blocks_needed, seen_at}
+use Rattle.live_plans.proofs.GrowLemmas.{all_free, can_link, chosen as chosen_next, free_there, table_there}
+use Rattle.live_writes.specs.Aimed.{IsPlaced, IsTableFor, block_count_of, blocks_behind, blocks_needed, seen_at}
 use Rattle.live_writes.specs.declared.aiming.Place.{Place}
 use Rattle.live_writes.specs.declared.aiming.Place.TheVariants.{InPlace, Behind, Elsewhere}
 
@@ -43,50 +49,53 @@ module _ (kept : Kept) (volume : IsOfVolume kept) (i : ℕ) (sound : IsTrue (is_
   same_inode = volume.shows.inode i
 
   seen_sound : IsTrue (is_sound_at kept.geometry users i)
-  seen_sound = subst (λ (n : Inode). IsTrue (is_number kept.geometry i && is_sound n)) same_inode sound
+  seen_sound = subst (λ (n : Inode). IsTrue (is_number kept.geometry i && is_sound kept.geometry n)) same_inode sound
 
   pub numbered : IsTrue (is_number kept.geometry i)
   numbered = (sound_parts kept.geometry (frozen_view kept) i sound).0
 
   -- it claims each position below its blocks
-  pub claimed : KeepsMetadata kept → (k : ℕ) → k < blocks_of ((frozen_view kept).inode i).size → k < indirect_position → (a : ℕ) × (claim_at kept.geometry (frozen_view kept) i k ≡ Some a)
-  claimed keeps k inside low =
-      let c = claims_below kept.geometry users volume.stands.balance.rules i k seen_sound (subst (λ (n : Inode). k < blocks_of n.size) same_inode inside) low in
-      (value_at users (users.inode i) k, claim_there kept users keeps volume.shows i k ∙ claim_from kept.geometry users i k (value_at users (users.inode i) k) c)
-
-  -- and its indirect block
-  pub has_indirect : 12 < blocks_of ((frozen_view kept).inode i).size → IsClaim kept.geometry (frozen_view kept) i indirect_position ((frozen_view kept).inode i).indirect
-  has_indirect many =
-      let there = claims_indirect kept.geometry users volume.stands.balance.rules i seen_sound (subst (λ (n : Inode). 12 < blocks_of n.size) same_inode many) in
-      let v = frozen_view kept in (
-        use_from kept.geometry v i indirect_position (v.inode i).indirect
-            (record { sound = sound; used = used kept.geometry (v.inode i) indirect_position (Last refl many); value = value_last v (v.inode i) indirect_position refl }),
-        subst (λ (n : Inode). IsTrue (is_data_address kept.geometry n.indirect)) (sym same_inode) there.1,
-      )
+  pub claimed : KeepsMetadata kept → (k : ℕ) → k < blocks_of ((frozen_view kept).inode i).size → (a : ℕ) × (claim_at kept.geometry (frozen_view kept) i k ≡ Some a)
+  claimed keeps k inside =
+      let c = block_claimed kept.geometry users volume.stands.balance.rules i k seen_sound (subst (λ (n : Inode). k < blocks_of n.size) same_inode inside) in
+      let a = block_of kept.geometry users i k in
+      (a, claim_there kept users keeps volume.shows i k ∙ claim_from kept.geometry users i k a c)
 
 -- an open file is sound
 pub opened_sound : (kept : Kept) (holdings : Holdings) → IsOfVolumeWith kept holdings → (h i : ℕ) → handle_at holdings h ≡ Some i → IsTrue (is_sound_at kept.geometry (frozen_view kept) i)
 opened_sound kept holdings volume h i e =
     let old = volume.volume.old in
     let there = volume.volume.stands.balance.open_file i (h, open_there holdings old volume.has h ∙ e) in
-    subst (λ (n : Inode). IsTrue (is_number kept.geometry i && is_sound n)) (sym (volume.volume.shows.inode i)) there.0
+    subst (λ (n : Inode). IsTrue (is_number kept.geometry i && is_sound kept.geometry n)) (sym (volume.volume.shows.inode i)) there.0
 
 -- ---- how many blocks a new one takes
-pub one_or_two : (k : ℕ) → 1 ≤ blocks_behind k
-one_or_two k = by (eqb k 12)
-  where
-    by : (b : Bool) → 1 ≤ cond b 2 1
-    by true = omega arith
-    by false = omega arith
-
-pub two_at : (k : ℕ) → k ≡ 12 → blocks_behind k ≡ 2
-two_at k e = ap blocks_behind e
-
-pub behind_needed : (kept : Kept) (holdings : Holdings) (i k : ℕ) → k ≡ block_count_of kept i → blocks_needed kept holdings i k ≡ blocks_behind k
+pub behind_needed : (kept : Kept) (holdings : Holdings) (i k : ℕ) → k ≡ block_count_of kept i → blocks_needed kept holdings i k ≡ blocks_behind kept.geometry k
 behind_needed kept holdings i k e =
     let n = block_count_of kept i in
     let out : ltb k n ≡ false = grind (arith, nat_tests, e) in
-    ap (λ (t : Bool). cond t (cond (is_kept_by holdings (block_of kept.geometry (frozen_view kept) i k)) 1 0) (blocks_behind n)) out ∙ ap blocks_behind (sym e)
+    ap (λ (t : Bool). cond t (cond (is_kept_by holdings (block_of kept.geometry (frozen_view kept) i k)) 1 0) (blocks_behind kept.geometry n)) out ∙ ap (blocks_behind kept.geometry) (sym e)
+
+-- ---- a new block, and the tables that come with it, are a choice by what users see
+pub chosen : (kept : Kept) (view : View) → Shows kept view → (i k b : ℕ) (table : Option ℕ) → k ≡ block_count_of kept i → IsFreeBlock kept.geometry (frozen_view kept) b
+    → IsTableFor kept.geometry (frozen_view kept) k b table → IsChoice kept.geometry view k b (listed table)
+chosen kept view shows i k b table next free is =
+    subst (λ j. IsChoice kept.geometry view j b (listed table)) (sym (next ∙ ap (λ (n : Inode). blocks_of n.size) (shows.inode i)))
+    (chosen_next kept.geometry view i b table (free_there kept view shows b free)
+    (table_there kept view shows i b table (subst (λ j. IsTableFor kept.geometry (frozen_view kept) j b table) next is)))
+
+-- ---- the pointer to a new block can be put
+module _ (kept : Kept) (i k : ℕ) (claims : HasPointers kept i) (room : k < most_blocks kept.geometry) where
+  -- behind the last one
+  pub link_behind : (b : ℕ) (table : Option ℕ) → k ≡ block_count_of kept i → IsTableFor kept.geometry (frozen_view kept) k b table → CanLink kept i k (listed table)
+  link_behind b table next is =
+      can_link kept i k claims next room (listed table) is.0 (all_free kept.geometry (frozen_view kept) i b table (subst (λ j. IsTableFor kept.geometry (frozen_view kept) j b table) next is))
+
+  -- and in the place of another one
+  pub link_over : k < block_count_of kept i → CanLink kept i k []
+  link_over inside = λ m one.
+      let early : first_block kept.geometry m < block_count_of kept i = omega (arith, earlier kept.geometry k m one, own_first kept.geometry k room, inside) in
+      claims m (le-leb (most_blocks kept.geometry) m (table_is_table kept.geometry k m one))
+      (reach_from kept.geometry (block_count_of kept i) m (table_inside kept.geometry k m (omega (arith, room, some_table kept.geometry)) one) early)
 
 -- a position that the file does not end before, and that it has no block at, is the one behind its last one
 pub next_is : (size k : ℕ) → k ≤ size / 1024 → blocks_of size ≤ k → k ≡ blocks_of size

@@ -1,51 +1,48 @@
 -- The updates of a write carry it out.
-use Rattle.std.proofs.Common.{◌≡◌, ◌<◌, ◌≤◌, ◌+◌, ◌*◌, ◌^◌, ◌||◌, ℕ, Bool, true, false, eqb, List, [], ◌∷◌, ◌++◌, length, drop, max, replicate, inl, inr, refl, sym, ap, ap₂, ◌∙◌, subst, arith, Option, Some, None, IsTrue, IsFalse, slice_index_or, slice_set, get_or-set_same, get_or-set_other, eq-eqb}
+use Rattle.std.proofs.Common.{◌≡◌, ◌<◌, ◌≤◌, ◌+◌, ◌*◌, ◌||◌, ℕ, Bool, true, false, eqb, List, [], ◌∷◌, ◌++◌, length, drop, max, replicate, inl, inr, refl, sym, ap, ap₂, ◌∙◌, subst, arith, Option, Some, None, IsTrue, IsFalse, slice_index_or, slice_set, get_or-set_same, get_or-set_other, eq-eqb}
 use Rattle.std.specs.Prelude.{unwrap_or}
 use Rattle.std.proofs.lemmas.Bool.{cases_eq}
 use Rattle.std.proofs.lemmas.Bool.Decides.{nat_tests}
-use Rattle.std.proofs.lemmas.Nat.{mul-le}
 use mathlib.Core.Path.{fun_ext}
-use Rattle.model.specs.Layout.{Geometry, IsGeometry, block_count, is_data_address}
+use Rattle.model.specs.Layout.{block_count}
 use Rattle.model.specs.View.{Inode, View}
-use Rattle.model.specs.Uses.{IsClaim, blocks_of, claim_at, indirect_position}
+use Rattle.model.specs.Shape.{most_blocks}
+use Rattle.model.specs.Uses.{blocks_of, claim_at}
 use Rattle.model.proofs.Addresses.{data_range}
 use Rattle.model.proofs.UseLemmas.{claim_parts}
 use Rattle.machine.specs.Causes.{file_of}
-use Rattle.machine.specs.Cells.{block_of, seen, with_pointer}
+use Rattle.machine.specs.Cells.{block_of, seen}
 use Rattle.machine.specs.Command.{Done, Write}
 use Rattle.machine.specs.Effects.{IsOverwritten, size_after}
 use Rattle.machine.specs.Room.{IsFreeBlock, unmarked_blocks}
 use Rattle.machine.specs.State.{Plan, State, is_kept}
 use Rattle.machine.specs.Whole.{HasWholeBlocks}
-use Rattle.machine.proofs.PointerTables.{pointer_here, pointer_whole}
 use Rattle.ordering.specs.Cuts.{Pending, users_view}
 use Rattle.plans_data.specs.Append.{appended}
 use Rattle.plans_data.specs.Carried.{Stands}
 use Rattle.plans_data.specs.Now.{becomes, now}
-use Rattle.plans_data.specs.Plans.{IsChoice, holder_in_use, holder_of}
+use Rattle.plans_data.specs.Plans.{IsChoice, holder_of}
 use Rattle.plans_data.specs.Write.{held_besides, relocated, written}
 use Rattle.courses.specs.Done.{IsDoneBy, LeavesTheRest, WritesBehind, WritesElsewhere, WritesInPlace}
 use Rattle.frozen.specs.Kept.{Kept, KeepsMetadata, frozen_view}
 use Rattle.metadata.specs.Shown.{Shows}
+use Rattle.metadata.proofs.ShownLemmas.{shows_metadata}
+use Rattle.live_places.specs.Chosen.{listed}
 use Rattle.live_states.specs.Drafts.{Draft, GoesOn, over}
 use Rattle.live_states.specs.Holdings.{Has, Holdings, going_on, held_by, opened_by, with_held}
 use Rattle.live_states.specs.Planned.{AreSeen, IsOfVolumeWith, IsPlannedToTheByte, IsPlannedWith, Seen}
 use Rattle.live_states.proofs.Standing.{kept_same}
-use Rattle.live_plans.proofs.GrowLemmas.{free_there, zeroes_whole}
+use Rattle.live_plans.specs.Linked.{CanLink, HasPointers}
+use Rattle.live_plans.proofs.GrowLemmas.{free_there, volume_claims}
+use Rattle.live_plans.proofs.LinkLemmas.{holder_there}
 use Rattle.live_writes.specs.Aimed.{IsAimed, IsPlaced, IsTableFor, block_count_of, blocks_needed}
 use Rattle.live_writes.specs.Written.{grown_size, held_for, holder_at, updates_at, updates_by}
 use Rattle.live_writes.specs.declared.aiming.Place.{Place}
 use Rattle.live_writes.specs.declared.aiming.Place.TheVariants.{InPlace, Behind, Elsewhere}
 use Rattle.live_writes.specs.declared.aiming.Target.{Target}
-use Rattle.live_writes.proofs.Facts.{claim_there, has_indirect, open_there}
-use Rattle.live_writes.proofs.Pointing.{appends, holder_behind, holder_first, holder_used}
+use Rattle.live_writes.proofs.Facts.{chosen, claim_there, link_behind, link_over, open_there}
+use Rattle.live_writes.proofs.Pointing.{appends}
 use Rattle.live_writes.proofs.Refusals.{good_if, write_accepted}
-
--- the number of a data block has four bytes
-small : (geo : Geometry) → IsGeometry geo → (a : ℕ) → IsTrue (is_data_address geo a) → a < 2 ^ 32
-small geo ok a t =
-    let few : geo.groups * geo.blocks ≤ 64 * 4096 = mul-le geo.groups geo.blocks 64 4096 ok.few_groups ok.few_blocks in
-    omega (arith, (data_range geo ok a t).1, few)
 
 -- one more block is held
 one_more : (held : List Bool) (a : ℕ) → a < length held → (x : ℕ) → (slice_index_or held x false || eqb x a) ≡ slice_index_or (slice_set held a true) x false
@@ -71,8 +68,8 @@ IsOverAll kept view i k piece bytes (Behind b table) = bytes ≡ piece ++ drop (
 IsOverAll kept view i k piece bytes (Elsewhere a b) = bytes ≡ piece ++ drop (length piece) (view.bytes (block_of kept.geometry view i k))
 
 module _ (kept : Kept) (holdings : Holdings) (keeps : KeepsMetadata kept) (volume : IsOfVolumeWith kept holdings) (all : block_count kept.geometry ≤ length holdings.held)
-    (h k i : ℕ) (piece bytes : List ℕ) (opened : (old : State) → Has holdings old → file_of old h ≡ i) (claims : 12 < block_count_of kept i → IsClaim kept.geometry (frozen_view kept) i indirect_position ((frozen_view kept).inode i).indirect)
-    (room : k < indirect_position) (some : 1 ≤ length piece) where
+    (h k i : ℕ) (piece bytes : List ℕ) (opened : (old : State) → Has holdings old → file_of old h ≡ i) (claims : HasPointers kept i)
+    (room : k < most_blocks kept.geometry) (some : 1 ≤ length piece) where
   module _ (disk : View) (q : List Pending) (old : State) (safe : ℕ → Bool) (stands : Stands kept.geometry disk q old safe) (shown : Shows kept old.view) (has : Has holdings old) where
     abbrev view : View
     view = users_view disk q
@@ -140,46 +137,36 @@ module _ (kept : Kept) (holdings : Holdings) (keeps : KeepsMetadata kept) (volum
           let upper : 1024 * k + length piece ≤ size_then i = omega arith in
           omega (arith, here, upper, some)
 
-      behind_with : (b x : ℕ) (table : List ℕ) → k ≡ block_count_of kept i → IsChoice kept.geometry view k b x table
-          → Does OverZeroes i (appended i (view.inode i) k b bytes (size_then i) (holder_of k (view.bytes (view.inode i).indirect) x table) q)
-          (becomes disk (appended i (view.inode i) k b bytes (size_then i) (holder_of k (view.bytes (view.inode i).indirect) x table) q) old.held old)
-      behind_with b x table next choice =
-          subst (λ j. Does OverZeroes j (appended j (view.inode j) k b bytes (size_then j) (holder_of k (view.bytes (view.inode j).indirect) x table) q)
-          (becomes disk (appended j (view.inode j) k b bytes (size_then j) (holder_of k (view.bytes (view.inode j).indirect) x table) q) old.held old)) at (
-            WritesBehind h k piece bytes b x table (subst (λ j. IsOverwritten piece (seen kept.geometry view j k) bytes) (sym at) over_it) choice
+      behind_with : (b : ℕ) (news : List ℕ) → k ≡ block_count_of kept i → IsChoice kept.geometry view k b news
+          → Does OverZeroes i (appended kept.geometry i (view.inode i) k b bytes (size_then i) (holder_of kept.geometry view i k b news) q)
+          (becomes disk (appended kept.geometry i (view.inode i) k b bytes (size_then i) (holder_of kept.geometry view i k b news) q) old.held old)
+      behind_with b news next choice =
+          subst (λ j. Does OverZeroes j (appended kept.geometry j (view.inode j) k b bytes (size_then j) (holder_of kept.geometry view j k b news) q)
+          (becomes disk (appended kept.geometry j (view.inode j) k b bytes (size_then j) (holder_of kept.geometry view j k b news) q) old.held old)) at (
+            WritesBehind h k piece bytes b news (subst (λ j. IsOverwritten piece (seen kept.geometry view j k) bytes) (sym at) over_it) choice
                 (subst (λ j. blocks_of (view.inode j).size ≤ k) (sym at) (subst (λ (n : Inode). blocks_of n.size ≤ k) (sees.inode i) (omega (arith, next)))),
             λ all. all,
           )
 
+      -- the pointer is kept where users see it
+      same_holder : (b : ℕ) (table : Option ℕ) → CanLink kept i k (listed table) → holder_at kept i k b table ≡ holder_of kept.geometry view i k b (listed table)
+      same_holder b table can = holder_there kept view (shows_metadata kept view keeps sees) i k b (listed table) can
+
       -- the list by what users see
-      list_behind : (b x : ℕ) (t : List ℕ) (table : Option ℕ) → k ≡ block_count_of kept i → holder_at kept i k b table ≡ holder_of k (view.bytes (view.inode i).indirect) x t
-          → updates_by kept i k bytes (grown_size kept i k piece) (Behind b table) q ≡ appended i (view.inode i) k b bytes (size_then i) (holder_of k (view.bytes (view.inode i).indirect) x t) q
-      list_behind b x t table next e =
-          ap (λ (n : Inode). relocated i n k b bytes (grown_size kept i k piece) (holder_at kept i k b table) q) (sees.inode i)
-          ∙ ap₂ (λ s holder. relocated i (view.inode i) k b bytes s holder q) sized_so e
-          ∙ appends i (view.inode i) k b bytes (size_then i) (holder_of k (view.bytes (view.inode i).indirect) x t) q (grows next)
+      list_behind : (b : ℕ) (table : Option ℕ) → k ≡ block_count_of kept i → CanLink kept i k (listed table)
+          → updates_by kept i k bytes (grown_size kept i k piece) (Behind b table) q ≡ appended kept.geometry i (view.inode i) k b bytes (size_then i) (holder_of kept.geometry view i k b (listed table)) q
+      list_behind b table next can =
+          ap (λ (n : Inode). relocated kept.geometry i n k b bytes (grown_size kept i k piece) (holder_at kept i k b table) q) (sees.inode i)
+          ∙ ap₂ (λ s holder. relocated kept.geometry i (view.inode i) k b bytes s holder q) sized_so (same_holder b table can)
+          ∙ appends kept.geometry i (view.inode i) k b bytes (size_then i) (holder_of kept.geometry view i k b (listed table)) q (grows next)
 
       done_behind : (b : ℕ) (table : Option ℕ) → k ≡ block_count_of kept i → IsFreeBlock kept.geometry (frozen_view kept) b → IsTableFor kept.geometry (frozen_view kept) k b table
           → (r : List Pending) → r ≡ updates_by kept i k bytes (grown_size kept i k piece) (Behind b table) q
           → Does OverZeroes i r (going_on old (with_held holdings []) (users_view disk r))
-      done_behind b None next free apart r list =
-          finish OverZeroes [] old.held (appended i (view.inode i) k b bytes (size_then i) (holder_of k (view.bytes (view.inode i).indirect) 0 []) q) r
-          (list ∙ list_behind b 0 [] None next (holder_behind kept view keeps sees i k b apart (λ many. claims (omega (arith, many, next, apart))) 0 [])) has.held
-          (behind_with b 0 [] next (record { free = free_there kept view sees b free; other = λ e. absurd (apart e) }))
-      done_behind b (Some x) next free is r list =
-          let t = with_pointer (replicate 1024 0) 0 b in
-          let low = small kept.geometry stands.geometry b free.address in
-          finish OverZeroes [] old.held (appended i (view.inode i) k b bytes (size_then i) (holder_of k (view.bytes (view.inode i).indirect) x t) q) r
-          (list ∙ list_behind b x t (Some x) next (holder_first kept view keeps sees i k b is.0 x)) has.held
-          (behind_with b x t next (record {
-            free = free_there kept view sees b free;
-            other = λ e. record {
-              free = free_there kept view sees x is.1;
-              other = is.2;
-              whole = pointer_whole (replicate 1024 0) zeroes_whole 0 b (omega arith) low;
-              first = pointer_here (replicate 1024 0) zeroes_whole 0 b (omega arith) low;
-            };
-          }))
+      done_behind b table next free is r list =
+          finish OverZeroes [] old.held (appended kept.geometry i (view.inode i) k b bytes (size_then i) (holder_of kept.geometry view i k b (listed table)) q) r
+          (list ∙ list_behind b table next (link_behind kept i k claims room b table next is)) has.held
+          (behind_with b (listed table) next (chosen kept view sees i k b table next free is))
 
       -- ---- elsewhere
       held_then : (a : ℕ) → claim_at kept.geometry (frozen_view kept) i k ≡ Some a → held_besides kept.geometry (now disk q old) i k ≡ held_by (with_held holdings (a ∷ []))
@@ -192,12 +179,12 @@ module _ (kept : Kept) (holdings : Holdings) (keeps : KeepsMetadata kept) (volum
       done_elsewhere a b is r list =
           let e = block_so a is.1 in
           finish (OverBlock i) (a ∷ []) (held_besides kept.geometry (now disk q old) i k)
-          (relocated i (view.inode i) k b bytes (size_then i) (holder_in_use k (view.bytes (view.inode i).indirect)) q) r
-          (list ∙ ap (λ (n : Inode). relocated i n k b bytes (grown_size kept i k piece) (holder_at kept i k b None) q) (sees.inode i)
-          ∙ ap₂ (λ s holder. relocated i (view.inode i) k b bytes s holder q) sized_so (holder_used kept view keeps sees i k b (λ many. claims (omega (arith, many, is.0)))))
+          (relocated kept.geometry i (view.inode i) k b bytes (size_then i) (holder_of kept.geometry view i k b []) q) r
+          (list ∙ ap (λ (n : Inode). relocated kept.geometry i n k b bytes (grown_size kept i k piece) (holder_at kept i k b None) q) (sees.inode i)
+          ∙ ap₂ (λ s holder. relocated kept.geometry i (view.inode i) k b bytes s holder q) sized_so (same_holder b None (link_over kept i k claims room is.0)))
           (held_then a is.1)
-          (subst (λ j. Does (OverBlock j) j (relocated j (view.inode j) k b bytes (size_then j) (holder_in_use k (view.bytes (view.inode j).indirect)) q)
-          (becomes disk (relocated j (view.inode j) k b bytes (size_then j) (holder_in_use k (view.bytes (view.inode j).indirect)) q) (held_besides kept.geometry (now disk q old) j k) old)) at (
+          (subst (λ j. Does (OverBlock j) j (relocated kept.geometry j (view.inode j) k b bytes (size_then j) (holder_of kept.geometry view j k b []) q)
+          (becomes disk (relocated kept.geometry j (view.inode j) k b bytes (size_then j) (holder_of kept.geometry view j k b []) q) (held_besides kept.geometry (now disk q old) j k) old)) at (
             WritesElsewhere h k piece bytes b (subst (λ j. IsOverwritten piece (seen kept.geometry view j k) bytes) (sym at) over_it) (free_there kept view sees b is.3)
                 (subst (λ j. k < blocks_of (view.inode j).size) (sym at) (inside_so is.0))
                 (subst (λ j. IsTrue (is_kept old (block_of kept.geometry view j k))) (sym at) (ap (is_kept old) e ∙ kept_same holdings old has a ∙ is.2)),
@@ -222,8 +209,8 @@ module _ (kept : Kept) (holdings : Holdings) (keeps : KeepsMetadata kept) (volum
   placed_at : IsPlaced kept holdings i k target.place
   placed_at = subst (λ j. IsPlaced kept holdings i j target.place) aimed.index aimed.fits.placed
 
-  near_enough : k < indirect_position
-  near_enough = subst (λ j. j < indirect_position) aimed.index aimed.fits.room
+  near_enough : k < most_blocks kept.geometry
+  near_enough = subst (λ j. j < most_blocks kept.geometry) aimed.index aimed.fits.room
 
   -- it is done, and leaves the rest if the bytes are the piece over all that users see
   abbrev DoesSo : (disk : View) (q : List Pending) (old : State) (safe : ℕ → Bool) → ℕ → State → Type 0
@@ -237,7 +224,7 @@ module _ (kept : Kept) (holdings : Holdings) (keeps : KeepsMetadata kept) (volum
       let over_it = overwrites view (subst (λ v. HasWholeBlocks kept.geometry v) (sym stands.same) stands.balance.whole) (subst (λ v. Shows kept v) (sym stands.same) shows) (subst (λ v. AreSeen sight v) (sym stands.same) sees) in
       subst (λ bs. DoesSo disk q old safe draft.file (going_on old (with_held holdings bs) (users_view disk (over q draft.updates)))) (sym held)
       (subst (λ f. DoesSo disk q old safe f (going_on old (with_held holdings (held_for target.place)) (users_view disk (over q draft.updates)))) (sym goes.file)
-      (done_at kept holdings keeps volume all h k i piece bytes (λ s its. ap (λ o. unwrap_or o 0) (open_there holdings s its h ∙ aimed.opened)) (has_indirect kept volume.volume i aimed.fits.sound) near_enough aimed.some
+      (done_at kept holdings keeps volume all h k i piece bytes (λ s its. ap (λ o. unwrap_or o 0) (open_there holdings s its h ∙ aimed.opened)) (volume_claims kept keeps volume.volume i aimed.fits.sound) near_enough aimed.some
       disk q old safe stands shows has over_it target.place placed_at (over q draft.updates) (goes.pending q ∙ ap (λ j. updates_by kept i j bytes (grown_size kept i k piece) target.place q) aimed.index)))
 
   abbrev plan : IsPlannedWith kept holdings sight (Write h k piece) Done draft (with_held holdings blocks)

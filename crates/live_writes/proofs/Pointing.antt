@@ -1,130 +1,89 @@
 -- The updates by which a file points to a new block, as they are made and as the plan has them.
-use Rattle.std.proofs.Common.{◌≡◌, ◌≢◌, ◌<◌, ◌≤◌, ℕ, zero, suc, Bool, true, false, cond, eqb, ltb, List, [], ◌∷◌, replicate, slice_set, inl, inr, refl, sym, ap, ap₂, ◌∙◌, subst, arith, Option, Some, None, IsTrue}
-use Rattle.std.proofs.lemmas.Bool.Decides.{nat_tests}
-use Rattle.std.proofs.lemmas.Bool.{cases_lt}
+use Rattle.std.proofs.Common.{◌≡◌, ◌<◌, ◌||◌, ℕ, zero, suc, Bool, true, false, not, cond, List, [], ◌∷◌, inl, inr, refl, sym, ap, ap₂, ◌∙◌, subst, arith, Option, Some, None, is_some, IsTrue}
+use Rattle.std.proofs.lemmas.Bool.{lt-ltb}
 use Rattle.std.specs.List.{All}
 use Rattle.model.specs.Layout.{Geometry, is_data_address}
-use Rattle.model.specs.View.{Inode, View}
+use Rattle.model.specs.View.{Inode}
 use Rattle.model.specs.Cells.{SetBytes, SetInode}
-use Rattle.model.specs.Uses.{IsClaim, indirect_position}
-use Rattle.machine.specs.Cells.{with_pointer}
+use Rattle.model.specs.Shape.{table_of}
+use Rattle.model.proofs.Shape.{table_cases}
 use Rattle.ordering.specs.Cuts.{Block, Cell, Pending}
-use Rattle.plans_data.specs.Append.{Holder, InRecord, InTable, InNewTable, appended, filled, known, linked, sized}
-use Rattle.plans_data.specs.Plans.{holder_in_use, holder_of}
+use Rattle.plans_data.specs.Append.{Holder, KeptInRecord, KeptInTable, KeptInNew, appended, filled, known, linked, pointed, sized}
 use Rattle.plans_data.specs.Write.{enlarged, relocated}
-use Rattle.frozen.specs.Kept.{Kept, KeepsMetadata, frozen_view}
-use Rattle.metadata.specs.Shown.{Shows}
-use Rattle.metadata.proofs.ShownLemmas.{shows_metadata}
+use Rattle.frozen.specs.Kept.{Kept, frozen_view}
+use Rattle.live_places.specs.Chosen.{listed}
 use Rattle.live_states.specs.Drafts.{Draft, GoesOn}
+use Rattle.live_plans.specs.Linked.{CanLink, IsLinked}
 use Rattle.live_plans.proofs.DraftLemmas.{goes_as, goes_then}
+use Rattle.live_plans.proofs.LinkLemmas.{holder_new, holder_none, holder_some}
 use Rattle.updates.specs.Places.{IsCell}
-use Rattle.live_writes.specs.Written.{holder_at, repointed, table_at, updates_at, updates_by}
+use Rattle.live_writes.specs.Written.{holder_at, repointed, updates_at, updates_by}
 use Rattle.live_writes.specs.declared.aiming.Place.TheVariants.{InPlace, Behind, Elsewhere}
 use Rattle.live_writes.specs.declared.aiming.Target.{Target}
 
--- ---- tests of numbers
-no_less : (a b : ℕ) → b ≤ a → ltb a b ≡ false
-no_less a b h = grind (arith, nat_tests, h)
-
-less : (a b : ℕ) → a < b → ltb a b ≡ true
-less a b h = grind (arith, nat_tests, h)
-
-no_equal : (a b : ℕ) → a ≢ b → eqb a b ≡ false
-no_equal a b h = grind (arith, nat_tests, h)
-
 -- ---- as they are made
-module _ (kept : Kept) (i k b size : ℕ) where
-  abbrev inode : Inode
-  inode = (frozen_view kept).inode i
+-- whether the record is written also where the size stays
+abbrev pub is_of_record : Holder → Bool
+is_of_record KeptInRecord = true
+is_of_record (KeptInTable m x table over) = false
+is_of_record (KeptInNew m x table up) = true
 
-  abbrev first_table : List ℕ
-  first_table = with_pointer (replicate 1024 0) 0 b
+-- which is so where a new table is given, and where no table holds the pointer
+module _ (kept : Kept) (i k b : ℕ) where
+  pub which_record : (table : Option ℕ) → CanLink kept i k (listed table) → is_of_record (holder_at kept i k b table) ≡ (is_some table || not (is_some (table_of kept.geometry k)))
+  which_record None can = elim (table_cases kept.geometry k) [
+    | inl none ↦ ap is_of_record (holder_none kept.geometry (frozen_view kept) i k b none) ∙ sym (ap (λ o. not (is_some o)) none)
+    | inr one ↦ ap is_of_record (holder_some kept.geometry (frozen_view kept) i k b one.0 one.1) ∙ sym (ap (λ o. not (is_some o)) one.1)
+  ]
+  which_record (Some x) can = ap is_of_record (holder_new kept.geometry (frozen_view kept) i k b can.0 x [] can.1)
 
-  pub low_holder : (table : Option ℕ) → k < 12 → holder_at kept i k b table ≡ InRecord
-  low_holder table few =
-      let low : ltb k 12 ≡ true = less k 12 few in
-      ap (λ t. cond t InRecord (table_at kept i b table)) low
+module _ (geo : Geometry) (n : ℕ) (inode : Inode) (k b size : ℕ) (old mid new : Draft) where
+  stays : (holder : Holder) → is_of_record holder ≡ false → (q : List Pending) → enlarged n inode size (known b holder) (linked geo n k b holder q) ≡ repointed geo n inode k b size holder q
+  stays KeptInRecord is q = absurd cc
+  stays (KeptInTable m x table over) is q = refl
+  stays (KeptInNew m x table up) is q = absurd cc
 
-  pub high_holder : (table : Option ℕ) → 12 ≤ k → holder_at kept i k b table ≡ table_at kept i b table
-  high_holder table many =
-      let high : ltb k 12 ≡ false = no_less k 12 many in
-      ap (λ t. cond t InRecord (table_at kept i b table)) high
+  changes : (holder : Holder) → is_of_record holder ≡ true
+      → (q : List Pending) → record { change = SetInode n (sized (pointed geo inode k b holder) size); after = known b holder } ∷ linked geo n k b holder q ≡ repointed geo n inode k b size holder q
+  changes KeptInRecord is q = refl
+  changes (KeptInTable m x table over) is q = absurd cc
+  changes (KeptInNew m x table up) is q = refl
 
-  pub in_record : (table : Option ℕ) (old new : Draft) (given : Inode) (cells : List Cell) → k < 12
-      → given ≡ record inode { size = size; direct = slice_set inode.direct k b } → cells ≡ Block b ∷ []
-      → GoesOn old new (λ q. record { change = SetInode i given; after = cells } ∷ q)
-      → GoesOn old new (repointed i inode k b size (holder_at kept i k b table))
-  in_record table old new given cells few e f goes =
-      goes_as old new _ (repointed i inode k b size (holder_at kept i k b table))
-      (λ q. ap₂ (λ (n : Inode) (after : List Cell). record { change = SetInode i n; after = after } ∷ q) e f ∙ ap (λ h. repointed i inode k b size h q) (sym (low_holder table few)))
-      goes
+  -- the record stays but for its size
+  pub in_table : (holder : Holder) (pointing owner : Inode) (cells : List Cell) → is_of_record holder ≡ false → owner ≡ inode
+      → IsLinked geo n owner k b holder old mid pointing cells → GoesOn mid new (enlarged n owner size cells) → GoesOn old new (repointed geo n inode k b size holder)
+  in_table holder pointing owner cells is e links sets =
+      goes_as old new _ (repointed geo n inode k b size holder)
+      (λ q. ap₂ (λ (o : Inode) (after : List Cell). enlarged n o size after (linked geo n k b holder q)) e links.record_after ∙ stays holder is q)
+      (goes_then old mid new (linked geo n k b holder) (enlarged n owner size cells) links.goes_on sets)
 
-  pub in_new_table : (x : ℕ) (old mid new : Draft) (given : Inode) (cells : List Cell) → 12 ≤ k
-      → given ≡ record inode { size = size; indirect = x } → cells ≡ Block x ∷ Block b ∷ []
-      → GoesOn old mid (linked i inode k b (InNewTable x first_table))
-      → GoesOn mid new (λ q. record { change = SetInode i given; after = cells } ∷ q)
-      → GoesOn old new (repointed i inode k b size (holder_at kept i k b (Some x)))
-  in_new_table x old mid new given cells many e f links sets =
-      goes_as old new _ (repointed i inode k b size (holder_at kept i k b (Some x)))
-      (λ q. ap₂ (λ (n : Inode) (after : List Cell). record { change = SetInode i n; after = after } ∷ linked i inode k b (InNewTable x first_table) q) e f
-      ∙ ap (λ h. repointed i inode k b size h q) (sym (high_holder (Some x) many)))
-      (goes_then old mid new (linked i inode k b (InNewTable x first_table)) (λ q. record { change = SetInode i given; after = cells } ∷ q) links sets)
-
-  pub in_table : (old mid new : Draft) (owner : Inode) (table : List ℕ) (cells : List Cell) → 12 ≤ k
-      → owner ≡ inode → table ≡ (frozen_view kept).bytes owner.indirect → cells ≡ Block owner.indirect ∷ Block b ∷ []
-      → GoesOn old mid (linked i owner k b (InTable table))
-      → GoesOn mid new (enlarged i owner size cells)
-      → GoesOn old new (repointed i inode k b size (holder_at kept i k b None))
-  in_table old mid new owner table cells many e f g links sets =
-      goes_as old new _ (repointed i inode k b size (holder_at kept i k b None))
-      (λ q. ap₂ (λ (t : List ℕ) (after : List Cell). enlarged i owner size after (linked i owner k b (InTable t) q)) f g
-      ∙ ap (λ (n : Inode). enlarged i n size (Block n.indirect ∷ Block b ∷ []) (linked i n k b (InTable ((frozen_view kept).bytes n.indirect)) q)) e
-      ∙ ap (λ h. repointed i inode k b size h q) (sym (high_holder None many)))
-      (goes_then old mid new (linked i owner k b (InTable table)) (enlarged i owner size cells) links sets)
+  -- the record is written
+  pub in_record : (holder : Holder) (pointing given owner : Inode) (cells : List Cell) → is_of_record holder ≡ true → owner ≡ inode
+      → IsLinked geo n owner k b holder old mid pointing cells → given ≡ sized pointing size → GoesOn mid new (λ q. record { change = SetInode n given; after = cells } ∷ q)
+      → GoesOn old new (repointed geo n inode k b size holder)
+  in_record holder pointing given owner cells is e links f sets =
+      goes_as old new _ (repointed geo n inode k b size holder)
+      (λ q. ap₂ (λ (o : Inode) (after : List Cell). record { change = SetInode n o; after = after } ∷ linked geo n k b holder q)
+      (f ∙ ap (λ o. sized o size) links.record_points ∙ ap (λ (o : Inode). sized (pointed geo o k b holder) size) e) links.record_after ∙ changes holder is q)
+      (goes_then old mid new (linked geo n k b holder) (λ q. record { change = SetInode n given; after = cells } ∷ q) links.goes_on sets)
 
 -- the block is filled before
-pub relocates : (n : ℕ) (inode : Inode) (k b : ℕ) (bytes : List ℕ) (size : ℕ) (holder : Holder) (q : List Pending) → repointed n inode k b size holder (filled b bytes q) ≡ relocated n inode k b bytes size holder q
-relocates n _ k b bytes size InRecord q = refl
-relocates n _ k b bytes size (InTable table) q = refl
-relocates n _ k b bytes size (InNewTable x table) q = refl
+pub relocates : (geo : Geometry) (n : ℕ) (inode : Inode) (k b : ℕ) (bytes : List ℕ) (size : ℕ) (holder : Holder) (q : List Pending)
+    → repointed geo n inode k b size holder (filled b bytes q) ≡ relocated geo n inode k b bytes size holder q
+relocates geo n _ k b bytes size KeptInRecord q = refl
+relocates geo n _ k b bytes size (KeptInTable m x table over) q = refl
+relocates geo n _ k b bytes size (KeptInNew m x table up) q = refl
 
 -- ---- as the plan has them
 -- where the size grows, the record is written
-pub appends : (n : ℕ) (inode : Inode) (k b : ℕ) (bytes : List ℕ) (size : ℕ) (holder : Holder) (q : List Pending) → inode.size < size
-    → relocated n inode k b bytes size holder q ≡ appended n inode k b bytes size holder q
-appends n _ k b bytes size InRecord q grows = refl
-appends n _ k b bytes size (InNewTable x table) q grows = refl
-appends n owner k b bytes size (InTable table) q grows =
-    let more : ltb owner.size size ≡ true = less owner.size size grows in
-    ap (λ (t : Bool). cond t (record { change = SetInode n (sized owner size); after = known owner b (InTable table) } ∷ linked n owner k b (InTable table) (filled b bytes q)) (linked n owner k b (InTable table) (filled b bytes q))) more
-
-module _ (kept : Kept) (view : View) (keeps : KeepsMetadata kept) (shows : Shows kept view) (i k b : ℕ) where
-  -- the bytes of the indirect block are those that users see
-  table_seen : IsClaim kept.geometry (frozen_view kept) i indirect_position ((frozen_view kept).inode i).indirect → (frozen_view kept).bytes ((frozen_view kept).inode i).indirect ≡ view.bytes (view.inode i).indirect
-  table_seen claim =
-      (shows_metadata kept view keeps shows).indirect_blocks i ((frozen_view kept).inode i).indirect claim ∙ ap (λ (n : Inode). view.bytes n.indirect) (shows.inode i)
-
-  pub holder_used : (12 ≤ k → IsClaim kept.geometry (frozen_view kept) i indirect_position ((frozen_view kept).inode i).indirect)
-      → holder_at kept i k b None ≡ holder_in_use k (view.bytes (view.inode i).indirect)
-  holder_used claims = elim (cases_lt k 12) [
-    | inl few ↦
-        let low : ltb k 12 ≡ true = less k 12 few in
-        low_holder kept i k b 0 None few ∙ sym (ap (λ t. cond t InRecord (InTable (view.bytes (view.inode i).indirect))) low)
-    | inr many ↦
-        let high : ltb k 12 ≡ false = no_less k 12 many in
-        high_holder kept i k b 0 None many ∙ ap InTable (table_seen (claims many)) ∙ sym (ap (λ t. cond t InRecord (InTable (view.bytes (view.inode i).indirect))) high)
-  ]
-
-  pub holder_behind : k ≢ 12 → (12 ≤ k → IsClaim kept.geometry (frozen_view kept) i indirect_position ((frozen_view kept).inode i).indirect)
-      → (x : ℕ) (table : List ℕ) → holder_at kept i k b None ≡ holder_of k (view.bytes (view.inode i).indirect) x table
-  holder_behind apart claims x table =
-      let other : eqb k 12 ≡ false = no_equal k 12 apart in
-      holder_used claims ∙ sym (ap (λ t. cond (ltb k 12) InRecord (cond t (InNewTable x table) (InTable (view.bytes (view.inode i).indirect)))) other)
-
-  pub holder_first : k ≡ 12 → (x : ℕ) → holder_at kept i k b (Some x) ≡ holder_of k (view.bytes (view.inode i).indirect) x (with_pointer (replicate 1024 0) 0 b)
-  holder_first e x =
-      high_holder kept i k b 0 (Some x) (omega (arith, e))
-      ∙ sym (ap (λ j. holder_of j (view.bytes (view.inode i).indirect) x (with_pointer (replicate 1024 0) 0 b)) e)
+pub appends : (geo : Geometry) (n : ℕ) (inode : Inode) (k b : ℕ) (bytes : List ℕ) (size : ℕ) (holder : Holder) (q : List Pending) → inode.size < size
+    → relocated geo n inode k b bytes size holder q ≡ appended geo n inode k b bytes size holder q
+appends geo n _ k b bytes size KeptInRecord q grows = refl
+appends geo n _ k b bytes size (KeptInNew m x table up) q grows = refl
+appends geo n owner k b bytes size (KeptInTable m x table over) q grows =
+    let holder = KeptInTable m x table over in
+    ap (λ (t : Bool). cond t (record { change = SetInode n (sized owner size); after = known b holder } ∷ linked geo n k b holder (filled b bytes q)) (linked geo n k b holder (filled b bytes q)))
+    (lt-ltb owner.size size grows)
 
 -- ---- what a plan adds, and the cells that it names
 pub all_one : (geo : Geometry) (cells : List Cell) (a : ℕ) → cells ≡ Block a ∷ [] → IsTrue (is_data_address geo a) → All (IsCell geo) cells
@@ -133,14 +92,6 @@ all_one geo cells a e address = subst (λ (l : List Cell). All (IsCell geo) l) (
     by : All (IsCell geo) (Block a ∷ [])
     by zero d low = address
     by (suc j) d low = absurd (omega (arith, low))
-
-pub all_two : (geo : Geometry) (cells : List Cell) (a b : ℕ) → cells ≡ Block a ∷ Block b ∷ [] → IsTrue (is_data_address geo a) → IsTrue (is_data_address geo b) → All (IsCell geo) cells
-all_two geo cells a b e address other = subst (λ (l : List Cell). All (IsCell geo) l) (sym e) by
-  where
-    by : All (IsCell geo) (Block a ∷ Block b ∷ [])
-    by zero d low = address
-    by (suc zero) d low = other
-    by (suc (suc j)) d low = absurd (omega (arith, low))
 
 module _ (kept : Kept) (target : Target) (bytes : List ℕ) (size : ℕ) (start mid end : Draft) where
   abbrev of_target : Inode
@@ -154,17 +105,17 @@ module _ (kept : Kept) (target : Target) (bytes : List ℕ) (size : ℕ) (start 
       (λ q. ap₂ (λ (n : Inode) (after : List Cell). enlarged target.file n size after (record { change = SetBytes a bytes; after = [] } ∷ q)) e f)
       (goes_then start mid end (λ q. record { change = SetBytes a bytes; after = [] } ∷ q) (enlarged target.file owner size cells) fills sets))
 
-  goes_relocated : (b : ℕ) (table : Option ℕ) → GoesOn start mid (filled b bytes) → GoesOn mid end (repointed target.file of_target target.index b size (holder_at kept target.file target.index b table))
-      → GoesOn start end (relocated target.file of_target target.index b bytes size (holder_at kept target.file target.index b table))
+  goes_relocated : (b : ℕ) (table : Option ℕ) → GoesOn start mid (filled b bytes) → GoesOn mid end (repointed kept.geometry target.file of_target target.index b size (holder_at kept target.file target.index b table))
+      → GoesOn start end (relocated kept.geometry target.file of_target target.index b bytes size (holder_at kept target.file target.index b table))
   goes_relocated b table fills points =
       let holder = holder_at kept target.file target.index b table in
-      goes_as start end _ (relocated target.file of_target target.index b bytes size holder) (λ q. relocates target.file of_target target.index b bytes size holder q)
-      (goes_then start mid end (filled b bytes) (repointed target.file of_target target.index b size holder) fills points)
+      goes_as start end _ (relocated kept.geometry target.file of_target target.index b bytes size holder) (λ q. relocates kept.geometry target.file of_target target.index b bytes size holder q)
+      (goes_then start mid end (filled b bytes) (repointed kept.geometry target.file of_target target.index b size holder) fills points)
 
   pub goes_behind : (b : ℕ) (table : Option ℕ) → target.place ≡ Behind b table
-      → GoesOn start mid (filled b bytes) → GoesOn mid end (repointed target.file of_target target.index b size (holder_at kept target.file target.index b table)) → GoesOn start end (updates_at kept target bytes size)
+      → GoesOn start mid (filled b bytes) → GoesOn mid end (repointed kept.geometry target.file of_target target.index b size (holder_at kept target.file target.index b table)) → GoesOn start end (updates_at kept target bytes size)
   goes_behind b table is fills points = subst (λ p. GoesOn start end (updates_by kept target.file target.index bytes size p)) (sym is) (goes_relocated b table fills points)
 
   pub goes_elsewhere : (a b : ℕ) → target.place ≡ Elsewhere a b
-      → GoesOn start mid (filled b bytes) → GoesOn mid end (repointed target.file of_target target.index b size (holder_at kept target.file target.index b None)) → GoesOn start end (updates_at kept target bytes size)
+      → GoesOn start mid (filled b bytes) → GoesOn mid end (repointed kept.geometry target.file of_target target.index b size (holder_at kept target.file target.index b None)) → GoesOn start end (updates_at kept target bytes size)
   goes_elsewhere a b is fills points = subst (λ p. GoesOn start end (updates_by kept target.file target.index bytes size p)) (sym is) (goes_relocated b None fills points)

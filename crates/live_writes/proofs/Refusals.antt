@@ -5,6 +5,7 @@ use Rattle.std.specs.Prelude.{unwrap_or}
 use Rattle.std.specs.Option.{option_or}
 use Rattle.model.specs.Layout.{Geometry}
 use Rattle.model.specs.View.{Inode}
+use Rattle.model.specs.Shape.{most_blocks}
 use Rattle.model.specs.Uses.{blocks_of}
 use Rattle.layout.specs.declared.refusal.Refusal.{Refusal}
 use Rattle.layout.specs.declared.refusal.Refusal.TheVariants.{BadHandle, BadIndex, BadPiece, NoBlock, TooBig}
@@ -53,7 +54,7 @@ module _ (geo : Geometry) (old : State) (h k : ℕ) (piece : List ℕ) where
   past i = option_or (when (ltb ((old.view.inode i).size / 1024) k) BadIndex) (room (blocks_to_write geo old i k))
 
   abbrev big : ℕ → Option Refusal
-  big i = option_or (when (leb 268 k) TooBig) (past i)
+  big i = option_or (when (leb (most_blocks geo) k) TooBig) (past i)
 
   abbrev pieces : ℕ → Option Refusal
   pieces i = option_or (when (is_bad piece) BadPiece) (big i)
@@ -76,15 +77,15 @@ module _ (geo : Geometry) (old : State) (h k : ℕ) (piece : List ℕ) where
       of_piece : refusal_of geo old (Write h k piece) ≡ big i
       of_piece = of_file ∙ ap (λ b. option_or (when b BadPiece) (big i)) good
 
-      pub too_big : 268 ≤ k → refusal_of geo old (Write h k piece) ≡ Some TooBig
+      pub too_big : most_blocks geo ≤ k → refusal_of geo old (Write h k piece) ≡ Some TooBig
       too_big many =
-          let large : leb 268 k ≡ true = grind (arith, nat_tests, many) in
+          let large : leb (most_blocks geo) k ≡ true = grind (arith, nat_tests, many) in
           of_piece ∙ ap (λ b. option_or (when b TooBig) (past i)) large
 
-      module _ (few : k < 268) where
+      module _ (few : k < most_blocks geo) where
         of_position : refusal_of geo old (Write h k piece) ≡ past i
         of_position =
-            let small : leb 268 k ≡ false = grind (arith, nat_tests, few) in
+            let small : leb (most_blocks geo) k ≡ false = grind (arith, nat_tests, few) in
             of_piece ∙ ap (λ b. option_or (when b TooBig) (past i)) small
 
         pub past_end : (old.view.inode i).size / 1024 < k → refusal_of geo old (Write h k piece) ≡ Some BadIndex
@@ -112,7 +113,7 @@ module _ (geo : Geometry) (old : State) (h k : ℕ) (piece : List ℕ) where
 module _ (kept : Kept) (holdings : Holdings) (keeps : KeepsMetadata kept) (old : State) (shows : Shows kept old.view) (has : Has holdings old) where
   pub needed_there : (i k : ℕ) → blocks_to_write kept.geometry old i k ≡ blocks_needed kept holdings i k
   needed_there i k =
-      ap₂ (λ (n : Inode) (b : Bool). cond (ltb k (blocks_of n.size)) (cond b 1 0) (blocks_to_append n)) (sym (shows.inode i))
+      ap₂ (λ (n : Inode) (b : Bool). cond (ltb k (blocks_of n.size)) (cond b 1 0) (blocks_to_append kept.geometry n)) (sym (shows.inode i))
       (ap (is_kept old) (block_there kept old.view keeps shows i k) ∙ kept_same holdings old has (block_of kept.geometry (frozen_view kept) i k))
 
   pub counted_there : unmarked_blocks kept.geometry (frozen_view kept) ≡ unmarked_blocks kept.geometry old.view
@@ -131,10 +132,10 @@ module _ (kept : Kept) (holdings : Holdings) (h k : ℕ) (piece : List ℕ) wher
     piece_refused bad = λ old shows has. inl (bad_piece kept.geometry old h k piece i (open_there holdings old has h ∙ opened) bad)
 
     module _ (good : is_bad piece ≡ false) where
-      pub position_refused : 268 ≤ k → IsFirst TooBig
+      pub position_refused : most_blocks kept.geometry ≤ k → IsFirst TooBig
       position_refused many = λ old shows has. inl (too_big kept.geometry old h k piece i (open_there holdings old has h ∙ opened) good many)
 
-      module _ (few : k < 268) where
+      module _ (few : k < most_blocks kept.geometry) where
         pub index_refused : ((frozen_view kept).inode i).size / 1024 < k → IsFirst BadIndex
         index_refused far = λ old shows has. inl (past_end kept.geometry old h k piece i (open_there holdings old has h ∙ opened) good few (subst (λ (n : Inode). n.size / 1024 < k) (shows.inode i) far))
 

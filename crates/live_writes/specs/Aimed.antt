@@ -1,13 +1,15 @@
 -- Where a piece goes that is to be written.
-use Rattle.std.specs.Prelude.{◌≡◌, ◌≢◌, ℕ, ◌<◌, ◌≤◌, ◌/◌, ◌==◌, nat_lt, List, [], ◌∷◌, length, Option, Some, None, MatchOption, if◌then◌else◌, IsTrue, IsFalse}
+use Rattle.std.specs.Prelude.{◌≡◌, ◌≢◌, ℕ, ◌+◌, ◌<◌, ◌≤◌, ◌/◌, nat_lt, List, [], ◌∷◌, length, Option, Some, None, IfSome, if◌then◌else◌, IsTrue, IsFalse}
 use Rattle.model.specs.Layout.{Geometry}
 use Rattle.model.specs.View.{View}
-use Rattle.model.specs.Uses.{blocks_of, claim_at, is_sound_at, direct_positions, indirect_position}
+use Rattle.model.specs.Shape.{most_blocks, new_tables}
+use Rattle.model.specs.Uses.{blocks_of, claim_at, is_sound_at}
 use Rattle.machine.specs.Cells.{block_of}
 use Rattle.machine.specs.Room.{IsFreeBlock, unmarked_blocks}
 use Rattle.frozen.specs.Kept.{Kept, frozen_view}
 use Rattle.live_states.specs.Holdings.{Holdings, is_kept_by}
 use Rattle.live_states.specs.Planned.{Seen}
+use Rattle.live_places.specs.Chosen.{listed}
 use Rattle.live_holdings.specs.Handles.{handle_at}
 use Rattle.live_writes.specs.declared.aiming.Place.{Place}
 use Rattle.live_writes.specs.declared.aiming.Place.TheVariants.{InPlace, Behind, Elsewhere}
@@ -17,10 +19,9 @@ use Rattle.live_writes.specs.declared.aiming.Target.{Target}
 abbrev pub block_count_of : Kept → ℕ → ℕ
 block_count_of kept i = blocks_of ((frozen_view kept).inode i).size
 
--- a block for the pointers, exactly where position k is the first that a record has no place for
+-- as many blocks for new tables as come with block k of a file, each of them free and another one than that block
 abbrev pub IsTableFor : Geometry → View → ℕ → ℕ → Option ℕ → Type 0
-IsTableFor geo view k block table =
-    MatchOption table (k ≢ direct_positions) (λ x. (k ≡ direct_positions) × IsFreeBlock geo view x × (x ≢ block))
+IsTableFor geo view k block table = (length (listed table) ≡ length (new_tables geo k)) × IfSome table (λ x. IsFreeBlock geo view x × (x ≢ block))
 
 -- Block k of file i goes there.
 abbrev pub IsPlaced : Kept → Holdings → ℕ → ℕ → Place → Type 0
@@ -32,19 +33,19 @@ IsPlaced kept holdings i k (Elsewhere a b) =
     (k < block_count_of kept i) × (claim_at kept.geometry (frozen_view kept) i k ≡ Some a) × IsTrue (is_kept_by holdings a) × IsFreeBlock kept.geometry (frozen_view kept) b
 
 -- how many blocks a new one at position k takes, and how many a write at position k of file i
-abbrev pub blocks_behind : ℕ → ℕ
-blocks_behind k = if k == direct_positions then 2 else 1
+abbrev pub blocks_behind : Geometry → ℕ → ℕ
+blocks_behind geo k = 1 + length (new_tables geo k)
 
 abbrev pub blocks_needed : Kept → Holdings → ℕ → ℕ → ℕ
 blocks_needed kept holdings i k =
     if nat_lt k (block_count_of kept i)
     then (if is_kept_by holdings (block_of kept.geometry (frozen_view kept) i k) then 1 else 0)
-    else blocks_behind (block_count_of kept i)
+    else blocks_behind kept.geometry (block_count_of kept i)
 
 -- The block goes there, at a position that a file can have.
 pub record Fits (kept : Kept) (holdings : Holdings) (target : Target) : Type 0 where
   pub sound : IsTrue (is_sound_at kept.geometry (frozen_view kept) target.file)
-  pub room : target.index < indirect_position
+  pub room : target.index < most_blocks kept.geometry
   pub placed : IsPlaced kept holdings target.file target.index target.place
 
 -- A piece that is written at the start of block k of the file that handle h is open on goes there, and no cause refuses it.

@@ -7,12 +7,12 @@ ghost use Rattle.machine.specs.Room.{unmarked_blocks};
 ghost use Rattle.machine.specs.State.{State};
 ghost use Rattle.metadata.specs.Shown.{Shows};
 ghost use Rattle.model.specs.Layout.{is_data_address};
+ghost use Rattle.model.specs.Shape.{most_blocks};
 ghost use Rattle.model.specs.Uses.{blocks_of, claim_at};
 ghost use Rattle.live_states.specs.Holdings.{Has, Holdings as Held};
 ghost use Rattle.live_states.specs.Planned.{IsOfVolumeWith};
 ghost use Rattle.live_writes.specs.Aimed.{IsAimed, IsPlaced, blocks_behind, blocks_needed, seen_at};
 
-use inode::{DIRECT_POINTERS, INDIRECT_POSITION};
 use layout::{BLOCK_BYTES, Refusal};
 use live_holdings::Holdings;
 use live_places::take;
@@ -23,7 +23,7 @@ use metadata::Metadata;
 pub enum Place {
     /// Into this block of the file, which no snapshot keeps.
     InPlace { block: u32 },
-    /// Into a new block behind the last one, with a new indirect block where one is needed and there was none.
+    /// Into a new block behind the last one, with a new table where one comes with it.
     Behind { block: u32, table: Option<u32> },
     /// Into a new block in the place of this old one, which a snapshot keeps.
     Elsewhere { old: u32, block: u32 },
@@ -78,7 +78,7 @@ pub fn aim(
     if piece.is_empty() || piece.len() > BLOCK_BYTES {
         return Err(Refusal::BadPiece);
     }
-    if index >= INDIRECT_POSITION {
+    if index >= metadata.frozen().geometry().most_blocks() {
         return Err(Refusal::TooBig);
     }
     let size = metadata.frozen().record(file).size;
@@ -119,15 +119,18 @@ fn place_over(
 }
 
 /// Where the bytes of a block go that a file does not have yet: into the least free block, with the next one for the
-/// pointers where it is the first that the record has no place for. Refused with `NoBlock`.
+/// new table where one comes with it. Refused with `NoBlock`.
 pub(crate) fn place_behind(metadata: &Metadata, index: u32) -> Result<Place, Refusal>
+    requires { index < most_blocks metadata.now.geometry }
     ensures placed { IfOk result (λ place. (holdings : Held) (file : ℕ) → index ≡ blocks_of ((frozen_view metadata.now).inode file).size
         → IsPlaced metadata.now holdings file index place) }
-    ensures enough { IfOk result (λ place. blocks_behind index ≤ unmarked_blocks metadata.now.geometry (frozen_view metadata.now)) }
-    ensures refused { IfErr result (λ r. (r ≡ NoBlock) × (unmarked_blocks metadata.now.geometry (frozen_view metadata.now) < blocks_behind index)) }
+    ensures enough { IfOk result (λ place. blocks_behind metadata.now.geometry index ≤ unmarked_blocks metadata.now.geometry (frozen_view metadata.now)) }
+    ensures refused { IfErr result (λ r. (r ≡ NoBlock)
+        × (unmarked_blocks metadata.now.geometry (frozen_view metadata.now) < blocks_behind metadata.now.geometry index)) }
 {
     let block = take(metadata, 0)?;
-    if index != DIRECT_POINTERS as u32 {
+    let geometry = metadata.frozen().geometry();
+    if geometry.tables_end(index + 1) == geometry.tables_end(index) {
         return Ok(Place::Behind { block, table: None });
     }
     let table = take(metadata, block + 1)?;

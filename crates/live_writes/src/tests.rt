@@ -3,7 +3,7 @@ ghost use Rattle.std.specs.Prelude.{◌≤◌, length};
 use crate::aiming::place_behind;
 use crate::writing::{held_blocks, overwritten};
 use crate::{Place, Target};
-use device::{Before, Device, MemDevice, format};
+use device::MemDevice;
 use frozen::load;
 use layout::{BLOCK_BYTES, Block, Geometry, Refusal};
 use metadata::Metadata;
@@ -15,27 +15,9 @@ use std::process::Abort;
 /// on.
 fn image(alloc: Global, marks: [u8; 2]) -> Result<Metadata, Refusal> {
     let geometry = Geometry::new(1, 16, 16)?;
-    let bytes = vec![in alloc; 0u8; geometry.blocks() as usize * BLOCK_BYTES]?;
-    let mut device = MemDevice::from_bytes(alloc, bytes.as_slice())?;
-    if device.blocks() != geometry.blocks() {
-        return Err(Refusal::BadLength);
-    }
-    format(&mut device, &geometry, Before::Anything)?;
-    set_byte(&mut device, 1, 160, marks[0])?;
-    set_byte(&mut device, 1, 161, marks[1])?;
+    let bytes = [(1, 160, marks[0]), (1, 161, marks[1])];
+    let mut device = MemDevice::formatted(alloc, &geometry, &bytes)?;
     Ok(Metadata::new(alloc, load(alloc, &mut device)?)?)
-}
-
-/// Changes one byte of a block.
-fn set_byte(device: &mut MemDevice, address: u32, byte: usize, value: u8) -> Result<(), Refusal> {
-    if address >= device.blocks() || byte >= BLOCK_BYTES {
-        return Err(Refusal::BadIndex);
-    }
-    let mut block = [0; BLOCK_BYTES];
-    device.read(address, &mut block)?;
-    block[byte] = value;
-    device.write(address, &block)?;
-    Ok(())
 }
 
 /// A place behind the last block.
@@ -51,6 +33,9 @@ fn expect_place(
     wanted: Result<Place, Refusal>,
 ) -> Result<(), Refusal> {
     let metadata = image(rt.alloc(), marks)?;
+    if blocks >= metadata.frozen().geometry().most_blocks() {
+        return Err(Refusal::TooBig);
+    }
     assert_eq!(rt; place_behind(&metadata, blocks), wanted);
     Ok(())
 }

@@ -6,22 +6,24 @@ ghost use Rattle.machine.specs.Command.{Done, Write};
 ghost use Rattle.model.specs.Cells.{SetBytes};
 ghost use Rattle.model.specs.Image.{IsBlock};
 ghost use Rattle.model.specs.Layout.{block_count, is_data_address, is_number};
-ghost use Rattle.model.specs.Uses.{IsClaim, indirect_position, is_sound_at};
+ghost use Rattle.model.specs.Shape.{most_blocks};
+ghost use Rattle.model.specs.Uses.{is_sound_at};
 ghost use Rattle.plans_data.specs.Write.{enlarged};
 ghost use Rattle.updates.specs.Places.{IsCell};
 ghost use Rattle.updates.specs.Values.{cell};
-ghost use Rattle.live_plans.specs.Grown.{HasPointers};
+ghost use Rattle.live_plans.specs.Linked.{CanLink, HasPointers};
+ghost use Rattle.live_places.specs.Chosen.{listed};
 ghost use Rattle.live_states.specs.Drafts.{GoesOn};
 ghost use Rattle.live_states.specs.Holdings.{Holdings as Held, with_held};
 ghost use Rattle.live_states.specs.Planned.{IsOfVolumeWith, IsPlannedToTheByte, IsPlannedWith};
 ghost use Rattle.live_writes.specs.Aimed.{Fits, IsAimed, seen_before};
-ghost use Rattle.live_writes.specs.Written.{HasTable, bytes_after, held_for, holder_at, repointed, updates_at};
+ghost use Rattle.live_writes.specs.Written.{bytes_after, held_for, holder_at, repointed, updates_at};
 
 use crate::{Place, Target};
-use inode::{DIRECT_POINTERS, Record};
+use inode::Record;
 use layout::{BLOCK_BYTES, Block};
 use live_holdings::Holdings;
-use live_plans::{Plan, Planned, fill, point_at, point_first};
+use live_plans::{Plan, Planned, fill, link};
 use metadata::Metadata;
 use spares::Spares;
 use std::alloc::{AllocError, Global};
@@ -175,7 +177,7 @@ fn enlarge(
 }
 
 /// Adds the updates by which a file points to a new block at the position that is written, and gets this size. The pointer
-/// goes into the record, into the indirect block, or into a new one.
+/// goes into the record, into a table that is there, or into a new one; the record is written only where it changes.
 fn repoint(
     alloc: Global,
     metadata: &Metadata,
@@ -187,42 +189,31 @@ fn repoint(
     spares: &mut Spares,
 ) -> Result<(), AllocError>
     requires geometry { plan.old.geometry ≡ metadata.now.geometry }
-    requires pointers { HasPointers metadata.now target.now.file }
     requires sound { IsTrue (is_sound_at metadata.now.geometry (frozen_view metadata.now) target.now.file) }
-    requires room { target.now.index < indirect_position }
+    requires room { target.now.index < most_blocks metadata.now.geometry }
     requires block { IsTrue (is_data_address metadata.now.geometry block) }
-    requires table { HasTable metadata.now target.now.file target.now.index table }
-    ensures { OnOk result (GoesOn plan.old plan.new (repointed target.now.file ((frozen_view metadata.now).inode target.now.file) target.now.index block size (holder_at metadata.now target.now.file target.now.index block table))) }
+    requires table { CanLink metadata.now target.now.file target.now.index (listed table) }
+    ensures { OnOk result (GoesOn plan.old plan.new
+        (repointed metadata.now.geometry target.now.file ((frozen_view metadata.now).inode target.now.file) target.now.index block size
+        (holder_at metadata.now target.now.file target.now.index block table))) }
 {
-    let owner = metadata.frozen().record(target.file);
-    let mut changed = owner;
+    let frozen = metadata.frozen();
+    let owner = frozen.record(target.file);
+    let linked = link(
+        alloc,
+        metadata,
+        plan,
+        spares,
+        target.file,
+        &owner,
+        target.index,
+        block,
+        table,
+    )?;
+    if table.is_none() && frozen.geometry().pointer_place(target.index).is_some() {
+        return enlarge(plan, target.file, &owner, size, linked.after);
+    }
+    let mut changed = linked.record;
     changed.size = size;
-    let position = target.index as usize;
-    if position < DIRECT_POINTERS {
-        changed.direct[position] = block;
-        let after = vec![in alloc; Cell::Block(block)]?;
-        return plan.push(Change::SetInode(target.file, changed), after);
-    }
-    if let Some(table) = table {
-        point_first(alloc, plan, target.file, &owner, block, table)?;
-        changed.indirect = table;
-        let after = vec![in alloc; Cell::Block(table), Cell::Block(block)]?;
-        return plan.push(Change::SetInode(target.file, changed), after);
-    }
-    let pointers = pointers_of(metadata, target.file, owner.indirect);
-    let copy = spares.share(alloc, pointers)?;
-    point_at(alloc, plan, target.file, &owner, target.index, block, copy)?;
-    let after = vec![in alloc; Cell::Block(owner.indirect), Cell::Block(block)]?;
-    enlarge(plan, target.file, &owner, size, after)
-}
-
-/// The bytes of the indirect block that an inode has.
-fn pointers_of(metadata: &Metadata, number: u32, block: u32) -> &Block
-    requires { IsClaim metadata.now.geometry (frozen_view metadata.now) number indirect_position block }
-    ensures { result.now ≡ (frozen_view metadata.now).bytes block }
-{
-    match metadata.frozen().block(block) {
-        Some(bytes) => bytes,
-        None => unreachable!(),
-    }
+    plan.push(Change::SetInode(target.file, changed), linked.after)
 }

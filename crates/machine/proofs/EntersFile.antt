@@ -2,7 +2,8 @@
 use Rattle.std.proofs.Common.{◌≡◌, ◌≤◌, ◌+◌, ℕ, Bool, false, not, ◌&&◌, leb, List, sym, ap, ap₂, ◌∙◌, subst, IsTrue, IsFalse}
 use Rattle.model.specs.Layout.{Geometry, IsGeometry}
 use Rattle.model.specs.View.{View}
-use Rattle.model.specs.Uses.{is_sound_at, is_directory_at, blocks_of, indirect_position}
+use Rattle.model.specs.Shape.{most_blocks}
+use Rattle.model.specs.Uses.{is_sound_at, is_directory_at, blocks_of}
 use Rattle.model.specs.Slots.{Empty, Good, slot}
 use Rattle.model.specs.Reach.{IsReachableDirectory, slot_count}
 use Rattle.model.proofs.SlotLemmas.{reachable_directory}
@@ -23,7 +24,7 @@ use Rattle.machine.proofs.FileStays.{apart_from, entry_file}
 
 -- a directory with the same slots and size is as full
 pub full_same : (geo : Geometry) (v w : View) (d : ℕ) → ((s : ℕ) → slot geo v d s ≡ slot geo w d s) → (v.inode d).size ≡ (w.inode d).size → is_full geo v d ≡ is_full geo w d
-full_same geo v w d slots sizes = ap₂ (λ (r : Bool) (n : ℕ). not r && leb indirect_position (blocks_of n)) (any_same slot_count _ _ (λ s k. ap is_empty (slots s))) sizes
+full_same geo v w d slots sizes = ap₂ (λ (r : Bool) (n : ℕ). not r && leb (most_blocks geo) (blocks_of n)) (any_same (slot_count geo) _ _ (λ s k. ap is_empty (slots s))) sizes
 
 -- a file shows what it showed
 pub entered_file : (geo : Geometry) → IsGeometry geo → (owed : Repair → Type 0) (slack : ℕ → ℕ) (st : State) → Ledger geo owed slack st → (d i : ℕ) (name : List ℕ) (view : View) (e : Enters geo st.view d name i view)

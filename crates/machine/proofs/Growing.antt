@@ -3,23 +3,23 @@ use Rattle.std.proofs.Common.{◌≡◌, ◌<◌, ◌+◌, ◌/◌, ◌%◌, ℕ
 use Rattle.std.proofs.lemmas.Bool.{cases_lt, and_parts, and_from, both_ways}
 use Rattle.model.specs.Layout.{Geometry, IsGeometry}
 use Rattle.model.specs.View.{View, Inode}
-use Rattle.model.specs.Uses.{is_sound, is_sound_at, is_directory, is_directory_at, blocks_of, indirect_position, IsUse, IsClaim}
+use Rattle.model.specs.Shape.{most_blocks}
+use Rattle.model.specs.Uses.{is_sound, is_sound_at, is_directory, is_directory_at, blocks_of, IsUse, IsClaim}
 use Rattle.model.specs.Slots.{Absent, Empty, slot, slot_in}
 use Rattle.model.specs.Reach.{IsReachableDirectory}
 use Rattle.findings.specs.declared.repair.Repair.{Repair}
 use Rattle.model.proofs.SlotLemmas.{reachable_directory}
-use Rattle.model.proofs.UseLemmas.{use_parts}
+use Rattle.model.proofs.Uses.{use_number, use_has, has_below}
+use Rattle.model.proofs.Slots.{slot_claimed}
 use Rattle.machine.specs.State.{State}
 use Rattle.machine.specs.Room.{has_room, is_full}
 use Rattle.machine.specs.Cells.{MakesRoom, Places}
 use Rattle.machine.proofs.Bools.{or_right}
 use Rattle.machine.proofs.Decisions.{sound_parts, directory_is_sound}
 use Rattle.machine.proofs.Trees.{SameTree, same_tree}
-use Rattle.machine.proofs.Shapes.{slot_claimed}
 use Rattle.machine.proofs.ZeroBlocks.{zero_block, zero_whole, zero_slot}
-use Rattle.machine.proofs.Positions.{used_where}
 use Rattle.machine.proofs.Placing.{Placed, sounds, directories, added_ledger, placed_directory, grown_slot}
-use Rattle.machine.proofs.PlacingCases.{places}
+use Rattle.machine.proofs.Placements.{places}
 use Rattle.machine.proofs.SameFiles.{SameFile, same_file}
 use Rattle.machine.proofs.SeenAfter.{other_file}
 use Rattle.machine.proofs.PlacingSeen.{by_placing}
@@ -60,7 +60,7 @@ module _ (geo : Geometry) (g : IsGeometry geo) (owed : Repair → Type 0) (slack
   -- a directory's size is some whole blocks
   whole_size : (0 < inode.size) × (inode.size % 1024 ≡ 0)
   whole_size =
-      let one = (and_parts (eqb inode.mode 1 || is_directory inode && ltb 0 inode.size && eqb (inode.size % 1024) 0) (leb (blocks_of inode.size) indirect_position) (sound_parts geo v d sound).1).0 in
+      let one = (and_parts (eqb inode.mode 1 || is_directory inode && ltb 0 inode.size && eqb (inode.size % 1024) 0) (leb (blocks_of inode.size) (most_blocks geo)) (sound_parts geo v d sound).1).0 in
       let two = and_parts (is_directory inode && ltb 0 inode.size) (eqb (inode.size % 1024) 0) (second (eqb inode.mode 1) _ no_file one) in
       (ltb-true 0 inode.size (and_parts (is_directory inode) (ltb 0 inode.size) two.0).1, eqb-true (inode.size % 1024) 0 two.1)
     where
@@ -74,18 +74,15 @@ module _ (geo : Geometry) (g : IsGeometry geo) (owed : Repair → Type 0) (slack
   more : blocks_of size ≡ blocks_of inode.size + 1
   more = omega arith
 
-  module _ (room_left : blocks_of inode.size < 268) where
-    still : IsTrue (is_sound (record inode { size = inode.size + 1024 }))
-    still = and_from (eqb inode.mode 1 || is_directory inode && ltb 0 size && eqb (size % 1024) 0) (leb (blocks_of size) indirect_position)
+  module _ (room_left : blocks_of inode.size < most_blocks geo) where
+    still : IsTrue (is_sound geo (record inode { size = inode.size + 1024 }))
+    still = and_from (eqb inode.mode 1 || is_directory inode && ltb 0 size && eqb (size % 1024) 0) (leb (blocks_of size) (most_blocks geo))
         (or_right (eqb inode.mode 1) (is_directory inode && ltb 0 size && eqb (size % 1024) 0)
         (and_from (is_directory inode && ltb 0 size) (eqb (size % 1024) 0) (and_from (is_directory inode) (ltb 0 size) is_dir (lt-ltb 0 size (omega arith))) (eq-eqb (size % 1024) 0 (omega (arith, whole_size.1)))))
-        (le-leb (blocks_of size) 268 (omega (arith, more, room_left)))
+        (le-leb (blocks_of size) (most_blocks geo) (omega (arith, more, room_left)))
 
     unused : (a : ℕ) → IsUse geo v d (blocks_of inode.size) a → ⊥
-    unused a u = let p = use_parts geo v d (blocks_of inode.size) a u in elim (used_where geo inode (blocks_of inode.size) p.used) [
-      | inl low ↦ omega (arith, low.1)
-      | inr rest ↦ elim rest [ inl mid ↦ omega (arith, mid.2) | inr last ↦ omega (arith, last.0, room_left) ]
-    ]
+    unused a u = let below = has_below geo inode (blocks_of inode.size) room_left (use_has geo v inode (blocks_of inode.size) a (use_number geo v d (blocks_of inode.size) a u).1) in omega (arith, below)
 
     module _ (x : View) (p : Places geo v d (blocks_of inode.size) zero_block size x) where
       placed : Placed geo v x d (blocks_of inode.size) p.block zero_block
@@ -107,7 +104,7 @@ module _ (geo : Geometry) (g : IsGeometry geo) (owed : Repair → Type 0) (slack
       empty : (s : ℕ) → s / 16 ≡ blocks_of inode.size → slot geo x d s ≡ Empty
       empty s at =
           slot_claimed geo x d s p.block (sym (directories geo owed slack st l x d (blocks_of inode.size) p.block zero_block placed sound d) ∙ dir)
-          (lt-ltb (s / 16) indirect_position (omega (arith, at, room_left))) (subst (λ q. IsClaim geo x d q p.block) (sym at) placed.placed)
+          (omega (arith, at, room_left)) (subst (λ q. IsClaim geo x d q p.block) (sym at) placed.placed)
           ∙ ap (λ b. slot_in geo b s) placed.stored ∙ zero_slot geo s
 
       tree_grown : SameTree geo v x
@@ -120,7 +117,7 @@ module _ (geo : Geometry) (g : IsGeometry geo) (owed : Repair → Type 0) (slack
         sounds = sounds geo owed slack st l x d (blocks_of inode.size) p.block zero_block placed sound;
         directories = directories geo owed slack st l x d (blocks_of inode.size) p.block zero_block placed sound;
         slots = grown_slot geo owed slack st l x d (blocks_of inode.size) p.block zero_block placed sound unused room_left empty;
-        files = other_file geo v x d (blocks_of inode.size) size zero_block (by_placing geo v l.rules d (blocks_of inode.size) zero_block size sound x p placed);
+        files = other_file geo v x d (blocks_of inode.size) size zero_block (by_placing geo v l.rules d (blocks_of inode.size) zero_block size x p placed);
       }
 
   as_it_was : Roomy geo owed slack st d v
@@ -128,7 +125,7 @@ module _ (geo : Geometry) (g : IsGeometry geo) (owed : Repair → Type 0) (slack
 
   pub makes_room : is_full geo v d ≡ false → (roomy : View) → MakesRoom geo v d roomy → Roomy geo owed slack st d roomy
   makes_room not_full roomy (inl h) = subst (λ x. Roomy geo owed slack st d x) (sym h.1) as_it_was
-  makes_room not_full roomy (inr h) = grown (elim (cases_lt (blocks_of inode.size) 268) [
+  makes_room not_full roomy (inr h) = grown (elim (cases_lt (blocks_of inode.size) (most_blocks geo)) [
     | inl low ↦ low
-    | inr high ↦ absurd (both_ways (is_full geo v d) not_full (and_from (not (has_room geo v d)) (leb indirect_position (blocks_of inode.size)) (ap not h.0) (le-leb 268 (blocks_of inode.size) high)))
+    | inr high ↦ absurd (both_ways (is_full geo v d) not_full (and_from (not (has_room geo v d)) (leb (most_blocks geo) (blocks_of inode.size)) (ap not h.0) (le-leb (most_blocks geo) (blocks_of inode.size) high)))
   ]) roomy h.1

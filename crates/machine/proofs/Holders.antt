@@ -52,7 +52,7 @@ module _ (geo : Geometry) (view : View) where
   unfolding lookup slot_of
   no_slot d name e t j is =
       let at = slot_content geo view d t (Good j name) (λ q. cc) is in
-      both_ways (has_name (slot geo view d t) name) (first_none slot_count (λ s. has_name (slot geo view d s) name) t (found (slot_of geo view d name) e) at.below)
+      both_ways (has_name (slot geo view d t) name) (first_none (slot_count geo) (λ s. has_name (slot geo view d s) name) t (found (slot_of geo view d name) e) at.below)
       (ap (λ x. has_name x name) is ∙ (bytes_eq-Decides name name).1 refl)
     where
       found : (o : Option ℕ) → option_map (λ s. number_in (slot geo view d s)) o ≡ None → o ≡ None

@@ -2,6 +2,7 @@ mod Refused
 mod Exactness
 pub mod Decisions
 mod Owed
+pub mod Records
 pub mod Clears
 pub mod Counting
 pub mod Base
@@ -51,13 +52,9 @@ mod EnteringFile
 pub mod Behind
 mod RenameWithin
 pub mod PointerTables
+pub mod Pointing
 mod Placing
-mod Positions
-mod Placements
-mod PlacingInRecord
-mod PlacingInIndirect
-mod PlacingInNew
-mod PlacingCases
+pub mod Placements
 mod Growing
 mod Founding
 mod EntersFile
@@ -80,7 +77,7 @@ mod Clean
 mod Paying
 mod Forgives
 mod Repairing
-mod FileRecords
+pub mod FileRecords
 pub mod Tests
 mod Rewrites
 mod Aside

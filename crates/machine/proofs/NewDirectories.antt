@@ -1,14 +1,16 @@
 -- The command that makes a directory keeps the balance.
-use Rattle.std.proofs.Common.{◌≡◌, ◌≤◌, ◌<◌, ◌+◌, ◌/◌, ℕ, true, false, List, [], ◌∷◌, length, ◌⊎◌, inl, inr, refl, sym, ap, ◌∙◌, subst, arith, IsTrue, IsFalse, Option, None, Some, lt-ltb}
+use Rattle.std.proofs.Common.{◌≡◌, ◌≤◌, ◌<◌, ◌+◌, ◌/◌, ℕ, true, false, List, [], ◌∷◌, length, ◌⊎◌, inl, inr, refl, sym, ap, ◌∙◌, subst, arith, IsTrue, IsFalse, Option, None, Some}
 use Rattle.std.proofs.lemmas.Bool.{cases_eq, cases_lt, both_ways, and_from}
 use Rattle.model.specs.Layout.{Geometry, IsGeometry, is_number, is_data_address}
 use Rattle.model.specs.View.{View, Inode}
 use Rattle.model.specs.Cells.{SetNumber, SetBlock, SetInode, SetBytes, updated_all}
-use Rattle.model.specs.Uses.{is_sound, is_sound_at, is_directory, is_directory_at, is_used, value_at, use_at, indirect_position, IsUse, IsClaim}
+use Rattle.model.specs.Uses.{is_sound, is_sound_at, is_directory, is_directory_at, record_use, use_at, IsUse, IsClaim}
 use Rattle.model.specs.Slots.{Absent, Empty, Good, slot, slot_in}
 use Rattle.model.specs.Reach.{IsReachableDirectory}
 use Rattle.model.proofs.SlotLemmas.{reachable_directory, directory_number}
-use Rattle.model.proofs.UseLemmas.{use_parts, use_from}
+use Rattle.model.proofs.Shape.{many_blocks}
+use Rattle.model.proofs.Uses.{use_number, number_use}
+use Rattle.model.proofs.Slots.{slot_claimed, slot_absent}
 use Rattle.layout.specs.declared.refusal.Refusal.TheVariants.{TooBig}
 use Rattle.machine.specs.State.{State}
 use Rattle.machine.specs.Command.{Mkdir}
@@ -22,11 +24,11 @@ use Rattle.machine.proofs.Clears.{named_reachable, kept as clears_kept}
 use Rattle.machine.proofs.Walks.{quiet, when_none}
 use Rattle.machine.proofs.Holders.{IsNewPlace, new_place}
 use Rattle.machine.proofs.Behind.{behind_dots}
-use Rattle.machine.proofs.Shapes.{put_here, put_there, slot_claimed, slot_none}
+use Rattle.machine.proofs.Records.{new_directory_sound, new_directory_first, new_directory_uses}
+use Rattle.machine.proofs.Shapes.{put_here, put_there}
 use Rattle.machine.proofs.WholeBlocks.{put_whole}
 use Rattle.machine.proofs.NewFile.{unsound_at}
 use Rattle.machine.proofs.Naming.{once}
-use Rattle.machine.proofs.Positions.{used_where}
 use Rattle.machine.proofs.Trees.{kept, reachable_back}
 use Rattle.machine.proofs.Unlinking.{once_here, once_there}
 use Rattle.machine.proofs.OtherLinks.{other_links, shape, same, slots}
@@ -70,25 +72,14 @@ module _ (geo : Geometry) (g : IsGeometry geo) (old new : State) (b : Balance ge
 
   -- the new directory uses its one block alone
   only_use : (q a : ℕ) → IsUse geo w i q a → (q ≡ 0) × (a ≡ c.block)
-  only_use q a u =
-      let at = use_parts geo w i q a u in
-      elim (used_where geo y q (subst (λ (r : Inode). IsTrue (is_used geo r q)) here at.used)) [
-        | inl low ↦
-            let z : q ≡ 0 = omega (arith, low.1) in
-            (z, sym (subst (λ (r : Inode). value_at w r q ≡ a) here at.value) ∙ ap (value_at w y) z)
-        | inr rest ↦ absurd (elim rest [ inl mid ↦ omega (arith, mid.0, mid.2) | inr last ↦ omega (arith, last.1) ])
-      ]
+  only_use q a u = new_directory_uses geo w c.block q a (subst (λ (r : Inode). record_use geo w r q ≡ Some a) here (use_number geo w i q a u).1)
 
   new_sound : IsTrue (is_sound_at geo w i)
-  new_sound = and_from (is_number geo i) (is_sound (w.inode i)) c.free.number (ap is_sound here)
+  new_sound = and_from (is_number geo i) (is_sound geo (w.inode i)) c.free.number (ap (is_sound geo) here ∙ new_directory_sound geo c.block)
 
   first_use : IsClaim geo w i 0 c.block
   first_use = (
-    use_from geo w i 0 c.block (record {
-      sound = new_sound;
-      used = subst (λ (r : Inode). IsTrue (is_used geo r 0)) (sym here) refl;
-      value = subst (λ (r : Inode). value_at w r 0 ≡ c.block) (sym here) refl;
-    }),
+    number_use geo w i 0 c.block c.free.number (ap (λ (r : Inode). record_use geo w r 0) here ∙ new_directory_first geo w c.block),
     c.free_block.address,
   )
 
@@ -96,7 +87,7 @@ module _ (geo : Geometry) (g : IsGeometry geo) (old new : State) (b : Balance ge
   founded = record {
     free = record { number = c.free.number; unmarked = c.free.unmarked };
     there = λ j x. put_there v1.inode i j y x;
-    sound = ap is_sound here;
+    sound = ap (is_sound geo) here ∙ new_directory_sound geo c.block;
     linked = (let two = ap (λ (r : Inode). r.links) here in omega (arith, two));
     direct = ap (λ (r : Inode). length r.direct) here;
     mark_here = put_here v.number_marked i true;
@@ -144,13 +135,13 @@ module _ (geo : Geometry) (g : IsGeometry geo) (old new : State) (b : Balance ge
 
   block_slot : (t : ℕ) → t < 16 → slot geo w i t ≡ slot_in geo c.bytes t
   block_slot t low =
-      slot_claimed geo w i t c.block dir_new (lt-ltb (t / 16) indirect_position (omega (arith, low))) (subst (λ q. IsClaim geo w i q c.block) (omega (arith, low)) first_use)
+      slot_claimed geo w i t c.block dir_new (let many = many_blocks geo in omega (arith, low, many)) (subst (λ q. IsClaim geo w i q c.block) (omega (arith, low)) first_use)
       ∙ ap (λ z. slot_in geo z t) (put_here v.bytes c.block c.bytes)
 
   rest : (t : ℕ) → 2 ≤ t → (slot geo w i t ≡ Empty) ⊎ (slot geo w i t ≡ Absent)
   rest t two = elim (cases_lt t 16) [
     | inl low ↦ inl (block_slot t low ∙ rest_slot geo i d c.bytes c.dots t two low)
-    | inr high ↦ inr (slot_none geo w i t (go (use_at geo w i (t / 16)) refl high))
+    | inr high ↦ inr (slot_absent geo w i t (go (use_at geo w i (t / 16)) refl high))
   ]
     where
       go : (o : Option ℕ) → use_at geo w i (t / 16) ≡ o → 16 ≤ t → o ≡ None

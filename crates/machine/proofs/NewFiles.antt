@@ -1,14 +1,15 @@
 -- The command that creates a file keeps the balance, and the other files.
-use Rattle.std.proofs.Common.{◌≡◌, ℕ, true, false, ◌&&◌, List, [], ◌∷◌, length, refl, sym, ap, ◌∙◌, subst, arith, IsTrue, IsFalse, None}
+use Rattle.std.proofs.Common.{◌≡◌, ℕ, true, false, ◌&&◌, List, [], ◌∷◌, length, refl, sym, ap, ◌∙◌, subst, arith, IsTrue, IsFalse, Some, None}
 use Rattle.std.proofs.lemmas.Bool.{both_ways}
+use Rattle.std.proofs.lemmas.Option.{none-some}
 use Rattle.model.specs.Layout.{Geometry, IsGeometry, is_number}
 use Rattle.model.specs.View.{View, Inode, new_file}
 use Rattle.model.specs.Cells.{SetNumber, SetInode, updated_all}
-use Rattle.model.specs.Uses.{is_sound, is_sound_at, is_directory, is_directory_at, is_used, IsUse}
+use Rattle.model.specs.Uses.{is_sound, is_sound_at, is_directory, is_directory_at, record_use, IsUse}
 use Rattle.model.specs.Slots.{Good, slot}
 use Rattle.model.specs.Reach.{IsReachableDirectory}
 use Rattle.model.proofs.SlotLemmas.{reachable_directory}
-use Rattle.model.proofs.UseLemmas.{use_parts}
+use Rattle.model.proofs.Uses.{use_number, new_file_sound}
 use Rattle.layout.specs.declared.refusal.Refusal.TheVariants.{TooBig}
 use Rattle.machine.specs.State.{State}
 use Rattle.machine.specs.Command.{Create}
@@ -43,15 +44,13 @@ module _ (geo : Geometry) (g : IsGeometry geo) (old new : State) (b : Balance ge
   w = updated_all v (SetNumber i true ∷ SetInode i new_file ∷ [])
 
   no_use : (q a : ℕ) → IsUse geo w i q a → ⊥
-  no_use q a u =
-      let at = use_parts geo w i q a u in
-      both_ways (is_used geo new_file q) (new_unused geo q) (subst (λ (r : Inode). IsTrue (is_used geo r q)) (put_here v.inode i new_file) at.used)
+  no_use q a u = none-some a (sym (new_unused geo w q) ∙ subst (λ (r : Inode). record_use geo w r q ≡ Some a) (put_here v.inode i new_file) (use_number geo w i q a u).1)
 
   founded : Founded geo v w i
   founded = record {
     free = c.free;
     there = λ j x. put_there v.inode i j new_file x;
-    sound = ap is_sound (put_here v.inode i new_file);
+    sound = ap (is_sound geo) (put_here v.inode i new_file) ∙ new_file_sound geo;
     linked = (let one = ap (λ (r : Inode). r.links) (put_here v.inode i new_file) in omega (arith, one));
     direct = ap (λ (r : Inode). length r.direct) (put_here v.inode i new_file);
     mark_here = put_here v.number_marked i true;
@@ -76,7 +75,7 @@ module _ (geo : Geometry) (g : IsGeometry geo) (old new : State) (b : Balance ge
     apart e = both_ways (is_sound_at geo v i) (unsound_at geo v b.rules i c.free) (subst (λ q. IsTrue (is_sound_at geo v q)) e (directory_is_sound geo v d (reachable_directory geo v d at.reachable)))
 
     file : IsFalse (is_directory_at geo w i)
-    file = ap (λ (r : Inode). is_number geo i && is_sound r && is_directory r) (put_here v.inode i new_file) ∙ and_false (is_number geo i && true)
+    file = ap (λ (r : Inode). is_number geo i && is_sound geo r && is_directory r) (put_here v.inode i new_file) ∙ and_false (is_number geo i && is_sound geo new_file)
 
     reachable : IsReachableDirectory geo w d
     reachable = kept geo v w (founded_tree geo (Owes geo old) no_slack (once (Good i [])) old (ledger geo old b) w i founded (λ j x. once_there i j [] x) (once_here i [] ∙ sym (ap (λ (r : Inode). r.links) (put_here v.inode i new_file)))) d at.reachable

@@ -1,14 +1,15 @@
 -- A read gives as many bytes as the file has in that block.
-use Rattle.std.proofs.Common.{◌≡◌, ◌<◌, ◌-◌, ◌*◌, ℕ, Bool, true, false, not, leb, eqb, List, length, min, inl, inr, refl, sym, ap, ◌∙◌, arith, IsTrue, Some, Ok, eq-eqb}
+use Rattle.std.proofs.Common.{◌≡◌, ◌<◌, ◌-◌, ◌*◌, ℕ, Bool, true, false, not, leb, eqb, List, length, min, inl, inr, refl, sym, ap, ◌∙◌, IsTrue, Some, Ok, eq-eqb}
 use Rattle.std.specs.Prelude.{unwrap_or}
 use Rattle.std.specs.Option.{option_and_then}
-use Rattle.std.proofs.lemmas.Bool.{leb-false, cases_lt, both_ways, and_parts, and_from}
+use Rattle.std.proofs.lemmas.Bool.{leb-false, both_ways, and_parts, and_from}
 use Rattle.std.proofs.lemmas.List.{length-take}
 use Rattle.model.specs.Layout.{Geometry, is_number}
 use Rattle.model.specs.View.{View}
-use Rattle.model.specs.Uses.{is_sound, is_sound_at, is_used, value_at, blocks_of, IsClaim}
+use Rattle.model.specs.Uses.{is_sound, is_sound_at, blocks_of, IsClaim}
 use Rattle.model.specs.Rules.{ObeysRules}
-use Rattle.model.proofs.UseLemmas.{use_from, claim_from}
+use Rattle.model.proofs.UseLemmas.{claim_from}
+use Rattle.model.proofs.Uses.{below_has, has_claims, sound_few}
 use Rattle.layout.specs.declared.refusal.Refusal.TheVariants.{BadIndex, NotFound}
 use Rattle.machine.specs.Below.{when}
 use Rattle.machine.specs.State.{State, snapshot_at}
@@ -21,28 +22,15 @@ use Rattle.machine.specs.Balance.{Balance}
 use Rattle.machine.proofs.Decisions.{sound_parts}
 use Rattle.machine.proofs.OpenHandles.{opened_file}
 use Rattle.machine.proofs.Walks.{quiet, when_none}
-use Rattle.machine.proofs.Positions.{used_direct, used_middle, used_last}
-use Rattle.machine.proofs.FileRecords.{few_blocks}
 
 module _ (geo : Geometry) (v : View) (o : ObeysRules geo v) (whole : HasWholeBlocks geo v) (i k : ℕ) (sound : IsTrue (is_sound_at geo v i)) (inside : k < blocks_of (v.inode i).size) where
-  below : k < 268
-  below = omega (arith, inside, few_blocks (v.inode i) (sound_parts geo v i sound).1)
-
-  -- a position below the number of blocks is used
-  used : IsTrue (is_used geo (v.inode i) k)
-  used = elim (cases_lt k 12) [
-    | inl low ↦ used_direct geo (v.inode i) k low inside
-    | inr high ↦ used_middle geo (v.inode i) k high below inside
-        (o.rule3.claims i 268 (v.inode i).indirect (use_from geo v i 268 (v.inode i).indirect (record { sound = sound; used = used_last geo (v.inode i) (omega (arith, high, inside)); value = refl })))
-  ]
-
-  pub claim : IsClaim geo v i k (value_at v (v.inode i) k)
-  claim = let u = use_from geo v i k (value_at v (v.inode i) k) (record { sound = sound; used = used; value = refl }) in (u, o.rule3.claims i k (value_at v (v.inode i) k) u)
+  pub claimed : (a : ℕ) × IsClaim geo v i k a
+  claimed = has_claims geo v i (λ q a u. o.rule3.claims i q a u) sound k (below_has geo (v.inode i) k inside (sound_few geo (v.inode i) (sound_parts geo v i sound).1))
 
   pub seen_length : length (seen geo v i k) ≡ min ((v.inode i).size - 1024 * k) 1024
   seen_length =
       length-take ((v.inode i).size - 1024 * k) (v.bytes (block_of geo v i k))
-      ∙ ap (λ n. min ((v.inode i).size - 1024 * k) n) (ap (λ b. length (v.bytes (unwrap_or b 0))) (claim_from geo v i k (value_at v (v.inode i) k) claim) ∙ (whole (value_at v (v.inode i) k) claim.1).length)
+      ∙ ap (λ n. min ((v.inode i).size - 1024 * k) n) (ap (λ b. length (v.bytes (unwrap_or b 0))) (claim_from geo v i k claimed.0 claimed.1) ∙ (whole claimed.0 claimed.1.1).length)
 
 module _ (geo : Geometry) (old new : State) (b : Balance geo old) where
   pub read_length : (h k : ℕ) (bytes : List ℕ) → Step geo old (Read h k) (Ok (Bytes bytes)) new → length bytes ≡ min ((old.view.inode (file_of old h)).size - 1024 * k) 1024
@@ -77,6 +65,6 @@ module _ (geo : Geometry) (old new : State) (b : Balance geo old) where
       sound_of o u =
           let parts = and_parts (is_number geo i) (not (eqb (image.inode i).mode 0)) u in
           elim (o.rule2 i parts.0) [
-            | inr h ↦ and_from (is_number geo i) (is_sound (image.inode i)) parts.0 h
+            | inr h ↦ and_from (is_number geo i) (is_sound geo (image.inode i)) parts.0 h
             | inl z ↦ absurd (both_ways (not (eqb (image.inode i).mode 0)) (ap not (eq-eqb (image.inode i).mode 0 z)) parts.1)
           ]

@@ -47,7 +47,7 @@ module _ (geo : Geometry) (old new : State) (b : Balance geo old) (p : List ℕ)
       let at = names_stands geo old.view i t j n in
       let low = number_low geo j at.number in
       both_ways (has_names geo old.view i) f
-      (any_here slot_count (λ s. leb 2 s && not (eqb (number_in (slot geo old.view i s)) 0)) t at.place.below
+      (any_here (slot_count geo) (λ s. leb 2 s && not (eqb (number_in (slot geo old.view i s)) 0)) t at.place.below
       (and_from (leb 2 t) (not (eqb (number_in (slot geo old.view i t)) 0)) (le-leb 2 t two) (ap not (some low (number_from_names geo old.view i t j n)))))
     where
       some : 2 ≤ j → number_in (slot geo old.view i t) ≡ j → eqb (number_in (slot geo old.view i t)) 0 ≡ false
@@ -95,7 +95,7 @@ module _ (geo : Geometry) (old new : State) (b : Balance geo old) (p : List ℕ)
 
     after : Ledger geo (Owes geo old) no_slack (removed geo old p)
     after = relinked_ledger geo (Owes geo old) (once (Good d [])) no_slack first first_ledger
-        d ((old.view.inode d).links - 1) (ap (λ r. is_number geo d && is_sound r) record_there ∙ directory_is_sound geo old.view d holder_dir)
+        d ((old.view.inode d).links - 1) (ap (λ r. is_number geo d && is_sound geo r) record_there ∙ directory_is_sound geo old.view d holder_dir)
         (omega (arith, once_here d []))
         (omega (arith, once_here d [], links_there, enough d holder_dir (inl at.entry.reachable)))
         (λ j differs. omega (arith, once_there d j [] differs))

@@ -99,7 +99,7 @@ module _ (geo : Geometry) (v : View) (o : ObeysRules geo v) (i d s : ℕ) (first
   names_right = slots_right geo v w d s (Good i first) (Good i name) change o
       (λ e. (let bad : Good i name ≡ Bad = e in cc))
       (λ t j k other e two apart is. new t j (subst (λ (q : List ℕ). slot geo v d t ≡ Good j q) (same_name e) is))
-      (λ j other e. subst (λ q. IsTrue (is_sound (v.inode q))) (is_i e) (o.rule6.sound d s i reachable (first, before)))
+      (λ j other e. subst (λ q. IsTrue (is_sound geo (v.inode q))) (is_i e) (o.rule6.sound d s i reachable (first, before)))
       (λ j h. h)
     where
       same_name : {k : ℕ} {other : List ℕ} → Good i name ≡ Good k other → other ≡ name

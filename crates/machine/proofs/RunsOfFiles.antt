@@ -21,7 +21,7 @@ live_sound geo s b j (inr o) = (b.open_file j o).0
 
 -- a record that is free is that of no live inode
 free_lost : (geo : Geometry) (s : State) → Balance geo s → (j : ℕ) → (s.view.inode j).mode ≡ 0 → IsLive geo s j → ⊥
-free_lost geo s b j none live = sound_mode (s.view.inode j) (sound_parts geo s.view j (live_sound geo s b j live)).1 none
+free_lost geo s b j none live = sound_mode geo (s.view.inode j) (sound_parts geo s.view j (live_sound geo s b j live)).1 none
 
 -- the same size, and the same bytes below it
 abbrev Shows : Geometry → State → State → ℕ → Type 0

@@ -7,7 +7,8 @@ use Rattle.std.proofs.lemmas.Bool.{both_ways}
 use Rattle.model.specs.Layout.{Geometry, is_number, is_data_address}
 use Rattle.model.specs.View.{View, Inode}
 use Rattle.model.specs.Cells.{SetBytes, updated}
-use Rattle.model.specs.Uses.{is_sound_at, is_directory_at, use_at, claim_at, blocks_of, indirect_position, IsClaim}
+use Rattle.model.specs.Shape.{most_blocks}
+use Rattle.model.specs.Uses.{is_sound_at, is_directory_at, use_at, claim_at, blocks_of, IsClaim}
 use Rattle.model.proofs.UseLemmas.{claim_parts}
 use Rattle.machine.specs.Cells.{seen, block_of}
 use Rattle.machine.proofs.Shapes.{put_there}
@@ -44,7 +45,7 @@ module _ (geo : Geometry) (v w : View) (j : ℕ) (s : SameFile geo v w j) where
 
   -- whether it is sound, and a directory, stays
   pub same_sound : is_sound_at geo v j ≡ is_sound_at geo w j
-  same_sound = ap₂ (λ m n. is_number geo j && ((eqb m 1 || eqb m 2 && ltb 0 n && eqb (n % 1024) 0) && leb (blocks_of n) indirect_position)) s.mode s.size
+  same_sound = ap₂ (λ m n. is_number geo j && ((eqb m 1 || eqb m 2 && ltb 0 n && eqb (n % 1024) 0) && leb (blocks_of n) (most_blocks geo))) s.mode s.size
 
   pub same_directory : is_directory_at geo v j ≡ is_directory_at geo w j
   same_directory = ap₂ (λ (b : Bool) m. b && eqb m 2) same_sound s.mode
@@ -67,7 +68,7 @@ pub record_file : (geo : Geometry) (v w : View) (j : ℕ) → v.inode j ≡ w.in
 record_file geo v w j same bytes = record {
   mode = ap (λ (r : Inode). r.mode) same;
   size = ap (λ (r : Inode). r.size) same;
-  uses = λ q. same_uses geo v w j q (sym same) (λ a c. ap (λ (f : ℕ → List ℕ). f a) bytes);
+  uses = λ q. same_uses geo v w j q (sym same) (λ m a table c. ap (λ (f : ℕ → List ℕ). f a) bytes);
   bytes = λ q a c. ap (λ (f : ℕ → List ℕ). f a) bytes;
   none = ap (λ (f : ℕ → List ℕ). f 0) bytes;
 }
@@ -81,7 +82,7 @@ pub block_file : (geo : Geometry) (v : View) (a : ℕ) (bytes : List ℕ) (j : �
 block_file geo v a bytes j data_block other = record {
   mode = refl;
   size = refl;
-  uses = λ q. same_uses geo v (updated v (SetBytes a bytes)) j q refl (stays indirect_position);
+  uses = λ q. same_uses geo v (updated v (SetBytes a bytes)) j q refl (λ m b table c. stays m b c);
   bytes = stays;
   none = sym (put_there v.bytes a 0 bytes (not_first geo a data_block));
 }

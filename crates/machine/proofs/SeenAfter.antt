@@ -5,15 +5,16 @@ use Rattle.std.proofs.lemmas.Bool.{cases_lt}
 use Rattle.std.proofs.lemmas.List.{length-take, length-drop, length-append, take_all}
 use Rattle.model.specs.Layout.{Geometry}
 use Rattle.model.specs.View.{View, Inode}
-use Rattle.model.specs.Uses.{is_sound_at, use_at, value_at, blocks_of, indirect_position, IsUse, IsClaim}
+use Rattle.model.specs.Shape.{most_blocks}
+use Rattle.model.specs.Uses.{is_sound_at, use_at, blocks_of, IsUse, IsClaim}
 use Rattle.model.specs.Rules.{ObeysRules}
 use Rattle.model.proofs.UseLemmas.{claim_from}
+use Rattle.model.proofs.Uses.{sound_few}
 use Rattle.machine.specs.Cells.{seen, block_of}
 use Rattle.machine.specs.Whole.{HasWholeBlocks}
 use Rattle.machine.specs.Effects.{IsOverwritten}
 use Rattle.machine.proofs.Decisions.{sound_parts}
-use Rattle.machine.proofs.FileRecords.{few_blocks}
-use Rattle.machine.proofs.Reading.{claim}
+use Rattle.machine.proofs.Reading.{claimed}
 use Rattle.machine.proofs.SameFiles.{SameFile}
 
 -- w is v, but block k of file i has these bytes, and the file this size
@@ -21,7 +22,7 @@ pub record OneBlock (geo : Geometry) (v w : View) (i k size : ℕ) (bytes : List
   pub there : (j : ℕ) → (j ≡ i → ⊥) → w.inode j ≡ v.inode j
   pub sized : (w.inode i).size ≡ size
   pub own_use : (q a : ℕ) → (q ≡ k → ⊥) → IsUse geo v i q a → IsUse geo w i q a
-  pub own_bytes : (q a : ℕ) → (q ≡ k → ⊥) → (q ≡ indirect_position → ⊥) → IsClaim geo v i q a → w.bytes a ≡ v.bytes a
+  pub own_bytes : (q a : ℕ) → (q ≡ k → ⊥) → q < most_blocks geo → IsClaim geo v i q a → w.bytes a ≡ v.bytes a
   pub other_use : (j q : ℕ) → (j ≡ i → ⊥) → use_at geo w j q ≡ use_at geo v j q
   pub other_bytes : (j q a : ℕ) → (j ≡ i → ⊥) → IsClaim geo v j q a → w.bytes a ≡ v.bytes a
   pub none : w.bytes 0 ≡ v.bytes 0
@@ -75,10 +76,10 @@ module _ (geo : Geometry) (v w : View) (i k size : ℕ) (bytes : List ℕ) (s : 
         resized q ∙ ap (λ b. take (size - 1024 * q) (w.bytes b)) now ∙ ap (λ xs. take (size - 1024 * q) xs) same ∙ lengths (cases_lt q k) ∙ sym (ap (λ b. take (before - 1024 * q) (v.bytes b)) was)
       where
         a : ℕ
-        a = value_at v (v.inode i) q
+        a = (claimed geo v o whole i q sound low).0
 
         c : IsClaim geo v i q a
-        c = claim geo v o whole i q sound low
+        c = (claimed geo v o whole i q sound low).1
 
         was : block_of geo v i q ≡ a
         was = ap (λ p. unwrap_or p 0) (claim_from geo v i q a c)
@@ -86,11 +87,11 @@ module _ (geo : Geometry) (v w : View) (i k size : ℕ) (bytes : List ℕ) (s : 
         now : block_of geo w i q ≡ a
         now = ap (λ p. unwrap_or p 0) (claim_from geo w i q a (s.own_use q a d c.0, c.1))
 
-        few : blocks_of before ≤ 268
-        few = few_blocks (v.inode i) (sound_parts geo v i sound).1
+        few : blocks_of before ≤ most_blocks geo
+        few = sound_few geo (v.inode i) (sound_parts geo v i sound).1
 
         same : w.bytes a ≡ v.bytes a
-        same = s.own_bytes q a d (λ e. omega (arith, e, few, low)) c
+        same = s.own_bytes q a d (omega (arith, few, low)) c
 
         lengths : (q < k) ⊎ (k ≤ q) → take (size - 1024 * q) (v.bytes a) ≡ take (before - 1024 * q) (v.bytes a)
         lengths (inl less) = take_whole (size - 1024 * q) (before - 1024 * q) (v.bytes a) (whole a c.1).length (omega (arith, full, long)) full
@@ -123,9 +124,9 @@ module _ (geo : Geometry) (v w : View) (i k size : ℕ) (bytes : List ℕ) (s : 
       seen_before : length (seen geo v i k) ≡ min (before - 1024 * k) 1024
       seen_before = elim (cases_lt k (blocks_of before)) [
         | inl low ↦
-            let c = claim geo v o whole i k sound low in
+            let c = claimed geo v o whole i k sound low in
             length-take (before - 1024 * k) (v.bytes (block_of geo v i k))
-            ∙ ap (λ m. min (before - 1024 * k) m) (ap (λ b. length (v.bytes (unwrap_or b 0))) (claim_from geo v i k (value_at v (v.inode i) k) c) ∙ (whole (value_at v (v.inode i) k) c.1).length)
+            ∙ ap (λ m. min (before - 1024 * k) m) (ap (λ b. length (v.bytes (unwrap_or b 0))) (claim_from geo v i k c.0 c.1) ∙ (whole c.0 c.1.1).length)
         | inr past ↦
             let z : before - 1024 * k ≡ 0 = omega (arith, past) in
             ap (λ m. length (take m (v.bytes (block_of geo v i k)))) z ∙ sym (ap (λ m. min m 1024) z)

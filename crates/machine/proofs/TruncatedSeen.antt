@@ -1,12 +1,13 @@
 -- What is seen after a truncation.
-use Rattle.std.proofs.Common.{◌≡◌, ◌<◌, ◌≤◌, ◌-◌, ◌*◌, ℕ, List, take, ◌⊎◌, inl, inr, refl, sym, ap, ◌∙◌, subst, arith, IsTrue, Ok}
+use Rattle.std.proofs.Common.{◌≡◌, ◌<◌, ◌≤◌, ◌-◌, ◌*◌, ℕ, List, take, ◌⊎◌, inl, inr, refl, sym, ap, ◌∙◌, subst, arith, IsTrue, Some, Ok}
 use Rattle.std.specs.Prelude.{unwrap_or}
 use Rattle.std.proofs.lemmas.Bool.{cases_lt, and_from}
 use Rattle.std.proofs.lemmas.List.{take-take}
 use Rattle.model.specs.Layout.{Geometry, IsGeometry, is_number}
 use Rattle.model.specs.View.{View, Inode}
-use Rattle.model.specs.Uses.{is_sound, is_sound_at, value_at, blocks_of}
+use Rattle.model.specs.Uses.{is_sound, is_sound_at, blocks_of, record_use, IsUse}
 use Rattle.model.proofs.UseLemmas.{claim_from}
+use Rattle.model.proofs.Uses.{use_number, number_use, record_uses_agree}
 use Rattle.machine.specs.State.{State}
 use Rattle.machine.specs.Command.{Truncate, Done}
 use Rattle.machine.specs.Cells.{seen, block_of}
@@ -16,9 +17,9 @@ use Rattle.machine.specs.Balance.{Balance}
 use Rattle.machine.specs.Step.{Step}
 use Rattle.machine.proofs.Decisions.{sound_mode, sound_parts}
 use Rattle.machine.proofs.Shapes.{put_here, put_there}
-use Rattle.machine.proofs.Reading.{claim}
+use Rattle.machine.proofs.Reading.{claimed}
 use Rattle.machine.proofs.SameFiles.{SameFile, record_file}
-use Rattle.machine.proofs.Truncating.{truncate_allows}
+use Rattle.machine.proofs.Truncating.{shorter_uses, truncate_allows}
 use Rattle.machine.proofs.AllSteps.{step_keeps}
 
 -- other inodes show what they showed
@@ -50,8 +51,8 @@ module _ (geo : Geometry) (g : IsGeometry geo) (old new : State) (h n : ℕ) (b 
   same_bytes : w.bytes ≡ v.bytes
   same_bytes = here (λ t. t.view.bytes ≡ v.bytes) refl
 
-  same_value : (q : ℕ) → value_at w (w.inode i) q ≡ value_at v (v.inode i) q
-  same_value q = here (λ t. value_at t.view (t.view.inode i) q ≡ value_at v (v.inode i) q) (ap (λ (r : Inode). value_at v r q) (put_here v.inode i (record (v.inode i) { size = n })))
+  same_record : w.inode i ≡ record (v.inode i) { size = n }
+  same_record = here (λ t. t.view.inode i ≡ record (v.inode i) { size = n }) (put_here v.inode i (record (v.inode i) { size = n }))
 
   same_mode : (w.inode i).mode ≡ (v.inode i).mode
   same_mode = here (λ t. (t.view.inode i).mode ≡ (v.inode i).mode) (ap (λ (r : Inode). r.mode) (put_here v.inode i (record (v.inode i) { size = n })))
@@ -60,14 +61,21 @@ module _ (geo : Geometry) (g : IsGeometry geo) (old new : State) (h n : ℕ) (b 
     still : IsTrue (is_sound_at geo w i)
     still =
         let p = sound_parts geo v i sound in
-        elim (after.rules.rule2 i p.0) [ inl none ↦ absurd (sound_mode (v.inode i) p.1 (sym same_mode ∙ none)) | inr t ↦ and_from (is_number geo i) (is_sound (w.inode i)) p.0 t ]
+        elim (after.rules.rule2 i p.0) [ inl none ↦ absurd (sound_mode geo (v.inode i) p.1 (sym same_mode ∙ none)) | inr t ↦ and_from (is_number geo i) (is_sound geo (w.inode i)) p.0 t ]
+
+    -- what is used was used
+    was_used : (q a : ℕ) → IsUse geo w i q a → IsUse geo v i q a
+    was_used q a u =
+        let p = use_number geo w i q a u in
+        number_use geo v i q a p.0 (shorter_uses geo (v.inode i) n less v (sound_parts geo v i sound).1 q a
+        (sym (record_uses_agree geo w v (record (v.inode i) { size = n }) q (λ m t above e d. ap (λ (bytes : ℕ → List ℕ). bytes t) same_bytes))
+        ∙ subst (λ (y : Inode). record_use geo w y q ≡ Some a) same_record p.1))
 
     -- a block below the new size is the old one
     within : (q : ℕ) → q < blocks_of n → block_of geo w i q ≡ block_of geo v i q
     within q low =
-        ap (λ o. unwrap_or o 0) (claim_from geo w i q (value_at w (w.inode i) q) (claim geo w after.rules after.whole i q still (omega (arith, low, truncated_size))))
-        ∙ same_value q
-        ∙ sym (ap (λ o. unwrap_or o 0) (claim_from geo v i q (value_at v (v.inode i) q) (claim geo v b.rules b.whole i q sound (omega (arith, low, less)))))
+        let c = claimed geo w after.rules after.whole i q still (omega (arith, low, truncated_size)) in
+        ap (λ o. unwrap_or o 0) (claim_from geo w i q c.0 c.1 ∙ sym (claim_from geo v i q c.0 (was_used q c.0 c.1.0, c.1.1)))
 
     -- and past it nothing is seen
     cut : (q : ℕ) → seen geo w i q ≡ take (n - 1024 * q) (seen geo v i q)

@@ -1,13 +1,14 @@
 -- A file gets a smaller size, and lets go the blocks past it, which keeps the balance.
-use Rattle.std.proofs.Common.{◌≡◌, ◌≤◌, ℕ, Bool, true, false, cond, ◌&&◌, eqb, ltb, length, inl, refl, sym, ap, ◌∙◌, subst, arith, IsTrue, IsFalse, None, lt-ltb, ltb-true}
-use Rattle.std.specs.Bool.{then_some}
+use Rattle.std.proofs.Common.{◌≡◌, ◌≤◌, ℕ, true, ◌&&◌, ltb, length, inl, refl, sym, ap, ◌∙◌, subst, arith, IsTrue, IsFalse, Some, None}
 use Rattle.findings.specs.declared.repair.Repair.{Repair}
-use Rattle.std.proofs.lemmas.Bool.{ltb-false, and_parts, and_from}
-use Rattle.model.specs.Layout.{Geometry, is_number, is_data_address}
+use Rattle.std.proofs.lemmas.Bool.{ltb-false}
+use Rattle.model.specs.Layout.{Geometry, is_number}
 use Rattle.model.specs.View.{View, Inode}
 use Rattle.model.specs.Cells.{SetInode, updated}
-use Rattle.model.specs.Uses.{is_sound, is_sound_at, is_directory, is_directory_at, is_used, value_at, use_at, blocks_of, direct_positions, indirect_position, IsUse, IsClaim}
-use Rattle.model.proofs.UseLemmas.{use_parts, use_from}
+use Rattle.model.specs.Uses.{is_sound, is_sound_at, is_directory, is_directory_at, record_use, use_at, blocks_of, IsUse, IsClaim}
+use Rattle.model.proofs.Shape.{more_reach}
+use Rattle.model.proofs.Steps.{use_sound}
+use Rattle.model.proofs.Uses.{use_has, use_number, number_use, sound_few, same_field, record_uses_agree}
 use Rattle.layout.specs.declared.refusal.Refusal.TheVariants.{BadIndex}
 use Rattle.machine.specs.State.{State}
 use Rattle.machine.specs.Command.{Truncate}
@@ -19,9 +20,10 @@ use Rattle.machine.proofs.Tests.{test_claims}
 use Rattle.machine.proofs.OpenHandles.{opened_file}
 use Rattle.machine.proofs.Walks.{quiet, when_none}
 use Rattle.machine.proofs.Shapes.{put_here, put_there, put_same}
-use Rattle.machine.proofs.FileRecords.{file_mode, file_sound, few_blocks}
+use Rattle.machine.proofs.FileRecords.{file_mode, file_sound}
 use Rattle.machine.proofs.FileTrees.{file_tree}
 use Rattle.machine.proofs.Ledger.{Ledger, ledger, no_slack, Kept, kept_by}
+use Rattle.machine.proofs.Placing.{same_uses}
 use Rattle.machine.proofs.Rewrites.{Rewrites}
 use Rattle.machine.proofs.Rewriting.{rewritten}
 
@@ -32,18 +34,11 @@ module _ (geo : Geometry) (x : Inode) (n : ℕ) (less : n ≤ x.size) where
   fewer : blocks_of n ≤ blocks_of x.size
   fewer = omega (arith, less)
 
-  below : (k : ℕ) → ltb k (blocks_of n) ≡ true → ltb k (blocks_of x.size) ≡ true
-  below k t = lt-ltb k (blocks_of x.size) (omega (arith, fewer, ltb-true k (blocks_of n) t))
-
-  -- a position that is used was used
-  pub used_before : (k : ℕ) → IsTrue (is_used geo y k) → IsTrue (is_used geo x k)
-  used_before k u = go (ltb k direct_positions) (ltb k indirect_position) u
-    where
-      go : (a b : Bool) → cond a (ltb k (blocks_of n)) (cond b (ltb k (blocks_of n) && is_data_address geo x.indirect) (eqb k indirect_position && ltb direct_positions (blocks_of n))) ≡ true
-          → cond a (ltb k (blocks_of x.size)) (cond b (ltb k (blocks_of x.size) && is_data_address geo x.indirect) (eqb k indirect_position && ltb direct_positions (blocks_of x.size))) ≡ true
-      go true b h = below k h
-      go false true h = let p = and_parts (ltb k (blocks_of n)) (is_data_address geo x.indirect) h in and_from (ltb k (blocks_of x.size)) (is_data_address geo x.indirect) (below k p.0) p.1
-      go false false h = let p = and_parts (eqb k indirect_position) (ltb direct_positions (blocks_of n)) h in and_from (eqb k indirect_position) (ltb direct_positions (blocks_of x.size)) p.0 (below direct_positions p.1)
+  -- what is used was used
+  pub shorter_uses : (v : View) → IsTrue (is_sound geo x) → (k a : ℕ) → record_use geo v y k ≡ Some a → record_use geo v x k ≡ Some a
+  shorter_uses v sound k a u =
+      let has = use_has geo v y k a u in
+      sym (same_field geo v y x (use_sound geo v y k a u) sound k has (more_reach geo (blocks_of n) (blocks_of x.size) k fewer has) refl) ∙ u
 
 module _ (geo : Geometry) (owed : Repair → Type 0) (slack : ℕ → ℕ) (s : State) (l : Ledger geo owed slack s) (i n : ℕ) (sound : IsTrue (is_sound_at geo s.view i)) (file : IsFalse (is_directory_at geo s.view i)) (less : n ≤ (s.view.inode i).size) where
   abbrev v : View
@@ -55,31 +50,26 @@ module _ (geo : Geometry) (owed : Repair → Type 0) (slack : ℕ → ℕ) (s : 
   abbrev x : View
   x = updated v (SetInode i shorter)
 
-  still : IsTrue (is_sound shorter)
-  still = file_sound (v.inode i) n (file_mode geo v i sound file) (omega (arith, few_blocks (v.inode i) (sound_parts geo v i sound).1, fewer geo (v.inode i) n less))
+  still : IsTrue (is_sound geo shorter)
+  still = file_sound geo (v.inode i) n (file_mode geo v i sound file) (omega (arith, sound_few geo (v.inode i) (sound_parts geo v i sound).1, fewer geo (v.inode i) n less))
 
-  was : is_sound (v.inode i) ≡ true
+  was : is_sound geo (v.inode i) ≡ true
   was = (sound_parts geo v i sound).1
 
   sounds : (j : ℕ) → is_sound_at geo v j ≡ is_sound_at geo x j
-  sounds = put_same v.inode i shorter (λ m y. is_number geo m && is_sound y) (ap (λ t. is_number geo i && t) (was ∙ sym still))
+  sounds = put_same v.inode i shorter (λ m y. is_number geo m && is_sound geo y) (ap (λ t. is_number geo i && t) (was ∙ sym still))
 
   directories : (j : ℕ) → is_directory_at geo v j ≡ is_directory_at geo x j
-  directories = put_same v.inode i shorter (λ m y. is_number geo m && is_sound y && is_directory y) (ap (λ t. is_number geo i && t && is_directory (v.inode i)) (was ∙ sym still))
+  directories = put_same v.inode i shorter (λ m y. is_number geo m && is_sound geo y && is_directory y) (ap (λ t. is_number geo i && t && is_directory (v.inode i)) (was ∙ sym still))
 
   others : (j k : ℕ) → (j ≡ i → ⊥) → use_at geo v j k ≡ use_at geo x j k
-  unfolding use_at
-  others j k d = ap (λ y. then_some (is_number geo j && is_sound y && is_used geo y k) (value_at v y k)) (sym (put_there v.inode i j shorter d))
+  others j k d = same_uses geo v x j k (put_there v.inode i j shorter d) (λ m a table c. refl)
 
   use_before : (k a : ℕ) → IsUse geo x i k a → IsUse geo v i k a
   use_before k a u =
-      let p = use_parts geo x i k a u in
-      let here = put_here v.inode i shorter in
-      use_from geo v i k a (record {
-        sound = sound;
-        used = used_before geo (v.inode i) n less k (subst (λ (y : Inode). IsTrue (is_used geo y k)) here p.used);
-        value = subst (λ (y : Inode). value_at v y k ≡ a) here p.value;
-      })
+      let p = use_number geo x i k a u in
+      number_use geo v i k a p.0 (shorter_uses geo (v.inode i) n less v (sound_parts geo v i sound).1 k a
+      (sym (record_uses_agree geo x v shorter k (λ m t above e d. refl)) ∙ subst (λ (y : Inode). record_use geo x y k ≡ Some a) (put_here v.inode i shorter) p.1))
 
   rewrites : Rewrites geo v x i (λ a. ⊥)
   rewrites = record {

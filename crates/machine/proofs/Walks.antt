@@ -79,7 +79,7 @@ unfolding lookup slot_of
 lookup_found geo view d name i e = go (slot_of geo view d name) refl e
   where
     at : (s : ℕ) → slot_of geo view d name ≡ Some s → has_name (slot geo view d s) name ≡ true
-    at s was = (first_found slot_count (λ s. has_name (slot geo view d s) name) s was).1
+    at s was = (first_found (slot_count geo) (λ s. has_name (slot geo view d s) name) s was).1
 
     go : (o : Option ℕ) → slot_of geo view d name ≡ o → option_map (λ s. number_in (slot geo view d s)) o ≡ Some i → IsNamed geo view d name i
     go None was e = not_some i (sym e)

@@ -4,7 +4,8 @@ use Rattle.std.specs.Prelude.{unwrap_or}
 use Rattle.model.specs.Layout.{Geometry, IsGeometry}
 use Rattle.model.specs.View.{View, Inode}
 use Rattle.model.specs.Cells.{SetInode, SetBytes, updated_all}
-use Rattle.model.specs.Uses.{is_sound_at, is_directory_at, use_at, value_at, blocks_of, IsClaim}
+use Rattle.model.specs.Shape.{most_blocks}
+use Rattle.model.specs.Uses.{is_sound_at, is_directory_at, use_at, blocks_of, IsClaim}
 use Rattle.model.specs.Rules.{ObeysRules}
 use Rattle.model.proofs.UseLemmas.{claim_from}
 use Rattle.machine.specs.State.{State}
@@ -16,7 +17,7 @@ use Rattle.machine.specs.Whole.{HasWholeBlocks, HasWholeRecords}
 use Rattle.machine.specs.Step.{Step}
 use Rattle.machine.specs.Balance.{Balance}
 use Rattle.machine.proofs.Shapes.{put_here, put_there}
-use Rattle.machine.proofs.Reading.{claim}
+use Rattle.machine.proofs.Reading.{claimed}
 use Rattle.machine.proofs.WriteInPlace.{same_blocks, only, uses}
 use Rattle.machine.proofs.Writing.{placed, placed_new, write_allows}
 use Rattle.machine.proofs.SameFiles.{SameFile, same_seen, then_file, record_file, not_first}
@@ -33,8 +34,8 @@ module _ (geo : Geometry) (v : View) (o : ObeysRules geo v) (i k : ℕ) (bytes :
 
   here : IsClaim geo v i k block
   here =
-      let c = claim geo v o whole i k sound inside in
-      subst (λ b. IsClaim geo v i k b) (sym (ap (λ p. unwrap_or p 0) (claim_from geo v i k (value_at v (v.inode i) k) c))) c
+      let c = claimed geo v o whole i k sound inside in
+      subst (λ b. IsClaim geo v i k b) (sym (ap (λ p. unwrap_or p 0) (claim_from geo v i k c.0 c.1))) c.1
 
   same : (j q : ℕ) → use_at geo v j q ≡ use_at geo (updated_all v (SetBytes block bytes ∷ SetInode i longer ∷ [])) j q
   same j q = uses geo v o records i k bytes size sound file inside blocks j q
@@ -83,7 +84,7 @@ module _ (geo : Geometry) (g : IsGeometry geo) (old new : State) (h k : ℕ) (pi
   abbrev size : ℕ
   size = size_after v i k piece
 
-  module _ (bytes : List ℕ) (over : IsOverwritten piece (seen geo v i k) bytes) (sound : IsTrue (is_sound_at geo v i)) (file : IsFalse (is_directory_at geo v i)) (some : 1 ≤ length piece) (short : length piece ≤ 1024) (low : k < 268)
+  module _ (bytes : List ℕ) (over : IsOverwritten piece (seen geo v i k) bytes) (sound : IsTrue (is_sound_at geo v i)) (file : IsFalse (is_directory_at geo v i)) (some : 1 ≤ length piece) (short : length piece ≤ 1024) (low : k < most_blocks geo)
       (reaches : k ≤ (v.inode i).size / 1024) where
     shows : (w : View) → OneBlock geo v w i k size bytes → ShowsPiece geo v w i k piece
     shows w s = record {
@@ -98,10 +99,10 @@ module _ (geo : Geometry) (g : IsGeometry geo) (old new : State) (h k : ℕ) (pi
         (shows _ (by_writing_over geo v b.rules i k bytes size sound b.whole b.records file inside (same_blocks (v.inode i).size k (length piece) inside short)))
     by_case (Moved view inside kept p is) =
         subst (λ t. ShowsPiece geo v t.view i k piece) (sym is)
-        (remarked geo v view _ i k piece (shows view (by_placing geo v b.rules i k bytes size sound view p (placed geo g old new b h k piece sound file some short low reaches bytes over.whole view inside p))))
+        (remarked geo v view _ i k piece (shows view (by_placing geo v b.rules i k bytes size view p (placed geo g old new b h k piece sound file some short low reaches bytes over.whole view inside p))))
     by_case (Appended view at p is) =
         subst (λ t. ShowsPiece geo v t.view i k piece) (sym is)
-        (shows view (by_placing geo v b.rules i k bytes size sound view p (placed_new geo g old new b h k piece sound file some short low reaches bytes over.whole view at p)))
+        (shows view (by_placing geo v b.rules i k bytes size view p (placed_new geo g old new b h k piece sound file some short low reaches bytes over.whole view at p)))
 
   pub write_shows : Step geo old (Write h k piece) (Ok Done) new → ShowsPiece geo v new.view i k piece
   write_shows s = write_allows geo g old new b h k piece s.0.0 (λ sound file some short low reaches. by_case s.1.bytes s.1.overwritten sound file some short low reaches s.1.stores)

@@ -3,9 +3,10 @@ use Rattle.std.proofs.Common.{◌≡◌, ◌<◌, ◌≤◌, ◌+◌, ◌*◌, �
 use Rattle.std.proofs.lemmas.Bool.{leb-false, ltb-false, cases_eq, cases_lt, both_ways}
 use Rattle.model.specs.Layout.{Geometry, IsGeometry}
 use Rattle.model.specs.View.{View, Inode}
-use Rattle.model.specs.Uses.{is_sound, is_sound_at, is_directory_at, blocks_of, indirect_position, IsUse}
+use Rattle.model.specs.Shape.{most_blocks}
+use Rattle.model.specs.Uses.{is_sound, is_sound_at, is_directory_at, blocks_of, IsUse}
 use Rattle.model.specs.Image.{IsBlock}
-use Rattle.model.proofs.UseLemmas.{use_parts}
+use Rattle.model.proofs.Uses.{use_number, use_has, has_below, sound_few}
 use Rattle.layout.specs.declared.refusal.Refusal.TheVariants.{BadPiece, BadIndex, TooBig}
 use Rattle.machine.specs.State.{State}
 use Rattle.machine.specs.Command.{Write}
@@ -18,11 +19,10 @@ use Rattle.machine.proofs.Bools.{neither}
 use Rattle.machine.proofs.Decisions.{sound_parts}
 use Rattle.machine.proofs.OpenHandles.{opened_file}
 use Rattle.machine.proofs.Walks.{quiet, when_none}
-use Rattle.machine.proofs.Positions.{used_where}
-use Rattle.machine.proofs.FileRecords.{file_mode, file_sound, few_blocks}
+use Rattle.machine.proofs.FileRecords.{file_mode, file_sound}
 use Rattle.machine.proofs.WriteInPlace.{same_blocks, overwritten_ledger}
 use Rattle.machine.proofs.Placing.{Placed, moved_ledger, added_ledger, placed_file}
-use Rattle.machine.proofs.PlacingCases.{places}
+use Rattle.machine.proofs.Placements.{places}
 use Rattle.machine.proofs.Ledger.{Ledger, ledger, no_slack, Kept, kept_by}
 
 module _ (geo : Geometry) (g : IsGeometry geo) (old new : State) (b : Balance geo old) (h k : ℕ) (piece : List ℕ) where
@@ -41,10 +41,10 @@ module _ (geo : Geometry) (g : IsGeometry geo) (old new : State) (b : Balance ge
   l : Ledger geo (Owes geo old) no_slack old
   l = ledger geo old b
 
-  module _ (sound : IsTrue (is_sound_at geo v i)) (file : IsFalse (is_directory_at geo v i)) (some : 1 ≤ length piece) (short : length piece ≤ 1024) (low : k < 268) (reaches : k ≤ inode.size / 1024)
+  module _ (sound : IsTrue (is_sound_at geo v i)) (file : IsFalse (is_directory_at geo v i)) (some : 1 ≤ length piece) (short : length piece ≤ 1024) (low : k < most_blocks geo) (reaches : k ≤ inode.size / 1024)
       (bytes : List ℕ) (is_block : IsBlock bytes) where
-    still : blocks_of size ≤ 268 → IsTrue (is_sound (record inode { size = size }))
-    still few = file_sound inode size (file_mode geo v i sound file) few
+    still : blocks_of size ≤ most_blocks geo → IsTrue (is_sound geo (record inode { size = size }))
+    still few = file_sound geo inode size (file_mode geo v i sound file) few
 
     in_place : k < blocks_of inode.size → Ledger geo (Owes geo old) no_slack (record old { view = updated_all v (SetBytes (block_of geo v i k) bytes ∷ SetInode i (record inode { size = size }) ∷ []) })
     in_place inside = overwritten_ledger geo (Owes geo old) no_slack old l i k bytes size sound file inside (same_blocks inode.size k (length piece) inside short) is_block
@@ -54,8 +54,8 @@ module _ (geo : Geometry) (g : IsGeometry geo) (old new : State) (b : Balance ge
       same : blocks_of inode.size ≡ blocks_of size
       same = same_blocks inode.size k (length piece) inside short
 
-      few : blocks_of size ≤ 268
-      few = omega (arith, same, few_blocks inode (sound_parts geo v i sound).1)
+      few : blocks_of size ≤ most_blocks geo
+      few = omega (arith, same, sound_few geo inode (sound_parts geo v i sound).1)
 
       pub placed : Placed geo v view i k p.block bytes
       placed = places geo v view i k bytes size p (record {
@@ -104,10 +104,7 @@ module _ (geo : Geometry) (g : IsGeometry geo) (old new : State) (b : Balance ge
       })
 
       unused : (a : ℕ) → IsUse geo v i k a → ⊥
-      unused a u = let q = use_parts geo v i k a u in elim (used_where geo inode k q.used) [
-        | inl direct ↦ omega (arith, direct.1, at)
-        | inr rest ↦ elim rest [ inl mid ↦ omega (arith, mid.2, at) | inr last ↦ omega (arith, last.0, low) ]
-      ]
+      unused a u = let below = has_below geo inode k low (use_has geo v inode k a (use_number geo v i k a u).1) in omega (arith, below, at)
 
       appended : Ledger geo (Owes geo old) no_slack (record old { view = view })
       appended = added_ledger geo (Owes geo old) no_slack old l view i k p.block bytes placed_new sound unused (placed_file geo (Owes geo old) no_slack old l view i k p.block bytes placed_new sound file)
@@ -119,13 +116,13 @@ module _ (geo : Geometry) (g : IsGeometry geo) (old new : State) (b : Balance ge
 
   -- what a write that is not refused may rely on
   pub write_allows : {A : Type 0} → refusal_of geo old (Write h k piece) ≡ None
-      → (IsTrue (is_sound_at geo v i) → IsFalse (is_directory_at geo v i) → 1 ≤ length piece → length piece ≤ 1024 → k < 268 → k ≤ inode.size / 1024 → A) → A
+      → (IsTrue (is_sound_at geo v i) → IsFalse (is_directory_at geo v i) → 1 ≤ length piece → length piece ≤ 1024 → k < most_blocks geo → k ≤ inode.size / 1024 → A) → A
   unfolding causes
   write_allows none then =
       let q = quiet (causes geo old (Write h k piece)) none in
       let p = b.open_file i (h, opened_file old h q.0) in
       let sizes = neither (eqb (length piece) 0) (ltb 1024 (length piece)) (when_none (eqb (length piece) 0 || ltb 1024 (length piece)) BadPiece q.1.0) in
-      then p.0 p.1 (positive sizes.0) (ltb-false 1024 (length piece) sizes.1) (leb-false 268 k (when_none (leb indirect_position k) TooBig q.1.1.0)) (ltb-false (inode.size / 1024) k (when_none (ltb (inode.size / 1024) k) BadIndex q.1.1.1.0))
+      then p.0 p.1 (positive sizes.0) (ltb-false 1024 (length piece) sizes.1) (leb-false (most_blocks geo) k (when_none (leb (most_blocks geo) k) TooBig q.1.1.0)) (ltb-false (inode.size / 1024) k (when_none (ltb (inode.size / 1024) k) BadIndex q.1.1.1.0))
     where
       positive : eqb (length piece) 0 ≡ false → 1 ≤ length piece
       positive f = elim (cases_eq (length piece) 0) [ inl z ↦ absurd (both_ways (eqb (length piece) 0) f (eq-eqb (length piece) 0 z)) | inr d ↦ omega (arith, d) ]

@@ -5,7 +5,8 @@ use Rattle.std.specs.Option.{option_map_or, option_and_then}
 use Rattle.std.specs.Result.{result_err}
 use Rattle.model.specs.Layout.{Geometry, root, is_number, block_count}
 use Rattle.model.specs.View.{View}
-use Rattle.model.specs.Uses.{blocks_of, is_directory_at, indirect_position}
+use Rattle.model.specs.Shape.{most_blocks}
+use Rattle.model.specs.Uses.{blocks_of, is_directory_at}
 use Rattle.model.specs.Slots.{slot, number_in}
 use Rattle.model.specs.Reach.{slot_count}
 use Rattle.model.specs.Metadata.{SameMetadata}
@@ -90,14 +91,14 @@ file_of state h = unwrap_or (open_at state h) 0
 
 -- a directory with a name other than the dots
 abbrev pub has_names : Geometry → View → ℕ → Bool
-has_names geo view d = any_below slot_count (λ s. nat_le 2 s && not (number_in (slot geo view d s) == 0))
+has_names geo view d = any_below (slot_count geo) (λ s. nat_le 2 s && not (number_in (slot geo view d s) == 0))
 
 -- how many blocks a write at index k of file i needs: none in place, one for a block that a snapshot keeps
 abbrev pub blocks_to_write : Geometry → State → ℕ → ℕ → ℕ
 blocks_to_write geo state i k =
     if nat_lt k (blocks_of (state.view.inode i).size)
     then (if is_kept state (block_of geo state.view i k) then 1 else 0)
-    else blocks_to_append (state.view.inode i)
+    else blocks_to_append geo (state.view.inode i)
 
 -- ---- the lists
 
@@ -134,7 +135,7 @@ causes geo old (Open p) =
 causes geo old (Close h) = not_open old h ∷ []
 causes geo old (Read h k) = not_open old h ∷ past geo old.view (file_of old h) k ∷ []
 causes geo old (Write h k piece) =
-    not_open old h ∷ when (length piece == 0 || nat_lt 1024 (length piece)) BadPiece ∷ when (nat_le indirect_position k) TooBig
+    not_open old h ∷ when (length piece == 0 || nat_lt 1024 (length piece)) BadPiece ∷ when (nat_le (most_blocks geo) k) TooBig
     ∷ when (nat_lt ((old.view.inode (file_of old h)).size / 1024) k) BadIndex ∷ too_few geo old.view (blocks_to_write geo old (file_of old h) k) ∷ []
 causes geo old (Truncate h n) = not_open old h ∷ when (nat_lt (old.view.inode (file_of old h)).size n) BadIndex ∷ []
 causes geo old (ListNames p) = bad_name p ∷ missing geo old.view p ∷ not_directory geo old.view (number_at geo old.view p) ∷ []

@@ -42,7 +42,7 @@ has_name (Good number own) name = bytes_eq own name
 has_name Bad name = false
 
 unfoldable pub slot_of : Geometry → View → ℕ → List ℕ → Option ℕ
-slot_of geo view d name = first_below slot_count (λ s. has_name (slot geo view d s) name)
+slot_of geo view d name = first_below (slot_count geo) (λ s. has_name (slot geo view d s) name)
 
 unfoldable pub lookup : Geometry → View → ℕ → List ℕ → Option ℕ
 lookup geo view d name = option_map (λ s. number_in (slot geo view d s)) (slot_of geo view d name)

@@ -4,7 +4,8 @@ use Rattle.std.proofs.Common.{refl, codes}
 use Rattle.model.specs.Layout.{Geometry}
 use Rattle.model.specs.Fresh.{fresh_view}
 use Rattle.model.specs.Slots.{Empty, Good, slot}
-use Rattle.model.specs.Uses.{use_at, claim_at}
+use Rattle.model.specs.Shape.{most_blocks, position_count, table_of, place_in_table, first_block}
+use Rattle.model.specs.Uses.{record_use, use_at, claim_at}
 use Rattle.model.specs.Reach.{sum_below}
 use Rattle.layout.specs.declared.refusal.Refusal.TheVariants.{NotFound, BadName, BadHandle, TooManySnapshots, NoSnapshot, NoPlan, IsRoot}
 use Rattle.machine.specs.Below.{any_below, first_below}
@@ -65,25 +66,25 @@ unfolding causes
 freeze_fifth = refl
 
 pub root_holds : walk small (fresh_view small) 2 (codes "a" ∷ []) ≡ Ok 2
-unfolding walk
+unfolding walk most_blocks
 root_holds = refl
 
 pub root_dot : slot small (fresh_view small) 2 0 ≡ Good 2 (codes ".")
-unfolding slot use_at claim_at
+unfolding slot use_at record_use most_blocks position_count table_of place_in_table first_block claim_at
 root_dot = refl
 
 pub third_slot : slot small (fresh_view small) 2 2 ≡ Empty
-unfolding slot use_at claim_at
+unfolding slot use_at record_use most_blocks position_count table_of place_in_table first_block claim_at
 third_slot = refl
 
 pub nothing_named : lookup small (fresh_view small) 2 (codes "a") ≡ None
-unfolding lookup slot_of first_below slot use_at claim_at
+unfolding lookup slot_of first_below slot use_at record_use most_blocks position_count table_of place_in_table first_block claim_at
 nothing_named = refl
 
 pub create_deep : refusal_of small fresh (Create (codes "/a/b")) ≡ Some NotFound
-unfolding causes parts_of walk lookup slot_of first_below slot use_at claim_at
+unfolding causes parts_of walk lookup slot_of first_below slot use_at record_use most_blocks position_count table_of place_in_table first_block claim_at
 create_deep = refl
 
 pub create_accepted : refusal_of small fresh (Create (codes "/a")) ≡ None
-unfolding causes parts_of walk target lookup slot_of first_below any_below sum_below slot use_at claim_at
+unfolding causes parts_of walk target lookup slot_of first_below any_below sum_below slot use_at record_use most_blocks position_count table_of place_in_table first_block claim_at
 create_accepted = refl

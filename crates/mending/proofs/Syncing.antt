@@ -49,7 +49,7 @@ module _ (geo : Geometry) where
   no_plan disk q old safe command answer file plan new safe' (RemovesName p after blocks stays) t = let bad : false ≡ true = t in cc
   no_plan disk q old safe command answer file plan new safe' (RemovesDirectory p blocks after has links goes) t = let bad : false ≡ true = t in cc
   no_plan disk q old safe command answer file plan new safe' (WritesInPlace h k piece bytes over low kept) t = let bad : false ≡ true = t in cc
-  no_plan disk q old safe command answer file plan new safe' (WritesBehind h k piece bytes b x table over choice behind) t = let bad : false ≡ true = t in cc
+  no_plan disk q old safe command answer file plan new safe' (WritesBehind h k piece bytes b news over choice behind) t = let bad : false ≡ true = t in cc
   no_plan disk q old safe command answer file plan new safe' (WritesElsewhere h k piece bytes b over f low kept) t = let bad : false ≡ true = t in cc
   no_plan disk q old safe command answer file plan new safe' (TruncatesFile h size) t = let bad : false ≡ true = t in cc
   no_plan disk q old safe command answer file plan new safe' (ClosesHandle h) t = let bad : false ≡ true = t in cc

@@ -4,7 +4,7 @@ use Rattle.std.proofs.lemmas.Bool.{cases_eq}
 use Rattle.model.specs.Layout.{is_data_address}
 use Rattle.model.specs.View.{View}
 use Rattle.model.proofs.Addresses.{data_range}
-use Rattle.free_space.specs.Free.{Free, IsFreeOf}
+use Rattle.metadata.specs.Free.{Free, IsFreeOf}
 use Rattle.frozen.specs.Installed.{without_block}
 use Rattle.frozen.specs.Kept.{Kept, KeepsFrame, frozen_view, kept_at}
 use Rattle.frozen.proofs.LettingGo.{view_without}

@@ -1,3 +1,4 @@
+pub mod FreeLemmas
 pub mod LettingGo
 pub mod Placing
 pub mod Steps

@@ -14,7 +14,7 @@ shows_metadata kept users keeps shows = record {
   inode = λ i t. shows.inode i;
   number_marked = λ i t. shows.number_marked i;
   block_marked = λ a t. shows.block_marked a;
-  indirect_blocks = λ i a claim. same a claim.1 (keeps.indirect_blocks i a claim);
+  tables = λ i m a is claim. same a claim.1 (keeps.tables i m is a claim);
   directory_blocks = λ d k a t claim. same a claim.1 (keeps.directory_blocks d t k a claim);
 }
   where

@@ -8,7 +8,7 @@ use Rattle.std.proofs.lemmas.List.{length-set, map-append}
 use Rattle.std.proofs.lemmas.List.Elements.{Contains-append_cases, All-push}
 use Rattle.std.specs.Arc.{arc_value}
 use Rattle.model.specs.Layout.{Geometry, block_count, group_block, group_of_address, is_number, is_data_address}
-use Rattle.free_space.specs.Free.{Free, IsFreeOf}
+use Rattle.metadata.specs.Free.{Free, IsFreeOf}
 use Rattle.model.specs.Image.{IsGroupBlock}
 use Rattle.model.proofs.Addresses.{maps_group, address_in_group}
 use Rattle.model.specs.View.{View, view_of}

@@ -3,7 +3,7 @@ use Rattle.std.specs.Prelude.{◌≡◌, ℕ, List, Some, IsTrue}
 use Rattle.model.specs.Layout.{is_data_address}
 use Rattle.model.specs.View.{View}
 use Rattle.frozen.specs.Kept.{Kept, KeepsMetadata, frozen_view, kept_at}
-use Rattle.free_space.specs.Free.{Free, IsFreeOf}
+use Rattle.metadata.specs.Free.{Free, IsFreeOf}
 
 -- The records and bits are those that users see, and so are the bytes of each data block that is kept.
 pub record Shows (kept : Kept) (users : View) : Type 0 where

@@ -8,7 +8,7 @@ use Rattle.updates.specs.Values.{change}
 use Rattle.frozen.specs.declared.frozen.Placed.{Placed}
 use Rattle.frozen.specs.Kept.{Kept, KeepsFrame, kept_at}
 use Rattle.frozen.specs.Installed.{FitsAt, FitsIn as Fits, standing, with_block, with_blocks}
-use Rattle.free_space.specs.Free.{Free, IsFreeOf}
+use Rattle.metadata.specs.Free.{Free, IsFreeOf}
 use Rattle.model.specs.Image.{IsBlock}
 use Rattle.model.specs.Layout.{Geometry, block_count}
 use Rattle.ordering.specs.Cuts.{cell_of}

@@ -4,6 +4,7 @@
 //! all the memory that it needs, and the second cannot fail.
 #![tactic(auto)]
 
+mod free_space;
 mod metadata;
 mod staged;
 #[cfg(test)]

@@ -4,7 +4,7 @@ ghost use Rattle.std.specs.Arc.{arc_value};
 ghost use Rattle.model.specs.Layout.{Geometry as Numbers};
 ghost use Rattle.model.specs.Cells.{Update as Changed, updated, updated_all};
 ghost use Rattle.machine.specs.Room.{IsFreeBlock, has_number, unmarked_blocks};
-ghost use Rattle.free_space.specs.Free.{IsFreeOf, IsLeastNumber, IsNextBlock};
+ghost use Rattle.metadata.specs.Free.{IsFreeOf, IsLeastNumber, IsNextBlock};
 ghost use Rattle.ordering.specs.Cuts.{cell_of};
 ghost use Rattle.queue_model.specs.Blocks.{home_of};
 ghost use Rattle.updates.specs.Values.{change as change_of};
@@ -18,8 +18,8 @@ ghost use Rattle.metadata.specs.Shown.{Shows};
 ghost use Rattle.frozen.specs.Installed.{IsPlain, without_block};
 ghost use Rattle.metadata.specs.Staged.{AreBitsOf, HasChange, IsBitOf, IsLastAt, IsStaged, NoneAt, after, bit, bit as update_of, changes};
 
+use crate::free_space::FreeSpace;
 use crate::{Bit, Staged};
-use free_space::FreeSpace;
 use frozen::{Frozen, Placed};
 use layout::{BLOCK_BYTES, Block, Geometry};
 use spares::Spares;

@@ -4,6 +4,7 @@ use Rattle.std.proofs.lemmas.Bool.{cases_Bool, eqb-true, le-leb}
 use Rattle.std.proofs.lemmas.Nat.{mul-le}
 use Rattle.model.specs.Layout.{Geometry, IsGeometry, inode_count}
 use Rattle.model.specs.View.{View}
+use Rattle.model.specs.Shape.{most_blocks}
 use Rattle.model.specs.Slots.{Slot, Absent, Empty, Good, Bad, slot, number_in}
 use Rattle.model.specs.Reach.{sum_below, slot_count, names_once, entries_in, entries_of}
 use Rattle.model.specs.Named.{number_of, named_below, named_from, times}
@@ -41,7 +42,7 @@ times_below geo view i d (suc s) some =
 
 -- a number stands as often in the list of all slots as entries of the directory name it
 pub times_are_entries : (geo : Geometry) (view : View) (i d : ℕ) → 1 ≤ i → times i (named_from geo view 0 d) ≡ entries_in geo view i d
-times_are_entries geo view i d some = times_below geo view i d slot_count some
+times_are_entries geo view i d some = times_below geo view i d (slot_count geo) some
 
 -- ---- how many entries there can be
 
@@ -49,8 +50,8 @@ one_or_none : (b : Bool) → cond b 1 0 ≤ 1
 one_or_none true = omega arith
 one_or_none false = omega arith
 
-pub entries_in_few : (geo : Geometry) (view : View) (i d : ℕ) → entries_in geo view i d ≤ slot_count
-entries_in_few geo view i d = sum-small slot_count (names_once geo view i d) (λ s. one_or_none (eqb (number_in (slot geo view d s)) i))
+pub entries_in_few : (geo : Geometry) (view : View) (i d : ℕ) → entries_in geo view i d ≤ slot_count geo
+entries_in_few geo view i d = sum-small (slot_count geo) (names_once geo view i d) (λ s. one_or_none (eqb (number_in (slot geo view d s)) i))
 
 sum_few : (n m : ℕ) (f : ℕ → ℕ) → ((k : ℕ) → f k ≤ m) → sum_below n f ≤ n * m
 unfolding sum_below
@@ -61,9 +62,11 @@ chosen_few : (b : Bool) (n m : ℕ) → n ≤ m → cond b n 0 ≤ m
 chosen_few true n m h = h
 chosen_few false n m h = omega arith
 
+-- this hangs on the number of slots: 65,536 directories of 4,288
 pub entries_few : (geo : Geometry) → IsGeometry geo → (view : View) (set : ℕ → Bool) (i : ℕ) → entries_of geo view set i < 4294967295
+unfolding most_blocks
 entries_few geo ok view set i =
-    let many : entries_of geo view set i ≤ inode_count geo * 4288 =
-    sum_few (inode_count geo) 4288 (λ d. cond (set d) (entries_in geo view i d) 0) (λ d. chosen_few (set d) (entries_in geo view i d) 4288 (entries_in_few geo view i d)) in
+    let many : entries_of geo view set i ≤ inode_count geo * slot_count geo =
+    sum_few (inode_count geo) (slot_count geo) (λ d. cond (set d) (entries_in geo view i d) 0) (λ d. chosen_few (set d) (entries_in geo view i d) (slot_count geo) (entries_in_few geo view i d)) in
     let inodes : geo.groups * geo.inodes ≤ 64 * 1024 = mul-le geo.groups geo.inodes 64 1024 ok.few_groups ok.few_inodes in
     omega (arith, many, inodes)

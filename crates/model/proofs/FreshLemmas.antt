@@ -1,19 +1,23 @@
 -- The fresh image obeys the rules.
-use Rattle.std.proofs.Common.{◌≡◌, ◌≢◌, ◌<◌, ◌≤◌, ◌/◌, ◌%◌, ◌*◌, ◌+◌, ◌-◌, ℕ, zero, suc, true, cond, ◌&&◌, eqb, ltb, leb, inl, inr, refl, sym, ap, ◌∙◌, subst, arith, ◌||◌, [], ◌∷◌, IsTrue, mul-le-mul, mod-eq_of_lt, le_refl, le_of_eq, le-leb as le-leb', ne_eqb, le-ltb, ap₂}
+use Rattle.std.proofs.Common.{◌≡◌, ◌≢◌, ◌<◌, ◌≤◌, ◌/◌, ◌%◌, ◌*◌, ◌+◌, ◌-◌, ℕ, zero, suc, true, cond, ◌&&◌, eqb, ltb, leb, Some, inl, inr, refl, sym, ap, ◌∙◌, subst, arith, ◌||◌, [], ◌∷◌, IsTrue, mul-le-mul, mod-eq_of_lt, le_refl, le_of_eq, le-leb as le-leb', ne_eqb, le-ltb, ap₂}
 use Rattle.std.specs.Option.{option_map_or}
 use Rattle.std.proofs.lemmas.Bool.{and_parts, and_from, eqb-true, eq-eqb, lt-ltb, cases_eq, cond-true, cond-false, cases_lt, agree_below_at, false_from_ne_true}
 use Rattle.std.proofs.lemmas.Bool.Decides.{nat_tests}
 use Rattle.model.specs.Layout.{Geometry, IsGeometry, is_number, is_data_address, root, inode_count, block_count, header_blocks, place_in_group}
 use Rattle.model.specs.View.{Inode, u32_at}
-use Rattle.model.specs.Uses.{is_directory_at, is_sound_at, is_sound, is_used, value_at, claim_at, indirect_position, IsUse, IsClaim}
+use Rattle.model.specs.Shape.{most_blocks}
+use Rattle.model.specs.Uses.{is_directory_at, is_sound_at, is_sound, record_use, claim_at, IsUse, IsClaim}
 use Rattle.model.specs.Slots.{Absent, Empty, Good, Bad, slot, slot_in, number_in, Names}
 use Rattle.model.specs.Reach.{IsReachableDirectory, IsReachable, IsEntry, HasEntries, entries_in, names_once, slot_count, HasParent}
+use Rattle.model.proofs.Shape.{many_blocks}
 use Rattle.model.specs.Rules.{ObeysRules}
 use Rattle.model.proofs.Sums.{sum-one, sum-front}
 use Rattle.model.specs.Fresh.{fresh_view, first_data, root_inode, root_bytes}
 use Rattle.model.specs.View.{free_inode}
 use Rattle.model.proofs.SlotLemmas.{slot_content, names_stands, names_one, names_from_number, number_from_names, directory_sound, reachable_directory}
-use Rattle.model.proofs.UseLemmas.{use_parts, use_from, claim_from, claim_parts}
+use Rattle.model.proofs.Steps.{use_sound}
+use Rattle.model.proofs.UseLemmas.{claim_from, claim_parts}
+use Rattle.model.proofs.Uses.{use_number, number_use, first_of_one, only_of_one}
 
 module _ (geo : Geometry) (ok : IsGeometry geo) where
   enough_numbers : 2 < inode_count geo
@@ -44,15 +48,21 @@ module _ (geo : Geometry) (ok : IsGeometry geo) where
   other_free : (i : ℕ) → (i ≡ 2 → ⊥) → (fresh_view geo).inode i ≡ free_inode
   other_free i differs = cond-false (eqb i 2) (root_inode geo) free_inode (ne_eqb i 2 differs)
 
-  pub only_root_sound : (i : ℕ) → IsTrue (is_sound ((fresh_view geo).inode i)) → i ≡ 2
+  pub only_root_sound : (i : ℕ) → IsTrue (is_sound geo ((fresh_view geo).inode i)) → i ≡ 2
   only_root_sound i h =
       elim (cases_eq i 2) [
         | inl e ↦ e
-        | inr differs ↦ absurd (let bad : IsTrue (is_sound free_inode) = subst (λ r. IsTrue (is_sound r)) (other_free i differs) h in cc)
+        | inr differs ↦ absurd (let bad : IsTrue (is_sound geo free_inode) = subst (λ r. IsTrue (is_sound geo r)) (other_free i differs) h in cc)
       ]
 
+  root_is_sound : IsTrue (is_sound geo (root_inode geo))
+  root_is_sound = le-leb' 1 (most_blocks geo) (let many = many_blocks geo in omega arith)
+
+  root_sound_at : IsTrue (is_sound_at geo (fresh_view geo) root)
+  root_sound_at = and_from (is_number geo root) (is_sound geo (root_inode geo)) root_number root_is_sound
+
   root_sound : IsTrue (is_directory_at geo (fresh_view geo) root)
-  root_sound = and_from (is_sound_at geo (fresh_view geo) root) true (and_from (is_number geo root) true root_number refl) refl
+  root_sound = and_from (is_sound_at geo (fresh_view geo) root) true root_sound_at refl
 
   -- the root's block is the one use
   pub record IsRootUse (i k v : ℕ) : Type 0 where
@@ -60,19 +70,18 @@ module _ (geo : Geometry) (ok : IsGeometry geo) where
     pub position : k ≡ 0
     pub value : v ≡ first_data geo
 
-  used_first : (k : ℕ) → IsTrue (is_used geo (root_inode geo) k) → k ≡ 0
-  used_first k h = grind (arith, nat_tests)
-
   one_use : (i k v : ℕ) → IsUse geo (fresh_view geo) i k v → IsRootUse i k v
   one_use i k v u =
-      let h = use_parts geo (fresh_view geo) i k v u in
-      let is_root = only_root_sound i (and_parts (is_number geo i) (is_sound ((fresh_view geo).inode i)) h.sound).1 in
-      let first = used_first k (subst (λ n. IsTrue (is_used geo ((fresh_view geo).inode n) k)) is_root h.used) in
-      let value = subst (λ n. value_at (fresh_view geo) ((fresh_view geo).inode n) k ≡ v) is_root h.value in
-      record { inode = is_root; position = first; value = sym (subst (λ n. value_at (fresh_view geo) (root_inode geo) n ≡ v) first value) }
+      let used = use_number geo (fresh_view geo) i k v u in
+      let is_root = only_root_sound i (use_sound geo (fresh_view geo) ((fresh_view geo).inode i) k v used.1) in
+      let only =
+      only_of_one geo (fresh_view geo) (root_inode geo) (first_data geo) root_is_sound refl refl k v
+      (subst (λ n. record_use geo (fresh_view geo) ((fresh_view geo).inode n) k ≡ Some v) is_root used.1) in
+      record { inode = is_root; position = only.0; value = only.1 }
 
   pub root_claims : IsClaim geo (fresh_view geo) 2 0 (first_data geo)
-  root_claims = (use_from geo (fresh_view geo) 2 0 (first_data geo) (record { sound = and_from (is_number geo root) true root_number refl; used = refl; value = refl }), first_is_data)
+  root_claims =
+      (number_use geo (fresh_view geo) 2 0 (first_data geo) root_number (first_of_one geo (fresh_view geo) (root_inode geo) (first_data geo) root_is_sound refl refl), first_is_data)
 
   -- ---- the slots of the root
 
@@ -84,9 +93,9 @@ module _ (geo : Geometry) (ok : IsGeometry geo) where
   unfolding slot
   root_slot s b =
       let front : s / 16 ≡ 0 = omega arith in
-      cond-true (is_directory_at geo (fresh_view geo) 2 && ltb (s / 16) indirect_position)
+      cond-true (is_directory_at geo (fresh_view geo) 2 && ltb (s / 16) (most_blocks geo))
       (option_map_or (λ a. slot_in geo ((fresh_view geo).bytes a) s) (claim_at geo (fresh_view geo) 2 (s / 16)) Absent) Absent
-      (and_from (is_directory_at geo (fresh_view geo) 2) (ltb (s / 16) indirect_position) root_sound (lt-ltb (s / 16) indirect_position (omega arith)))
+      (and_from (is_directory_at geo (fresh_view geo) 2) (ltb (s / 16) (most_blocks geo)) root_sound (lt-ltb (s / 16) (most_blocks geo) (let many = many_blocks geo in omega arith)))
       ∙ ap (λ o. option_map_or (λ a. slot_in geo ((fresh_view geo).bytes a) s) o Absent)
       (ap (claim_at geo (fresh_view geo) 2) front ∙ claim_from geo (fresh_view geo) 2 0 (first_data geo) root_claims)
       ∙ ap (λ bytes. slot_in geo bytes s) root_block
@@ -148,7 +157,7 @@ module _ (geo : Geometry) (ok : IsGeometry geo) where
 
   two_in_root : entries_in geo (fresh_view geo) 2 2 ≡ 2
   two_in_root =
-      sum-front slot_count (names_once geo (fresh_view geo) 2 2) (omega arith) (λ s low. not_named s (λ b. omega (arith, low, b)))
+      sum-front (slot_count geo) (names_once geo (fresh_view geo) 2 2) (let many = many_blocks geo in omega (arith, many)) (λ s low. not_named s (λ b. omega (arith, low, b)))
       ∙ ap₂ (λ a b. a + b) (named 0 slot_zero) (named 1 slot_one)
 
   pub two_entries : (e : ℕ) → HasEntries geo (fresh_view geo) 2 e → e ≡ 2
@@ -183,7 +192,7 @@ module _ (geo : Geometry) (ok : IsGeometry geo) where
   pub fresh_obeys : ObeysRules geo (fresh_view geo)
   fresh_obeys = record {
     rule1 = root_sound;
-    rule2 = λ i n. elim (cases_eq i 2) [ inl e ↦ inr (subst (λ k. IsTrue (is_sound ((fresh_view geo).inode k))) (sym e) refl) | inr differs ↦ inl (ap (λ (r : Inode). r.mode) (other_free i differs)) ];
+    rule2 = λ i n. elim (cases_eq i 2) [ inl e ↦ inr (subst (λ k. IsTrue (is_sound geo ((fresh_view geo).inode k))) (sym e) root_is_sound) | inr differs ↦ inl (ap (λ (r : Inode). r.mode) (other_free i differs)) ];
     rule3 = record {
       claims = λ i k v u. subst (λ a. IsTrue (is_data_address geo a)) (sym (one_use i k v u).value) first_is_data;
       marked = λ i k a c. eq-eqb a (first_data geo) (one_use i k a c.0).value;
@@ -194,7 +203,7 @@ module _ (geo : Geometry) (ok : IsGeometry geo) where
     rule6 = record {
       none_bad = λ d s r b. no_bad s (subst (λ e. slot geo (fresh_view geo) e s ≡ Bad) (only_root d r) b);
       distinct = λ d s t i j name r p q e f. absurd (omega (arith, p, (only_dots d s i (name, e)).dot));
-      sound = λ d s i r h. subst (λ k. IsTrue (is_sound ((fresh_view geo).inode k))) (sym (only_dots d s i h).names) refl;
+      sound = λ d s i r h. subst (λ k. IsTrue (is_sound geo ((fresh_view geo).inode k))) (sym (only_dots d s i h).names) root_is_sound;
     };
     rule7 = record {
       once = λ d s e t i dir h k. absurd (no_entry d s i h);

@@ -1,4 +1,11 @@
 pub mod UseLemmas
+pub mod Alike
+pub mod Shape
+pub mod Steps
+pub mod Uses
+pub mod Slots
+pub mod Fields
+pub mod Ranges
 pub mod SlotLemmas
 pub mod Decide
 pub mod Sums

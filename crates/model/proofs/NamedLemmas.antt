@@ -1,68 +1,58 @@
 -- What the slots of a directory name: slot after slot, past its last block, and as a set.
-use Rattle.std.proofs.Common.{◌≡◌, ◌<◌, ◌≤◌, ◌+◌, ◌*◌, ◌/◌, ℕ, zero, suc, Bool, true, false, cond, ◌&&◌, eqb, ltb, leb, [], ◌∷◌, ◌++◌, Option, Some, None, Contains, inl, inr, ◌↔◌, refl, sym, ap, ◌∙◌, subst, arith, IsFalse, get_or, ◌-◌, add-zero, add-suc}
+use Rattle.std.proofs.Common.{◌≡◌, ◌<◌, ◌≤◌, ◌+◌, ◌*◌, ◌/◌, ℕ, zero, suc, Bool, true, false, cond, ◌&&◌, ltb, leb, [], ◌∷◌, ◌++◌, Option, Some, None, Contains, inl, inr, ◌↔◌, refl, sym, ap, ◌∙◌, subst, arith, IsFalse, get_or, ◌-◌, add-zero, add-suc}
 use Rattle.std.specs.Option.{option_map_or}
 use Rattle.std.proofs.lemmas.Bool.{cases_lt, cases_eq, le-leb}
 use Rattle.std.proofs.lemmas.Bool.Decides.{nat_tests}
 use Rattle.std.proofs.lemmas.List.{append-nil}
 use Rattle.std.proofs.lemmas.List.Elements.{Contains-append_left, Contains-append_right, Contains-append_cases}
-use Rattle.model.specs.Layout.{Geometry, is_data_address}
+use Rattle.model.specs.Layout.{Geometry}
 use Rattle.model.specs.View.{View}
-use Rattle.model.specs.Uses.{is_directory_at, claim_at, blocks_of, indirect_position}
+use Rattle.model.specs.Shape.{most_blocks}
+use Rattle.model.specs.Uses.{is_directory_at, claim_at, blocks_of}
 use Rattle.model.specs.Slots.{Slot, Absent, Empty, Good, Bad, slot, slot_in, Names}
 use Rattle.model.specs.Reach.{slot_count}
 use Rattle.model.specs.Named.{number_of, named_below, named_from}
 use Rattle.model.proofs.SlotLemmas.{names_stands}
-use Rattle.model.proofs.UseLemmas.{use_parts, claim_parts}
+use Rattle.model.proofs.UseLemmas.{claim_parts}
+use Rattle.model.proofs.Uses.{use_number, use_has, has_below}
+use Rattle.model.proofs.Slots.{no_claim_no_slot}
 
 -- ---- one slot
-absent_either : (b : Bool) (f : ℕ → Slot) (o : Option ℕ) → o ≡ None → cond b (option_map_or f o Absent) Absent ≡ Absent
-absent_either true f o none = ap (λ x. option_map_or f x Absent) none
-absent_either false f o none = refl
-
--- a position of slots that is used stands below the blocks
-used_below : (k blocks : ℕ) (is_data : Bool) → k < 268
-    → cond (ltb k 12) (ltb k blocks) (cond (ltb k 268) (ltb k blocks && is_data) (eqb k 268 && ltb 12 blocks)) ≡ true → k < blocks
-used_below k blocks is_data low h = grind (arith, nat_tests)
-
 module _ (geo : Geometry) (view : View) (d : ℕ) where
   -- a number that is no sound directory's has no slots
   pub no_directory_no_slot : (s : ℕ) → IsFalse (is_directory_at geo view d) → slot geo view d s ≡ Absent
   unfolding slot
   no_directory_no_slot s f =
-      ap (λ b. cond (b && ltb (s / 16) indirect_position) (option_map_or (λ a. slot_in geo (view.bytes a) s) (claim_at geo view d (s / 16)) Absent) Absent) f
+      ap (λ b. cond (b && ltb (s / 16) (most_blocks geo)) (option_map_or (λ a. slot_in geo (view.bytes a) s) (claim_at geo view d (s / 16)) Absent) Absent) f
 
-  no_claim_no_slot : (s : ℕ) → claim_at geo view d (s / 16) ≡ None → slot geo view d s ≡ Absent
-  unfolding slot
-  no_claim_no_slot s none =
-      absent_either (is_directory_at geo view d && ltb (s / 16) indirect_position) (λ a. slot_in geo (view.bytes a) s) (claim_at geo view d (s / 16)) none
-
-  too_far_no_slot : (s : ℕ) → IsFalse (ltb (s / 16) indirect_position) → slot geo view d s ≡ Absent
+  -- nor has a directory slots past the blocks that it may have
+  pub too_far_no_slot : (s : ℕ) → IsFalse (ltb (s / 16) (most_blocks geo)) → slot geo view d s ≡ Absent
   unfolding slot
   too_far_no_slot s f =
       no_slot (is_directory_at geo view d) f
     where
-      no_slot : (b : Bool) → IsFalse (ltb (s / 16) indirect_position)
-          → cond (b && ltb (s / 16) indirect_position) (option_map_or (λ a. slot_in geo (view.bytes a) s) (claim_at geo view d (s / 16)) Absent) Absent ≡ Absent
+      no_slot : (b : Bool) → IsFalse (ltb (s / 16) (most_blocks geo))
+          → cond (b && ltb (s / 16) (most_blocks geo)) (option_map_or (λ a. slot_in geo (view.bytes a) s) (claim_at geo view d (s / 16)) Absent) Absent ≡ Absent
       no_slot true e = ap (λ b. cond b (option_map_or (λ a. slot_in geo (view.bytes a) s) (claim_at geo view d (s / 16)) Absent) Absent) e
       no_slot false e = refl
 
-  no_claim_past : (k : ℕ) → k < indirect_position → blocks_of (view.inode d).size ≤ k → claim_at geo view d k ≡ None
+  no_claim_past : (k : ℕ) → k < most_blocks geo → blocks_of (view.inode d).size ≤ k → claim_at geo view d k ≡ None
   no_claim_past k low past = go (claim_at geo view d k) refl
     where
       go : (o : Option ℕ) → claim_at geo view d k ≡ o → o ≡ None
       go None e = refl
       go (Some a) e =
-          let used = (use_parts geo view d k a (claim_parts geo view d k a e).0).used in
-          absurd (let below = used_below k (blocks_of (view.inode d).size) (is_data_address geo (view.inode d).indirect) low used in omega (arith, below, past))
+          let u = use_number geo view d k a (claim_parts geo view d k a e).0 in
+          absurd (omega (arith, past, has_below geo (view.inode d) k low (use_has geo view (view.inode d) k a u.1)))
 
   -- there are no slots past the blocks of a directory
   pub no_slot_past : (s : ℕ) → 16 * blocks_of (view.inode d).size ≤ s → slot geo view d s ≡ Absent
-  no_slot_past s past = elim (cases_lt (s / 16) indirect_position) [
-    | inl low ↦ no_claim_no_slot s (no_claim_past (s / 16) low (omega arith))
+  no_slot_past s past = elim (cases_lt (s / 16) (most_blocks geo)) [
+    | inl low ↦ no_claim_no_slot geo view d s (no_claim_past (s / 16) low (omega arith))
     | inr far ↦ too_far_no_slot s (lt_false far)
   ]
     where
-      lt_false : indirect_position ≤ s / 16 → IsFalse (ltb (s / 16) indirect_position)
+      lt_false : most_blocks geo ≤ s / 16 → IsFalse (ltb (s / 16) (most_blocks geo))
       lt_false far = grind (arith, nat_tests)
 
   module _ (first : ℕ) where
@@ -95,10 +85,10 @@ module _ (geo : Geometry) (view : View) (d : ℕ) where
     named_all_absent s zero absent = ap (named_below geo view first d) (add-zero s)
     named_all_absent s (suc more) absent = ap (named_below geo view first d) (add-suc s more) ∙ named_absent (s + more) (absent (s + more) (omega arith)) ∙ named_all_absent s more absent
 
-    pub named_whole : (s : ℕ) → s ≤ slot_count → ((q : ℕ) → s ≤ q → slot geo view d q ≡ Absent) → named_below geo view first d s ≡ named_from geo view first d
+    pub named_whole : (s : ℕ) → s ≤ slot_count geo → ((q : ℕ) → s ≤ q → slot geo view d q ≡ Absent) → named_below geo view first d s ≡ named_from geo view first d
     named_whole s low absent =
-        let all : s + (slot_count - s) ≡ slot_count = omega arith in
-        sym (named_all_absent s (slot_count - s) absent) ∙ ap (named_below geo view first d) all
+        let all : s + (slot_count geo - s) ≡ slot_count geo = omega arith in
+        sym (named_all_absent s (slot_count geo - s) absent) ∙ ap (named_below geo view first d) all
 
     -- ---- as a set
     number_names : (s i : ℕ) (x : Slot) → slot geo view d s ≡ x → Contains (number_of x) i → Names geo view d s i
@@ -135,6 +125,6 @@ module _ (geo : Geometry) (view : View) (d : ℕ) where
     -- the numbers that some slot from the first on names
     pub named_are_names : (i : ℕ) → Contains (named_from geo view first d) i ↔ ((s : ℕ) × (first ≤ s) × Names geo view d s i)
     named_are_names i = (
-      named_below_names slot_count i,
-      (λ h. names_named_below slot_count h.0 i (names_stands geo view d h.0 i h.2).place.below h.1 h.2),
+      named_below_names (slot_count geo) i,
+      (λ h. names_named_below (slot_count geo) h.0 i (names_stands geo view d h.0 i h.2).place.below h.1 h.2),
     )

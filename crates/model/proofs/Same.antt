@@ -1,18 +1,19 @@
 -- Two views with the same metadata have the same uses, slots, paths and entries, and obey the same rules.
-use Rattle.std.proofs.Common.{◌≡◌, ◌<◌, ◌≤◌, ◌/◌, ◌*◌, ◌-◌, ℕ, zero, suc, Bool, true, false, cond, ◌&&◌, eqb, ltb, get_or, inl, inr, ◌↔◌, refl, sym, ap, ap₂, ◌∙◌, subst, arith, IsTrue, Option, Some, None}
-use Rattle.std.specs.Bool.{then_some}
-use Rattle.std.specs.Option.{option_map_or, option_and_then}
-use Rattle.std.proofs.lemmas.Bool.{and_parts, lt-ltb, ltb-true, ltb-false, cond-true, cond-false}
+use Rattle.std.proofs.Common.{◌≡◌, ◌≤◌, ◌/◌, ℕ, zero, suc, Bool, cond, ◌&&◌, eqb, inl, inr, ◌↔◌, sym, ap, ◌∙◌, subst, IsTrue}
+use Rattle.std.proofs.lemmas.Bool.{and_parts}
 use Rattle.model.specs.Layout.{Geometry, is_number, is_data_address, root, inode_count}
-use Rattle.model.specs.View.{View, Inode, u32_at}
-use Rattle.model.specs.Uses.{is_directory_at, is_sound_at, is_directory, is_sound, is_used, value_at, use_at, claim_at, indirect_position, direct_positions, IsUse, IsClaim, IsClaimed, blocks_of}
-use Rattle.model.specs.Slots.{Absent, slot, slot_in, number_in, Names}
+use Rattle.model.specs.View.{View, Inode}
+use Rattle.model.specs.Shape.{is_table}
+use Rattle.model.specs.Uses.{is_directory_at, is_sound_at, is_directory, is_sound, use_at, IsUse, IsClaim, IsClaimed}
+use Rattle.model.specs.Slots.{slot, slot_in, number_in, Names}
 use Rattle.model.specs.Reach.{Path, IsReachableDirectory, IsReachable, IsEntry, IsReachableSet, HasEntries, entries_of, entries_in, names_once, slot_count, HasParent}
 use Rattle.model.specs.Rules.{ObeysRules}
 use Rattle.model.specs.Metadata.{SameMetadata}
 use Rattle.model.proofs.Sums.{sum-same}
 use Rattle.model.proofs.SlotLemmas.{names_stands, directory_number, reachable_directory}
-use Rattle.model.proofs.UseLemmas.{use_from, claim_parts}
+use Rattle.model.proofs.Alike.{same_and}
+use Rattle.model.proofs.Uses.{above_table, uses_agree}
+use Rattle.model.proofs.Slots.{slots_of_uses}
 
 -- what the findings look at, both ways the same
 pub record SameFacts (geo : Geometry) (v w : View) : Type 0 where
@@ -35,92 +36,36 @@ other_way h = record {
   slots = λ d s. sym (h.slots d s);
 }
 
-pub same_and : (a b c : Bool) → (a ≡ true → b ≡ c) → (a && b) ≡ (a && c)
-same_and true b c h = h refl
-same_and false b c h = refl
-
-pub same_then : (b : Bool) (x y : ℕ) → (b ≡ true → x ≡ y) → then_some b x ≡ then_some b y
-same_then true x y h = ap Some (h refl)
-same_then false x y h = refl
-
-pub same_cond : {A : Type 0} (b : Bool) (x y z : A) → (b ≡ true → x ≡ y) → cond b x z ≡ cond b y z
-same_cond true x y z h = h refl
-same_cond false x y z h = refl
-
-pub same_else : {A : Type 0} (b : Bool) (x y z : A) → (b ≡ false → x ≡ y) → cond b z x ≡ cond b z y
-same_else true x y z h = refl
-same_else false x y z h = h refl
-
-pub same_map_or : {A : Type 0} (f g : ℕ → A) (d : A) (o : Option ℕ) → ((a : ℕ) → o ≡ Some a → f a ≡ g a) → option_map_or f o d ≡ option_map_or g o d
-same_map_or f g d None h = refl
-same_map_or f g d (Some a) h = h a refl
-
--- an inode that uses a position of its indirect block claims the block itself
-pub claims_indirect_of : (geo : Geometry) (v : View) (i k : ℕ) → IsTrue (is_sound_at geo v i) → ltb k direct_positions ≡ false → ltb k indirect_position ≡ true → IsTrue (is_used geo (v.inode i) k)
-    → IsClaim geo v i indirect_position (v.inode i).indirect
-claims_indirect_of geo v i k sound low high used =
-    let second = cond-false (ltb k direct_positions) (ltb k (blocks_of (v.inode i).size)) (cond (ltb k indirect_position) (ltb k (blocks_of (v.inode i).size) && is_data_address geo (v.inode i).indirect) (eqb k indirect_position && ltb direct_positions (blocks_of (v.inode i).size))) low in
-    let third = cond-true (ltb k indirect_position) (ltb k (blocks_of (v.inode i).size) && is_data_address geo (v.inode i).indirect) (eqb k indirect_position && ltb direct_positions (blocks_of (v.inode i).size)) high in
-    let parts = and_parts (ltb k (blocks_of (v.inode i).size)) (is_data_address geo (v.inode i).indirect) (sym third ∙ sym second ∙ used) in
-    let many : 12 < blocks_of (v.inode i).size = omega (arith, ltb-true k (blocks_of (v.inode i).size) parts.0, ltb-false k direct_positions low) in
-    (use_from geo v i indirect_position (v.inode i).indirect (record { sound = sound; used = lt-ltb 12 (blocks_of (v.inode i).size) many; value = refl }), parts.1)
-
-module _ (geo : Geometry) (v w : View) (inode : (i : ℕ) → IsTrue (is_number geo i) → v.inode i ≡ w.inode i) (indirect : (i a : ℕ) → IsClaim geo v i indirect_position a → v.bytes a ≡ w.bytes a) where
+module _ (geo : Geometry) (v w : View) (inode : (i : ℕ) → IsTrue (is_number geo i) → v.inode i ≡ w.inode i) (tables : (i m a : ℕ) → IsTrue (is_table geo m) → IsClaim geo v i m a → v.bytes a ≡ w.bytes a) where
   same_sound : (i : ℕ) → is_sound_at geo v i ≡ is_sound_at geo w i
-  same_sound i = same_and (is_number geo i) (is_sound (v.inode i)) (is_sound (w.inode i)) (λ n. ap is_sound (inode i n))
+  same_sound i = same_and (is_number geo i) (is_sound geo (v.inode i)) (is_sound geo (w.inode i)) (λ n. ap (is_sound geo) (inode i n))
 
   sound_number : (i : ℕ) → IsTrue (is_sound_at geo v i) → IsTrue (is_number geo i)
-  sound_number i h = (and_parts (is_number geo i) (is_sound (v.inode i)) h).0
+  sound_number i h = (and_parts (is_number geo i) (is_sound geo (v.inode i)) h).0
 
   same_directory : (i : ℕ) → is_directory_at geo v i ≡ is_directory_at geo w i
   same_directory i =
       same_and (is_sound_at geo v i) (is_directory (v.inode i)) (is_directory (w.inode i)) (λ h. ap is_directory (inode i (sound_number i h)))
       ∙ ap (λ b. b && is_directory (w.inode i)) (same_sound i)
 
-  same_value : (i k : ℕ) → IsTrue (is_sound_at geo v i) → IsTrue (is_used geo (v.inode i) k) → value_at v (v.inode i) k ≡ value_at w (v.inode i) k
-  same_value i k sound used =
-      same_else (ltb k direct_positions) _ _ (get_or (v.inode i).direct k 0) (λ low.
-      same_cond (ltb k indirect_position) _ _ (v.inode i).indirect (λ high.
-      ap (λ bytes. u32_at bytes (4 * (k - direct_positions))) (indirect i (v.inode i).indirect (claims_indirect_of geo v i k sound low high used))))
-
-  -- the same records, and the same bytes of the indirect blocks that are claimed, make the same uses
+  -- the same records, and the same bytes of the tables that are claimed, make the same uses
   pub same_use : (i k : ℕ) → use_at geo v i k ≡ use_at geo w i k
-  unfolding use_at
-  same_use i k =
-      same_then (is_sound_at geo v i && is_used geo (v.inode i) k) (value_at v (v.inode i) k) (value_at w (v.inode i) k)
-      (λ h. let parts = and_parts (is_sound_at geo v i) (is_used geo (v.inode i) k) h in same_value i k parts.0 parts.1)
-      ∙ by_sound (is_sound_at geo v i) refl
-    where
-      by_sound : (b : Bool) → is_sound_at geo v i ≡ b → then_some (is_sound_at geo v i && is_used geo (v.inode i) k) (value_at w (v.inode i) k) ≡ then_some (is_sound_at geo w i && is_used geo (w.inode i) k) (value_at w (w.inode i) k)
-      by_sound true e =
-          ap (λ b. then_some (b && is_used geo (v.inode i) k) (value_at w (v.inode i) k)) (same_sound i)
-          ∙ ap (λ r. then_some (is_sound_at geo w i && is_used geo r k) (value_at w r k)) (inode i (sound_number i e))
-      by_sound false e =
-          ap (λ b. then_some (b && is_used geo (v.inode i) k) (value_at w (v.inode i) k)) e
-          ∙ ap (λ b. then_some (b && is_used geo (w.inode i) k) (value_at w (w.inode i) k)) (sym e ∙ same_sound i)
-
-  same_claim : (i k : ℕ) → claim_at geo v i k ≡ claim_at geo w i k
-  unfolding claim_at
-  same_claim i k = ap (option_and_then (λ a. then_some (is_data_address geo a) a)) (same_use i k)
+  same_use i k = uses_agree geo v w i k (inode i) (λ m a above c. tables i m a (above_table geo k m above) c)
 
 module _ (geo : Geometry) (v w : View) (m : SameMetadata geo v w) where
   same_slot : (d s : ℕ) → slot geo v d s ≡ slot geo w d s
-  unfolding slot
   same_slot d s =
-      same_cond (is_directory_at geo v d && ltb (s / 16) indirect_position) _ _ Absent (λ h.
-      same_map_or (λ a. slot_in geo (v.bytes a) s) (λ a. slot_in geo (w.bytes a) s) Absent (claim_at geo v d (s / 16)) (λ a c.
-      ap (λ bytes. slot_in geo bytes s) (m.directory_blocks d (s / 16) a (and_parts (is_directory_at geo v d) (ltb (s / 16) indirect_position) h).0 (claim_parts geo v d (s / 16) a c))))
-      ∙ ap₂ (λ b o. cond (b && ltb (s / 16) indirect_position) (option_map_or (λ a. slot_in geo (w.bytes a) s) o Absent) Absent)
-      (same_directory geo v w m.inode m.indirect_blocks d) (same_claim geo v w m.inode m.indirect_blocks d (s / 16))
+      slots_of_uses geo v w d s (same_directory geo v w m.inode m.tables d) (same_use geo v w m.inode m.tables d (s / 16)) (λ a directory low c.
+      ap (λ bytes. slot_in geo bytes s) (m.directory_blocks d (s / 16) a directory c))
 
   pub same_facts : SameFacts geo v w
   same_facts = record {
     inode = m.inode;
     number_marked = m.number_marked;
     block_marked = m.block_marked;
-    sound_at = same_sound geo v w m.inode m.indirect_blocks;
-    directory_at = same_directory geo v w m.inode m.indirect_blocks;
-    uses = same_use geo v w m.inode m.indirect_blocks;
+    sound_at = same_sound geo v w m.inode m.tables;
+    directory_at = same_directory geo v w m.inode m.tables;
+    uses = same_use geo v w m.inode m.tables;
     slots = same_slot;
   }
 
@@ -166,7 +111,7 @@ module _ (geo : Geometry) (v w : View) (h : SameFacts geo v w) where
   entries_there : (set : ℕ → Bool) (i : ℕ) → entries_of geo v set i ≡ entries_of geo w set i
   entries_there set i =
       sum-same (inode_count geo) (λ d. cond (set d) (entries_in geo v i d) 0) (λ d. cond (set d) (entries_in geo w i d) 0)
-      (λ d b. ap (λ n. cond (set d) n 0) (sum-same slot_count (names_once geo v i d) (names_once geo w i d)
+      (λ d b. ap (λ n. cond (set d) n 0) (sum-same (slot_count geo) (names_once geo v i d) (names_once geo w i d)
       (λ s c. ap (λ x. cond (eqb (number_in x) i) 1 0) (h.slots d s))))
 
 pub entry_number : (geo : Geometry) (v : View) (d s i : ℕ) → IsEntry geo v d s i → IsTrue (is_number geo i)
@@ -188,8 +133,8 @@ has_entries_there geo v w h i n e = (e.0, set_there geo v w h e.0 e.1, e.2 ∙ e
 mode_there : (geo : Geometry) (v w : View) (h : SameFacts geo v w) (i : ℕ) → IsTrue (is_number geo i) → (w.inode i).mode ≡ (v.inode i).mode
 mode_there geo v w h i n = ap (λ (r : Inode). r.mode) (sym (h.inode i n))
 
-sound_record_there : (geo : Geometry) (v w : View) (h : SameFacts geo v w) (i : ℕ) → IsTrue (is_number geo i) → IsTrue (is_sound (v.inode i)) → IsTrue (is_sound (w.inode i))
-sound_record_there geo v w h i n s = ap is_sound (sym (h.inode i n)) ∙ s
+sound_record_there : (geo : Geometry) (v w : View) (h : SameFacts geo v w) (i : ℕ) → IsTrue (is_number geo i) → IsTrue (is_sound geo (v.inode i)) → IsTrue (is_sound geo (w.inode i))
+sound_record_there geo v w h i n s = ap (is_sound geo) (sym (h.inode i n)) ∙ s
 
 rules_there : (geo : Geometry) (v w : View) → SameFacts geo v w → ObeysRules geo v → ObeysRules geo w
 rules_there geo v w h o =

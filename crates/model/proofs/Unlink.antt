@@ -13,10 +13,10 @@ use Rattle.model.proofs.SlotLemmas.{names_stands, names_one, names_from_number, 
 
 module _ (geo : Geometry) (v w : View) (u : Unlinks geo v w) where
   sound_same : (i : ℕ) → is_sound_at geo v i ≡ is_sound_at geo w i
-  sound_same i = ap (λ r. is_number geo i && is_sound r) (u.inode i)
+  sound_same i = ap (λ r. is_number geo i && is_sound geo r) (u.inode i)
 
   directory_same : (i : ℕ) → is_directory_at geo v i ≡ is_directory_at geo w i
-  directory_same i = ap (λ r. is_number geo i && is_sound r && is_directory r) (u.inode i)
+  directory_same i = ap (λ r. is_number geo i && is_sound geo r && is_directory r) (u.inode i)
 
   slot_back : (d s i : ℕ) (name : List ℕ) → slot geo w d s ≡ Good i name → slot geo v d s ≡ Good i name
   slot_back d s i name e = elim (u.slots d s) [ inl same ↦ same ∙ e | inr gone ↦ absurd (let bad : Empty ≡ Good i name = sym gone.0 ∙ e in cc) ]
@@ -76,7 +76,7 @@ module _ (geo : Geometry) (v w : View) (u : Unlinks geo v w) where
 
   fewer_in : (set : ℕ → Bool) (i d : ℕ) → 1 ≤ i → cond (set d) (entries_in geo w i d) 0 ≤ cond (set d) (entries_in geo v i d) 0
   fewer_in set i d low = elim (set d) as (λ b. cond b (entries_in geo w i d) 0 ≤ cond b (entries_in geo v i d) 0) [
-    | true ↦ sum-le slot_count (names_once geo w i d) (names_once geo v i d) (λ s b. fewer_names i d s low)
+    | true ↦ sum-le (slot_count geo) (names_once geo w i d) (names_once geo v i d) (λ s b. fewer_names i d s low)
     | false ↦ le_refl 0
   ]
 
@@ -93,7 +93,7 @@ module _ (geo : Geometry) (v w : View) (u : Unlinks geo v w) where
   pub unlinked_obeys : ObeysRules geo v → ObeysRules geo w
   unlinked_obeys o = record {
     rule1 = sym (directory_same root) ∙ o.rule1;
-    rule2 = λ i n. elim (o.rule2 i n) [ inl z ↦ inl (sym (mode_same i) ∙ z) | inr s ↦ inr (ap is_sound (sym (u.inode i)) ∙ s) ];
+    rule2 = λ i n. elim (o.rule2 i n) [ inl z ↦ inl (sym (mode_same i) ∙ z) | inr s ↦ inr (ap (is_sound geo) (sym (u.inode i)) ∙ s) ];
     rule3 = record {
       claims = λ i k x h. o.rule3.claims i k x (use_back i k x h);
       marked = λ i k a c. sym (u.block_marked a) ∙ o.rule3.marked i k a (use_back i k a c.0, c.1);
@@ -104,7 +104,7 @@ module _ (geo : Geometry) (v w : View) (u : Unlinks geo v w) where
     rule6 = record {
       none_bad = λ d s r b. elim (u.slots d s) [ inl same ↦ o.rule6.none_bad d s (back d r) (same ∙ b) | inr gone ↦ let bad : Empty ≡ Bad = sym gone.0 ∙ b in cc ];
       distinct = λ d s t i j name r p q e f. o.rule6.distinct d s t i j name (back d r) p q (slot_back d s i name e) (slot_back d t j name f);
-      sound = λ d s i r h. ap is_sound (sym (u.inode i)) ∙ o.rule6.sound d s i (back d r) (names_back d s i h);
+      sound = λ d s i r h. ap (is_sound geo) (sym (u.inode i)) ∙ o.rule6.sound d s i (back d r) (names_back d s i h);
     };
     rule7 = record {
       once = λ d s e t i dir h k. o.rule7.once d s e t i (directory_same i ∙ dir) (entry_back d s i h) (entry_back e t i k);

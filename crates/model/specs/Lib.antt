@@ -1,5 +1,6 @@
 pub mod Layout
 pub mod View
+pub mod Shape
 pub mod Uses
 pub mod Slots
 pub mod Reach
@@ -14,3 +15,4 @@ pub mod Named
 pub mod Tables
 pub mod Reached
 pub mod Growth
+pub mod Below

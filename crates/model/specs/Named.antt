@@ -19,7 +19,7 @@ named_below geo view first d (suc s) = named_below geo view first d s ++ (if nat
 
 -- the numbers that the good slots of directory d name from slot `first` on: 0 where the dots are among them, 2 where not
 abbrev pub named_from : Geometry → View → ℕ → ℕ → List ℕ
-named_from geo view first d = named_below geo view first d slot_count
+named_from geo view first d = named_below geo view first d (slot_count geo)
 
 -- how often i stands in a list
 unfoldable pub times : ℕ → List ℕ → ℕ

@@ -2,7 +2,8 @@
 use Rattle.std.specs.Prelude.{◌≡◌, ◌≢◌, ℕ, zero, suc, ◌+◌, ◌*◌, ◌≤◌, Bool, ◌==◌, cond, ◌⊎◌, ◌↔◌, IsTrue}
 use Rattle.model.specs.Layout.{Geometry, inode_count, root}
 use Rattle.model.specs.View.{View}
-use Rattle.model.specs.Uses.{is_sound_at, is_directory_at, indirect_position}
+use Rattle.model.specs.Shape.{most_blocks}
+use Rattle.model.specs.Uses.{is_sound_at, is_directory_at}
 use Rattle.model.specs.Slots.{slot, number_in, Names}
 
 -- A path of n steps from the root ends at d: a list of sound directories, of which each next one is named by a good slot from 2 on of the one before.
@@ -34,8 +35,8 @@ sum_below zero f = 0
 sum_below (suc n) f = sum_below n f + f n
 
 -- how many slots a directory has at most
-abbrev pub slot_count : ℕ
-slot_count = 16 * indirect_position
+abbrev pub slot_count : Geometry → ℕ
+slot_count geo = 16 * most_blocks geo
 
 -- 1 where slot s of d names i, else 0
 abbrev pub names_once : Geometry → View → ℕ → ℕ → ℕ → ℕ
@@ -43,7 +44,7 @@ names_once geo view i d s = cond (number_in (slot geo view d s) == i) 1 0
 
 -- how many good slots of d name i, dots among them
 abbrev pub entries_in : Geometry → View → ℕ → ℕ → ℕ
-entries_in geo view i d = sum_below slot_count (names_once geo view i d)
+entries_in geo view i d = sum_below (slot_count geo) (names_once geo view i d)
 
 -- how many good slots of the directories in a set name i
 abbrev pub entries_of : Geometry → View → (ℕ → Bool) → ℕ → ℕ

@@ -12,7 +12,7 @@ RootIsDirectory geo view = IsTrue (is_directory_at geo view root)
 
 -- Each record is free or sound.
 abbrev pub RecordsAreSound : Geometry → View → Type 0
-RecordsAreSound geo view = (i : ℕ) → IsTrue (is_number geo i) → ((view.inode i).mode ≡ 0) ⊎ IsTrue (is_sound (view.inode i))
+RecordsAreSound geo view = (i : ℕ) → IsTrue (is_number geo i) → ((view.inode i).mode ≡ 0) ⊎ IsTrue (is_sound geo (view.inode i))
 
 -- Each use is a claim, its block is marked, and no block has two claims.
 pub record UsesAreClaims (geo : Geometry) (view : View) : Type 0 where
@@ -32,7 +32,7 @@ DotsAreRight geo view = (d : ℕ) → IsReachableDirectory geo view d → Names 
 pub record SlotsAreRight (geo : Geometry) (view : View) : Type 0 where
   pub none_bad : (d s : ℕ) → IsReachableDirectory geo view d → slot geo view d s ≢ Bad
   pub distinct : (d s t i j : ℕ) (name : List ℕ) → IsReachableDirectory geo view d → 2 ≤ s → 2 ≤ t → slot geo view d s ≡ Good i name → slot geo view d t ≡ Good j name → s ≡ t
-  pub sound : (d s i : ℕ) → IsReachableDirectory geo view d → Names geo view d s i → IsTrue (is_sound (view.inode i))
+  pub sound : (d s i : ℕ) → IsReachableDirectory geo view d → Names geo view d s i → IsTrue (is_sound geo (view.inode i))
 
 -- A directory has at most one entry, and the root none.
 pub record DirectoriesHaveOneEntry (geo : Geometry) (view : View) : Type 0 where

@@ -1,58 +1,52 @@
 -- Which records are sound, and which blocks an inode uses.
-use Rattle.std.specs.Prelude.{◌≡◌, ℕ, ◌+◌, ◌-◌, ◌*◌, ◌/◌, ◌%◌, ◌<◌, Bool, ◌&&◌, ◌||◌, nat_lt, nat_le, ◌==◌, if◌then◌else◌, slice_index, Some, Option, ◌⊎◌, IsTrue}
+use Rattle.std.specs.Prelude.{◌≡◌, ℕ, zero, suc, ◌+◌, ◌/◌, ◌%◌, ◌<◌, Bool, ◌&&◌, ◌||◌, nat_lt, nat_le, ◌==◌, if◌then◌else◌, Some, None, Option, ◌⊎◌, IsTrue}
 use Rattle.std.specs.Bool.{then_some}
-use Rattle.std.specs.Option.{option_and_then}
+use Rattle.std.specs.Option.{option_and_then, option_map_or}
 use Rattle.model.specs.Layout.{Geometry, is_data_address, is_number}
-use Rattle.model.specs.View.{View, Inode, u32_at}
+use Rattle.model.specs.View.{View, Inode}
+pub use Rattle.model.specs.Shape.{direct_positions}
+use Rattle.model.specs.Shape.{most_blocks, table_of, place_in_table, reaches, field_at, pointer_in}
 
 -- how many blocks a size takes
 abbrev pub blocks_of : ℕ → ℕ
 blocks_of size = (size + 1023) / 1024
 
--- the positions below this one stand in the record, those from it up to the next in the indirect block, and that next one is the indirect pointer itself
-abbrev pub direct_positions : ℕ
-direct_positions = 12
-
-abbrev pub indirect_position : ℕ
-indirect_position = 268
-
 abbrev pub is_directory : Inode → Bool
 is_directory inode = inode.mode == 2
 
 -- A record is sound if it is a file's, or a directory's with a size of one or more whole blocks, and the blocks are few enough.
-abbrev pub is_sound : Inode → Bool
-is_sound inode =
+abbrev pub is_sound : Geometry → Inode → Bool
+is_sound geo inode =
     (inode.mode == 1 || is_directory inode && nat_lt 0 inode.size && inode.size % 1024 == 0)
-    && nat_le (blocks_of inode.size) indirect_position
+    && nat_le (blocks_of inode.size) (most_blocks geo)
 
 -- whether the number is a sound inode's, and whether it is a sound directory's
 abbrev pub is_sound_at : Geometry → View → ℕ → Bool
-is_sound_at geo view i = is_number geo i && is_sound (view.inode i)
+is_sound_at geo view i = is_number geo i && is_sound geo (view.inode i)
 
 abbrev pub is_directory_at : Geometry → View → ℕ → Bool
 is_directory_at geo view d = is_sound_at geo view d && is_directory (view.inode d)
 
--- whether a sound record uses a position: one below its blocks, which past the direct ones needs an indirect block, or the indirect pointer
-abbrev pub is_used : Geometry → Inode → ℕ → Bool
-is_used geo inode k =
-    if nat_lt k direct_positions then nat_lt k (blocks_of inode.size)
-    else (if nat_lt k indirect_position then nat_lt k (blocks_of inode.size) && is_data_address geo inode.indirect
-    else k == indirect_position && nat_lt direct_positions (blocks_of inode.size))
+-- whether a record has a position by its size alone
+abbrev pub has_position : Geometry → Inode → ℕ → Bool
+has_position geo inode k = reaches geo (blocks_of inode.size) k
 
--- the value that stands at a position
-abbrev pub value_at : View → Inode → ℕ → ℕ
-value_at view inode k =
-    if nat_lt k direct_positions then slice_index inode.direct k
-    else (if nat_lt k indirect_position then u32_at (view.bytes inode.indirect) (4 * (k - direct_positions))
-    else inode.indirect)
+-- the value at position k, where at most so many tables stand on its way: a pointer in the record, or one in the table that is claimed there
+abbrev pub use_within : ℕ → Geometry → View → Inode → ℕ → Option ℕ
+use_within zero geo view inode k = then_some (has_position geo inode k) (field_at geo inode k)
+use_within (suc n) geo view inode k =
+    option_map_or
+    (λ m. option_and_then (λ t. then_some (has_position geo inode k && is_data_address geo t) (pointer_in (view.bytes t) (place_in_table geo k))) (use_within n geo view inode m))
+    (table_of geo k)
+    (then_some (has_position geo inode k) (field_at geo inode k))
 
 -- the value that a record uses at position k, if it is sound and uses that position
-abbrev pub record_use : Geometry → View → Inode → ℕ → Option ℕ
-record_use geo view inode k = then_some (is_sound inode && is_used geo inode k) (value_at view inode k)
+unfoldable pub record_use : Geometry → View → Inode → ℕ → Option ℕ
+record_use geo view inode k = if is_sound geo inode then use_within 2 geo view inode k else None
 
 -- the value that inode i uses at position k, if it uses that position
 unfoldable pub use_at : Geometry → View → ℕ → ℕ → Option ℕ
-use_at geo view i k = then_some (is_sound_at geo view i && is_used geo (view.inode i) k) (value_at view (view.inode i) k)
+use_at geo view i k = if is_number geo i then record_use geo view (view.inode i) k else None
 
 -- inode i uses value v at position k
 abbrev pub IsUse : Geometry → View → ℕ → ℕ → ℕ → Type 0

@@ -2,7 +2,7 @@
 //! after any stop. It has definitions and their laws, and no code of the volume.
 #![tactic(auto)]
 
-ghost use Rattle.std.specs.Prelude.{◌≡◌, ◌<◌, ◌+◌, ◌/◌, ◌↔◌, ℕ, Bool, true, List};
+ghost use Rattle.std.specs.Prelude.{◌≡◌, ◌<◌, ◌+◌, ◌/◌, ◌↔◌, ℕ, Bool, true, List, IsTrue};
 ghost use Rattle.model.specs.Layout.{Geometry, IsGeometry, inode_count, is_data_address, is_number, inode_byte, inode_block};
 ghost use Rattle.model.specs.View.{View, Inode, view_of, inode_at};
 ghost use Rattle.model.specs.Fresh.{fresh_view};
@@ -11,7 +11,8 @@ ghost use Rattle.model.specs.Rules.{ObeysRules};
 ghost use Rattle.model.specs.Metadata.{SameMetadata};
 ghost use Rattle.model.specs.Cells.{SetBytes, SetInode, put_at, updated};
 ghost use Rattle.model.specs.Slots.{slot};
-ghost use Rattle.model.specs.Uses.{IsClaim, indirect_position, use_at};
+ghost use Rattle.model.specs.Shape.{is_table};
+ghost use Rattle.model.specs.Uses.{IsClaim, use_at};
 ghost use Rattle.model.specs.Unlink.{Unlinks};
 
 /// Each inode has one number of entries.
@@ -30,14 +31,14 @@ pub fn metadata_decides()
     ensures { (geo : Geometry) (view other : View) → SameMetadata geo view other → ObeysRules geo view ↔ ObeysRules geo other }
 {}
 
-/// New bytes of a data block that no inode claims as its indirect block change no use, and only the slots that stand
+/// New bytes of a data block that no inode claims as a table change no use, and only the slots that stand
 /// in it; and the entries in a set of directories change by those of the one directory that claims it.
 pub fn one_block_changes_its_slots()
-    ensures uses { (geo : Geometry) (view : View) (a : ℕ) (bytes : List ℕ) → ((i : ℕ) → IsClaim geo view i indirect_position a → ⊥)
+    ensures uses { (geo : Geometry) (view : View) (a : ℕ) (bytes : List ℕ) → ((i m : ℕ) → IsTrue (is_table geo m) → IsClaim geo view i m a → ⊥)
         → (i k : ℕ) → use_at geo view i k ≡ use_at geo (updated view (SetBytes a bytes)) i k }
-    ensures slots { (geo : Geometry) (view : View) (a : ℕ) (bytes : List ℕ) → ((i : ℕ) → IsClaim geo view i indirect_position a → ⊥)
+    ensures slots { (geo : Geometry) (view : View) (a : ℕ) (bytes : List ℕ) → ((i m : ℕ) → IsTrue (is_table geo m) → IsClaim geo view i m a → ⊥)
         → (d s : ℕ) → (IsClaim geo view d (s / 16) a → ⊥) → slot geo view d s ≡ slot geo (updated view (SetBytes a bytes)) d s }
-    ensures entries { (geo : Geometry) (view : View) (a : ℕ) (bytes : List ℕ) → ((i : ℕ) → IsClaim geo view i indirect_position a → ⊥)
+    ensures entries { (geo : Geometry) (view : View) (a : ℕ) (bytes : List ℕ) → ((i m : ℕ) → IsTrue (is_table geo m) → IsClaim geo view i m a → ⊥)
         → (set : ℕ → Bool) (i d : ℕ) → d < inode_count geo → set d ≡ true → ((e k : ℕ) → IsClaim geo view e k a → e ≡ d)
         → entries_of geo view set i + entries_in geo (updated view (SetBytes a bytes)) i d ≡ entries_of geo (updated view (SetBytes a bytes)) set i + entries_in geo view i d }
 {}

@@ -1,13 +1,14 @@
 -- The kinds of update that set or clear a bit.
-use Rattle.std.proofs.Common.{◌≡◌, ◌≢◌, ℕ, Bool, true, false, not, ◌&&◌, cond, eqb, List, inl, inr, refl, sym, ap, ◌∙◌, subst, IsTrue, IsFalse, le_refl, arith, eqb-true, ne_eqb}
+use Rattle.std.proofs.Common.{◌≡◌, ◌≢◌, ℕ, ◌/◌, Bool, true, false, not, ◌&&◌, cond, eqb, List, inl, inr, refl, sym, ap, ◌∙◌, subst, IsTrue, IsFalse, le_refl, arith, eqb-true, ne_eqb}
 use Rattle.std.proofs.lemmas.Bool.{both_ways, and_parts, and_from, cases_Bool, cases_eq, not_from_false, false_from_ne_true, or_cases}
 use Rattle.model.specs.Layout.{Geometry, is_number}
 use Rattle.model.specs.View.{View, Inode}
 use Rattle.model.specs.Cells.{SetNumber, SetBlock, updated}
-use Rattle.model.specs.Uses.{use_at, claim_at, is_sound, is_used, IsClaim}
-use Rattle.model.specs.Slots.{slot}
+use Rattle.model.specs.Uses.{use_at, has_position, is_directory, is_directory_at, is_sound, IsClaim}
+use Rattle.model.specs.Slots.{slot_in}
 use Rattle.model.specs.Rules.{ObeysRules}
-use Rattle.model.proofs.UseLemmas.{use_parts}
+use Rattle.model.proofs.Slots.{slots_of_uses}
+use Rattle.model.proofs.Uses.{use_parts, used_has, uses_agree}
 use Rattle.ordering.specs.Cuts.{Cell, Record, NumberBit, BlockBit, Pending, users_view, AreIn}
 use Rattle.ordering.specs.Places.{HasPlace}
 use Rattle.ordering.specs.Ghosts.{Ghost}
@@ -16,33 +17,43 @@ use Rattle.ordering.specs.Kinds.{Keeps, MayClearNumber, MayClearBlock, number_cl
 use Rattle.ordering.proofs.CutLemmas.{users_cut, was_fresh, is_other, still_fresh}
 use Rattle.ordering.proofs.Frames.{SameShape, shape_from, shape_step, shape_rules, keeps_all, keeps_without, numbers_without, numbers_same}
 
+-- a view with the same records and bytes has the same shape
+bits_shape : (geo : Geometry) (v w : View) → v.inode ≡ w.inode → v.bytes ≡ w.bytes → SameShape geo v w
+bits_shape geo v w inodes bytes =
+    shape_from geo v w (λ n. ap (λ (f : ℕ → Inode). (f n).mode) inodes) directories (λ n. ap (λ (f : ℕ → Inode). is_number geo n && is_sound geo (f n)) inodes) uses
+    (λ d s. slots_of_uses geo v w d s (directories d) (uses d (s / 16)) (λ a dir low c. ap (λ (f : ℕ → List ℕ). slot_in geo (f a) s) bytes))
+  where
+    directories : (n : ℕ) → is_directory_at geo v n ≡ is_directory_at geo w n
+    directories n = ap (λ (f : ℕ → Inode). is_number geo n && is_sound geo (f n) && is_directory (f n)) inodes
+
+    uses : (n k : ℕ) → use_at geo v n k ≡ use_at geo w n k
+    uses n k = uses_agree geo v w n k (λ number. ap (λ (f : ℕ → Inode). f n) inodes) (λ m a above c. ap (λ (f : ℕ → List ℕ). f a) bytes)
+
 pub block_bit_shape : (geo : Geometry) (v : View) (b : ℕ) (marked : Bool) → SameShape geo v (updated v (SetBlock b marked))
-unfolding use_at claim_at slot
-block_bit_shape geo v b marked = shape_from geo v (updated v (SetBlock b marked)) (λ n. refl) (λ n. refl) (λ n. refl) (λ n k. refl) (λ d s. refl)
+block_bit_shape geo v b marked = bits_shape geo v (updated v (SetBlock b marked)) refl refl
 
 pub number_bit_shape : (geo : Geometry) (v : View) (n : ℕ) (marked : Bool) → SameShape geo v (updated v (SetNumber n marked))
-unfolding use_at claim_at slot
-number_bit_shape geo v n marked = shape_from geo v (updated v (SetNumber n marked)) (λ m. refl) (λ m. refl) (λ m. refl) (λ m k. refl) (λ d s. refl)
+number_bit_shape geo v n marked = bits_shape geo v (updated v (SetNumber n marked)) refl refl
 
 -- ---- what the rules say of a view
 
 pub users_obey : (geo : Geometry) (disk : View) (q : List Pending) (ghost : Ghost) → AllAgree geo disk q ghost → ObeysRules geo (users_view disk q)
 users_obey geo disk q ghost all = users_cut disk q (ObeysRules geo) (λ cut closed. (all cut closed).rules)
 
-pub sound_used : (x : Inode) → IsTrue (is_sound x) → x.mode ≡ 0 → ⊥
-sound_used x h z = elim (or_cases (eqb x.mode 1) _ (and_parts _ _ h).0) [
+pub sound_used : (geo : Geometry) (x : Inode) → IsTrue (is_sound geo x) → x.mode ≡ 0 → ⊥
+sound_used geo x h z = elim (or_cases (eqb x.mode 1) _ (and_parts _ _ h).0) [
   | inl one ↦ let e : x.mode ≡ 1 = eqb-true x.mode 1 one in omega (arith, e, z)
   | inr dir ↦ let e : x.mode ≡ 2 = eqb-true x.mode 2 (and_parts (eqb x.mode 2) _ (and_parts _ _ dir).0).0 in omega (arith, e, z)
 ]
 
-pub claim_sound : (geo : Geometry) (v : View) (n k b : ℕ) → IsClaim geo v n k b → IsTrue (is_number geo n) × IsTrue (is_sound (v.inode n))
-claim_sound geo v n k b c = and_parts (is_number geo n) (is_sound (v.inode n)) (use_parts geo v n k b c.0).sound
+pub claim_sound : (geo : Geometry) (v : View) (n k b : ℕ) → IsClaim geo v n k b → IsTrue (is_number geo n) × IsTrue (is_sound geo (v.inode n))
+claim_sound geo v n k b c = and_parts (is_number geo n) (is_sound geo (v.inode n)) (use_parts geo v n k b c.0).sound
 
 pub claim_used : (geo : Geometry) (v : View) (n k b : ℕ) → IsClaim geo v n k b → (v.inode n).mode ≡ 0 → ⊥
-claim_used geo v n k b c z = sound_used (v.inode n) (claim_sound geo v n k b c).1 z
+claim_used geo v n k b c z = sound_used geo (v.inode n) (claim_sound geo v n k b c).1 z
 
 pub place_used : (geo : Geometry) (v : View) → ObeysRules geo v → (i d s b : ℕ) → HasPlace geo v i d s b → (v.inode i).mode ≡ 0 → ⊥
-place_used geo v o i d s b p z = sound_used (v.inode i) (o.rule6.sound d s i p.reachable p.names) z
+place_used geo v o i d s b p z = sound_used geo (v.inode i) (o.rule6.sound d s i p.reachable p.names) z
 
 -- ---- a block's bit
 
@@ -127,9 +138,8 @@ clear_block_keeps geo disk q ghost after b may all =
     none : (set : Cell → Bool) (view : View) → Agrees geo users ghost set view → IsTrue (set (BlockBit b)) → AreIn after set → (n k : ℕ) → IsClaim geo view n k b → ⊥
     none set view a own met n k h =
         let up = a.blocks.unclaimed b n k own may.unclaimed may.not_held h in
-        let at = use_parts geo view n k b h.0 in
         let same : view.inode n ≡ users.inode n = a.same (Record n) (met (Record n) (may.record_first n k up)) in
-        may.no_position n k up (subst (λ x. IsTrue (is_number geo n && is_sound x)) same at.sound) (subst (λ x. IsTrue (is_used geo x k)) same at.used)
+        may.no_position n k up (subst (λ x. IsTrue (is_number geo n && is_sound geo x)) same (use_parts geo view n k b h.0).sound) (subst (λ x. IsTrue (has_position geo x k)) same (used_has geo view n k b h.0))
 
 -- ---- a number's bit
 

@@ -1,13 +1,17 @@
 -- A file is created by three updates, each of its kind.
-use Rattle.std.proofs.Common.{◌≡◌, ℕ, ◌<◌, ◌≤◌, ◌/◌, Bool, true, false, ◌&&◌, cond, eqb, ltb, List, [], ◌∷◌, inl, inr, refl, sym, ap, ◌∙◌, subst, IsTrue, arith, Contains, eqb-true, ltb-true, ltb-false, le-ltb}
-use Rattle.std.proofs.lemmas.Bool.{both_ways, cases_eq, cases_Bool, and_parts, and_from, cond-false}
+use Rattle.std.proofs.Common.{◌≡◌, ℕ, ◌<◌, ◌≤◌, ◌/◌, Bool, true, false, cond, eqb, List, [], ◌∷◌, inl, inr, refl, sym, ap, ◌∙◌, subst, IsTrue, arith, Contains, eqb-true}
+use Rattle.std.proofs.lemmas.Bool.{both_ways, cases_eq, cases_Bool, and_from, cond-false}
 use Rattle.model.specs.Layout.{Geometry, is_number, inode_count}
 use Rattle.model.specs.View.{View, Inode, new_file}
 use Rattle.model.specs.Cells.{SetInode, SetNumber, SetBytes, updated, put_at}
-use Rattle.model.specs.Uses.{use_at, is_directory_at, is_sound, is_used, blocks_of, direct_positions, indirect_position}
+use Rattle.model.specs.Shape.{first_block}
+use Rattle.model.specs.Uses.{use_at, has_position, is_directory_at, is_sound, blocks_of}
 use Rattle.model.specs.Slots.{Empty, Good, slot, number_in}
 use Rattle.model.specs.Reach.{IsReachableDirectory, HasEntries, entries_in, names_once, slot_count}
 use Rattle.model.specs.Rules.{ObeysRules}
+use Rattle.model.proofs.Shape.{reach_parts}
+use Rattle.model.proofs.Slots.{slots_of_uses}
+use Rattle.model.proofs.Uses.{new_file_sound}
 use Rattle.model.proofs.Sums.{sum-none, sum-one}
 use Rattle.model.proofs.SlotLemmas.{names_from_number, reachable_directory, directory_sound, number_low, number_below, directory_number}
 use Rattle.ordering.specs.Cuts.{Cell, NumberBit, Pending, users_view}
@@ -21,27 +25,26 @@ use Rattle.ordering.proofs.Trees.{SameTree, kept, place_back}
 use Rattle.ordering.proofs.Counts.{place_of}
 use Rattle.ordering.proofs.Bits.{users_obey, sound_used, claim_used, place_used, number_bit_shape, set_number_keeps}
 use Rattle.ordering.proofs.Frames.{SameShape}
-use Rattle.ordering.proofs.Records.{put_here, slots_of_uses}
+use Rattle.ordering.proofs.Records.{put_here}
 use Rattle.ordering.proofs.Outside.{outside_tree, other_directory, other_use}
 use Rattle.ordering.proofs.RecordKinds.{create_file_keeps}
-use Rattle.ordering.proofs.Graft.{used_low}
 use Rattle.ordering.proofs.NewNames.{enter_keeps}
 use Rattle.ordering.proofs.SlotKinds.{no_file_directory}
 use Rattle.ordering.proofs.OneSlots.{SameReach, at_slot, names_there, names_then, names_at_slot, names_at_slot_now, place_from}
 
 -- an inode with one place has at most one entry
-pub one_entry : (geo : Geometry) (v : View) (i d s : ℕ) → 1 ≤ i → d < inode_count geo → s < slot_count → ((e t c : ℕ) → HasPlace geo v i e t c → (e ≡ d) × (t ≡ s)) → (m : ℕ) → HasEntries geo v i m → m ≤ 1
+pub one_entry : (geo : Geometry) (v : View) (i d s : ℕ) → 1 ≤ i → d < inode_count geo → s < slot_count geo → ((e t c : ℕ) → HasPlace geo v i e t c → (e ≡ d) × (t ≡ s)) → (m : ℕ) → HasEntries geo v i m → m ≤ 1
 one_entry geo v i d s low d_low s_low only m h =
     let in_directory : (e : ℕ) → (e ≡ d → ⊥) → cond (h.0 e) (entries_in geo v i e) 0 ≡ 0 = λ e other. elim (cases_Bool (h.0 e)) [
       | inr out ↦ ap (λ b. cond b (entries_in geo v i e) 0) out
-      | inl member ↦ ap (λ b. cond b (entries_in geo v i e) 0) member ∙ sum-none slot_count (names_once geo v i e) (λ t b. none e t ((h.1 e).0 member) (λ at. other at.0))
+      | inl member ↦ ap (λ b. cond b (entries_in geo v i e) 0) member ∙ sum-none (slot_count geo) (names_once geo v i e) (λ t b. none e t ((h.1 e).0 member) (λ at. other at.0))
     ] in
     let total : m ≡ cond (h.0 d) (entries_in geo v i d) 0 = h.2 ∙ sum-one (inode_count geo) (λ e. cond (h.0 e) (entries_in geo v i e) 0) d d_low (λ e b other. in_directory e other) in
     elim (cases_Bool (h.0 d)) [
       | inr out ↦ let z : cond (h.0 d) (entries_in geo v i d) 0 ≡ 0 = ap (λ b. cond b (entries_in geo v i d) 0) out in omega (arith, total, z)
       | inl member ↦
           let here : cond (h.0 d) (entries_in geo v i d) 0 ≡ names_once geo v i d s =
-          ap (λ b. cond b (entries_in geo v i d) 0) member ∙ sum-one slot_count (names_once geo v i d) s s_low (λ t b other. none d t ((h.1 d).0 member) (λ at. other at.1)) in
+          ap (λ b. cond b (entries_in geo v i d) 0) member ∙ sum-one (slot_count geo) (names_once geo v i d) s s_low (λ t b other. none d t ((h.1 d).0 member) (λ at. other at.1)) in
           omega (arith, total, here, small d s)
     ]
   where
@@ -60,20 +63,9 @@ one_entry geo v i d s low d_low s_low only m h =
       | inr isnt ↦ cond-false (eqb (number_in (slot geo v e t)) i) 1 0 isnt
     ]
 
--- an empty file uses nothing
-uses_nothing : (geo : Geometry) (k : ℕ) → IsTrue (is_used geo new_file k) → ⊥
-uses_nothing geo k u = elim (cases_Bool (ltb k indirect_position)) [
-  | inl low ↦ let below : k < 0 = used_low geo new_file k u (ltb-true k 268 low) in omega (arith, below)
-  | inr high ↦ at_end high
-]
-  where
-    at_end : ltb k indirect_position ≡ false → ⊥
-    at_end high =
-        let above : 268 ≤ k = ltb-false k 268 high in
-        let first = cond-false (ltb k direct_positions) (ltb k (blocks_of new_file.size)) _ (le-ltb k 12 (omega (arith, above))) in
-        let second = cond-false (ltb k indirect_position) _ (eqb k indirect_position && ltb direct_positions (blocks_of new_file.size)) high in
-        let parts = and_parts (eqb k indirect_position) (ltb direct_positions (blocks_of new_file.size)) (sym second ∙ sym first ∙ u) in
-        let twelve : 12 < 0 = ltb-true 12 0 parts.1 in omega (arith, twelve)
+-- an empty file has no position
+has_nothing : (geo : Geometry) (k : ℕ) → IsTrue (has_position geo new_file k) → ⊥
+has_nothing geo k h = let below : first_block geo k < 0 = (reach_parts geo (blocks_of new_file.size) k h).1 in omega (arith, below)
 
 module _ (geo : Geometry) (disk : View) (q : List Pending) (held safe : ℕ → Bool) (n block : ℕ) (bytes : List ℕ) (d s : ℕ) (name : List ℕ) (after : List Cell)
     (may : MayCreateFile geo (users_view disk q) n block bytes d s name after) where
@@ -122,13 +114,12 @@ module _ (geo : Geometry) (disk : View) (q : List Pending) (held safe : ℕ → 
         marked = put_here u0.number_marked n true;
         not_zeroed = refl;
         bit = first;
-        sound = refl;
-        pointers = λ t k u low high. absurd (uses_nothing geo k u);
+        sound = new_file_sound geo;
         blocks = record {
           number = may.number;
-          sound = inr refl;
-          came = λ k t u. absurd (uses_nothing geo k u);
-          once = λ k j b u v x y. absurd (uses_nothing geo k u);
+          sound = inr (new_file_sound geo);
+          came = λ k t u. absurd (has_nothing geo k u);
+          once = λ k j b u v x y. absurd (has_nothing geo k u);
           went = λ k b c. absurd (claim_used geo u1 n k b c free);
           held = λ b t. t;
           given_up = λ b m k t. t;
@@ -144,20 +135,20 @@ module _ (geo : Geometry) (disk : View) (q : List Pending) (held safe : ℕ → 
       -- nothing names the number yet
       tree : SameTree geo u1 u2
       tree = outside_tree geo u1 n new_file rules1.rule1
-          (λ r. sound_used (u1.inode n) (directory_sound geo u1 n (reachable_directory geo u1 n r)) free)
-          (λ e t r h. absurd (sound_used (u1.inode n) (rules1.rule6.sound e t n r h) free))
+          (λ r. sound_used geo (u1.inode n) (directory_sound geo u1 n (reachable_directory geo u1 n r)) free)
+          (λ e t r h. absurd (sound_used geo (u1.inode n) (rules1.rule6.sound e t n r h) free))
 
       shape : SameShape geo u0 u1
       shape = number_bit_shape geo u0 n true
 
       apart : d ≡ n → ⊥
-      apart e = sound_used (u0.inode n) (subst (λ x. IsTrue (is_sound (u0.inode x))) e (directory_sound geo u0 d may.change.slot.directory)) free
+      apart e = sound_used geo (u0.inode n) (subst (λ x. IsTrue (is_sound geo (u0.inode x))) e (directory_sound geo u0 d may.change.slot.directory)) free
 
       use_kept : (k : ℕ) → use_at geo u0 d k ≡ use_at geo u2 d k
       use_kept k = shape.uses d k ∙ other_use geo u1 n new_file d k apart
 
       slot_kept : (t : ℕ) → slot geo u0 d t ≡ slot geo u2 d t
-      slot_kept t = slots_of_uses geo u0 u2 refl d t (other_directory geo u1 n new_file d apart) (use_kept (t / 16))
+      slot_kept t = slots_of_uses geo u0 u2 d t (other_directory geo u1 n new_file d apart) (use_kept (t / 16)) (λ a dir low c. refl)
 
       here : put_at u1.inode n new_file n ≡ new_file
       here = put_here u1.inode n new_file
@@ -202,7 +193,7 @@ module _ (geo : Geometry) (disk : View) (q : List Pending) (held safe : ℕ → 
           others = λ k b l c o. may.fresh_name.others k b l (use_kept k ∙ c.0, c.1) o;
         };
         file = ap (λ (y : Inode). y.mode) here;
-        sound = and_from (is_number geo n) (is_sound (put_at u1.inode n new_file n)) may.number (ap is_sound here);
+        sound = and_from (is_number geo n) (is_sound geo (put_at u1.inode n new_file n)) may.number (ap (is_sound geo) here ∙ new_file_sound geo);
         record_first = may.record_first;
         links = λ m h.
             let few = one_entry geo u3 n d s (omega (arith, number_low geo n may.number)) (number_below geo d (directory_number geo u0 d may.change.slot.directory)) (omega (arith, may.change.slot.below)) only m h in

@@ -1,14 +1,15 @@
--- The kinds of update that write a data block that is no directory's and no indirect block.
-use Rattle.std.proofs.Common.{◌≡◌, ℕ, Bool, false, ◌&&◌, cond, ltb, ◌/◌, List, inl, inr, refl, sym, ap, ◌∙◌, IsTrue, le_refl, arith}
-use Rattle.std.specs.Option.{option_map_or}
+-- The kinds of update that write a data block that is no directory's and no table.
+use Rattle.std.proofs.Common.{◌≡◌, ℕ, Bool, ◌/◌, List, inl, inr, refl, sym, ap, ◌∙◌, subst, IsTrue, le_refl, arith}
 use Rattle.std.proofs.lemmas.Bool.{both_ways, cases_Bool}
 use Rattle.model.specs.Layout.{Geometry}
 use Rattle.model.specs.View.{View}
 use Rattle.model.specs.Cells.{SetBytes, updated}
-use Rattle.model.specs.Uses.{claim_at, is_directory, is_directory_at, is_sound_at, IsClaim, indirect_position}
-use Rattle.model.specs.Slots.{Absent, slot, slot_in}
+use Rattle.model.specs.Shape.{is_table}
+use Rattle.model.specs.Uses.{is_directory, is_directory_at, is_sound_at, IsClaim}
+use Rattle.model.specs.Slots.{slot}
 use Rattle.model.specs.Rules.{ObeysRules}
 use Rattle.model.proofs.CellLemmas.{use_stays, slot_stays}
+use Rattle.model.proofs.NamedLemmas.{no_directory_no_slot}
 use Rattle.ordering.specs.Cuts.{Cell, BlockBit, Block, Pending, users_view, AreIn}
 use Rattle.ordering.specs.Ghosts.{Ghost}
 use Rattle.ordering.specs.Agrees.{Agrees}
@@ -18,26 +19,22 @@ use Rattle.std.proofs.lemmas.Bool.{and_parts}
 use Rattle.ordering.proofs.Bits.{users_obey, claim_used}
 use Rattle.std.proofs.Common.{eqb-true}
 
-absent : (geo : Geometry) (v : View) (d s : ℕ) → is_directory_at geo v d ≡ false → slot geo v d s ≡ Absent
-unfolding slot
-absent geo v d s f = ap (λ b. cond (b && ltb (s / 16) indirect_position) (option_map_or (λ a. slot_in geo (v.bytes a) s) (claim_at geo v d (s / 16)) Absent) Absent) f
-
--- new bytes of a block that no directory claims, and no inode as its indirect block
-pub bytes_shape : (geo : Geometry) (v : View) (b : ℕ) (bytes : List ℕ) → ((i : ℕ) → IsClaim geo v i indirect_position b → ⊥)
+-- new bytes of a block that no directory claims, and no inode as a table
+pub bytes_shape : (geo : Geometry) (v : View) (b : ℕ) (bytes : List ℕ) → ((i m : ℕ) → IsTrue (is_table geo m) → IsClaim geo v i m b → ⊥)
     → ((d k : ℕ) → IsTrue (is_directory_at geo v d) → IsClaim geo v d k b → ⊥) → SameShape geo v (updated v (SetBytes b bytes))
-bytes_shape geo v b bytes no_indirect no_directory =
-    shape_from geo v (updated v (SetBytes b bytes)) (λ n. refl) (λ n. refl) (λ n. refl) (use_stays geo v b bytes no_indirect) slots
+bytes_shape geo v b bytes no_table no_directory =
+    shape_from geo v (updated v (SetBytes b bytes)) (λ n. refl) (λ n. refl) (λ n. refl) (use_stays geo v b bytes no_table) slots
   where
     slots : (d s : ℕ) → slot geo v d s ≡ slot geo (updated v (SetBytes b bytes)) d s
     slots d s = elim (cases_Bool (is_directory_at geo v d)) [
-      | inl t ↦ slot_stays geo v b bytes no_indirect d s (λ c. no_directory d (s / 16) t c)
-      | inr f ↦ absent geo v d s f ∙ sym (absent geo (updated v (SetBytes b bytes)) d s f)
+      | inl t ↦ slot_stays geo v b bytes no_table d s (λ c. no_directory d (s / 16) t c)
+      | inr f ↦ no_directory_no_slot geo v d s f ∙ sym (no_directory_no_slot geo (updated v (SetBytes b bytes)) d s f)
     ]
 
 pub directory_mode : (geo : Geometry) (v : View) (d : ℕ) → IsTrue (is_directory_at geo v d) → (v.inode d).mode ≡ 2
 directory_mode geo v d t = eqb-true (v.inode d).mode 2 (and_parts (is_sound_at geo v d) (is_directory (v.inode d)) t).1
 
--- a write of a block that is nobody's directory or indirect block in the users' view and in each cut that has its last bytes
+-- a write of a block that is nobody's directory block or table in the users' view and in each cut that has its last bytes
 pub plain_write : (geo : Geometry) (disk : View) (q : List Pending) (ghost : Ghost) (after : List Cell) (b : ℕ) (bytes : List ℕ)
     → SameShape geo (users_view disk q) (updated (users_view disk q) (SetBytes b bytes))
     → ((set : Cell → Bool) (view : View) → Agrees geo (users_view disk q) ghost set view → IsTrue (set (Block b)) → AreIn after set
@@ -62,22 +59,22 @@ pub fill_keeps : (geo : Geometry) (disk : View) (q : List Pending) (ghost : Ghos
     → MayFill geo (users_view disk q) ghost after b → Keeps geo disk q ghost (record { change = SetBytes b bytes; after = after }) ghost
 fill_keeps geo disk q ghost after b bytes may =
     plain_write geo disk q ghost after b bytes
-    (bytes_shape geo (users_view disk q) b bytes (λ i c. may.free.unclaimed (i, indirect_position, c)) (λ d k t c. may.free.unclaimed (d, k, c)))
+    (bytes_shape geo (users_view disk q) b bytes (λ i m t c. may.free.unclaimed (i, m, c)) (λ d k t c. may.free.unclaimed (d, k, c)))
     (λ set view a own met.
     let none : (n k : ℕ) → IsClaim geo view n k b → ⊥ = λ n k c. both_ways (ghost.given_up b n k) (may.free.not_given_up n k) (a.blocks.unclaimed b n k (met (BlockBit b) may.bit) may.free.unclaimed may.free.not_held c) in
-    bytes_shape geo view b bytes (λ i c. none i indirect_position c) (λ d k t c. none d k c))
+    bytes_shape geo view b bytes (λ i m t c. none i m c) (λ d k t c. none d k c))
 
 pub write_keeps : (geo : Geometry) (disk : View) (q : List Pending) (ghost : Ghost) (after : List Cell) (n p b : ℕ) (bytes : List ℕ)
     → MayWrite geo (users_view disk q) n p b → Keeps geo disk q ghost (record { change = SetBytes b bytes; after = after }) ghost
 write_keeps geo disk q ghost after n p b bytes may all =
     plain_write geo disk q ghost after b bytes
     (bytes_shape geo users b bytes
-    (λ i c. may.below (sym (rules.rule3.once i indirect_position n p b c may.claims).1))
+    (λ i m t c. both_ways (is_table geo p) may.no_table (subst (λ k. IsTrue (is_table geo k)) (rules.rule3.once i m n p b c may.claims).1 t))
     (λ d k t c. let e : d ≡ n = (rules.rule3.once d k n p b c may.claims).0 in two d e t))
     (λ set view a own met.
     let bit : IsTrue (set (BlockBit b)) = a.blocks.marked b n p may.claims own in
     bytes_shape geo view b bytes
-    (λ i c. may.below (sym (a.blocks.claimed b n p i indirect_position bit may.claims c).1))
+    (λ i m t c. both_ways (is_table geo p) may.no_table (subst (λ k. IsTrue (is_table geo k)) (a.blocks.claimed b n p i m bit may.claims c).1 t))
     (λ d k t c.
     let e = a.blocks.claimed b n p d k bit may.claims c in
     let mine : (view.inode n).mode ≡ 2 = ap (λ x. (view.inode x).mode) (sym e.0) ∙ directory_mode geo view d t in

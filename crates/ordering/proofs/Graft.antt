@@ -1,18 +1,18 @@
 -- The entry of a directory comes that had none.
-use Rattle.std.proofs.Common.{◌≡◌, ℕ, zero, suc, ◌<◌, ◌≤◌, ◌/◌, Bool, ◌&&◌, cond, ltb, List, ◌⊎◌, inl, inr, refl, sym, ap, ap₂, ◌∙◌, subst, IsTrue, le_refl, arith, Option, Some, lt-ltb, ltb-true}
-use Rattle.std.specs.Bool.{then_some}
-use Rattle.std.specs.Option.{option_map_or, option_and_then}
-use Rattle.std.proofs.lemmas.Bool.{both_ways, cases_eq, and_parts, cases_Bool, cases_lt, cond-true, cond-false}
-use Rattle.model.specs.Layout.{Geometry, is_number, is_data_address, root}
+use Rattle.std.proofs.Common.{◌≡◌, ℕ, zero, suc, ◌<◌, ◌≤◌, ◌/◌, Bool, ◌&&◌, List, ◌⊎◌, inl, inr, refl, sym, ap, ◌∙◌, subst, IsTrue, le_refl, arith, Some}
+use Rattle.std.proofs.lemmas.Bool.{both_ways, cases_eq, and_parts, cases_lt}
+use Rattle.model.specs.Layout.{Geometry, is_number, root}
 use Rattle.model.specs.View.{View, Inode}
 use Rattle.model.specs.Cells.{SetBytes, updated}
-use Rattle.model.specs.Uses.{use_at, claim_at, is_directory, is_directory_at, is_sound_at, is_sound, is_used, value_at, blocks_of, IsUse, IsClaim, indirect_position, direct_positions}
+use Rattle.model.specs.Shape.{is_table}
+use Rattle.model.specs.Uses.{use_at, is_directory, is_directory_at, is_sound, blocks_of, IsUse, IsClaim}
 use Rattle.model.specs.Slots.{Absent, Empty, Good, Bad, slot, slot_in, Names}
 use Rattle.model.specs.Reach.{Path, IsReachableDirectory, IsReachable, IsEntry, HasEntries, HasParent}
 use Rattle.model.specs.Rules.{ObeysRules, LinksCoverEntries}
-use Rattle.model.proofs.Same.{same_then, same_cond, same_map_or}
+use Rattle.model.proofs.Shape.{few_none}
 use Rattle.model.proofs.SlotLemmas.{reachable_directory, directory_sound, directory_number, names_one, number_low}
-use Rattle.model.proofs.UseLemmas.{claim_parts, use_parts}
+use Rattle.model.proofs.Slots.{slots_of_uses}
+use Rattle.model.proofs.Uses.{above_table, has_below, used_has, uses_agree}
 use Rattle.ordering.specs.Cuts.{Cell, Record, NumberBit, Block, Pending, users_view, without, AreIn}
 use Rattle.ordering.specs.Places.{HasPlace}
 use Rattle.ordering.specs.Ghosts.{Ghost}
@@ -27,7 +27,6 @@ use Rattle.ordering.proofs.OneSlots.{slot_uses, slot_now, slot_others, at_slot, 
 use Rattle.ordering.proofs.SlotSteps.{SlotTaken, slot_step_with, uses_obey}
 use Rattle.ordering.proofs.SlotKinds.{two_cases, unclaimed_shape, unclaimed_rules}
 use Rattle.ordering.proofs.NewNames.{new_in_cut}
-use Rattle.ordering.proofs.RecordSteps.{same_value}
 use Rattle.ordering.proofs.Prune.{reached_or_not, unreached_tree, unreached_rules}
 
 -- ---- one view
@@ -176,14 +175,14 @@ module _ (geo : Geometry) (v : View) (block : ℕ) (bytes : List ℕ) (d s i : �
       ]
     ]
 
-    new_sound : (t j : ℕ) → Names geo v i t j → IsTrue (is_sound (v.inode j))
+    new_sound : (t j : ℕ) → Names geo v i t j → IsTrue (is_sound geo (v.inode j))
     new_sound t j n = elim (cases_lt t 2) [
       | inr high ↦ absurd (leaf t j high n)
       | inl below ↦ elim (cases_eq t 0) [
-        | inl first ↦ subst (λ x. IsTrue (is_sound (v.inode x))) (names_one geo v i 0 i j loose.dot (subst (λ x. Names geo v i x j) first n)) (directory_sound geo v i loose.directory)
+        | inl first ↦ subst (λ x. IsTrue (is_sound geo (v.inode x))) (names_one geo v i 0 i j loose.dot (subst (λ x. Names geo v i x j) first n)) (directory_sound geo v i loose.directory)
         | inr second ↦
             let one : t ≡ 1 = omega (arith, below, second) in
-            subst (λ x. IsTrue (is_sound (v.inode x))) (names_one geo v i 1 d j loose.dot_dot (subst (λ x. Names geo v i x j) one n)) (directory_sound geo v d (reachable_directory geo v d reached))
+            subst (λ x. IsTrue (is_sound geo (v.inode x))) (names_one geo v i 1 d j loose.dot_dot (subst (λ x. Names geo v i x j) one n)) (directory_sound geo v d (reachable_directory geo v d reached))
       ]
     ]
 
@@ -220,7 +219,7 @@ module _ (geo : Geometry) (v : View) (block : ℕ) (bytes : List ℕ) (d s i : �
           | inr mine ↦ absurd (leaf t j p (nm, new_slot t ∙ subst (λ x. slot geo w x t ≡ Good j nm) mine f))
         ];
         sound = λ e t j r n. elim (graft_came e t j n) [
-          | inr here ↦ subst (λ x. IsTrue (is_sound (v.inode x))) (sym here.0) (directory_sound geo v i loose.directory)
+          | inr here ↦ subst (λ x. IsTrue (is_sound geo (v.inode x))) (sym here.0) (directory_sound geo v i loose.directory)
           | inl m ↦ elim (reach_came e r) [
             | inl old ↦ o.rule6.sound e t j old m
             | inr mine ↦ new_sound t j (subst (λ x. Names geo v x t j) mine m)
@@ -236,41 +235,26 @@ module _ (geo : Geometry) (v : View) (block : ℕ) (bytes : List ℕ) (d s i : �
 
 -- ---- a directory of one block
 
-pub used_low : (geo : Geometry) (x : Inode) (k : ℕ) → IsTrue (is_used geo x k) → k < indirect_position → k < blocks_of x.size
-used_low geo x k used low = elim (cases_Bool (ltb k direct_positions)) [
-  | inl t ↦ ltb-true k (blocks_of x.size) (sym (cond-true (ltb k direct_positions) (ltb k (blocks_of x.size)) _ t) ∙ used)
-  | inr f ↦ ltb-true k (blocks_of x.size) (and_parts (ltb k (blocks_of x.size)) (is_data_address geo x.indirect)
-      (sym (cond-true (ltb k indirect_position) (ltb k (blocks_of x.size) && is_data_address geo x.indirect) _ (lt-ltb k indirect_position low))
-      ∙ sym (cond-false (ltb k direct_positions) (ltb k (blocks_of x.size)) _ f) ∙ used)).0
-]
-
 -- two views with its record and its block have its slots
 module _ (geo : Geometry) (v u : View) (i b : ℕ) (same : v.inode i ≡ u.inode i) (same_block : v.bytes b ≡ u.bytes b) (one : blocks_of (u.inode i).size ≡ 1) (first : IsClaim geo u i 0 b) where
+  no_table : (m a : ℕ) → IsTrue (is_table geo m) → IsClaim geo u i m a → ⊥
+  no_table m a t c = few_none geo (blocks_of (u.inode i).size) m (omega (arith, one)) t (used_has geo u i m a c.0)
+
   block_uses : (k : ℕ) → use_at geo v i k ≡ use_at geo u i k
-  unfolding use_at
-  block_uses k =
-      ap (λ y. then_some (is_number geo i && is_sound y && is_used geo y k) (value_at v y k)) same
-      ∙ same_then (is_sound_at geo u i && is_used geo (u.inode i) k) (value_at v (u.inode i) k) (value_at u (u.inode i) k) (λ t.
-      same_value v u (u.inode i) k (λ low high. absurd (
-      let below : k < blocks_of (u.inode i).size = used_low geo (u.inode i) k (and_parts (is_sound_at geo u i) (is_used geo (u.inode i) k) t).1 high in omega (arith, below, one, low))))
+  block_uses k = sym (uses_agree geo u v i k (λ number. sym same) (λ m a above c. absurd (no_table m a (above_table geo k m above) c)))
 
   block_directory : is_directory_at geo v i ≡ is_directory_at geo u i
-  block_directory = ap (λ y. is_number geo i && is_sound y && is_directory y) same
+  block_directory = ap (λ y. is_number geo i && is_sound geo y && is_directory y) same
 
   block_slots : (t : ℕ) → slot geo v i t ≡ slot geo u i t
-  unfolding slot claim_at
-  block_slots t =
-      ap₂ (λ (dir : Bool) (o : Option ℕ). cond (dir && ltb (t / 16) indirect_position) (option_map_or (λ a. slot_in geo (v.bytes a) t) (option_and_then (λ a. then_some (is_data_address geo a) a) o) Absent) Absent) block_directory (block_uses (t / 16))
-      ∙ same_cond (is_directory_at geo u i && ltb (t / 16) indirect_position) _ _ Absent (λ c.
-      same_map_or (λ a. slot_in geo (v.bytes a) t) (λ a. slot_in geo (u.bytes a) t) Absent (claim_at geo u i (t / 16)) (λ a at.
-      let claim = claim_parts geo u i (t / 16) a at in
-      let high : t / 16 < 268 = ltb-true (t / 16) indirect_position (and_parts (is_directory_at geo u i) (ltb (t / 16) indirect_position) c).1 in
-      let below : t / 16 < blocks_of (u.inode i).size = used_low geo (u.inode i) (t / 16) (use_parts geo u i (t / 16) a claim.0).used high in
+  block_slots t = slots_of_uses geo v u i t block_directory (block_uses (t / 16)) (λ a dir low claim.
+      let theirs : IsUse geo u i (t / 16) a = sym (block_uses (t / 16)) ∙ claim.0 in
+      let below = has_below geo (u.inode i) (t / 16) low (used_has geo u i (t / 16) a theirs) in
       let zero_at : t / 16 ≡ 0 = omega (arith, below, one) in
-      let here : use_at geo u i 0 ≡ Some a = subst (λ k. IsUse geo u i k a) zero_at claim.0 in
+      let here : use_at geo u i 0 ≡ Some a = subst (λ k. IsUse geo u i k a) zero_at theirs in
       let there : use_at geo u i 0 ≡ Some b = first.0 in
       let ab : b ≡ a = cc in
-      ap (λ x. slot_in geo x t) (subst (λ x. v.bytes x ≡ u.bytes x) ab same_block)))
+      ap (λ x. slot_in geo x t) (subst (λ x. v.bytes x ≡ u.bytes x) ab same_block))
 
 -- ---- the kind
 
@@ -421,7 +405,7 @@ module _ (geo : Geometry) (disk : View) (q : List Pending) (ghost : Ghost) (afte
       d_low = omega (arith, number_low geo d (directory_number geo users d h_users.directory))
 
       bit : IsTrue (set (NumberBit i))
-      bit = a.numbers.used i (λ z. sound_used (users.inode i) (directory_sound geo users i may.directory) z) written
+      bit = a.numbers.used i (λ z. sound_used geo (users.inode i) (directory_sound geo users i may.directory) z) written
 
       slots : (t : ℕ) → slot geo view i t ≡ slot geo users i t
       slots = block_slots geo view users i b same same_block may.one_block may.first

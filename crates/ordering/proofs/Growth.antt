@@ -1,60 +1,36 @@
 -- A directory gets blocks whose slots are empty.
-use Rattle.std.proofs.Common.{◌≡◌, ◌≢◌, ℕ, ◌≤◌, ◌/◌, Bool, true, false, ◌&&◌, cond, eqb, ltb, List, ◌∷◌, ◌⊎◌, inl, inr, refl, sym, ap, ◌∙◌, subst, IsTrue, Some, None, Contains, ltb-true}
-use Rattle.std.specs.Bool.{then_some}
-use Rattle.std.specs.Option.{option_map_or, option_and_then}
-use Rattle.std.proofs.lemmas.Bool.{both_ways, cases_eq, and_from, cases_Bool, and_right}
-use Rattle.model.specs.Layout.{Geometry, is_number, is_data_address, root}
+use Rattle.std.proofs.Common.{◌≡◌, ◌≢◌, ℕ, ◌≤◌, ◌/◌, ◌&&◌, cond, eqb, List, ◌∷◌, ◌⊎◌, inl, inr, refl, sym, ap, ◌∙◌, subst, IsTrue, IsFalse, None, Contains, eq-eqb, le-ltb}
+use Rattle.std.proofs.lemmas.Bool.{both_ways, cases_eq, cases_lt, and_from, cases_Bool}
+use Rattle.model.specs.Layout.{Geometry, is_number, root}
 use Rattle.model.specs.View.{View, Inode}
 use Rattle.model.specs.Cells.{SetInode, updated, put_at}
-use Rattle.model.specs.Uses.{use_at, claim_at, is_directory, is_directory_at, is_sound, is_sound_at, is_used, value_at, IsUse, IsClaim, indirect_position}
+use Rattle.model.specs.Shape.{most_blocks}
+use Rattle.model.specs.Uses.{use_at, has_position, is_directory, is_directory_at, is_sound, is_sound_at, record_use, IsUse, IsClaim}
 use Rattle.model.specs.Slots.{Absent, Empty, Good, Bad, slot, slot_in}
 use Rattle.model.specs.Rules.{ObeysRules}
-use Rattle.model.proofs.UseLemmas.{use_from, claim_from}
+use Rattle.model.proofs.NamedLemmas.{too_far_no_slot}
+use Rattle.model.proofs.Slots.{slot_absent, slot_claimed, slots_of_uses}
+use Rattle.model.proofs.Steps.{use_at_is}
+use Rattle.model.proofs.Uses.{no_position_none, used_has}
 use Rattle.ordering.specs.Cuts.{Cell, Record, BlockBit, Block, Pending, users_view, EachCut}
-use Rattle.ordering.proofs.CutLemmas.{each_step, was_fresh}
 use Rattle.ordering.specs.Ghosts.{Ghost}
 use Rattle.ordering.specs.Agrees.{Agrees, AllAgree}
 use Rattle.ordering.specs.Kinds.{Keeps}
 use Rattle.ordering.specs.Rewrites.{Comes, MayGrowDirectory}
+use Rattle.ordering.proofs.CutLemmas.{each_step, was_fresh}
 use Rattle.ordering.proofs.Trees.{SameTree}
 use Rattle.ordering.proofs.Bits.{users_obey, sound_used}
-use Rattle.ordering.proofs.Records.{put_here, slots_of_uses}
+use Rattle.ordering.proofs.Records.{put_here}
 use Rattle.ordering.proofs.Outside.{other_directory, other_sound, other_use, other_slot}
-use Rattle.ordering.proofs.RecordSteps.{record_step, Fits, same_value}
+use Rattle.ordering.proofs.CutUses.{stays_used, comes_used}
+use Rattle.ordering.proofs.RecordSteps.{record_step, record_there, use_there, Fits}
 use Rattle.ordering.proofs.RecordKinds.{same_flags, keeps_tree_skip, keeps_tree_take}
-
--- ---- slots, by what their directory uses
-
-pub use_none : (geo : Geometry) (v : View) (n k : ℕ) → is_used geo (v.inode n) k ≡ false → use_at geo v n k ≡ None
-unfolding use_at
-use_none geo v n k f = ap (λ b. then_some b (value_at v (v.inode n) k)) (and_right (is_sound_at geo v n) (is_used geo (v.inode n) k) f)
-
-pub slot_none : (geo : Geometry) (v : View) (d s : ℕ) → use_at geo v d (s / 16) ≡ None → slot geo v d s ≡ Absent
-unfolding slot claim_at
-slot_none geo v d s e =
-    ap (λ u. cond (is_directory_at geo v d && ltb (s / 16) indirect_position) (option_map_or (λ a. slot_in geo (v.bytes a) s) (option_and_then (λ a. then_some (is_data_address geo a) a) u) Absent) Absent) e
-    ∙ either (is_directory_at geo v d && ltb (s / 16) indirect_position)
-  where
-    either : (b : Bool) → cond b Absent Absent ≡ Absent
-    either true = refl
-    either false = refl
-
-pub slot_beyond : (geo : Geometry) (v : View) (d s : ℕ) → ltb (s / 16) indirect_position ≡ false → slot geo v d s ≡ Absent
-unfolding slot
-slot_beyond geo v d s f =
-    ap (λ b. cond b (option_map_or (λ a. slot_in geo (v.bytes a) s) (claim_at geo v d (s / 16)) Absent) Absent) (and_right (is_directory_at geo v d) (ltb (s / 16) indirect_position) f)
-
-pub slot_claimed : (geo : Geometry) (v : View) (d s b : ℕ) → IsTrue (is_directory_at geo v d) → IsTrue (ltb (s / 16) indirect_position) → IsClaim geo v d (s / 16) b → slot geo v d s ≡ slot_in geo (v.bytes b) s
-unfolding slot
-slot_claimed geo v d s b dir low c =
-    ap (λ t. cond t (option_map_or (λ a. slot_in geo (v.bytes a) s) (claim_at geo v d (s / 16)) Absent) Absent) (and_from (is_directory_at geo v d) (ltb (s / 16) indirect_position) dir low)
-    ∙ ap (λ o. option_map_or (λ a. slot_in geo (v.bytes a) s) o Absent) (claim_from geo v d (s / 16) b c)
 
 module _ (geo : Geometry) (disk : View) (q : List Pending) (ghost : Ghost) (after : List Cell) (n : ℕ) (x : Inode) (may : MayGrowDirectory geo disk q ghost after n x) where
   abbrev users : View
   users = users_view disk q
 
-  sound_same : is_sound (users.inode n) ≡ is_sound x
+  sound_same : is_sound geo (users.inode n) ≡ is_sound geo x
   sound_same = may.sound ∙ sym may.still_sound
 
   module _ (v : View) (same : v.inode n ≡ users.inode n) (blocks : (c : ℕ) → Contains after (Block c) → v.bytes c ≡ users.bytes c) where
@@ -62,49 +38,43 @@ module _ (geo : Geometry) (disk : View) (q : List Pending) (ghost : Ghost) (afte
     w = updated v (SetInode n x)
 
     flags : (is_directory_at geo v n ≡ is_directory_at geo w n) × (is_sound_at geo v n ≡ is_sound_at geo w n)
-    flags = same_flags geo v n x (ap is_sound same ∙ sound_same) (ap (λ (y : Inode). y.mode) same ∙ may.directory ∙ sym may.still_directory)
+    flags = same_flags geo v n x (ap (is_sound geo) same ∙ sound_same) (ap (λ (y : Inode). y.mode) same ∙ may.directory ∙ sym may.still_directory)
 
     now_directory : IsTrue (is_directory_at geo w n)
-    now_directory = and_from (is_number geo n && is_sound (put_at v.inode n x n)) (is_directory (put_at v.inode n x n))
-        (and_from (is_number geo n) (is_sound (put_at v.inode n x n)) may.blocks.number (ap is_sound (put_here v.inode n x) ∙ may.still_sound))
+    now_directory = and_from (is_number geo n && is_sound geo (put_at v.inode n x n)) (is_directory (put_at v.inode n x n))
+        (and_from (is_number geo n) (is_sound geo (put_at v.inode n x n)) may.blocks.number (ap (is_sound geo) (put_here v.inode n x) ∙ may.still_sound))
         (ap is_directory (put_here v.inode n x) ∙ ap (λ m. eqb m 2) may.still_directory)
 
-    now_use : (k b : ℕ) → IsTrue (is_used geo x k) → value_at v x k ≡ b → IsUse geo w n k b
-    now_use k b used value = use_from geo w n k b (record {
-      sound = and_from (is_number geo n) (is_sound (put_at v.inode n x n)) may.blocks.number (ap is_sound (put_here v.inode n x) ∙ may.still_sound);
-      used = ap (λ y. is_used geo y k) (put_here v.inode n x) ∙ used;
-      value = ap (λ y. value_at v y k) (put_here v.inode n x) ∙ value;
-    })
-
-    same_uses : (k : ℕ) → IsTrue (is_used geo (users.inode n) k) → use_at geo v n k ≡ use_at geo w n k
+    same_uses : (k : ℕ) → IsTrue (has_position geo (users.inode n) k) → use_at geo v n k ≡ use_at geo w n k
     same_uses k t =
         let stays = may.old_blocks k t in
-        let before : IsUse geo v n k (value_at v (users.inode n) k) = use_from geo v n k (value_at v (users.inode n) k) (record {
-          sound = and_from (is_number geo n) (is_sound (v.inode n)) may.blocks.number (ap is_sound same ∙ may.sound);
-          used = ap (λ y. is_used geo y k) same ∙ t;
-          value = ap (λ y. value_at v y k) same;
-        }) in
-        before ∙ sym (now_use k (value_at v (users.inode n) k) stays.0 (stays.1 v))
+        use_at_is geo v n k
+        ∙ ap (λ o. cond (is_number geo n) o None)
+        (ap (λ y. record_use geo v y k) same ∙ sym (stays_used geo v (users.inode n) x k may.still_sound stays.0 stays.1)
+        ∙ sym (record_there geo disk q ghost ghost after n x may.blocks v x k) ∙ ap (λ y. record_use geo w y k) (sym (put_here v.inode n x)))
+        ∙ sym (use_at_is geo w n k)
 
-    was_absent : (s : ℕ) → is_used geo (users.inode n) (s / 16) ≡ false → slot geo v n s ≡ Absent
-    was_absent s f = slot_none geo v n s (use_none geo v n (s / 16) (ap (λ y. is_used geo y (s / 16)) same ∙ f))
+    was_absent : (s : ℕ) → IsFalse (has_position geo (users.inode n) (s / 16)) → slot geo v n s ≡ Absent
+    was_absent s f = slot_absent geo v n s (no_position_none geo v n (s / 16) (ap (λ y. has_position geo y (s / 16)) same ∙ f))
 
-    now_empty : (s : ℕ) → is_used geo (users.inode n) (s / 16) ≡ false → (slot geo w n s ≡ Absent) ⊎ (slot geo w n s ≡ Empty)
-    now_empty s f = elim (cases_Bool (ltb (s / 16) indirect_position)) [
-      | inr high ↦ inl (slot_beyond geo w n s high)
-      | inl low ↦ elim (cases_Bool (is_used geo x (s / 16))) [
-        | inr none ↦ inl (slot_none geo w n s (use_none geo w n (s / 16) (ap (λ y. is_used geo y (s / 16)) (put_here v.inode n x) ∙ none)))
+    now_empty : (s : ℕ) → IsFalse (has_position geo (users.inode n) (s / 16)) → (slot geo w n s ≡ Absent) ⊎ (slot geo w n s ≡ Empty)
+    now_empty s f = elim (cases_lt (s / 16) (most_blocks geo)) [
+      | inr high ↦ inl (too_far_no_slot geo w n s (le-ltb (s / 16) (most_blocks geo) high))
+      | inl low ↦ elim (cases_Bool (has_position geo x (s / 16))) [
+        | inr none ↦ inl (slot_absent geo w n s (no_position_none geo w n (s / 16) (ap (λ y. has_position geo y (s / 16)) (put_here v.inode n x) ∙ none)))
         | inl used ↦ inr (
-            let c = may.empty s f used (ltb-true (s / 16) indirect_position low) in
-            let value : value_at v x (s / 16) ≡ value_at users x (s / 16) = same_value v users x (s / 16) (λ lo hi. blocks x.indirect (c.0.pointer lo hi)) in
-            slot_claimed geo w n s (value_at users x (s / 16)) now_directory low (now_use (s / 16) (value_at users x (s / 16)) used value, c.0.address)
-            ∙ ap (λ bytes. slot_in geo bytes s) (blocks (value_at users x (s / 16)) c.0.contents) ∙ c.1)
+            let c = may.empty s f used low in
+            slot_claimed geo w n s c.0 now_directory low (
+              use_there geo disk q ghost ghost after n x may.blocks v (s / 16) c.0 (comes_used geo disk q ghost after x (s / 16) c.0 c.1 v blocks),
+              c.1.address,
+            )
+            ∙ ap (λ bytes. slot_in geo bytes s) (blocks c.0 c.1.contents) ∙ c.2)
       ]
     ]
 
     same_or_new : (s : ℕ) → ((slot geo v n s ≡ slot geo w n s) × (use_at geo v n (s / 16) ≡ use_at geo w n (s / 16))) ⊎ ((slot geo v n s ≡ Absent) × ((slot geo w n s ≡ Absent) ⊎ (slot geo w n s ≡ Empty)))
-    same_or_new s = elim (cases_Bool (is_used geo (users.inode n) (s / 16))) [
-      | inl t ↦ inl (slots_of_uses geo v w refl n s flags.0 (same_uses (s / 16) t), same_uses (s / 16) t)
+    same_or_new s = elim (cases_Bool (has_position geo (users.inode n) (s / 16))) [
+      | inl t ↦ inl (slots_of_uses geo v w n s flags.0 (same_uses (s / 16) t) (λ a dir low c. refl), same_uses (s / 16) t)
       | inr f ↦ inr (was_absent s f, now_empty s f)
     ]
 
@@ -172,22 +142,18 @@ module _ (geo : Geometry) (disk : View) (q : List Pending) (ghost : Ghost) (afte
       rules = users_obey geo disk q ghost all
 
       old_used : (users.inode n).mode ≢ 0
-      old_used = λ z. sound_used (users.inode n) may.sound z
+      old_used = λ z. sound_used geo (users.inode n) may.sound z
 
       stays : (k b : ℕ) → IsUse geo users n k b → IsUse geo (updated users (SetInode n x)) n k b
-      stays k b u = sym (same_uses users refl (λ c h. refl) k (used_of (is_used geo (users.inode n) k) refl)) ∙ u
-        where
-          used_of : (t : Bool) → is_used geo (users.inode n) k ≡ t → is_used geo (users.inode n) k ≡ true
-          used_of true e = e
-          used_of false e = absurd (let none : use_at geo users n k ≡ None = use_none geo users n k e in let some : use_at geo users n k ≡ Some b = u in cc)
+      stays k b u = sym (same_uses users refl (λ c h. refl) k (used_has geo users n k b u)) ∙ u
 
       fits : Fits geo disk q ghost ghost after n x may.blocks
       fits = record {
         users_tree = grown_tree users refl (λ c h. refl);
         marked = λ u. rules.rule4 n may.blocks.number old_used;
         zeroed = λ m other f. f;
-        freed = λ z. absurd (sound_used x may.still_sound z);
-        directory_pointers = λ d. may.pointers;
+        freed = λ z. absurd (sound_used geo x may.still_sound z);
+        directory = λ d s. eq-eqb (users.inode n).mode 2 may.directory;
       }
 
 -- After a directory grew, a cut with the contents of the new block claims it only with the directory's new record.

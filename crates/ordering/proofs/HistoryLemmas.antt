@@ -12,7 +12,7 @@ use Rattle.ordering.proofs.Data.{fill_keeps, write_keeps}
 use Rattle.ordering.proofs.Records.{raise_keeps, lower_keeps}
 use Rattle.ordering.proofs.RecordKinds.{rewrite_file_keeps, create_file_keeps, create_directory_keeps, free_keeps}
 use Rattle.ordering.proofs.Growth.{grow_directory_keeps}
-use Rattle.ordering.proofs.Indirect.{append_slot_keeps, move_slot_keeps}
+use Rattle.ordering.proofs.Tables.{append_slot_keeps, move_slot_keeps}
 use Rattle.ordering.proofs.SlotKinds.{remove_keeps}
 use Rattle.ordering.proofs.NewNames.{enter_keeps, rename_keeps}
 use Rattle.ordering.proofs.Prune.{remove_directory_keeps}
@@ -33,8 +33,8 @@ step_keeps geo disk q ghost u ghost' (GrowsDirectory after n x h) = grow_directo
 step_keeps geo disk q ghost u ghost' (CreatesFile after n x h) = create_file_keeps geo disk q ghost after n x h
 step_keeps geo disk q ghost u ghost' (CreatesDirectory after n x h) = create_directory_keeps geo disk q ghost after n x h
 step_keeps geo disk q ghost u ghost' (Frees held up after n x h) = free_keeps geo disk q ghost held up after n x h
-step_keeps geo disk q ghost u ghost' (AppendsSlot after n x bytes h) = append_slot_keeps geo disk q ghost after n x bytes h
-step_keeps geo disk q ghost u ghost' (MovesSlot held up after n x p bytes h) = move_slot_keeps geo disk q ghost held up after n x p bytes h
+step_keeps geo disk q ghost u ghost' (AppendsSlot after n m x bytes h) = append_slot_keeps geo disk q ghost after n m x bytes h
+step_keeps geo disk q ghost u ghost' (MovesSlot held up after n m x p bytes h) = move_slot_keeps geo disk q ghost held up after n m x p bytes h
 step_keeps geo disk q ghost u ghost' (Removes after block bytes d s i name safe h) = remove_keeps geo disk q ghost after block bytes d s i name safe h
 step_keeps geo disk q ghost u ghost' (Enters after block bytes d s i name h) = enter_keeps geo disk q ghost after block bytes d s i name h
 step_keeps geo disk q ghost u ghost' (Renames after block bytes d s i old new h) = rename_keeps geo disk q ghost after block bytes d s i old new h
@@ -56,8 +56,8 @@ step_safe geo disk q ghost u ghost' (GrowsDirectory after n x h) f t = t
 step_safe geo disk q ghost u ghost' (CreatesFile after n x h) f t = t
 step_safe geo disk q ghost u ghost' (CreatesDirectory after n x h) f t = t
 step_safe geo disk q ghost u ghost' (Frees held up after n x h) f t = t
-step_safe geo disk q ghost u ghost' (AppendsSlot after n x bytes h) f t = t
-step_safe geo disk q ghost u ghost' (MovesSlot held up after n x p bytes h) f t = t
+step_safe geo disk q ghost u ghost' (AppendsSlot after n m x bytes h) f t = t
+step_safe geo disk q ghost u ghost' (MovesSlot held up after n m x p bytes h) f t = t
 step_safe geo disk q ghost u ghost' (Removes after block bytes d s i name safe h) f t = h.fewer_safe f t
 step_safe geo disk q ghost u ghost' (Enters after block bytes d s i name h) f t = t
 step_safe geo disk q ghost u ghost' (Renames after block bytes d s i old new h) f t = t

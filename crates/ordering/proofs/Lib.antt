@@ -7,10 +7,11 @@ pub mod Records
 pub mod Counts
 pub mod Claims
 pub mod Outside
+pub mod CutUses
 pub mod RecordSteps
 pub mod RecordKinds
 pub mod Growth
-pub mod Indirect
+pub mod Tables
 pub mod OneSlots
 mod SlotSteps
 pub mod SlotKinds

@@ -1,10 +1,11 @@
 -- The kinds of update that put a name into a slot: a file's entry comes, or an entry gets another name.
-use Rattle.std.proofs.Common.{◌≡◌, ℕ, ◌<◌, ◌≤◌, ◌/◌, Bool, ◌&&◌, List, ◌⊎◌, inl, inr, refl, sym, ap, ◌∙◌, subst, IsTrue, le_refl, arith, lt-ltb}
+use Rattle.std.proofs.Common.{◌≡◌, ℕ, ◌<◌, ◌≤◌, ◌/◌, Bool, ◌&&◌, List, ◌⊎◌, inl, inr, refl, sym, ap, ◌∙◌, subst, IsTrue, le_refl, arith}
 use Rattle.std.proofs.lemmas.Bool.{both_ways, cases_eq, and_parts}
 use Rattle.model.specs.Layout.{Geometry, is_number}
 use Rattle.model.specs.View.{View, Inode}
 use Rattle.model.specs.Cells.{SetBytes, updated}
-use Rattle.model.specs.Uses.{is_directory_at, is_sound, IsUse, indirect_position}
+use Rattle.model.specs.Shape.{most_blocks}
+use Rattle.model.specs.Uses.{is_directory_at, is_sound, IsUse}
 use Rattle.model.specs.Slots.{Slot, Empty, Good, Bad, slot, slot_in, Names}
 use Rattle.model.specs.Reach.{IsReachableDirectory, IsReachable, HasEntries}
 use Rattle.model.specs.Rules.{ObeysRules, UsesAreClaims, SlotsAreRight}
@@ -21,7 +22,7 @@ use Rattle.ordering.proofs.Trees.{place_back, reachable_kept}
 use Rattle.ordering.proofs.Bits.{users_obey}
 use Rattle.ordering.proofs.Data.{directory_mode}
 use Rattle.ordering.proofs.Counts.{place_of, entries_within}
-use Rattle.ordering.proofs.Growth.{slot_claimed}
+use Rattle.model.proofs.Slots.{slot_claimed}
 use Rattle.ordering.proofs.OneSlots.{slot_uses, slot_before, slot_now, slot_others, at_slot, names_there, names_then, the_block, block_there, block_then, names_at_slot, names_at_slot_now, SameReach, reach_kept, reach_back, reach_obeys, place_to, place_from, links_at}
 use Rattle.ordering.proofs.SlotSteps.{SlotTaken, slot_step, uses_obey}
 use Rattle.ordering.proofs.SlotKinds.{two_cases, unclaimed_shape, unclaimed_rules, no_file_directory}
@@ -35,17 +36,17 @@ new_in_cut geo users ghost after block d s name dir fresh_name set view a own me
     let claim = claim_parts geo view d (t / 16) at.block at.claimed in
     let two : (users.inode d).mode ≡ 2 = directory_mode geo users d dir in
     let claimed : IsUse geo users d (t / 16) at.block = a.modes.uses d (t / 16) at.block bit (λ z. omega (arith, two, z)) at.directory claim.0 in
-    let below : t / 16 < 268 = omega (arith, at.below) in
+    let below : t / 16 < most_blocks geo = omega (arith, at.below) in
     let written : IsTrue (set (Block at.block)) = elim (cases_eq at.block block) [
       | inl same ↦ subst (λ b. IsTrue (set (Block b))) (sym same) own
       | inr differs ↦ met (Block at.block) (fresh_name.others (t / 16) at.block below (claimed, claim.1) differs)
     ] in
-    fresh_name.new t j low other (slot_claimed geo users d t at.block dir (lt-ltb (t / 16) indirect_position below) (claimed, claim.1) ∙ ap (λ b. slot_in geo b t) (sym (a.same (Block at.block) written)) ∙ at.content)
+    fresh_name.new t j low other (slot_claimed geo users d t at.block dir below (claimed, claim.1) ∙ ap (λ b. slot_in geo b t) (sym (a.same (Block at.block) written)) ∙ at.content)
 
 -- the sixth rule, where a slot gets a new name of a sound inode
 pub named_slots_right : (geo : Geometry) (v : View) (block : ℕ) (bytes : List ℕ) (d s : ℕ) (old : Slot) (i : ℕ) (name : List ℕ) (h : OneSlot geo v block bytes d s old (Good i name)) (o : ObeysRules geo v)
     → 2 ≤ s → SameReach geo v (updated v (SetBytes block bytes)) → ((t j : ℕ) → 2 ≤ t → (t ≡ s → ⊥) → slot geo v d t ≡ Good j name → ⊥)
-    → (IsReachableDirectory geo v d → IsTrue (is_sound (v.inode i))) → SlotsAreRight geo (updated v (SetBytes block bytes))
+    → (IsReachableDirectory geo v d → IsTrue (is_sound geo (v.inode i))) → SlotsAreRight geo (updated v (SetBytes block bytes))
 named_slots_right geo v block bytes d s old i name h o low r new sound = record {
   none_bad = λ e t p b. elim (at e t) [
     | inr other ↦ o.rule6.none_bad e t (reach_back geo v after r e p) (others e t other ∙ b)
@@ -67,7 +68,7 @@ named_slots_right geo v block bytes d s old i name h o low r new sound = record 
         let k = names_at_slot_now geo v block bytes d s old (Good i name) h o.rule3 e t j here n in
         let same : Good i name ≡ Good j k.0 = k.1 in
         let ij : i ≡ j = cc in
-        subst (λ x. IsTrue (is_sound (v.inode x))) ij (sound (subst (λ x. IsReachableDirectory geo v x) here.0 (reach_back geo v after r e p)))
+        subst (λ x. IsTrue (is_sound geo (v.inode x))) ij (sound (subst (λ x. IsReachableDirectory geo v x) here.0 (reach_back geo v after r e p)))
   ];
 }
   where
@@ -96,7 +97,7 @@ reachable_by_places geo v w r same j places (inl y) = inl (reach_back geo v w r 
 reachable_by_places geo v w r same j places (inr y) =
     let p = place_of geo w j y.1 y.2 y.3.reachable y.3.names in
     let old = places y.1 y.2 p.0 p.1 in
-    inr (ap (λ (f : ℕ → Inode). is_number geo j && is_sound (f j)) same ∙ y.0, y.1, y.2, record { reachable = old.reachable; after_dots = y.3.after_dots; names = old.names })
+    inr (ap (λ (f : ℕ → Inode). is_number geo j && is_sound geo (f j)) same ∙ y.0, y.1, y.2, record { reachable = old.reachable; after_dots = y.3.after_dots; names = old.names })
 
 -- what stays reachable, where the places of an inode stay
 pub reachable_by_kept : (geo : Geometry) (v w : View) → SameReach geo v w → v.inode ≡ w.inode → (j : ℕ) → ((e t c : ℕ) → HasPlace geo v j e t c → HasPlace geo w j e t c) → IsReachable geo v j → IsReachable geo w j
@@ -104,7 +105,7 @@ reachable_by_kept geo v w r same j places (inl y) = inl (reach_kept geo v w r j 
 reachable_by_kept geo v w r same j places (inr y) =
     let p = place_of geo v j y.1 y.2 y.3.reachable y.3.names in
     let new = places y.1 y.2 p.0 p.1 in
-    inr (ap (λ (f : ℕ → Inode). is_number geo j && is_sound (f j)) (sym same) ∙ y.0, y.1, y.2, record { reachable = new.reachable; after_dots = y.3.after_dots; names = new.names })
+    inr (ap (λ (f : ℕ → Inode). is_number geo j && is_sound geo (f j)) (sym same) ∙ y.0, y.1, y.2, record { reachable = new.reachable; after_dots = y.3.after_dots; names = new.names })
 
 -- ---- a file's name comes
 
@@ -248,11 +249,11 @@ module _ (geo : Geometry) (disk : View) (q : List Pending) (ghost : Ghost) (afte
         file : IsTrue (is_directory_at geo view i) → ⊥
         file = no_file_directory geo view i (ap (λ (y : Inode). y.mode) same ∙ may.file)
 
-        sound_parts : IsTrue (is_number geo i) × IsTrue (is_sound (users.inode i))
-        sound_parts = and_parts (is_number geo i) (is_sound (users.inode i)) may.sound
+        sound_parts : IsTrue (is_number geo i) × IsTrue (is_sound geo (users.inode i))
+        sound_parts = and_parts (is_number geo i) (is_sound geo (users.inode i)) may.sound
 
-        sound : IsTrue (is_sound (view.inode i))
-        sound = ap is_sound same ∙ sound_parts.1
+        sound : IsTrue (is_sound geo (view.inode i))
+        sound = ap (is_sound geo) same ∙ sound_parts.1
 
         low_number : 1 ≤ i
         low_number = omega (arith, number_low geo i sound_parts.0)

@@ -1,10 +1,11 @@
 -- The entry of an empty directory goes.
-use Rattle.std.proofs.Common.{◌≡◌, ◌≢◌, ℕ, zero, suc, ◌<◌, ◌≤◌, ◌/◌, Bool, eqb, List, ◌⊎◌, inl, inr, refl, sym, ap, ◌∙◌, subst, IsTrue, le_refl, arith, Some, eqb-true, eq-eqb, lt-ltb}
+use Rattle.std.proofs.Common.{◌≡◌, ◌≢◌, ℕ, zero, suc, ◌<◌, ◌≤◌, ◌/◌, Bool, eqb, List, ◌⊎◌, inl, inr, refl, sym, ap, ◌∙◌, subst, IsTrue, le_refl, arith, Some, eqb-true, eq-eqb}
 use Rattle.std.proofs.lemmas.Bool.{both_ways, cases_eq, and_parts, and_from, cases_Bool, or_cases, or_left, or_right, cases_lt}
 use Rattle.model.specs.Layout.{Geometry, root}
 use Rattle.model.specs.View.{View}
 use Rattle.model.specs.Cells.{SetBytes, updated}
-use Rattle.model.specs.Uses.{use_at, IsUse, IsClaim, indirect_position}
+use Rattle.model.specs.Shape.{most_blocks}
+use Rattle.model.specs.Uses.{use_at, IsUse, IsClaim}
 use Rattle.model.specs.Slots.{Slot, Empty, Good, Bad, slot, slot_in, Names}
 use Rattle.model.specs.Reach.{Path, IsReachableDirectory, IsReachable, IsEntry, HasParent}
 use Rattle.model.specs.Rules.{ObeysRules, UsesAreClaims}
@@ -22,7 +23,7 @@ use Rattle.ordering.proofs.Trees.{SameTree, tree_obeys, links_cover, place_back,
 use Rattle.ordering.proofs.Bits.{users_obey, sound_used}
 use Rattle.ordering.proofs.Data.{directory_mode}
 use Rattle.ordering.proofs.Counts.{place_of}
-use Rattle.ordering.proofs.Growth.{slot_claimed}
+use Rattle.model.proofs.Slots.{slot_claimed}
 use Rattle.ordering.proofs.OneSlots.{slot_uses, slot_before, slot_now, slot_others, at_slot, names_there, names_then, the_block, block_there, block_then, names_at_slot, names_at_slot_now, links_at}
 use Rattle.ordering.proofs.SlotSteps.{SlotTaken, slot_step, uses_obey}
 use Rattle.ordering.proofs.SlotKinds.{two_cases, unclaimed_shape, unclaimed_rules}
@@ -381,7 +382,7 @@ module _ (geo : Geometry) (disk : View) (q : List Pending) (ghost : Ghost) (afte
       | inl reached ↦
           let h = there.0 in
           let here : Names geo view d s i = (name, slot_before geo view block bytes d s (Good i name) Empty h a.rules.rule3) in
-          let used : (view.inode i).mode ≢ 0 = λ z. sound_used (view.inode i) (a.rules.rule6.sound d s i reached here) z in
+          let used : (view.inode i).mode ≢ 0 = λ z. sound_used geo (view.inode i) (a.rules.rule6.sound d s i reached here) z in
           let leaf = view_leaf used in
           let one = λ (e t : ℕ) (x : IsEntry geo view e t i). (let p = place_of geo view i e t x.reachable x.names in let at = entry_there e t p.0 x.after_dots p.1 in pair e t at.0 at.1) in
           let came = prune_place_back geo view block bytes d s i name h a.rules may.change.after_dots not_root one leaf in
@@ -429,9 +430,9 @@ module _ (geo : Geometry) (disk : View) (q : List Pending) (ghost : Ghost) (afte
           let claim = claim_parts geo view i (t / 16) at.block at.claimed in
           let two : (users.inode i).mode ≡ 2 = directory_mode geo users i may.directory in
           let claimed : IsUse geo users i (t / 16) at.block = a.modes.uses i (t / 16) at.block bit (λ z. omega (arith, two, z)) at.directory claim.0 in
-          let below : t / 16 < 268 = omega (arith, at.below) in
+          let below : t / 16 < most_blocks geo = omega (arith, at.below) in
           let same : view.bytes at.block ≡ users.bytes at.block = a.same (Block at.block) (met (Block at.block) (may.blocks (t / 16) at.block below (claimed, claim.1))) in
-          may.empty t j low (n.0, slot_claimed geo users i t at.block may.directory (lt-ltb (t / 16) indirect_position below) (claimed, claim.1) ∙ ap (λ x. slot_in geo x t) (sym same) ∙ at.content)
+          may.empty t j low (n.0, slot_claimed geo users i t at.block may.directory below (claimed, claim.1) ∙ ap (λ x. slot_in geo x t) (sym same) ∙ at.content)
 
 pub remove_directory_keeps : (geo : Geometry) (disk : View) (q : List Pending) (ghost : Ghost) (after : List Cell) (block : ℕ) (bytes : List ℕ) (d s i b : ℕ) (name : List ℕ)
     → MayRemoveDirectory geo (users_view disk q) ghost after block bytes d s i b name → Keeps geo disk q ghost (record { change = SetBytes block bytes; after = after }) (removed_directory i d s block b ghost)

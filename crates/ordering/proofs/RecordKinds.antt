@@ -24,11 +24,11 @@ use Rattle.ordering.proofs.Outside.{outside_tree}
 use Rattle.ordering.proofs.RecordSteps.{record_step, Fits, TreeKeeps}
 
 -- the same kind before and after
-pub same_flags : (geo : Geometry) (v : View) (n : ℕ) (x : Inode) → is_sound (v.inode n) ≡ is_sound x → (v.inode n).mode ≡ x.mode
+pub same_flags : (geo : Geometry) (v : View) (n : ℕ) (x : Inode) → is_sound geo (v.inode n) ≡ is_sound geo x → (v.inode n).mode ≡ x.mode
     → (is_directory_at geo v n ≡ is_directory_at geo (updated v (SetInode n x)) n) × (is_sound_at geo v n ≡ is_sound_at geo (updated v (SetInode n x)) n)
 same_flags geo v n x sound mode = (
-  ap₂ (λ s m. is_number geo n && s && eqb m 2) sound mode ∙ ap (λ y. is_number geo n && is_sound y && is_directory y) (sym (put_here v.inode n x)),
-  ap (λ s. is_number geo n && s) sound ∙ ap (λ y. is_number geo n && is_sound y) (sym (put_here v.inode n x)),
+  ap₂ (λ s m. is_number geo n && s && eqb m 2) sound mode ∙ ap (λ y. is_number geo n && is_sound geo y && is_directory y) (sym (put_here v.inode n x)),
+  ap (λ s. is_number geo n && s) sound ∙ ap (λ y. is_number geo n && is_sound geo y) (sym (put_here v.inode n x)),
 )
 
 pub keeps_tree_skip : (geo : Geometry) (users : View) (ghost ghost' : Ghost) (set : Cell → Bool) (view : View) (n : ℕ) → ((g : Gone) → ghost'.gone g ≡ ghost.gone g) → ((j : ℕ) → ghost'.entering j ≡ ghost.entering j) → ((f : ℕ) → ghost'.safe f ≡ ghost.safe f)
@@ -65,7 +65,7 @@ rewrite_file_keeps geo disk q ghost held given_up after n x may all =
     (λ set view a. record {
       mode = λ f u v. a.modes.mode n f old_used v ∙ may.file ∙ sym may.still_file;
       uses = λ f u d k b c. absurd (
-          let v : (view.inode n).mode ≢ 0 = λ z. sound_used (view.inode n) (directory_sound geo view n d) z in
+          let v : (view.inode n).mode ≢ 0 = λ z. sound_used geo (view.inode n) (directory_sound geo view n d) z in
           file_is_none geo view n (a.modes.mode n f old_used v ∙ may.file) d);
       tree = keeps_tree_skip geo users ghost (moved held given_up ghost) set view n (λ g. refl) (λ j. refl) (λ f. refl);
     })
@@ -86,14 +86,14 @@ rewrite_file_keeps geo disk q ghost held given_up after n x may all =
     old_used : (users.inode n).mode ≢ 0
     old_used = λ z. let one : (users.inode n).mode ≡ 1 = may.file in omega (arith, one, z)
 
-    still_sound : IsTrue (is_sound x)
+    still_sound : IsTrue (is_sound geo x)
     still_sound = elim may.blocks.sound [ inl z ↦ absurd (let one : x.mode ≡ 1 = may.still_file in omega (arith, one, z)) | inr s ↦ s ]
 
     tree_at : (view : View) → ObeysRules geo view → view.inode n ≡ users.inode n → SameTree geo view (updated view (SetInode n x))
     tree_at view o same =
         outside_tree geo view n x o.rule1
         (λ r. file_is_none geo view n (ap (λ (y : Inode). y.mode) same ∙ may.file) (reachable_directory geo view n r))
-        (λ d s r h. same_flags geo view n x (ap is_sound same ∙ may.sound ∙ sym still_sound) (ap (λ (y : Inode). y.mode) same ∙ may.file ∙ sym may.still_file))
+        (λ d s r h. same_flags geo view n x (ap (is_sound geo) same ∙ may.sound ∙ sym still_sound) (ap (λ (y : Inode). y.mode) same ∙ may.file ∙ sym may.still_file))
 
     fits : Fits geo disk q ghost (moved held given_up ghost) after n x may.blocks
     fits = record {
@@ -101,7 +101,7 @@ rewrite_file_keeps geo disk q ghost held given_up after n x may all =
       marked = λ u. rules.rule4 n may.blocks.number old_used;
       zeroed = λ m other f. f;
       freed = λ z. absurd (let one : x.mode ≡ 1 = may.still_file in omega (arith, one, z));
-      directory_pointers = λ d k u low high. absurd (let two : x.mode ≡ 2 = eqb-true x.mode 2 d in let one : x.mode ≡ 1 = may.still_file in omega (arith, one, two));
+      directory = λ d s. absurd (let two : x.mode ≡ 2 = eqb-true x.mode 2 d in let one : x.mode ≡ 1 = may.still_file in omega (arith, one, two));
     }
 
 -- ---- a number's first record
@@ -126,7 +126,7 @@ module _ (geo : Geometry) (disk : View) (q : List Pending) (ghost ghost' : Ghost
       record_step geo disk q ghost ghost' after n x rewrites fits
       (λ set view a. record {
         mode = λ f u v. absurd (v (view_free set view a f));
-        uses = λ f u d k b c. absurd (sound_used (view.inode n) (directory_sound geo view n d) (view_free set view a f));
+        uses = λ f u d k b c. absurd (sound_used geo (view.inode n) (directory_sound geo view n d) (view_free set view a f));
         tree = record {
           fewer = λ c f. was_fresh set (Record n) c f;
           place = λ i d s b p f. still_fresh set (Record n) (NumberBit i) f (λ e. cc);
@@ -142,8 +142,8 @@ module _ (geo : Geometry) (disk : View) (q : List Pending) (ghost ghost' : Ghost
         view_tree = tree_at view a.rules zero;
         bit = λ u. met (NumberBit n) may.bit;
         links = λ r. absurd (elim r [
-          | inl t ↦ sound_used (view.inode n) (directory_sound geo view n (reachable_directory geo view n t)) zero
-          | inr t ↦ sound_used (view.inode n) (and_parts (is_number geo n) (is_sound (view.inode n)) t.0).1 zero
+          | inl t ↦ sound_used geo (view.inode n) (directory_sound geo view n (reachable_directory geo view n t)) zero
+          | inr t ↦ sound_used geo (view.inode n) (and_parts (is_number geo n) (is_sound geo (view.inode n)) t.0).1 zero
         ]);
         tree = record {
           fewer = λ c f. f;
@@ -174,16 +174,16 @@ module _ (geo : Geometry) (disk : View) (q : List Pending) (ghost ghost' : Ghost
       tree_at : (view : View) → ObeysRules geo view → (view.inode n).mode ≡ 0 → SameTree geo view (updated view (SetInode n x))
       tree_at view o zero =
           outside_tree geo view n x o.rule1
-          (λ r. sound_used (view.inode n) (directory_sound geo view n (reachable_directory geo view n r)) zero)
-          (λ d s r h. absurd (sound_used (view.inode n) (o.rule6.sound d s n r h) zero))
+          (λ r. sound_used geo (view.inode n) (directory_sound geo view n (reachable_directory geo view n r)) zero)
+          (λ d s r h. absurd (sound_used geo (view.inode n) (o.rule6.sound d s n r h) zero))
 
       fits : Fits geo disk q ghost ghost' after n x rewrites
       fits = record {
         users_tree = tree_at users rules may.free;
         marked = λ u. may.marked;
         zeroed = λ m other f. sym (zeroed m) ∙ f;
-        freed = λ z. absurd (sound_used x may.sound z);
-        directory_pointers = may.pointers;
+        freed = λ z. absurd (sound_used geo x may.sound z);
+        directory = λ d s. absurd (sound_used geo (users.inode n) s may.free);
       }
 
 pub create_file_keeps : (geo : Geometry) (disk : View) (q : List Pending) (ghost : Ghost) (after : List Cell) (n : ℕ) (x : Inode)
@@ -259,5 +259,5 @@ free_keeps geo disk q ghost held given_up after n x may all =
       marked = λ u. absurd (u may.free);
       zeroed = λ m other f. (or_parts (eqb m n) (ghost.zeroed m) f).1;
       freed = λ z. or_left (eqb n n) (ghost.zeroed n) (eq-eqb n n refl);
-      directory_pointers = λ d k u low high. absurd (let two : x.mode ≡ 2 = eqb-true x.mode 2 d in let zero : x.mode ≡ 0 = may.free in omega (arith, zero, two));
+      directory = λ d s. absurd (let two : x.mode ≡ 2 = eqb-true x.mode 2 d in let zero : x.mode ≡ 0 = may.free in omega (arith, zero, two));
     }

@@ -1,32 +1,27 @@
 -- A new record of one number keeps the invariant, where the tree stays.
-use Rattle.std.proofs.Common.{◌≡◌, ◌≢◌, ℕ, ◌<◌, ◌≤◌, ◌-◌, ◌*◌, Bool, ◌&&◌, ltb, List, ◌∷◌, ◌⊎◌, inl, inr, refl, sym, ap, ◌∙◌, subst, IsTrue, IsFalse, Contains, ltb-true, ltb-false, get_or}
+use Rattle.std.proofs.Common.{◌≡◌, ◌≢◌, ℕ, ◌≤◌, Bool, ◌&&◌, List, ◌∷◌, ◌⊎◌, inl, inr, refl, sym, ap, ◌∙◌, subst, Some, IsTrue, IsFalse, Contains}
 use Rattle.std.proofs.lemmas.Bool.{both_ways, cases_eq, and_parts, and_from, false_from_ne_true}
+use Rattle.std.proofs.lemmas.Option.{same_Some}
 use Rattle.model.specs.Layout.{Geometry, is_number, is_data_address}
-use Rattle.model.specs.View.{View, Inode, u32_at}
+use Rattle.model.specs.View.{View, Inode}
 use Rattle.model.specs.Cells.{SetInode, updated, put_at}
-use Rattle.model.specs.Uses.{is_directory, is_directory_at, is_sound, is_sound_at, is_used, value_at, IsUse, IsClaim, direct_positions, indirect_position}
+use Rattle.model.specs.Uses.{has_position, is_directory, is_directory_at, is_sound, is_sound_at, record_use, IsUse, IsClaim}
 use Rattle.model.specs.Rules.{UsesAreClaims}
 use Rattle.model.specs.Reach.{IsReachable, IsReachableDirectory}
-use Rattle.model.proofs.Same.{same_cond, same_else}
-use Rattle.model.proofs.UseLemmas.{use_parts, use_from}
+use Rattle.model.proofs.Steps.{use_sound}
+use Rattle.model.proofs.Uses.{record_uses_agree, use_has, use_number, number_use}
 use Rattle.ordering.specs.Cuts.{Cell, Record, NumberBit, BlockBit, Block, Pending, users_view, EachCut, without, AreIn}
 use Rattle.ordering.specs.Places.{HasPlace}
 use Rattle.ordering.specs.Ghosts.{Ghost, Gone}
 use Rattle.ordering.specs.Agrees.{Agrees, AllAgree, NumbersAgree, ModesAgree, BlocksAgree, TreeAgrees}
-use Rattle.ordering.specs.Rewrites.{Comes, Rewrites}
+use Rattle.ordering.specs.Rewrites.{Stays, Comes, Rewrites}
 use Rattle.ordering.proofs.CutLemmas.{was_fresh, is_other, still_fresh, each_step, same_skip, same_take}
 use Rattle.ordering.proofs.Trees.{SameTree, same_tree, tree_obeys, place_back, place_kept, back, reachable_kept}
+use Rattle.ordering.proofs.CutUses.{stays_used, comes_used}
 use Rattle.ordering.proofs.Claims.{ClaimsMove, claims_frame, claims_obey}
 use Rattle.ordering.proofs.Records.{put_here}
 use Rattle.ordering.proofs.Bits.{sound_used}
 use Rattle.ordering.proofs.Outside.{other_directory, other_use, other_mode, records_obey, numbers_obey, links_obey}
-
--- a pointer is read from the record, or from the indirect block
-pub same_value : (v w : View) (x : Inode) (k : ℕ) → (direct_positions ≤ k → k < indirect_position → v.bytes x.indirect ≡ w.bytes x.indirect) → value_at v x k ≡ value_at w x k
-same_value v w x k h =
-    same_else (ltb k direct_positions) _ _ (get_or x.direct k 0) (λ low.
-    same_cond (ltb k indirect_position) _ _ x.indirect (λ high.
-    ap (λ block. u32_at block (4 * (k - direct_positions))) (h (ltb-false k direct_positions low) (ltb-true k indirect_position high))))
 
 -- what the tree asks of the cells and the ghosts
 pub record TreeKeeps (geo : Geometry) (users : View) (ghost : Ghost) (set : Cell → Bool) (view : View) (ghost' : Ghost) (set' : Cell → Bool) : Type 0 where
@@ -62,48 +57,56 @@ module _ (geo : Geometry) (disk : View) (q : List Pending) (ghost ghost' : Ghost
 
   pub record New (m k b : ℕ) : Type 0 where
     pub mine : m ≡ n
-    pub sound : IsTrue (is_sound x)
-    pub used : IsTrue (is_used geo x k)
+    pub sound : IsTrue (is_sound geo x)
+    pub used : IsTrue (has_position geo x k)
     pub comes : Comes geo disk q ghost after x k b
 
-  -- what the new record uses, over a view that has the old record and the new pointers
-  pub use_before : (view : View) → view.inode n ≡ users.inode n → ((k b : ℕ) → Comes geo disk q ghost after x k b → direct_positions ≤ k → k < indirect_position → view.bytes x.indirect ≡ users.bytes x.indirect)
+  -- what a record uses does not hang on the records of a view
+  pub record_there : (view : View) (y : Inode) (k : ℕ) → record_use geo (updated view (SetInode n x)) y k ≡ record_use geo view y k
+  record_there view y k = record_uses_agree geo (updated view (SetInode n x)) view y k (λ m t a u d. refl)
+
+  pub use_there : (view : View) (k b : ℕ) → record_use geo view x k ≡ Some b → IsUse geo (updated view (SetInode n x)) n k b
+  use_there view k b u =
+      number_use geo (updated view (SetInode n x)) n k b r.number (ap (λ y. record_use geo (updated view (SetInode n x)) y k) (put_here view.inode n x) ∙ record_there view x k ∙ u)
+
+  -- a use of the new record, where the view has the old one: a position that stays was used before, and one that comes is new
+  use_here : (view : View) → view.inode n ≡ users.inode n → ((t : ℕ) → Contains after (Block t) → view.bytes t ≡ users.bytes t) → (k b : ℕ) → record_use geo view x k ≡ Some b
+      → (Stays geo (users.inode n) x k × IsUse geo view n k b) ⊎ (IsTrue (is_sound geo x) × IsTrue (has_position geo x k) × Comes geo disk q ghost after x k b)
+  use_here view same fresh k b u =
+      let sound = use_sound geo view x k b u in
+      let has = use_has geo view x k b u in
+      elim (r.came k sound has) [
+        | inl stays ↦ inl (stays, number_use geo view n k b r.number (ap (λ y. record_use geo view y k) same ∙ sym (stays_used geo view (users.inode n) x k sound has stays) ∙ u))
+        | inr comes ↦ inr (
+          sound,
+          has,
+          subst (λ c. Comes geo disk q ghost after x k c) (same_Some comes.0 b (sym (comes_used geo disk q ghost after x k comes.0 comes.1 view fresh) ∙ u)) comes.1,
+        )
+      ]
+
+  record_is : (view : View) (m k b : ℕ) → m ≡ n → IsUse geo (updated view (SetInode n x)) m k b → record_use geo view x k ≡ Some b
+  record_is view m k b e u =
+      let here : put_at view.inode n x m ≡ x = ap (put_at view.inode n x) e ∙ put_here view.inode n x in
+      sym (record_there view x k) ∙ ap (λ y. record_use geo (updated view (SetInode n x)) y k) (sym here) ∙ (use_number geo (updated view (SetInode n x)) m k b u).1
+
+  -- what is used after the update, over a view that has the old record and the bytes of the blocks that come first
+  pub use_before : (view : View) → view.inode n ≡ users.inode n → ((t : ℕ) → Contains after (Block t) → view.bytes t ≡ users.bytes t)
       → (m k b : ℕ) → IsUse geo (updated view (SetInode n x)) m k b → IsUse geo view m k b ⊎ (New m k b × IsTrue (is_data_address geo b))
-  use_before view same pointers m k b u = elim (cases_eq m n) [
+  use_before view same fresh m k b u = elim (cases_eq m n) [
     | inr other ↦ inl (other_use geo view n x m k other ∙ u)
-    | inl e ↦
-        let at = use_parts geo (updated view (SetInode n x)) m k b u in
-        let here : put_at view.inode n x m ≡ x = ap (put_at view.inode n x) e ∙ put_here view.inode n x in
-        let sound = (and_parts (is_number geo m) (is_sound x) (subst (λ (y : Inode). IsTrue (is_number geo m && is_sound y)) here at.sound)).1 in
-        let used : IsTrue (is_used geo x k) = subst (λ (y : Inode). IsTrue (is_used geo y k)) here at.used in
-        let value : value_at view x k ≡ b = subst (λ (y : Inode). value_at view y k ≡ b) here at.value in
-        elim (r.came k sound used) [
-          | inl stays ↦ inl (subst (λ j. IsUse geo view j k b) (sym e) (use_from geo view n k b (record {
-            sound = and_from (is_number geo n) (is_sound (view.inode n)) r.number (ap is_sound same ∙ stays.sound);
-            used = ap (λ y. is_used geo y k) same ∙ stays.used;
-            value = ap (λ y. value_at view y k) same ∙ sym (stays.value view) ∙ value;
-          })))
-          | inr comes ↦
-              let same_block : comes.0 ≡ b = sym comes.1.value ∙ sym (same_value view users x k (pointers k comes.0 comes.1)) ∙ value in
-              let comes' : Comes geo disk q ghost after x k b = subst (λ c. Comes geo disk q ghost after x k c) same_block comes.1 in
-              inr (record { mine = e; sound = sound; used = used; comes = comes' }, comes'.address)
-        ]
+    | inl e ↦ elim (use_here view same fresh k b (record_is view m k b e u)) [
+      | inl old ↦ inl (subst (λ j. IsUse geo view j k b) (sym e) old.1)
+      | inr new ↦ inr (record { mine = e; sound = new.0; used = new.1; comes = new.2 }, new.2.address)
+    ]
   ]
 
   -- a new use is one of the users' new view
   pub new_claim : (m k b : ℕ) → New m k b → IsClaim geo users' m k b
-  new_claim m k b h = (
-    subst (λ j. IsUse geo users' j k b) (sym h.mine) (use_from geo users' n k b (record {
-      sound = and_from (is_number geo n) (is_sound (put_at users.inode n x n)) r.number (ap is_sound (put_here users.inode n x) ∙ h.sound);
-      used = ap (λ y. is_used geo y k) (put_here users.inode n x) ∙ h.used;
-      value = ap (λ y. value_at users y k) (put_here users.inode n x) ∙ h.comes.value;
-    })),
-    h.comes.address,
-  )
+  new_claim m k b h = (subst (λ j. IsUse geo users' j k b) (sym h.mine) (use_there users k b h.comes.uses), h.comes.address)
 
   move : ClaimsMove geo users users' ghost ghost' New
   move = record {
-    came = λ m k b c. elim (use_before users refl (λ j d h low high. refl) m k b c.0) [ inl old ↦ inl (old, c.1) | inr new ↦ inr new.0 ];
+    came = λ m k b c. elim (use_before users refl (λ t c. refl) m k b c.0) [ inl old ↦ inl (old, c.1) | inr new ↦ inr new.0 ];
     went = λ m k b c. elim (cases_eq m n) [
       | inr other ↦ inl (sym (other_use geo users n x m k other) ∙ c.0, c.1)
       | inl e ↦ elim (r.went k b (subst (λ j. IsClaim geo users j k b) e c)) [
@@ -128,12 +131,12 @@ module _ (geo : Geometry) (disk : View) (q : List Pending) (ghost ghost' : Ghost
       (λ m k b c. inl c) h
 
   pub blocks_take : (set : Cell → Bool) (view : View) → ((b : ℕ) → IsTrue (set (Block b)) → (m k : ℕ) → New m k b → IsTrue (set (BlockBit b)))
-      → view.inode n ≡ users.inode n → ((c : ℕ) → IsTrue (set (Block c)) → view.bytes c ≡ users.bytes c) → AreIn after set → (IsTrue (is_sound x) → IsTrue (set (NumberBit n)))
+      → view.inode n ≡ users.inode n → ((c : ℕ) → IsTrue (set (Block c)) → view.bytes c ≡ users.bytes c) → AreIn after set → (IsTrue (is_sound geo x) → IsTrue (set (NumberBit n)))
       → BlocksAgree geo users ghost set view → BlocksAgree geo users' ghost' set (updated view (SetInode n x))
   blocks_take set view bits same bytes met bit h =
       claims_frame geo users users' ghost ghost' New set set view (updated view (SetInode n x)) move
       (λ c f. f) (λ m f. f) (λ b f. f) (λ m k b new f. bits b f m k new)
-      (λ m k b c. elim (use_before view same (λ j d comes low high. bytes x.indirect (met (Block x.indirect) (comes.pointer low high))) m k b c.0) [
+      (λ m k b c. elim (use_before view same (λ t c. bytes t (met (Block t) c)) m k b c.0) [
         | inl old ↦ inl (old, c.1)
         | inr new ↦ inr (new.0, new_claim m k b new.0, subst (λ j. IsTrue (set (NumberBit j))) (sym new.0.mine) (bit new.0.sound))
       ]) h
@@ -142,7 +145,7 @@ module _ (geo : Geometry) (disk : View) (q : List Pending) (ghost ghost' : Ghost
       → IsTrue (set (Record n)) → AreIn after set → UsesAreClaims geo (updated view (SetInode n x))
   claims_take set view a bits own met =
       claims_obey geo view (updated view (SetInode n x)) New
-      (use_before view (a.same (Record n) own) (λ j d comes low high. a.same (Block x.indirect) (met (Block x.indirect) (comes.pointer low high))))
+      (use_before view (a.same (Record n) own) (λ t c. a.same (Block t) (met (Block t) c)))
       (λ m k b new.
       let f : IsTrue (set (BlockBit b)) = bits b (met (Block b) new.comes.contents) m k new in (
         a.same (BlockBit b) f ∙ new.comes.free.marked,
@@ -168,7 +171,7 @@ module _ (geo : Geometry) (disk : View) (q : List Pending) (ghost ghost' : Ghost
     pub marked : x.mode ≢ 0 → IsTrue (users.number_marked n)
     pub zeroed : (m : ℕ) → (m ≡ n → ⊥) → IsFalse (ghost'.zeroed m) → IsFalse (ghost.zeroed m)
     pub freed : x.mode ≡ 0 → IsTrue (ghost'.zeroed n)
-    pub directory_pointers : IsTrue (is_directory x) → (k : ℕ) → IsTrue (is_used geo x k) → direct_positions ≤ k → k < indirect_position → Contains after (Block x.indirect)
+    pub directory : IsTrue (is_directory x) → IsTrue (is_sound geo (users.inode n)) → IsTrue (is_directory (users.inode n))
 
   mode_of : (view : View) (m : ℕ) → m ≡ n → ((updated view (SetInode n x)).inode m).mode ≡ x.mode
   mode_of view m e = ap (λ k. (put_at view.inode n x k).mode) e ∙ ap (λ (y : Inode). y.mode) (put_here view.inode n x)
@@ -203,9 +206,14 @@ module _ (geo : Geometry) (disk : View) (q : List Pending) (ghost ghost' : Ghost
     ];
   }
 
-  modes_take : (set : Cell → Bool) (view : View) → Fits → ((c : ℕ) → IsTrue (set (Block c)) → view.bytes c ≡ users.bytes c) → AreIn after set
+  was_directory : (view : View) → view.inode n ≡ users.inode n → IsTrue (is_sound geo (users.inode n)) → IsTrue (is_directory (users.inode n)) → IsTrue (is_directory_at geo view n)
+  was_directory view same sound directory =
+      ap (λ y. is_number geo n && is_sound geo y && is_directory y) same
+      ∙ and_from (is_number geo n && is_sound geo (users.inode n)) (is_directory (users.inode n)) (and_from (is_number geo n) (is_sound geo (users.inode n)) r.number sound) directory
+
+  modes_take : (set : Cell → Bool) (view : View) → Fits → view.inode n ≡ users.inode n → ((c : ℕ) → IsTrue (set (Block c)) → view.bytes c ≡ users.bytes c) → AreIn after set
       → ModesAgree geo users set view → ModesAgree geo users' set (updated view (SetInode n x))
-  modes_take set view fits bytes met h = record {
+  modes_take set view fits same bytes met h = record {
     mode = λ m f u v. elim (cases_eq m n) [
       | inl e ↦ mode_of view m e ∙ sym (mode_of users m e)
       | inr other ↦ sym (other_mode geo view n x m other)
@@ -214,17 +222,17 @@ module _ (geo : Geometry) (disk : View) (q : List Pending) (ghost ghost' : Ghost
     ];
     uses = λ m k b f u d c. elim (cases_eq m n) [
       | inl e ↦
-          let at = use_parts geo (updated view (SetInode n x)) m k b c in
           let here : put_at view.inode n x m ≡ x = ap (put_at view.inode n x) e ∙ put_here view.inode n x in
-          let there : put_at users.inode n x m ≡ x = ap (put_at users.inode n x) e ∙ put_here users.inode n x in
-          let used : IsTrue (is_used geo x k) = subst (λ (y : Inode). IsTrue (is_used geo y k)) here at.used in
           let directory : IsTrue (is_directory x) = subst (λ (y : Inode). IsTrue (is_directory y)) here (and_parts (is_sound_at geo (updated view (SetInode n x)) m) (is_directory (put_at view.inode n x m)) d).1 in
-          use_from geo users' m k b (record {
-            sound = ap (λ y. is_number geo m && is_sound y) (there ∙ sym here) ∙ at.sound;
-            used = ap (λ y. is_used geo y k) there ∙ used;
-            value = ap (λ y. value_at users y k) there ∙ sym (same_value view users x k (λ low high. bytes x.indirect (met (Block x.indirect) (fits.directory_pointers directory k used low high))))
-                ∙ ap (λ y. value_at view y k) (sym here) ∙ at.value;
-          })
+          subst (λ j. IsUse geo users' j k b) (sym e) (elim (use_here view same (λ t c. bytes t (met (Block t) c)) k b (record_is view m k b e c)) [
+            | inr new ↦ use_there users k b new.2.uses
+            | inl old ↦
+                let was : IsUse geo users n k b =
+                h.uses n k b (subst (λ j. IsTrue (set (NumberBit j))) e f) (λ z. sound_used geo (users.inode n) old.0.sound z) (was_directory view same old.0.sound (fits.directory directory old.0.sound)) old.1 in
+                let sound = use_sound geo view x k b (record_is view m k b e c) in
+                let has = use_has geo view x k b (record_is view m k b e c) in
+                use_there users k b (stays_used geo users (users.inode n) x k sound has old.0 ∙ (use_number geo users n k b was).1)
+          ])
       | inr other ↦ sym (other_use geo users n x m k other)
           ∙ h.uses m k b f (λ z. u (sym (other_mode geo users n x m other) ∙ z)) (other_directory geo view n x m other ∙ d) (other_use geo view n x m k other ∙ c)
     ];
@@ -273,8 +281,8 @@ module _ (geo : Geometry) (disk : View) (q : List Pending) (ghost ghost' : Ghost
                 (numbers_obey geo view n x (λ u. a.same (NumberBit n) (t.bit u) ∙ fits.marked u) a.rules.rule4)
                 (links_obey geo view n x t.view_tree t.links a.rules.rule8);
             numbers = numbers_after set set fits (λ c f. f) (λ m other f. f) (λ m f. f) (λ u f. t.bit u) a.numbers;
-            blocks = blocks_take set view p.1 (a.same (Record n) own) (λ c f. a.same (Block c) f) met (λ sound. t.bit (λ z. sound_used x sound z)) a.blocks;
-            modes = modes_take set view fits (λ c f. a.same (Block c) f) met a.modes;
+            blocks = blocks_take set view p.1 (a.same (Record n) own) (λ c f. a.same (Block c) f) met (λ sound. t.bit (λ z. sound_used geo x sound z)) a.blocks;
+            modes = modes_take set view fits (a.same (Record n) own) (λ c f. a.same (Block c) f) met a.modes;
             tree = tree_stays geo users users' ghost ghost' set set view w fits.users_tree t.view_tree t.tree a.tree;
             safe = λ f h. reachable_kept geo view w t.view_tree f (a.safe f (t.tree.safe f h));
           }

@@ -1,15 +1,16 @@
 -- The kinds of update that write a record and keep its mode and its blocks.
-use Rattle.std.proofs.Common.{◌≡◌, ℕ, ◌≤◌, ◌-◌, ◌*◌, Bool, not, ◌&&◌, cond, eqb, ltb, ◌/◌, List, inl, inr, refl, sym, ap, ap₂, ◌∙◌, subst, IsTrue, le_refl, arith, Contains, get_or, eq-eqb, ne_eqb, Option, ◌⊎◌}
-use Rattle.std.specs.Bool.{then_some}
-use Rattle.std.specs.Option.{option_map_or, option_and_then}
+use Rattle.std.proofs.Common.{◌≡◌, ℕ, ◌≤◌, Bool, not, ◌&&◌, cond, eqb, ◌/◌, List, inl, inr, refl, sym, ap, ap₂, ◌∙◌, subst, IsTrue, le_refl, arith, Contains, eq-eqb, ne_eqb, None, ◌⊎◌}
 use Rattle.std.proofs.lemmas.Bool.{cases_eq, cond-true, cond-false, and_parts, and_from, not_from_false}
-use Rattle.model.specs.Layout.{Geometry, is_number, is_data_address}
-use Rattle.model.specs.View.{View, Inode, u32_at}
+use Rattle.model.specs.Layout.{Geometry, is_number}
+use Rattle.model.specs.View.{View, Inode}
 use Rattle.model.specs.Cells.{SetInode, updated, put_at}
-use Rattle.model.specs.Uses.{use_at, claim_at, is_directory, is_directory_at, is_sound, is_used, value_at, blocks_of, indirect_position, direct_positions}
-use Rattle.model.specs.Slots.{Absent, slot, slot_in}
+use Rattle.model.specs.Uses.{use_at, record_use, is_directory, is_directory_at, is_sound}
 use Rattle.model.specs.Reach.{HasEntries}
 use Rattle.model.specs.Rules.{RecordsAreSound}
+use Rattle.model.proofs.Fields.{fields_agree}
+use Rattle.model.proofs.Steps.{use_at_is}
+use Rattle.model.proofs.Uses.{record_uses_agree, same_fields}
+use Rattle.model.proofs.Slots.{slots_of_uses}
 use Rattle.ordering.specs.Cuts.{Cell, Record, Block, Pending, users_view, AreIn}
 use Rattle.ordering.specs.Ghosts.{Ghost, Gone}
 use Rattle.ordering.specs.Agrees.{Agrees}
@@ -34,45 +35,32 @@ put_same g n x f e m = elim (cases_eq m n) [
   | inr d ↦ ap (f m) (sym (put_there g n m x d))
 ]
 
--- where directories and uses are the same, so are slots
-pub slots_of_uses : (geo : Geometry) (v w : View) → v.bytes ≡ w.bytes → (d s : ℕ) → is_directory_at geo v d ≡ is_directory_at geo w d → use_at geo v d (s / 16) ≡ use_at geo w d (s / 16) → slot geo v d s ≡ slot geo w d s
-unfolding slot claim_at
-slots_of_uses geo v w same d s dir uses =
-    ap (λ (bytes : ℕ → List ℕ). cond (is_directory_at geo v d && ltb (s / 16) indirect_position) (option_map_or (λ a. slot_in geo (bytes a) s) (option_and_then (λ a. then_some (is_data_address geo a) a) (use_at geo v d (s / 16))) Absent) Absent) same
-    ∙ ap₂ (λ (b : Bool) (u : Option ℕ). cond (b && ltb (s / 16) indirect_position) (option_map_or (λ a. slot_in geo (w.bytes a) s) (option_and_then (λ a. then_some (is_data_address geo a) a) u) Absent) Absent) dir uses
-
-used_same : (geo : Geometry) (x y : Inode) (k : ℕ) → blocks_of x.size ≡ blocks_of y.size → x.indirect ≡ y.indirect → is_used geo x k ≡ is_used geo y k
-used_same geo x y k blocks indirect =
-    ap₂ (λ many ind. cond (ltb k direct_positions) (ltb k many) (cond (ltb k indirect_position) (ltb k many && is_data_address geo ind) (eqb k indirect_position && ltb direct_positions many))) blocks indirect
-
-value_same : (v : View) (x y : Inode) (k : ℕ) → x.direct ≡ y.direct → x.indirect ≡ y.indirect → value_at v x k ≡ value_at v y k
-value_same v x y k direct indirect =
-    ap₂ (λ (dir : List ℕ) (ind : ℕ). cond (ltb k direct_positions) (get_or dir k 0) (cond (ltb k indirect_position) (u32_at (v.bytes ind) (4 * (k - direct_positions))) ind)) direct indirect
-
-pub body_shape : (geo : Geometry) (v : View) (n : ℕ) (x : Inode) → SameBody (v.inode n) x → SameShape geo v (updated v (SetInode n x))
-unfolding use_at
+pub body_shape : (geo : Geometry) (v : View) (n : ℕ) (x : Inode) → SameBody geo (v.inode n) x → SameShape geo v (updated v (SetInode n x))
 body_shape geo v n x b =
-    shape_from geo v (updated v (SetInode n x))
-    (put_same v.inode n x (λ m (y : Inode). y.mode) b.mode) directories
-    (put_same v.inode n x (λ m y. is_number geo m && is_sound y) (ap (λ t. is_number geo n && t) sound)) uses
-    (λ d s. slots_of_uses geo v (updated v (SetInode n x)) refl d s (directories d) (uses d (s / 16)))
+    shape_from geo v w (put_same v.inode n x (λ m (y : Inode). y.mode) b.mode) directories
+    (put_same v.inode n x (λ m y. is_number geo m && is_sound geo y) (ap (λ t. is_number geo n && t) sound)) uses
+    (λ d s. slots_of_uses geo v w d s (directories d) (uses d (s / 16)) (λ a dir low c. refl))
   where
-    sound : is_sound (v.inode n) ≡ is_sound x
+    w : View
+    w = updated v (SetInode n x)
+
+    sound : is_sound geo (v.inode n) ≡ is_sound geo x
     sound = b.sound ∙ sym b.still_sound
 
-    directories : (m : ℕ) → is_directory_at geo v m ≡ is_directory_at geo (updated v (SetInode n x)) m
-    directories = put_same v.inode n x (λ m y. is_number geo m && is_sound y && is_directory y) (ap₂ (λ s m. is_number geo n && s && eqb m 2) sound b.mode)
+    directories : (m : ℕ) → is_directory_at geo v m ≡ is_directory_at geo w m
+    directories = put_same v.inode n x (λ m y. is_number geo m && is_sound geo y && is_directory y) (ap₂ (λ s m. is_number geo n && s && eqb m 2) sound b.mode)
 
-    uses : (m k : ℕ) → use_at geo v m k ≡ use_at geo (updated v (SetInode n x)) m k
+    uses : (m k : ℕ) → use_at geo v m k ≡ use_at geo w m k
     uses m k =
-        put_same v.inode n x (λ m y. then_some (is_number geo m && is_sound y && is_used geo y k) (value_at v y k))
-        (ap₂ (λ t a. then_some (is_number geo n && t && is_used geo (v.inode n) k) a) sound (value_same v (v.inode n) x k b.direct b.indirect)
-        ∙ ap (λ t. then_some (is_number geo n && is_sound x && t) (value_at v x k)) (used_same geo (v.inode n) x k b.blocks b.indirect)) m
+        use_at_is geo v m k
+        ∙ ap (λ o. cond (is_number geo m) o None) (put_same v.inode n x (λ j y. record_use geo v y k) (same_fields geo v (v.inode n) x b.sound b.still_sound b.blocks (fields_agree geo (v.inode n) x b.direct b.indirect) k) m
+        ∙ record_uses_agree geo v w (w.inode m) k (λ j t a u d. refl))
+        ∙ sym (use_at_is geo w m k)
 
-records_sound : (geo : Geometry) (v : View) (n : ℕ) (x : Inode) → IsTrue (is_sound x) → RecordsAreSound geo v → RecordsAreSound geo (updated v (SetInode n x))
+records_sound : (geo : Geometry) (v : View) (n : ℕ) (x : Inode) → IsTrue (is_sound geo x) → RecordsAreSound geo v → RecordsAreSound geo (updated v (SetInode n x))
 records_sound geo v n x sound r m h = elim (cases_eq m n) [
-  | inl e ↦ inr (subst (λ k. IsTrue (is_sound (put_at v.inode n x k))) (sym e) (ap is_sound (put_here v.inode n x) ∙ sound))
-  | inr d ↦ subst (λ y. (y.mode ≡ 0) ⊎ IsTrue (is_sound y)) (sym (put_there v.inode n m x d)) (r m h)
+  | inl e ↦ inr (subst (λ k. IsTrue (is_sound geo (put_at v.inode n x k))) (sym e) (ap (is_sound geo) (put_here v.inode n x) ∙ sound))
+  | inr d ↦ subst (λ y. (y.mode ≡ 0) ⊎ IsTrue (is_sound geo y)) (sym (put_there v.inode n m x d)) (r m h)
 ]
 
 links_more : (f : ℕ → Inode) (n : ℕ) (x : Inode) → (f n).links ≤ x.links → (i : ℕ) → (f i).links ≤ (put_at f n x i).links
@@ -82,17 +70,17 @@ links_more f n x h i = elim (cases_eq i n) [
 ]
 
 pub raise_keeps : (geo : Geometry) (disk : View) (q : List Pending) (ghost : Ghost) (after : List Cell) (n : ℕ) (x : Inode)
-    → MayRaise (users_view disk q) n x → Keeps geo disk q ghost (record { change = SetInode n x; after = after }) ghost
+    → MayRaise geo (users_view disk q) n x → Keeps geo disk q ghost (record { change = SetInode n x; after = after }) ghost
 raise_keeps geo disk q ghost after n x may all =
     shape_step geo disk q ghost ghost (record { change = SetInode n x; after = after }) (body_shape geo users n x may.body)
     (λ set view a. record {
       keeps = keeps_without geo users ghost set view (Record n) (λ c m k h e. cc) (λ c m k h e. cc) (λ i d s c p e. cc);
       numbers = numbers_without users users' ghost set (Record n) (put_same users.inode n x (λ m (y : Inode). y.mode) may.body.mode)
-          (λ m z e. let e' : m ≡ n = cc in sound_used (users.inode n) may.body.sound (subst (λ k. (users.inode k).mode ≡ 0) e' z)) (λ m z e. cc) a.numbers;
+          (λ m z e. let e' : m ≡ n = cc in sound_used geo (users.inode n) may.body.sound (subst (λ k. (users.inode k).mode ≡ 0) e' z)) (λ m z e. cc) a.numbers;
     })
     (λ set view a own met.
     let same : view.inode n ≡ users.inode n = a.same (Record n) own in
-    let body : SameBody (view.inode n) x = subst (λ y. SameBody y x) (sym same) may.body in
+    let body : SameBody geo (view.inode n) x = subst (λ y. SameBody geo y x) (sym same) may.body in
     let s = body_shape geo view n x body in
     record {
       shape = s;
@@ -146,11 +134,11 @@ lower_keeps geo disk q ghost after n x may all =
         safe = h.safe;
       };
       numbers = let h = numbers_without users users' ghost set (Record n) modes
-          (λ m z e. let e' : m ≡ n = cc in sound_used (users.inode n) may.body.sound (subst (λ k. (users.inode k).mode ≡ 0) e' z)) (λ m z e. cc) a.numbers in record { free = h.free; used = h.used };
+          (λ m z e. let e' : m ≡ n = cc in sound_used geo (users.inode n) may.body.sound (subst (λ k. (users.inode k).mode ≡ 0) e' z)) (λ m z e. cc) a.numbers in record { free = h.free; used = h.used };
     })
     (λ set view a own met.
     let same : view.inode n ≡ users.inode n = a.same (Record n) own in
-    let body : SameBody (view.inode n) x = subst (λ y. SameBody y x) (sym same) may.body in
+    let body : SameBody geo (view.inode n) x = subst (λ y. SameBody geo y x) (sym same) may.body in
     let s = body_shape geo view n x body in
     let w = updated view (SetInode n x) in
     record {

@@ -32,7 +32,7 @@ entries_less geo v w i d s low within there then names gone m h =
     let other = reachable_set geo w in
     let at = names_stands geo w d s i names in
     let strict : entries_in geo v i d < entries_in geo w i d =
-    sum-lt slot_count (names_once geo v i d) (names_once geo w i d) s (λ t b. once_le geo v w i low within d t there) at.place.below once_lt in
+    sum-lt (slot_count geo) (names_once geo v i d) (names_once geo w i d) s (λ t b. once_le geo v w i low within d t there) at.place.below once_lt in
     let mine : cond (h.0 d) (entries_in geo v i d) 0 ≡ entries_in geo v i d = ap (λ b. cond b (entries_in geo v i d) 0) ((h.1 d).1 there) in
     let yours : cond (other.0 d) (entries_in geo w i d) 0 ≡ entries_in geo w i d = ap (λ b. cond b (entries_in geo w i d) 0) ((other.1 d).1 then) in
     let less = sum-lt (inode_count geo) (λ e. cond (h.0 e) (entries_in geo v i e) 0) (λ e. cond (other.0 e) (entries_in geo w i e) 0) d
@@ -85,7 +85,7 @@ removal_keeps geo disk q ghost safe block bytes d s i name fewer none may all =
           let there = reach_kept geo u0 u1 same d may.remove.change.reachable in
           let less = entries_less geo u1 u0 i d s (omega (arith, number_low geo i number)) (λ e t b p. (was i e t b p).0) there may.remove.change.reachable names
           (λ n. let p = place_of geo u1 i d s there n in (was i d s p.0 p.1).1 (refl, refl)) m h in
-          let entry : IsReachable geo u0 i = inr (and_from (is_number geo i) (is_sound (u0.inode i)) number may.body.sound, d, s, record { reachable = may.remove.change.reachable; after_dots = may.remove.change.after_dots; names = names }) in
+          let entry : IsReachable geo u0 i = inr (and_from (is_number geo i) (is_sound geo (u0.inode i)) number may.body.sound, d, s, record { reachable = may.remove.change.reachable; after_dots = may.remove.change.after_dots; names = names }) in
           let enough = rules.rule8 i less.0 entry less.1 in
           let few = may.links in
           omega (arith, enough, less.2, few);

@@ -1,20 +1,19 @@
 -- The kinds of update that change one slot, whose number is a file's or stays.
-use Rattle.std.proofs.Common.{◌≡◌, ℕ, ◌<◌, ◌≤◌, ◌/◌, Bool, ◌&&◌, ◌||◌, eqb, List, ◌⊎◌, inl, inr, refl, sym, ap, ◌∙◌, subst, IsTrue, le_refl, arith, Some, Contains, eqb-true, eq-eqb, lt-ltb, zero, suc}
+use Rattle.std.proofs.Common.{◌≡◌, ℕ, ◌<◌, ◌≤◌, ◌/◌, Bool, ◌&&◌, ◌||◌, eqb, List, ◌⊎◌, inl, inr, refl, sym, ap, ◌∙◌, subst, IsTrue, le_refl, arith, Some, Contains, eqb-true, eq-eqb, zero, suc}
 use Rattle.std.proofs.lemmas.Bool.{both_ways, cases_eq, and_parts, and_from, or_cases, or_left, or_right, false_from_ne_true}
 use Rattle.model.specs.Layout.{Geometry, is_number, root}
 use Rattle.model.specs.View.{View}
 use Rattle.model.specs.Cells.{SetBytes, updated}
-use Rattle.model.specs.Uses.{use_at, value_at, is_used, is_directory, is_directory_at, is_sound_at, is_sound, IsClaim, indirect_position, direct_positions}
+use Rattle.model.specs.Shape.{most_blocks}
+use Rattle.model.specs.Uses.{use_at, is_directory, is_directory_at, is_sound_at, is_sound, IsClaim}
 use Rattle.model.specs.Slots.{Slot, Empty, Good, slot, slot_in, Names}
 use Rattle.model.specs.Reach.{Path, IsReachableDirectory, IsReachable, IsEntry}
 use Rattle.model.specs.Rules.{ObeysRules, UsesAreClaims}
 use Rattle.model.proofs.Unlink.{unlinked_obeys}
 use Rattle.model.proofs.SlotLemmas.{reachable_directory, slot_content}
-use Rattle.model.proofs.Same.{same_then}
+use Rattle.model.proofs.Slots.{slot_claimed}
 use Rattle.model.proofs.UseLemmas.{claim_parts}
-use Rattle.std.specs.Bool.{then_some}
-use Rattle.ordering.proofs.RecordSteps.{same_value}
-use Rattle.ordering.proofs.Growth.{slot_claimed}
+use Rattle.model.proofs.Uses.{above_table, uses_agree}
 use Rattle.ordering.specs.Cuts.{Cell, Record, NumberBit, BlockBit, Block, Pending, users_view, without, AreIn, SameAt}
 use Rattle.ordering.specs.Places.{HasPlace}
 use Rattle.ordering.specs.Ghosts.{Ghost, Gone}
@@ -33,7 +32,7 @@ use Rattle.ordering.proofs.SlotSteps.{SlotTaken, slot_step}
 pub directory_from : (geo : Geometry) (v : View) (d k b : ℕ) → IsClaim geo v d k b → (v.inode d).mode ≡ 2 → IsTrue (is_directory_at geo v d)
 directory_from geo v d k b c two =
     let at = claim_sound geo v d k b c in
-    and_from (is_sound_at geo v d) (is_directory (v.inode d)) (and_from (is_number geo d) (is_sound (v.inode d)) at.0 at.1) (eq-eqb (v.inode d).mode 2 two)
+    and_from (is_sound_at geo v d) (is_directory (v.inode d)) (and_from (is_number geo d) (is_sound geo (v.inode d)) at.0 at.1) (eq-eqb (v.inode d).mode 2 two)
 
 -- a directory's block in a cut that has its last bytes: nobody claims it, or the directory does at the same position
 pub two_cases : (geo : Geometry) (users : View) (ghost : Ghost) (block : ℕ) (bytes : List ℕ) (d s : ℕ) (old new : Slot) → OneSlot geo users block bytes d s old new
@@ -66,7 +65,7 @@ two_cases geo users ghost block bytes d s old new h set view a own = elim (decid
 
 -- where nobody claims the block, nothing changes
 pub unclaimed_shape : (geo : Geometry) (v : View) (block : ℕ) (bytes : List ℕ) → ((n k : ℕ) → IsClaim geo v n k block → ⊥) → SameShape geo v (updated v (SetBytes block bytes))
-unclaimed_shape geo v block bytes none = bytes_shape geo v block bytes (λ i c. none i indirect_position c) (λ d k t c. none d k c)
+unclaimed_shape geo v block bytes none = bytes_shape geo v block bytes (λ i m t c. none i m c) (λ d k t c. none d k c)
 
 pub unclaimed_rules : (geo : Geometry) (v : View) (block : ℕ) (bytes : List ℕ) → ((n k : ℕ) → IsClaim geo v n k block → ⊥) → ObeysRules geo v → ObeysRules geo (updated v (SetBytes block bytes))
 unclaimed_rules geo v block bytes none o =
@@ -98,29 +97,20 @@ gone_self j e t c i d s block a b f g =
 
 -- ---- a path whose grounds are known
 
--- the same record and pointers give the same uses
-pub record_uses : (geo : Geometry) (v u : View) (g : ℕ) → v.inode g ≡ u.inode g → ((k : ℕ) → IsTrue (is_used geo (u.inode g) k) → direct_positions ≤ k → k < indirect_position → v.bytes (u.inode g).indirect ≡ u.bytes (u.inode g).indirect)
-    → (k : ℕ) → use_at geo v g k ≡ use_at geo u g k
-unfolding use_at
-record_uses geo v u g same pointers k =
-    ap (λ y. then_some (is_number geo g && is_sound y && is_used geo y k) (value_at v y k)) same
-    ∙ same_then (is_sound_at geo u g && is_used geo (u.inode g) k) (value_at v (u.inode g) k) (value_at u (u.inode g) k) (λ t.
-    same_value v u (u.inode g) k (λ low high. pointers k (and_parts (is_sound_at geo u g) (is_used geo (u.inode g) k) t).1 low high))
-
 module _ (geo : Geometry) (users : View) (after : List Cell) (block : ℕ) (view : View) (known : (c : Cell) → IsKnown after block c → SameAt view users c) where
   known_uses : (g : ℕ) → IsKnown after block (Record g) → ArePointersKnown geo users after block g → (k : ℕ) → use_at geo view g k ≡ use_at geo users g k
-  known_uses g r p = record_uses geo view users g (known (Record g) r) (λ k used low high. known (Block (users.inode g).indirect) (p k used low high))
+  known_uses g r p k = sym (uses_agree geo users view g k (λ number. sym (known (Record g) r)) (λ m x above c. sym (known (Block x) (p m x (above_table geo k m above) c))))
 
   known_directory : (g : ℕ) → IsKnown after block (Record g) → is_directory_at geo view g ≡ is_directory_at geo users g
-  known_directory g r = ap (λ y. is_number geo g && is_sound y && is_directory y) (known (Record g) r)
+  known_directory g r = ap (λ y. is_number geo g && is_sound geo y && is_directory y) (known (Record g) r)
 
   known_names : (g t j : ℕ) → IsKnown after block (Record g) → ArePointersKnown geo users after block g → ((b : ℕ) → IsClaim geo users g (t / 16) b → IsKnown after block (Block b)) → Names geo users g t j → Names geo view g t j
   known_names g t j r p blocks n =
       let at = slot_content geo users g t (Good j n.0) (λ z. cc) n.1 in
       let claim = claim_parts geo users g (t / 16) at.block at.claimed in
-      let below : t / 16 < 268 = omega (arith, at.below) in (
+      let below : t / 16 < most_blocks geo = omega (arith, at.below) in (
         n.0,
-        slot_claimed geo view g t at.block (known_directory g r ∙ at.directory) (lt-ltb (t / 16) indirect_position below) (known_uses g r p (t / 16) ∙ claim.0, claim.1)
+        slot_claimed geo view g t at.block (known_directory g r ∙ at.directory) below (known_uses g r p (t / 16) ∙ claim.0, claim.1)
             ∙ ap (λ x. slot_in geo x t) (known (Block at.block) (blocks at.block claim)) ∙ at.content,
       )
 

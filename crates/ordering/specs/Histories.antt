@@ -19,7 +19,7 @@ pub data Step (geo : Geometry) (disk : View) (q : List Pending) (ghost : Ghost) 
   ClearsBlock : (after : List Cell) (b : ℕ) → MayClearBlock geo (users_view disk q) ghost after b → Step geo disk q ghost (record { change = SetBlock b false; after = after }) (block_cleared b ghost)
   Fills : (after : List Cell) (b : ℕ) (bytes : List ℕ) → MayFill geo (users_view disk q) ghost after b → Step geo disk q ghost (record { change = SetBytes b bytes; after = after }) ghost
   Writes : (after : List Cell) (n p b : ℕ) (bytes : List ℕ) → MayWrite geo (users_view disk q) n p b → Step geo disk q ghost (record { change = SetBytes b bytes; after = after }) ghost
-  Raises : (after : List Cell) (n : ℕ) (inode : Inode) → MayRaise (users_view disk q) n inode → Step geo disk q ghost (record { change = SetInode n inode; after = after }) ghost
+  Raises : (after : List Cell) (n : ℕ) (inode : Inode) → MayRaise geo (users_view disk q) n inode → Step geo disk q ghost (record { change = SetInode n inode; after = after }) ghost
   Lowers : (after : List Cell) (n : ℕ) (inode : Inode) → MayLower geo (users_view disk q) ghost after n inode → Step geo disk q ghost (record { change = SetInode n inode; after = after }) (settled n ghost)
   RewritesFile : (held : ℕ → Bool) (given_up : ℕ → ℕ → ℕ → Bool) (after : List Cell) (n : ℕ) (inode : Inode) → MayRewriteFile geo disk q ghost (moved held given_up ghost) after n inode
       → Step geo disk q ghost (record { change = SetInode n inode; after = after }) (moved held given_up ghost)
@@ -28,8 +28,8 @@ pub data Step (geo : Geometry) (disk : View) (q : List Pending) (ghost : Ghost) 
   CreatesDirectory : (after : List Cell) (n : ℕ) (inode : Inode) → MayCreate geo disk q ghost after n inode → Step geo disk q ghost (record { change = SetInode n inode; after = after }) (entered n ghost)
   Frees : (held : ℕ → Bool) (given_up : ℕ → ℕ → ℕ → Bool) (after : List Cell) (n : ℕ) (inode : Inode) → MayFree geo disk q ghost (freed held given_up n ghost) after n inode
       → Step geo disk q ghost (record { change = SetInode n inode; after = after }) (freed held given_up n ghost)
-  AppendsSlot : (after : List Cell) (n x : ℕ) (bytes : List ℕ) → MayAppendSlot geo (users_view disk q) after n x bytes → Step geo disk q ghost (record { change = SetBytes x bytes; after = after }) ghost
-  MovesSlot : (held : ℕ → Bool) (given_up : ℕ → ℕ → ℕ → Bool) (after : List Cell) (n x p : ℕ) (bytes : List ℕ) → MayMoveSlot geo disk q ghost (moved held given_up ghost) after n x p bytes
+  AppendsSlot : (after : List Cell) (n m x : ℕ) (bytes : List ℕ) → MayAppendSlot geo (users_view disk q) after n m x bytes → Step geo disk q ghost (record { change = SetBytes x bytes; after = after }) ghost
+  MovesSlot : (held : ℕ → Bool) (given_up : ℕ → ℕ → ℕ → Bool) (after : List Cell) (n m x p : ℕ) (bytes : List ℕ) → MayMoveSlot geo disk q ghost (moved held given_up ghost) after n m x p bytes
       → Step geo disk q ghost (record { change = SetBytes x bytes; after = after }) (moved held given_up ghost)
   Removes : (after : List Cell) (block : ℕ) (bytes : List ℕ) (d s i : ℕ) (name : List ℕ) (safe : ℕ → Bool) → MayRemove geo (users_view disk q) ghost safe after block bytes d s i name
       → Step geo disk q ghost (record { change = SetBytes block bytes; after = after }) (removed i d s block safe ghost)

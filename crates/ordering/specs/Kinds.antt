@@ -3,7 +3,8 @@ use Rattle.std.specs.Prelude.{◌≡◌, ℕ, ◌≤◌, not, ◌&&◌, ◌==◌
 use Rattle.std.specs.List.{Contains}
 use Rattle.model.specs.Layout.{Geometry}
 use Rattle.model.specs.View.{View, Inode}
-use Rattle.model.specs.Uses.{is_sound, is_sound_at, is_used, blocks_of, IsClaim, indirect_position, IsClaimed}
+use Rattle.model.specs.Shape.{is_table}
+use Rattle.model.specs.Uses.{has_position, is_sound, is_sound_at, blocks_of, IsClaim, IsClaimed}
 use Rattle.model.specs.Reach.{HasEntries}
 use Rattle.ordering.specs.Cuts.{Cell, Record, BlockBit, Block, Pending}
 use Rattle.ordering.specs.Ghosts.{Ghost, Gone}
@@ -26,17 +27,17 @@ pub record MayFill (geo : Geometry) (users : View) (ghost : Ghost) (after : List
   pub bit : Contains after (BlockBit b)
 
 -- records that differ in links and in the size below the same number of blocks
-pub record SameBody (x y : Inode) : Type 0 where
-  pub sound : IsTrue (is_sound x)
-  pub still_sound : IsTrue (is_sound y)
+pub record SameBody (geo : Geometry) (x y : Inode) : Type 0 where
+  pub sound : IsTrue (is_sound geo x)
+  pub still_sound : IsTrue (is_sound geo y)
   pub mode : x.mode ≡ y.mode
   pub blocks : blocks_of x.size ≡ blocks_of y.size
   pub direct : x.direct ≡ y.direct
   pub indirect : x.indirect ≡ y.indirect
 
 -- a record with no fewer links
-pub record MayRaise (users : View) (n : ℕ) (inode : Inode) : Type 0 where
-  pub body : SameBody (users.inode n) inode
+pub record MayRaise (geo : Geometry) (users : View) (n : ℕ) (inode : Inode) : Type 0 where
+  pub body : SameBody geo (users.inode n) inode
   pub links : (users.inode n).links ≤ inode.links
 
 -- the bit of a number whose record is free
@@ -52,7 +53,7 @@ pub record MayClearBlock (geo : Geometry) (users : View) (ghost : Ghost) (after 
   pub unclaimed : IsClaimed geo users b → ⊥
   pub not_held : IsFalse (ghost.held b)
   pub record_first : (n k : ℕ) → IsTrue (ghost.given_up b n k) → Contains after (Record n)
-  pub no_position : (n k : ℕ) → IsTrue (ghost.given_up b n k) → IsTrue (is_sound_at geo users n) → IsTrue (is_used geo (users.inode n) k) → ⊥
+  pub no_position : (n k : ℕ) → IsTrue (ghost.given_up b n k) → IsTrue (is_sound_at geo users n) → IsTrue (has_position geo (users.inode n) k) → ⊥
 
 abbrev pub block_cleared : ℕ → Ghost → Ghost
 block_cleared b ghost = record ghost { given_up = λ a n k. ghost.given_up a n k && not (a == b) }
@@ -60,12 +61,12 @@ block_cleared b ghost = record ghost { given_up = λ a n k. ghost.given_up a n k
 -- the contents of a file's block in place
 pub record MayWrite (geo : Geometry) (users : View) (n p b : ℕ) : Type 0 where
   pub claims : IsClaim geo users n p b
-  pub below : p ≡ indirect_position → ⊥
+  pub no_table : IsFalse (is_table geo p)
   pub file : (users.inode n).mode ≡ 1
 
 -- a record with fewer links, after the updates that took names away
 pub record MayLower (geo : Geometry) (users : View) (ghost : Ghost) (after : List Cell) (n : ℕ) (inode : Inode) : Type 0 where
-  pub body : SameBody (users.inode n) inode
+  pub body : SameBody geo (users.inode n) inode
   pub witnesses : (g : Gone) → IsTrue (ghost.gone g) → g.number ≡ n → Contains after (Block g.witness)
   pub links : (m : ℕ) → HasEntries geo users n m → m ≤ inode.links
 

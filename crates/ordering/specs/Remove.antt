@@ -16,5 +16,5 @@ removal i fewer block bytes q =
 
 pub record MayRemoveName (geo : Geometry) (users : View) (ghost : Ghost) (safe : ℕ → Bool) (block : ℕ) (bytes : List ℕ) (d s i : ℕ) (name : List ℕ) (fewer : Inode) : Type 0 where
   pub remove : MayRemove geo users ghost safe [] block bytes d s i name
-  pub body : SameBody (users.inode i) fewer
+  pub body : SameBody geo (users.inode i) fewer
   pub links : (users.inode i).links ≤ 1 + fewer.links

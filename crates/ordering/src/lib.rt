@@ -66,7 +66,7 @@ pub fn write()
 /// A record gets no fewer links, or another size over the same blocks.
 pub fn raise()
     ensures { (geo : Geometry) (disk : View) (q : List Pending) (ghost : Ghost) (after : List Cell) (n : ℕ) (inode : Inode)
-        → MayRaise (users_view disk q) n inode → Keeps geo disk q ghost (record { change = SetInode n inode; after = after }) ghost }
+        → MayRaise geo (users_view disk q) n inode → Keeps geo disk q ghost (record { change = SetInode n inode; after = after }) ghost }
 {}
 
 /// A record gets fewer links.
@@ -109,17 +109,18 @@ pub fn grow_directory()
         → MayGrowDirectory geo disk q ghost after n inode → Keeps geo disk q ghost (record { change = SetInode n inode; after = after }) ghost }
 {}
 
-/// An indirect block gets a pointer that is not in use.
+/// A table of a file or directory gets a pointer that is not in use.
 pub fn append_slot()
-    ensures { (geo : Geometry) (disk : View) (q : List Pending) (ghost : Ghost) (after : List Cell) (n x : ℕ) (bytes : List ℕ)
-        → MayAppendSlot geo (users_view disk q) after n x bytes
+    ensures { (geo : Geometry) (disk : View) (q : List Pending) (ghost : Ghost) (after : List Cell) (n m x : ℕ) (bytes : List ℕ)
+        → MayAppendSlot geo (users_view disk q) after n m x bytes
         → Keeps geo disk q ghost (record { change = SetBytes x bytes; after = after }) ghost }
 {}
 
-/// A file's block moves, in its indirect block.
+/// A file's block moves, in the table that holds its pointer.
 pub fn move_slot()
     ensures { (geo : Geometry) (disk : View) (q : List Pending) (ghost : Ghost) (held : ℕ → Bool) (given_up : ℕ → ℕ → ℕ → Bool)
-        (after : List Cell) (n x p : ℕ) (bytes : List ℕ) → MayMoveSlot geo disk q ghost (moved held given_up ghost) after n x p bytes
+        (after : List Cell) (n m x p : ℕ) (bytes : List ℕ)
+        → MayMoveSlot geo disk q ghost (moved held given_up ghost) after n m x p bytes
         → Keeps geo disk q ghost (record { change = SetBytes x bytes; after = after }) (moved held given_up ghost) }
 {}
 

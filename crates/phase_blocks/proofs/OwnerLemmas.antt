@@ -13,9 +13,9 @@ use Rattle.model.specs.View.{View}
 use Rattle.model.specs.Uses.{IsClaim, is_sound}
 use Rattle.model.specs.Units.{only}
 use Rattle.model.proofs.Addresses.{number_in_group}
-use Rattle.model.proofs.UseLemmas.{use_parts}
-use Rattle.by_group.specs.Groups.{AreFoundIn, group_of}
-use Rattle.by_group.proofs.JoinLemmas.{in_some, from_some, stands_at}
+use Rattle.model.proofs.Uses.{use_parts}
+use Rattle.findings.specs.Groups.{AreFoundIn, group_of}
+use Rattle.findings.proofs.JoinLemmas.{in_some, from_some, stands_at}
 use Rattle.phase_blocks.specs.declared.parts.Claim.{Claim}
 use Rattle.phase_blocks.specs.Parts.{Gathered, IsPart, IsFoundAmong, claim_cmp}
 use Rattle.phase_blocks.specs.Owners.{AreGathered, AreOwners, Holds, IsRepeatedIn}
@@ -28,7 +28,7 @@ module _ (geo : Geometry) (ok : IsGeometry geo) (view : View) (parts : List Gath
     (λ h. let r = in_some (λ (p : Gathered). p.claims) parts c h in (((each.each r.0 r.1 r.2).told.claims c).0 r.3).1),
     (λ h.
         let sound = (use_parts geo view c.inode c.position c.block h.0).sound in
-        let low = number_in_group geo ok c.inode (and_parts (is_number geo c.inode) (is_sound (view.inode c.inode)) sound).0 in
+        let low = number_in_group geo ok c.inode (and_parts (is_number geo c.inode) (is_sound geo (view.inode c.inode)) sound).0 in
         let p = stands_at parts (c.inode / geo.inodes) (subst (λ n. c.inode / geo.inodes < n) (sym each.count) low) in
         from_some (λ (q : Gathered). q.claims) parts (c.inode / geo.inodes) p.0 c p.1
         (((each.each (c.inode / geo.inodes) p.0 p.1).told.claims c).1 (eq-eqb (c.inode / geo.inodes) (c.inode / geo.inodes) refl, h))),

@@ -1,15 +1,17 @@
 -- What is told of a group's inodes, one after another, and of an inode's uses.
-use Rattle.std.proofs.Common.{◌≡◌, ◌<◌, ◌≤◌, ◌+◌, ◌/◌, ℕ, Bool, true, false, cond, ◌&&◌, eqb, ltb, Option, Some, None, ◌⊎◌, inl, inr, refl, sym, ap, ◌∙◌, subst, arith, IsTrue, IsFalse, is_none, is_some}
-use Rattle.std.proofs.lemmas.Bool.{or_cases, or_left, or_right, and_parts, and_from, eqb-true, eq-eqb, ltb-true, lt-ltb, cases_eq, false≢true, true≢false}
-use Rattle.std.proofs.lemmas.Bool.Decides.{nat_tests}
+use Rattle.std.proofs.Common.{◌≡◌, ◌<◌, ◌≤◌, ◌+◌, ◌/◌, ℕ, true, false, ◌&&◌, eqb, ltb, Option, Some, None, ◌⊎◌, inl, inr, refl, sym, ap, ◌∙◌, subst, arith, IsTrue, IsFalse, is_none, is_some}
+use Rattle.std.proofs.lemmas.Bool.{or_cases, or_left, or_right, and_parts, and_from, eqb-true, eq-eqb, ltb-true, lt-ltb, leb-true, cases_eq, false≢true, true≢false}
 use Rattle.std.proofs.lemmas.Option.{none-some}
-use Rattle.model.specs.Layout.{Geometry, is_number, is_data_address}
+use Rattle.model.specs.Layout.{Geometry, is_number}
 use Rattle.model.specs.View.{View, Inode}
-use Rattle.model.specs.Uses.{IsUse, blocks_of, indirect_position, is_sound, use_at, record_use}
+use Rattle.model.specs.Shape.{most_blocks, tables}
+use Rattle.model.specs.Uses.{IsUse, blocks_of, is_sound, is_sound_at, use_at, record_use}
 use Rattle.findings.specs.declared.finding.Finding.TheVariants.{BadInode}
 use Rattle.findings.specs.Findings.{IsFinding}
 use Rattle.model.specs.Units.{no_unit, only, stands_in}
-use Rattle.model.proofs.UseLemmas.{use_parts, use_of_record}
+use Rattle.model.proofs.Ranges.{use_places}
+use Rattle.model.proofs.UseLemmas.{use_of_record}
+use Rattle.model.proofs.Uses.{sound_few, use_number, use_parts}
 use Rattle.phase_blocks.specs.Parts.{Gathered, AddsFinding, Inodes, Uses, Tells, IsPart, with_inode, with_use, with_uses, with_uses_below}
 use Rattle.phase_blocks.proofs.Claims.{group_of_number, AddsUse, with_use_adds}
 use Rattle.phase_blocks.proofs.Gathering.{tells_inode, tells_same}
@@ -37,9 +39,8 @@ none_is_some None e = refl
 none_is_some (Some x) e = absurd (false≢true e)
 
 -- ---- the uses of an inode
-used_below : (k blocks : ℕ) (is_data : Bool) → (k ≡ 268 → ⊥)
-    → cond (ltb k 12) (ltb k blocks) (cond (ltb k 268) (ltb k blocks && is_data) (eqb k 268 && ltb 12 blocks)) ≡ true → k < blocks
-used_below k blocks is_data apart h = grind (arith, nat_tests)
+sound_record : (geo : Geometry) (view : View) (i : ℕ) → IsTrue (is_sound_at geo view i) → IsTrue (is_sound geo (view.inode i))
+sound_record geo view i sound = (and_parts (is_number geo i) (is_sound geo (view.inode i)) sound).1
 
 module _ (geo : Geometry) (view : View) (n : Inodes) (s : Uses) (i : ℕ) (g : Gathered) where
   below : (j l k : ℕ) → IsTrue (with_uses_below s i k j l) → IsTrue (s j l) ⊎ ((j ≡ i) × (l < k))
@@ -77,41 +78,54 @@ module _ (geo : Geometry) (view : View) (n : Inodes) (s : Uses) (i : ℕ) (g : G
       adds : AddsUse (with_uses_below s i k) (with_use (with_uses_below s i k) i k) i k
       adds = with_use_adds (with_uses_below s i k) i k
 
-  pub all_below : (blocks : ℕ) → blocks ≡ blocks_of (view.inode i).size
-      → Tells geo view n (with_use (with_uses_below s i blocks) i indirect_position) g → Tells geo view n (with_uses s i) g
-  all_below blocks count h =
-      tells_same geo view n n (with_use (with_uses_below s i blocks) i indirect_position) (with_uses s i) g h (λ j u. u) (λ j u b. u)
-      (λ j l u. elim (adds.only j l u) [
-        | inl x ↦ elim (below j l blocks x) [
-          | inl y ↦ or_left (s j l) (eqb j i) y
-          | inr e ↦ or_right (s j l) (eqb j i) (eq-eqb j i e.0)
-        ]
+  -- what is not used may be among those that were looked at
+  no_use_between : (k m : ℕ) → k ≤ m → ((l v : ℕ) → IsUse geo view i l v → l < m → l < k) → Tells geo view n (with_uses_below s i k) g → Tells geo view n (with_uses_below s i m) g
+  no_use_between k m more none h =
+      tells_same geo view n n (with_uses_below s i k) (with_uses_below s i m) g h (λ j u. u) (λ j u b. u)
+      (λ j l u. elim (below j l k u) [
+        | inl y ↦ or_left (s j l) (eqb j i && ltb l m) y
+        | inr e ↦ is_below j l m e.0 (omega (arith, e.1, more))
+      ])
+      (λ j l v u x. elim (below j l m u) [
+        | inl y ↦ or_left (s j l) (eqb j i && ltb l k) y
+        | inr e ↦ is_below j l k e.0 (none l v (subst (λ z. IsUse geo view z l v) e.0 x) e.1)
+      ])
+
+  -- a sound inode uses no position between its blocks and its tables
+  pub to_tables : (blocks most : ℕ) → blocks ≡ blocks_of (view.inode i).size → most ≡ most_blocks geo → IsTrue (is_sound geo (view.inode i))
+      → Tells geo view n (with_uses_below s i blocks) g → Tells geo view n (with_uses_below s i most) g
+  to_tables blocks most count is sound =
+      no_use_between blocks most (omega (arith, count, is, sound_few geo (view.inode i) sound)) (λ l v u low. elim (use_places geo view i l v u) [
+        | inl below ↦ omega (arith, count, below)
+        | inr table ↦ absurd (let from = leb-true (most_blocks geo) l table.0 in omega (arith, is, low, from))
+      ])
+
+  -- and none past them
+  pub all_below : (end : ℕ) → end ≡ most_blocks geo + tables (blocks_of (view.inode i).size) → Tells geo view n (with_uses_below s i end) g → Tells geo view n (with_uses s i) g
+  all_below end is h =
+      tells_same geo view n n (with_uses_below s i end) (with_uses s i) g h (λ j u. u) (λ j u b. u)
+      (λ j l u. elim (below j l end u) [
+        | inl y ↦ or_left (s j l) (eqb j i) y
         | inr e ↦ or_right (s j l) (eqb j i) (eq-eqb j i e.0)
       ])
       (λ j l v u x. elim (or_cases (s j l) (eqb j i) u) [
-        | inl y ↦ adds.keeps j l (or_left (s j l) (eqb j i && ltb l blocks) y)
-        | inr y ↦ (let e = eqb-true j i y in elim (cases_eq l indirect_position) [
-          | inl f ↦ subst (λ z. IsTrue (with_use (with_uses_below s i blocks) i indirect_position z l)) (sym e)
-              (subst (λ z. IsTrue (with_use (with_uses_below s i blocks) i indirect_position i z)) (sym f) adds.has)
-          | inr f ↦ adds.keeps j l (is_below j l blocks e (low j l v e f x))
-        ])
+        | inl y ↦ or_left (s j l) (eqb j i && ltb l end) y
+        | inr y ↦ let e = eqb-true j i y in is_below j l end e (low l v (subst (λ m. IsUse geo view m l v) e x))
       ])
     where
-      adds : AddsUse (with_uses_below s i blocks) (with_use (with_uses_below s i blocks) i indirect_position) i indirect_position
-      adds = with_use_adds (with_uses_below s i blocks) i indirect_position
-
-      low : (j l v : ℕ) → j ≡ i → (l ≡ indirect_position → ⊥) → IsUse geo view j l v → l < blocks
-      low j l v e f x =
-          let here = subst (λ m. IsUse geo view m l v) e x in
-          subst (λ m. l < m) (sym count) (used_below l (blocks_of (view.inode i).size) (is_data_address geo (view.inode i).indirect) f (use_parts geo view i l v here).used)
+      low : (l v : ℕ) → IsUse geo view i l v → l < end
+      low l v u = elim (use_places geo view i l v u) [
+        | inl below ↦ omega (arith, is, below, sound_few geo (view.inode i) (sound_record geo view i (use_parts geo view i l v u).sound))
+        | inr table ↦ omega (arith, is, table.1)
+      ]
 
   -- an inode that is not sound uses nothing
-  pub no_uses : IsFalse (is_sound (view.inode i)) → Tells geo view n s g → Tells geo view n (with_uses s i) g
+  pub no_uses : IsFalse (is_sound geo (view.inode i)) → Tells geo view n s g → Tells geo view n (with_uses s i) g
   no_uses unsound h =
       tells_same geo view n n s (with_uses s i) g h (λ j u. u) (λ j u b. u) (λ j l u. or_left (s j l) (eqb j i) u)
       (λ j l v u x. elim (or_cases (s j l) (eqb j i) u) [
         | inl y ↦ y
-        | inr y ↦ absurd (true≢false (sym (and_parts (is_number geo i) (is_sound (view.inode i)) (use_parts geo view i l v (subst (λ m. IsUse geo view m l v) (eqb-true j i y) x)).sound).1 ∙ unsound))
+        | inr y ↦ absurd (true≢false (sym (sound_record geo view i (use_parts geo view i l v (subst (λ m. IsUse geo view m l v) (eqb-true j i y) x)).sound) ∙ unsound))
       ])
 
   -- a record that is free or sound is no finding
@@ -143,7 +157,7 @@ module _ (geo : Geometry) (view : View) (group : ℕ) (g : Gathered) where
   group_parts i k u = let p = and_parts (eqb (i / geo.inodes) group) (ltb i k) u in (eqb-true (i / geo.inodes) group p.0, ltb-true i k p.1)
 
   number_used : (i k v : ℕ) → IsUse geo view i k v → IsTrue (is_number geo i)
-  number_used i k v u = (and_parts (is_number geo i) (is_sound (view.inode i)) (use_parts geo view i k v u).sound).0
+  number_used i k v u = (use_number geo view i k v u).0
 
   -- no number of the group lies below the first
   pub none_yet : (k : ℕ) → ((i : ℕ) → IsTrue (is_number geo i) → i / geo.inodes ≡ group → k ≤ i) → Tells geo view (stands_in geo no_unit) (λ i l. stands_in geo no_unit i) g → TellsBelow k

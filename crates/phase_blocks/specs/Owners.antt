@@ -7,7 +7,7 @@ use Rattle.model.specs.Layout.{Geometry, data_address, group_of_address, header_
 use Rattle.model.specs.View.{View}
 use Rattle.model.specs.Uses.{Before, IsClaimed, IsOwner}
 use Rattle.model.specs.Units.{only}
-use Rattle.by_group.specs.Groups.{IsEach}
+use Rattle.findings.specs.Groups.{IsEach}
 use Rattle.phase_blocks.specs.declared.parts.Claim.{Claim}
 use Rattle.phase_blocks.specs.Parts.{Gathered, IsPart}
 

@@ -6,15 +6,14 @@ ghost use Rattle.frozen.specs.Kept.{frozen_view};
 ghost use Rattle.model.specs.Layout.{header_blocks};
 ghost use Rattle.model.specs.View.{View};
 ghost use Rattle.model.specs.Uses.{Before};
-ghost use Rattle.by_group.specs.Groups.{AreFoundIn};
+ghost use Rattle.findings.specs.Groups.{AreFoundIn};
 ghost use Rattle.findings.specs.Findings.{is_of_blocks};
 ghost use Rattle.phase_blocks.specs.Parts.{Gathered};
 ghost use Rattle.phase_blocks.specs.Owners.{AreGathered, AreOwners, owner_at};
 
 use crate::filling::{Filling, filled};
 use crate::parts::{Claim, Part};
-use by_group::OfGroup;
-use findings::Finding;
+use findings::{Finding, OfGroup};
 use frozen::Frozen;
 use layout::Refusal;
 use std::alloc::{AllocError, Global};

@@ -1,13 +1,14 @@
 ghost use Rattle.std.specs.Prelude.{◌≡◌, ◌<◌, ◌≤◌, IfOk, OnOk, IsOkUnless, IsTrue};
 ghost use Rattle.model.specs.Layout.{is_number};
 ghost use Rattle.model.specs.Units.{only};
+ghost use Rattle.model.specs.Uses.{is_sound};
 ghost use Rattle.frozen.specs.Kept.{frozen_view};
 ghost use Rattle.phase_blocks.specs.Parts.{Inodes, Uses, Tells, IsPart, nothing_gathered, with_inode, with_use, with_uses};
 
 use crate::parts::{Claim, Part};
 use findings::Finding;
 use frozen::Frozen;
-use inode::{FREE, INDIRECT_POSITION, Record};
+use inode::{FREE, Record};
 use layout::Refusal;
 use std::alloc::Global;
 
@@ -37,7 +38,7 @@ fn look_at_inode(part: &mut Part, frozen: &Frozen, number: u32) -> Result<(), Re
     ensures error { IsOkUnless result Refusal.NoMemory }
 {
     let record = frozen.record(number);
-    if record.is_sound() {
+    if record.is_sound(&frozen.geometry()) {
         look_at_uses(part, frozen, number, &record)
     } else if record.mode != FREE {
         part.add_finding(Finding::BadInode(number))
@@ -46,7 +47,7 @@ fn look_at_inode(part: &mut Part, frozen: &Frozen, number: u32) -> Result<(), Re
     }
 }
 
-/// Looks at each position of a sound inode: those of its blocks, and that of its indirect pointer.
+/// Looks at each position of a sound inode: those of its blocks, and those of its tables.
 fn look_at_uses(
     part: &mut Part,
     frozen: &Frozen,
@@ -55,6 +56,7 @@ fn look_at_uses(
 ) -> Result<(), Refusal>
     requires number { IsTrue (is_number frozen.now.geometry number) }
     requires inode { inode.now ≡ (frozen_view frozen.now).inode number }
+    requires sound { IsTrue (is_sound frozen.now.geometry inode.now) }
     ensures looked { OnOk result ((inodes : Inodes) (uses : Uses) → Tells frozen.now.geometry (frozen_view frozen.now) inodes uses part.old
         → Tells frozen.now.geometry (frozen_view frozen.now) inodes (with_uses uses number) part.new) }
     ensures error { IsOkUnless result Refusal.NoMemory }
@@ -62,7 +64,11 @@ fn look_at_uses(
     for position in 0..inode.blocks() {
         look_at_use(part, frozen, number, inode, position)?;
     }
-    look_at_use(part, frozen, number, inode, INDIRECT_POSITION)
+    let geometry = frozen.geometry();
+    for table in geometry.most_blocks()..geometry.tables_end(inode.blocks()) {
+        look_at_use(part, frozen, number, inode, table)?;
+    }
+    Ok(())
 }
 
 /// Looks at what an inode uses at a position, if it uses the position.

@@ -12,7 +12,7 @@ use Rattle.model.specs.Uses.{IsClaimed}
 use Rattle.model.specs.Units.{only, stands_in}
 use Rattle.model.specs.Growth.{Adds}
 use Rattle.model.proofs.Addresses.{address_is_data, address_group, address_place, data_range}
-use Rattle.by_group.specs.Groups.{AreFoundIn, group_of}
+use Rattle.findings.specs.Groups.{AreFoundIn, group_of}
 use Rattle.phase_blocks.specs.declared.parts.Claim.{Claim}
 use Rattle.phase_blocks.specs.Owners.{AreOwners, owner_at}
 use Rattle.phase_maps.specs.NumberFindings.{IsFoundOfNumbers}

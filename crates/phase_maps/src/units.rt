@@ -1,7 +1,7 @@
 ghost use Rattle.std.specs.Prelude.{◌≡◌, ◌<◌, ◌≤◌, IfOk, IsOkUnless, []};
 ghost use Rattle.findings.specs.Findings.{is_of_maps};
 ghost use Rattle.frozen.specs.Kept.{frozen_view};
-ghost use Rattle.by_group.specs.Groups.{AreFoundIn};
+ghost use Rattle.findings.specs.Groups.{AreFoundIn};
 ghost use Rattle.phase_blocks.specs.Owners.{AreOwners};
 
 use crate::blocks::add_blocks;

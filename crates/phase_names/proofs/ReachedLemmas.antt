@@ -211,7 +211,7 @@ module _ (geo : Geometry) (ok : IsGeometry geo) (view : View) (units : Units) (t
     reached_below d r = number_below geo d (directory_number geo view d (reachable_directory geo view d r))
 
     -- ---- the entries
-    entries_told : (d : ℕ) (told : Told) → told_by table reached d ≡ Some told → entries_at table reached d ≡ entries_from d (namings_below geo view d slot_count)
+    entries_told : (d : ℕ) (told : Told) → told_by table reached d ≡ Some told → entries_at table reached d ≡ entries_from d (namings_below geo view d (slot_count geo))
     entries_told d told e =
         ap (λ o. option_map_or (λ (told : Told). entries_from d told.directories) o []) e ∙ ap (entries_from d) (told_reached d told e).1.directories
 
@@ -226,9 +226,9 @@ module _ (geo : Geometry) (ok : IsGeometry geo) (view : View) (units : Units) (t
     entry_at : (d : ℕ) (o : Option Told) → told_by table reached d ≡ o → (e : Entry) → Contains (entries_at table reached d) e → IsTargeted e × (e.directory ≡ d)
     entry_at d None none e c = absurd (Contains-none e (subst (λ xs. Contains xs e) (entries_untold d none) c))
     entry_at d (Some told) is e c =
-        let x = mapped_Contains (λ (naming : Naming). record { directory = d; slot = naming.slot; inode = naming.inode }) (namings_below geo view d slot_count) e
+        let x = mapped_Contains (λ (naming : Naming). record { directory = d; slot = naming.slot; inode = naming.inode }) (namings_below geo view d (slot_count geo)) e
         (subst (λ xs. Contains xs e) (entries_told d told is) c) in
-        let naming = (namings_are geo view d slot_count x.0 x.1).0 in
+        let naming = (namings_are geo view d (slot_count geo) x.0 x.1).0 in
         let targeted : IsTargeted (record { directory = d; slot = x.0.slot; inode = x.0.inode }) = record {
           is_entry = record { reachable = (told_reached d told is).0; after_dots = naming.after_dots; names = naming.names };
           target = naming.target;
@@ -246,8 +246,8 @@ module _ (geo : Geometry) (ok : IsGeometry geo) (view : View) (units : Units) (t
     are_entries_at d s i entry target =
         let told = reached_told d entry.reachable in
         subst (λ xs. Contains xs (record { directory = d; slot = s; inode = i })) (sym (entries_told d told.0 told.1))
-        (Contains_mapped (λ (naming : Naming). record { directory = d; slot = naming.slot; inode = naming.inode }) (namings_below geo view d slot_count) (record { slot = s; inode = i })
-        (are_namings geo view d slot_count s i (names_stands geo view d s i entry.names).place.below entry.after_dots entry.names target))
+        (Contains_mapped (λ (naming : Naming). record { directory = d; slot = naming.slot; inode = naming.inode }) (namings_below geo view d (slot_count geo)) (record { slot = s; inode = i })
+        (are_namings geo view d (slot_count geo) s i (names_stands geo view d s i entry.names).place.below entry.after_dots entry.names target))
 
     pub are_entries : (n d s i : ℕ) → d < n → IsEntry geo view d s i → IsTarget geo view i → Contains (entries_below table reached n) (record { directory = d; slot = s; inode = i })
     are_entries zero d s i low entry target = absurd (omega (arith, low))
@@ -268,4 +268,4 @@ module _ (geo : Geometry) (ok : IsGeometry geo) (view : View) (units : Units) (t
       where
         here : (o : Option Told) → told_by table reached n ≡ o → AreInOrder (entries_at table reached n)
         here None none = subst (λ xs. AreInOrder xs) (sym (entries_untold n none)) (in_order_few [] (omega arith))
-        here (Some told) is = subst (λ xs. AreInOrder xs) (sym (entries_told n told is)) (namings_in_order geo view n slot_count)
+        here (Some told) is = subst (λ xs. AreInOrder xs) (sym (entries_told n told is)) (namings_in_order geo view n (slot_count geo))

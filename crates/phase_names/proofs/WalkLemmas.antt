@@ -1,7 +1,7 @@
 -- A walk over the slots of a directory, one slot after another, and what it has at the end.
-use Rattle.std.proofs.Common.{◌≡◌, ◌<◌, ◌≤◌, ◌+◌, ◌-◌, ℕ, zero, suc, Bool, true, false, ◌&&◌, ◌||◌, eqb, ltb, leb, ◌%◌, List, [], ◌++◌, Contains, inl, inr, refl, sym, ap, ◌∙◌, subst, arith, IsTrue, IsFalse, add-zero, add-suc}
+use Rattle.std.proofs.Common.{◌≡◌, ◌<◌, ◌≤◌, ◌+◌, ◌-◌, ℕ, zero, suc, Bool, true, false, ◌&&◌, List, [], ◌++◌, Contains, inl, inr, refl, sym, ap, ◌∙◌, subst, arith, IsTrue, IsFalse, add-zero, add-suc}
 use Rattle.std.specs.List.Sorted.{IsStrictlySortedBy}
-use Rattle.std.proofs.lemmas.Bool.{and_parts, cases_eq, cases_lt, leb-true}
+use Rattle.std.proofs.lemmas.Bool.{and_parts, cases_eq, cases_lt}
 use Rattle.std.proofs.lemmas.List.{append-nil}
 use Rattle.findings.specs.declared.finding.Finding.{Finding}
 use Rattle.findings.specs.declared.finding.Finding.TheVariants.{BadSlot, DupName, BadDot, ToUnsound}
@@ -10,10 +10,12 @@ use Rattle.findings.proofs.Sorted.{Contains-none}
 use Rattle.model.specs.Growth.{Adds}
 use Rattle.model.specs.Layout.{Geometry, is_number}
 use Rattle.model.specs.View.{View}
+use Rattle.model.specs.Shape.{most_blocks}
 use Rattle.model.specs.Uses.{blocks_of, is_directory, is_directory_at, is_sound, is_sound_at}
 use Rattle.model.specs.Slots.{Slot, Absent, Empty, Good, Bad, slot, number_in}
 use Rattle.model.specs.Reach.{slot_count}
 use Rattle.model.proofs.SlotLemmas.{directory_sound, names_stands}
+use Rattle.model.proofs.Uses.{sound_few}
 use Rattle.phase_names.specs.Told.{IsLocal, IsTold, Told, naming_of, namings_below}
 use Rattle.phase_names.specs.Walks.{IsBadDot, IsFoundBelow, IsFoundInSlot, IsNameAt, IsRepeated, IsToUnsound, IsWalked, Walked, keyed}
 use Rattle.phase_names.proofs.ReachedLemmas.{namings_before, namings_more, namings_none}
@@ -171,14 +173,14 @@ module _ (geo : Geometry) (view : View) (d : ℕ) where
         (h.names (keyed name)).1 (r.0, r.5, (r.2, name, r.4, r.6 ∙ ap (Good r.2) (sym same), refl))
 
     to_unsound : IsFalse (is_sound_at geo view i) → IsToUnsound geo view d s
-    to_unsound f = (i, (name, good), sound_false (is_number geo i) (is_sound (view.inode i)) (names_stands geo view d s i (name, good)).number f)
+    to_unsound f = (i, (name, good), sound_false (is_number geo i) (is_sound geo (view.inode i)) (names_stands geo view d s i (name, good)).number f)
       where
         sound_false : (a b : Bool) → a ≡ true → (a && b) ≡ false → b ≡ false
         sound_false true b t e = e
         sound_false false b t e = cc
 
     not_sound : IsToUnsound geo view d s → IsFalse (is_sound_at geo view i)
-    not_sound u = and_false (is_number geo i) (is_sound (view.inode i)) (subst (λ j. IsFalse (is_sound (view.inode j))) (sym (same_slot u.0 u.1.0 u.1.1).0) u.2)
+    not_sound u = and_false (is_number geo i) (is_sound geo (view.inode i)) (subst (λ j. IsFalse (is_sound geo (view.inode j))) (sym (same_slot u.0 u.1.0 u.1.1).0) u.2)
       where
         and_false : (a b : Bool) → b ≡ false → (a && b) ≡ false
         and_false true b e = e
@@ -244,7 +246,7 @@ module _ (geo : Geometry) (view : View) (d : ℕ) where
     namings_past zero = ap (namings_below geo view d) (add-zero n)
     namings_past (suc more) = ap (namings_below geo view d) (add-suc n more) ∙ no_naming (n + more) (ap number_in (past (n + more) (omega arith))) ∙ namings_past more
 
-    pub walked_told : (walk : Walked) (told : Told) → n ≤ slot_count → told.findings ≡ walk.findings → told.parent ≡ number_in (slot geo view d 1) → told.directories ≡ walk.directories
+    pub walked_told : (walk : Walked) (told : Told) → n ≤ slot_count geo → told.findings ≡ walk.findings → told.parent ≡ number_in (slot geo view d 1) → told.directories ≡ walk.directories
         → Walk n walk → IsTold geo view d told
     walked_told walk told low findings parent directories h = record {
       in_order = subst (λ fs. IsStrictlySortedBy finding_cmp fs) (sym findings) h.in_order;
@@ -253,14 +255,12 @@ module _ (geo : Geometry) (view : View) (d : ℕ) where
         (λ l. subst (λ fs. Contains fs f) (sym findings) ((h.findings f).1 (from_local f l))),
       );
       parent = parent;
-      directories = directories ∙ h.directories ∙ sym (namings_past (slot_count - n)) ∙ ap (namings_below geo view d) all;
+      directories = directories ∙ h.directories ∙ sym (namings_past (slot_count geo - n)) ∙ ap (namings_below geo view d) all;
     }
       where
-        all : n + (slot_count - n) ≡ slot_count
+        all : n + (slot_count geo - n) ≡ slot_count geo
         all = omega (arith, low)
 
 -- a sound directory has no more blocks than there are positions for slots
-pub few_blocks : (geo : Geometry) (view : View) (d : ℕ) → IsTrue (is_directory_at geo view d) → blocks_of (view.inode d).size ≤ 268
-few_blocks geo view d t =
-    let inode = view.inode d in
-    leb-true (blocks_of inode.size) 268 (and_parts (eqb inode.mode 1 || is_directory inode && ltb 0 inode.size && eqb (inode.size % 1024) 0) (leb (blocks_of inode.size) 268) (directory_sound geo view d t)).1
+pub few_blocks : (geo : Geometry) (view : View) (d : ℕ) → IsTrue (is_directory_at geo view d) → blocks_of (view.inode d).size ≤ most_blocks geo
+few_blocks geo view d t = sound_few geo (view.inode d) (directory_sound geo view d t)

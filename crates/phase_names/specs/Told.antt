@@ -25,7 +25,7 @@ abbrev pub IsLocal : Geometry → View → ℕ → Finding → Type 0
 IsLocal geo view d (BadSlot e s) = (e ≡ d) × (2 ≤ s) × (slot geo view d s ≡ Bad)
 IsLocal geo view d (DupName e s) = (e ≡ d) × (t i j : ℕ) × (name : List ℕ) × (2 ≤ t) × (t < s) × (slot geo view d t ≡ Good j name) × (slot geo view d s ≡ Good i name)
 IsLocal geo view d (BadDot e) = (e ≡ d) × (Names geo view d 0 d → ⊥)
-IsLocal geo view d (ToUnsound e s) = (e ≡ d) × (i : ℕ) × (2 ≤ s) × Names geo view d s i × IsFalse (is_sound (view.inode i))
+IsLocal geo view d (ToUnsound e s) = (e ≡ d) × (i : ℕ) × (2 ≤ s) × Names geo view d s i × IsFalse (is_sound geo (view.inode i))
 IsLocal geo view d _ = ⊥
 
 -- slot s with this number, if that is the root's or a sound directory's
@@ -42,7 +42,7 @@ pub record IsTold (geo : Geometry) (view : View) (d : ℕ) (told : Told) : Type 
   pub in_order : IsStrictlySortedBy finding_cmp told.findings
   pub findings : (f : Finding) → Contains told.findings f ↔ IsLocal geo view d f
   pub parent : told.parent ≡ number_in (slot geo view d 1)
-  pub directories : told.directories ≡ namings_below geo view d slot_count
+  pub directories : told.directories ≡ namings_below geo view d (slot_count geo)
 
 -- the table of what is told of each sound directory of these groups
 abbrev pub IsPart : Geometry → View → Units → List (ℕ × Told) → Type 0

@@ -37,7 +37,7 @@ IsRepeated geo view d s = (t i j : ℕ) × (name : List ℕ) × (2 ≤ t) × (t 
 
 -- slot s names an inode that is not sound
 abbrev pub IsToUnsound : Geometry → View → ℕ → ℕ → Type 0
-IsToUnsound geo view d s = (i : ℕ) × Names geo view d s i × IsFalse (is_sound (view.inode i))
+IsToUnsound geo view d s = (i : ℕ) × Names geo view d s i × IsFalse (is_sound geo (view.inode i))
 
 -- what is found of slot s from 2 on of directory d, by itself and the slots before it
 abbrev pub IsFoundInSlot : Geometry → View → ℕ → ℕ → Finding → Type 0

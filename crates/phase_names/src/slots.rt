@@ -4,7 +4,8 @@ ghost use Rattle.std.specs.List.Sorted.{IsStrictlySortedBy};
 ghost use Rattle.findings.specs.declared.finding.Finding.TheVariants.{DupName, ToUnsound};
 ghost use Rattle.findings.specs.Findings.{finding_cmp};
 ghost use Rattle.model.specs.Growth.{Adds};
-ghost use Rattle.model.specs.Uses.{indirect_position, is_directory_at, is_sound_at};
+ghost use Rattle.model.specs.Shape.{most_blocks};
+ghost use Rattle.model.specs.Uses.{is_directory_at, is_sound_at};
 ghost use Rattle.model.specs.Slots as model;
 ghost use Rattle.frozen.specs.Kept.{frozen_view};
 ghost use Rattle.dirent.specs.Seen.{seen};
@@ -92,7 +93,7 @@ impl<'a> Walk<'a> {
         directory: u32,
         position: u32,
     ) -> Result<(), Refusal>
-        requires { position < indirect_position }
+        requires { position < most_blocks frozen.now.geometry }
         ensures walked { OnOk result (IsWalked frozen.now.geometry (frozen_view frozen.now) directory (16 * position) self.old
             → IsWalked frozen.now.geometry (frozen_view frozen.now) directory (16 * (position + 1)) self.new) }
         ensures error { IsOkUnless result Refusal.NoMemory }
@@ -111,7 +112,7 @@ impl<'a> Walk<'a> {
         position: u32,
         block: &'a Block,
     ) -> Result<(), Refusal>
-        requires position { position < indirect_position }
+        requires position { position < most_blocks frozen.now.geometry }
         requires block { (s : ℕ) → s / 16 ≡ position
             → model.slot frozen.now.geometry (frozen_view frozen.now) directory s ≡ model.slot_in frozen.now.geometry block.now s }
         ensures walked { OnOk result (IsWalked frozen.now.geometry (frozen_view frozen.now) directory (16 * position) self.old

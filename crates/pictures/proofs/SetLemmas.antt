@@ -2,6 +2,7 @@
 use Rattle.std.proofs.Common.{◌≡◌, ℕ, ◌<◌, Bool, true, false, not, cond, ◌&&◌, ◌||◌, eqb, ltb, leb, ◌⊎◌, inl, inr, ◌↔◌, refl, arith, IsTrue}
 use Rattle.std.proofs.lemmas.Bool.{or_cases, and_parts, eqb-true, ltb-true, leb-true}
 use Rattle.model.specs.Layout.{Geometry, block_count, header_blocks, is_data_address, place_in_group}
+use Rattle.model.specs.Shape.{is_table}
 use Rattle.model.specs.View.{View}
 use Rattle.model.specs.Uses.{Before, is_directory_at}
 use Rattle.pictures.specs.Uses.{AreNoClaims, AreTwoClaims, IsOneClaim, IsUsedBy, is_inodes, is_maps, purpose}
@@ -89,7 +90,7 @@ module _ (geo : Geometry) (view : View) (p q : ℕ → ℕ → Type 0) (a i k : 
   used_once false false h = (is_data, h)
 
   first_use : AreNoClaims p → IsUsedBy geo view q a (purpose geo view i k)
-  first_use none = used_once (eqb k 268) (is_directory_at geo view i) (now_one none)
+  first_use none = used_once (is_table geo k) (is_directory_at geo view i) (now_one none)
 
   pub used_again : (cell : Use) → IsUsedBy geo view p a cell → IsUsedBy geo view q a (claimed_again cell (purpose geo view i k))
   used_again Maps h = absurd (no_maps geo a is_data h)

@@ -1,7 +1,8 @@
 -- Views with the same metadata have the same picture.
-use Rattle.std.proofs.Common.{◌≡◌, ℕ, ◌∙◌, cond, eqb, sym, ap, get_or}
+use Rattle.std.proofs.Common.{◌≡◌, ℕ, ◌∙◌, cond, sym, ap, get_or}
 use Rattle.model.specs.Layout.{Geometry}
 use Rattle.model.specs.View.{View}
+use Rattle.model.specs.Shape.{is_table}
 use Rattle.model.specs.Metadata.{SameMetadata}
 use Rattle.model.proofs.Same.{SameFacts, claim_there, other_way, same_facts}
 use Rattle.pictures.specs.Pictured.{Pictured}
@@ -17,7 +18,7 @@ module _ (geo : Geometry) (v w : View) (facts : SameFacts geo v w) where
   here a i k c = claim_there geo w v (other_way facts) i k a c
 
   same_purpose : (i k : ℕ) → purpose geo v i k ≡ purpose geo w i k
-  same_purpose i k = ap (λ b. cond (eqb k 268) Indirect (cond b Directory File)) (facts.directory_at i)
+  same_purpose i k = ap (λ b. cond (is_table geo k) Indirect (cond b Directory File)) (facts.directory_at i)
 
   same_one : (a : ℕ) (cell : Use) → IsOneClaim geo v (claims_of geo v a) cell → IsOneClaim geo w (claims_of geo w a) cell
   same_one a cell h = record {

@@ -1,14 +1,15 @@
 -- The cells while the claims are gone through, in order of their inodes and positions.
 use Rattle.std.proofs.Common.{◌≡◌, ◌≢◌, ℕ, ◌+◌, ◌<◌, ◌≤◌, Bool, true, cond, ◌&&◌, eqb, ltb, leb, List, [], ◌∷◌, ◌++◌, length, set, get_or, ◌⊎◌, inl, inr, ◌↔◌, refl, sym, ◌∙◌, subst, arith, IsTrue, IsFalse}
-use Rattle.std.proofs.lemmas.Bool.Decides.{nat_tests}
 use Rattle.std.proofs.lemmas.Bool.{and_parts, cases_eq, leb-true, ltb-true, false≢true}
 use Rattle.std.proofs.lemmas.List.{get_or-set_same, get_or-set_other, get_or_append_left, get_or_push, length-set}
 use Rattle.std.proofs.lemmas.Option.{same_Some}
 use Rattle.std.specs.List.{HoldsAt}
 use Rattle.model.specs.Layout.{Geometry, inode_count, is_data_address, is_number, root}
 use Rattle.model.specs.View.{View}
+use Rattle.model.specs.Shape.{most_blocks, tables}
 use Rattle.model.specs.Uses.{Before, IsClaim, blocks_of, is_sound, is_sound_at}
-use Rattle.model.proofs.UseLemmas.{use_parts}
+use Rattle.model.proofs.Ranges.{use_places}
+use Rattle.model.proofs.Uses.{sound_few, use_number, use_parts}
 use Rattle.pictures.specs.Uses.{IsUsedAs, IsUsedBy, ShowEach, claims_of, purpose}
 use Rattle.pictures.specs.Walk.{ShowBefore, claimed_again, claims_before}
 use Rattle.pictures.specs.declared.uses.Use.{Use}
@@ -27,30 +28,16 @@ last_before j l i k (inr h) = elim (cases_eq l k) [
 ]
 
 -- ---- where claims stand
-used_place : (k blocks : ℕ) (is_data : Bool) → cond (ltb k 12) (ltb k blocks) (cond (ltb k 268) (ltb k blocks && is_data) (eqb k 268 && ltb 12 blocks)) ≡ true → (k ≢ 268) → k < blocks
-used_place k blocks is_data h apart = grind (arith, nat_tests)
-
 module _ (geo : Geometry) (view : View) where
   claim_sound : (i k a : ℕ) → IsClaim geo view i k a → IsTrue (is_sound_at geo view i)
   claim_sound i k a c = (use_parts geo view i k a c.0).sound
 
-  few_blocks : (i : ℕ) → IsTrue (is_sound_at geo view i) → blocks_of (view.inode i).size ≤ 268
-  few_blocks i sound =
-      leb-true (blocks_of (view.inode i).size) 268 (and_parts _ (leb (blocks_of (view.inode i).size) 268) (and_parts (is_number geo i) (is_sound (view.inode i)) sound).1).1
-
-  claim_place : (i k a : ℕ) → IsClaim geo view i k a → k ≢ 268 → k < blocks_of (view.inode i).size
-  claim_place i k a c apart = used_place k (blocks_of (view.inode i).size) (is_data_address geo (view.inode i).indirect) (use_parts geo view i k a c.0).used apart
-
-  claim_low : (i k a : ℕ) → IsClaim geo view i k a → k < 269
-  claim_low i k a c = elim (cases_eq k 268) [
-    | inl e ↦ omega (arith, e)
-    | inr apart ↦ omega (arith, claim_place i k a c apart, few_blocks i (claim_sound i k a c))
-  ]
+  few_blocks : (i : ℕ) → IsTrue (is_sound_at geo view i) → blocks_of (view.inode i).size ≤ most_blocks geo
+  few_blocks i sound = sound_few geo (view.inode i) (and_parts (is_number geo i) (is_sound geo (view.inode i)) sound).1
 
   claim_number : (i k a : ℕ) → IsClaim geo view i k a → i < inode_count geo
   claim_number i k a c =
-      let number = (and_parts (is_number geo i) (is_sound (view.inode i)) (claim_sound i k a c)).0 in
-      ltb-true i (inode_count geo) (and_parts (leb root i) (ltb i (inode_count geo)) number).1
+      ltb-true i (inode_count geo) (and_parts (leb root i) (ltb i (inode_count geo)) (use_number geo view i k a c.0).0).1
 
   -- ---- from one place to another between which nothing is claimed
   moves : (i k m n : ℕ) (cells : List Use) → ((j l a : ℕ) → IsClaim geo view j l a → Before j l i k ↔ Before j l m n) → ShowBefore geo view i k cells → ShowBefore geo view m n cells
@@ -78,20 +65,26 @@ module _ (geo : Geometry) (view : View) where
   pub next_inode_of_unsound : (i : ℕ) (cells : List Use) → IsFalse (is_sound_at geo view i) → ShowBefore geo view i 0 cells → ShowBefore geo view (i + 1) 0 cells
   next_inode_of_unsound i cells unsound = next_inode i 0 cells (λ l a c. absurd (false≢true (sym unsound ∙ claim_sound i l a c)))
 
-  pub next_inode_of_sound : (i : ℕ) (cells : List Use) → ShowBefore geo view i 269 cells → ShowBefore geo view (i + 1) 0 cells
-  next_inode_of_sound i cells = next_inode i 269 cells (claim_low i)
+  pub next_inode_of_sound : (i end : ℕ) (cells : List Use) → end ≡ most_blocks geo + tables (blocks_of (view.inode i).size) → ShowBefore geo view i end cells → ShowBefore geo view (i + 1) 0 cells
+  next_inode_of_sound i end cells is = next_inode i end cells (λ l a c. elim (use_places geo view i l a c.0) [
+    | inl low ↦ omega (arith, is, low, few_blocks i (claim_sound i l a c))
+    | inr table ↦ omega (arith, is, table.1)
+  ])
 
-  -- behind an inode's blocks stands the pointer to its indirect block
-  pub to_indirect : (i k : ℕ) (cells : List Use) → IsTrue (is_sound_at geo view i) → k ≡ blocks_of (view.inode i).size → ShowBefore geo view i k cells → ShowBefore geo view i 268 cells
-  to_indirect i k cells sound e = moves i k i 268 cells (λ j l a c. (forth j l, back j l a c))
+  -- behind an inode's blocks stand its tables
+  pub to_tables : (i k most : ℕ) (cells : List Use) → IsTrue (is_sound_at geo view i) → k ≡ blocks_of (view.inode i).size → most ≡ most_blocks geo → ShowBefore geo view i k cells → ShowBefore geo view i most cells
+  to_tables i k most cells sound count is = moves i k i most cells (λ j l a c. (forth j l, back j l a c))
     where
-      forth : (j l : ℕ) → Before j l i k → Before j l i 268
+      forth : (j l : ℕ) → Before j l i k → Before j l i most
       forth j l (inl h) = inl h
-      forth j l (inr h) = inr (h.0, omega (arith, h.1, e, few_blocks i sound))
+      forth j l (inr h) = inr (h.0, omega (arith, h.1, count, is, few_blocks i sound))
 
-      back : (j l a : ℕ) → IsClaim geo view j l a → Before j l i 268 → Before j l i k
+      back : (j l a : ℕ) → IsClaim geo view j l a → Before j l i most → Before j l i k
       back j l a c (inl h) = inl h
-      back j l a c (inr h) = inr (h.0, omega (arith, e, claim_place i l a (subst (λ n. IsClaim geo view n l a) h.0 c) (λ f. omega (arith, h.1, f))))
+      back j l a c (inr h) = elim (use_places geo view i l a (subst (λ n. IsClaim geo view n l a) h.0 c).0) [
+        | inl low ↦ inr (h.0, omega (arith, count, low))
+        | inr table ↦ absurd (let from = leb-true (most_blocks geo) l table.0 in omega (arith, is, h.1, from))
+      ]
 
   -- where nothing is claimed the cells stay
   pub no_claim_here : (i k : ℕ) (cells : List Use) → ((a : ℕ) → IsClaim geo view i k a → ⊥) → ShowBefore geo view i k cells → ShowBefore geo view i (k + 1) cells

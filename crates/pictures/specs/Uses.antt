@@ -3,7 +3,8 @@ use Rattle.std.specs.Prelude.{◌≡◌, ℕ, ◌<◌, Bool, not, ◌&&◌, ◌|
 use Rattle.std.specs.List.{HoldsAt}
 use Rattle.model.specs.Layout.{Geometry, block_count, header_blocks, is_data_address, place_in_group}
 use Rattle.model.specs.View.{View}
-use Rattle.model.specs.Uses.{Before, IsClaim, indirect_position, is_directory_at}
+use Rattle.model.specs.Shape.{is_table}
+use Rattle.model.specs.Uses.{Before, IsClaim, is_directory_at}
 use Rattle.pictures.specs.Pictured.{Pictured}
 use Rattle.pictures.specs.declared.uses.Use.{Use}
 use Rattle.pictures.specs.declared.uses.Use.TheVariants.{Maps, Inodes, Directory, Indirect, File, Free, Lost, Duplicate}
@@ -17,7 +18,7 @@ is_inodes geo a = not (is_maps geo a) && nat_lt (place_in_group geo a) (header_b
 
 -- what inode i uses the block for that it claims at position k
 abbrev pub purpose : Geometry → View → ℕ → ℕ → Use
-purpose geo view i k = if k == indirect_position then Indirect else (if is_directory_at geo view i then Directory else File)
+purpose geo view i k = if is_table geo k then Indirect else (if is_directory_at geo view i then Directory else File)
 
 -- There is one of these claims of a block, of an inode at a position, and no other, and this is its purpose.
 pub record IsOneClaim (geo : Geometry) (view : View) (claims : ℕ → ℕ → Type 0) (cell : Use) : Type 0 where

@@ -7,7 +7,6 @@ ghost use Rattle.pictures.specs.Walk.{ShowBefore, claimed_again, claims_before};
 use crate::uses::Use;
 use cgmaps::{Map, bit_of};
 use frozen::Frozen;
-use inode::INDIRECT_POSITION;
 use layout::Geometry;
 use std::alloc::{AllocError, Global};
 
@@ -62,10 +61,14 @@ fn claim_all(cells: &mut Vec<Use>, frozen: &Frozen, number: u32)
     if !frozen.is_sound_at(number) {
         return;
     }
-    for position in 0..frozen.record(number).blocks() {
+    let blocks = frozen.record(number).blocks();
+    for position in 0..blocks {
         claim(cells, frozen, number, position);
     }
-    claim(cells, frozen, number, INDIRECT_POSITION);
+    let geometry = frozen.geometry();
+    for table in geometry.most_blocks()..geometry.tables_end(blocks) {
+        claim(cells, frozen, number, table);
+    }
 }
 
 /// Adds the claim of an inode at a position, if there is one.
@@ -83,7 +86,7 @@ fn claim(cells: &mut Vec<Use>, frozen: &Frozen, number: u32, position: u32)
 fn purpose(frozen: &Frozen, number: u32, position: u32) -> Use
     ensures { result ≡ purpose frozen.now.geometry (frozen_view frozen.now) number position }
 {
-    if position == INDIRECT_POSITION {
+    if position >= frozen.geometry().most_blocks() {
         Use::Indirect
     } else if frozen.is_directory_at(number) {
         Use::Directory

@@ -3,7 +3,8 @@ use Rattle.std.proofs.Common.{◌≡◌, ℕ, ◌≤◌, ◌-◌, ◌/◌, true,
 use Rattle.std.specs.Prelude.{unwrap_or}
 use Rattle.std.proofs.lemmas.Bool.{both_ways, and_parts, and_from, or_cases, or_left, or_right, cases_lt, cases_eq, false_from_ne_true}
 use Rattle.model.specs.Layout.{Geometry, IsGeometry, is_number}
-use Rattle.model.specs.Uses.{blocks_of, is_sound, is_sound_at, is_directory, is_directory_at, indirect_position, IsClaimed}
+use Rattle.model.specs.Shape.{most_blocks}
+use Rattle.model.specs.Uses.{blocks_of, is_sound, is_sound_at, is_directory, is_directory_at, IsClaimed}
 use Rattle.model.proofs.SlotLemmas.{number_low}
 use Rattle.findings.specs.declared.repair.Repair.TheVariants.{DropInode, LowerCount, FreeBlock, FreeNumber}
 use Rattle.layout.specs.declared.refusal.Refusal.TheVariants.{BadHandle, BadPiece, TooBig, BadIndex}
@@ -28,7 +29,7 @@ balance_whole geo old ok b = record { geometry = ok; pointers = λ n t. b.record
 open_is_file : (geo : Geometry) (old : State) → Balance geo old → (n : ℕ) → IsOpen old n → IsFile geo old.view n
 open_is_file geo old b n opened = let p = b.open_file n opened in record {
   sound = p.0;
-  file = elim (or_cases (eqb (old.view.inode n).mode 1) _ (and_parts _ _ (and_parts (is_number geo n) (is_sound (old.view.inode n)) p.0).1).0) [
+  file = elim (or_cases (eqb (old.view.inode n).mode 1) _ (and_parts _ _ (and_parts (is_number geo n) (is_sound geo (old.view.inode n)) p.0).1).0) [
     | inl one ↦ eqb-true (old.view.inode n).mode 1 one
     | inr dir ↦ absurd (both_ways (is_directory_at geo old.view n) p.1 (and_from (is_sound_at geo old.view n) (is_directory (old.view.inode n)) p.0 (and_parts _ _ (and_parts _ _ dir).0).0))
   ];
@@ -59,7 +60,7 @@ module _ (geo : Geometry) (old : State) (b : Balance geo old) where
   accepted_write h k piece a =
       let q = quiet (causes geo old (Write h k piece)) a.0 in
       let long = when_none (eqb (length piece) 0 || ltb 1024 (length piece)) BadPiece q.1.0 in
-      let high = when_none (leb indirect_position k) TooBig q.1.1.0 in
+      let high = when_none (leb (most_blocks geo) k) TooBig q.1.1.0 in
       let last = when_none (ltb ((old.view.inode (file_of old h)).size / 1024) k) BadIndex q.1.1.1.0 in
       let at : k ≤ (old.view.inode (file_of old h)).size / 1024 = ltb-false ((old.view.inode (file_of old h)).size / 1024) k last in
       record {
@@ -72,9 +73,9 @@ module _ (geo : Geometry) (old : State) (b : Balance geo old) where
           | inl more ↦ absurd (both_ways (eqb (length piece) 0 || ltb 1024 (length piece)) long (or_right (eqb (length piece) 0) (ltb 1024 (length piece)) (lt-ltb 1024 (length piece) more)))
           | inr less ↦ omega (arith, less)
         ];
-        room = elim (cases_lt k 268) [
+        room = elim (cases_lt k (most_blocks geo)) [
           | inl less ↦ less
-          | inr more ↦ absurd (both_ways (leb indirect_position k) high (le-leb 268 k (omega (arith, more))))
+          | inr more ↦ absurd (both_ways (leb (most_blocks geo) k) high (le-leb (most_blocks geo) k (omega (arith, more))))
         ];
         place = elim (cases_lt k (blocks_of (old.view.inode (file_of old h)).size)) [
           | inl less ↦ inl less
@@ -89,7 +90,7 @@ module _ (geo : Geometry) (old : State) (b : Balance geo old) where
       let d = b.dropped n o in
       record {
         sound = d.0;
-        enough = λ m h. omega (arith, uncounted geo old.view b.rules n m (omega (arith, number_low geo n (and_parts (is_number geo n) (is_sound (old.view.inode n)) d.0).0)) d.1 h);
+        enough = λ m h. omega (arith, uncounted geo old.view b.rules n m (omega (arith, number_low geo n (and_parts (is_number geo n) (is_sound geo (old.view.inode n)) d.0).0)) d.1 h);
       }
 
   pub owed_lower : (n x : ℕ) → Owes geo old (LowerCount n x) → HasFew geo old.view n ((old.view.inode n).links - x)

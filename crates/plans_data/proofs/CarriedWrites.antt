@@ -1,5 +1,5 @@
 -- The commands that change data, and that no cause refuses, are carried out by their updates.
-use Rattle.std.proofs.Common.{◌≡◌, ℕ, ◌<◌, ◌≤◌, Bool, List, refl, sym, subst, IsTrue, IsFalse}
+use Rattle.std.proofs.Common.{◌≡◌, ℕ, ◌<◌, ◌≤◌, Bool, List, [], refl, sym, subst, IsTrue, IsFalse}
 use Rattle.model.specs.Layout.{Geometry}
 use Rattle.model.specs.View.{View, free_inode}
 use Rattle.model.specs.Uses.{blocks_of}
@@ -17,7 +17,7 @@ use Rattle.plans_data.specs.Carried.{Stands, IsCarriedOut}
 use Rattle.plans_data.specs.Freeing.{held_with}
 use Rattle.plans_data.specs.Issues.{Issues}
 use Rattle.plans_data.specs.Lists.{given_up_with}
-use Rattle.plans_data.specs.Plans.{IsChoice, holder_of, holder_in_use}
+use Rattle.plans_data.specs.Plans.{IsChoice, holder_of}
 use Rattle.plans_data.specs.Relink.{MayClose, closing, goes_away, held_if, without_handle}
 use Rattle.plans_data.specs.Truncate.{MayTruncate, truncation}
 use Rattle.plans_data.specs.Write.{MayWriteInPlace, MayWriteAppended, MayWriteMoved, written, relocated, held_besides}
@@ -53,32 +53,32 @@ module _ (geo : Geometry) (disk : View) (q : List Pending) (old : State) (safe :
         (subst (λ v. Issues geo disk q (at_rest old.held safe) (in_place v) (at_rest old.held safe)) stands.same (in_place_issues geo disk q old safe n k piece bytes may stands.agree))
 
     abbrev holder : View → ℕ → List ℕ → Holder
-    holder v x table = holder_of k (v.bytes (v.inode n).indirect) x table
+    holder v b news = holder_of geo v n k b news
 
-    abbrev extended : View → ℕ → ℕ → List ℕ → List Pending
-    extended v b x table = appended n (v.inode n) k b bytes (size_after v n k piece) (holder v x table) q
+    abbrev extended : View → ℕ → List ℕ → List Pending
+    extended v b news = appended geo n (v.inode n) k b bytes (size_after v n k piece) (holder v b news) q
 
-    pub carries_extension : (b x : ℕ) (table : List ℕ) → IsChoice geo old.view k b x table → blocks_of (old.view.inode n).size ≤ k
-        → IsCarriedOut geo disk q old (Write h k piece) Done (extended old.view b x table) (becomes disk (extended old.view b x table) old.held old) safe safe
-    carries_extension b x table choice past =
-        let may = subst (λ v. MayWriteAppended geo (with_view v) n k b piece bytes (holder v x table)) (sym stands.same) (plan_appended geo stands.geometry old stands.balance h k piece accepted bytes over b x table choice past) in
-        carried geo disk q old safe stands (Write h k piece) Done (extended old.view b x table) (becomes disk (extended old.view b x table) old.held old) safe
-        (accepted, subst (λ v. Writes geo (with_view v) n k piece (becomes disk (extended v b x table) old.held old)) stands.same (appended_writes geo disk q old safe n k b piece bytes (holder users x table) may)) refl
-        (subst (λ v. Issues geo disk q (at_rest old.held safe) (extended v b x table) (at_rest old.held safe)) stands.same (appended_issues geo disk q old safe n k b piece bytes (holder users x table) may stands.agree))
+    pub carries_extension : (b : ℕ) (news : List ℕ) → IsChoice geo old.view k b news → blocks_of (old.view.inode n).size ≤ k
+        → IsCarriedOut geo disk q old (Write h k piece) Done (extended old.view b news) (becomes disk (extended old.view b news) old.held old) safe safe
+    carries_extension b news choice past =
+        let may = subst (λ v. MayWriteAppended geo (with_view v) n k b piece bytes (holder v b news)) (sym stands.same) (plan_appended geo stands.geometry old stands.balance h k piece accepted bytes over b news choice past) in
+        carried geo disk q old safe stands (Write h k piece) Done (extended old.view b news) (becomes disk (extended old.view b news) old.held old) safe
+        (accepted, subst (λ v. Writes geo (with_view v) n k piece (becomes disk (extended v b news) old.held old)) stands.same (appended_writes geo disk q old safe n k b piece bytes (holder users b news) may)) refl
+        (subst (λ v. Issues geo disk q (at_rest old.held safe) (extended v b news) (at_rest old.held safe)) stands.same (appended_issues geo disk q old safe n k b piece bytes (holder users b news) may stands.agree))
 
-    abbrev kept : View → Holder
-    kept v = holder_in_use k (v.bytes (v.inode n).indirect)
+    abbrev kept : View → ℕ → Holder
+    kept v b = holder_of geo v n k b []
 
     abbrev moved : View → ℕ → List Pending
-    moved v b = relocated n (v.inode n) k b bytes (size_after v n k piece) (kept v) q
+    moved v b = relocated geo n (v.inode n) k b bytes (size_after v n k piece) (kept v b) q
 
     pub carries_move : (b : ℕ) → IsFreeBlock geo old.view b → k < blocks_of (old.view.inode n).size → IsTrue (is_kept old (block_of geo old.view n k))
         → IsCarriedOut geo disk q old (Write h k piece) Done (moved old.view b) (becomes disk (moved old.view b) (held_besides geo old n k) old) safe safe
     carries_move b free inside keeps =
-        let may = subst (λ v. MayWriteMoved geo (with_view v) n k b piece bytes (kept v)) (sym stands.same) (plan_moved geo stands.geometry old stands.balance h k piece accepted bytes over b free inside keeps) in
+        let may = subst (λ v. MayWriteMoved geo (with_view v) n k b piece bytes (kept v b)) (sym stands.same) (plan_moved geo stands.geometry old stands.balance h k piece accepted bytes over b free inside keeps) in
         carried geo disk q old safe stands (Write h k piece) Done (moved old.view b) (becomes disk (moved old.view b) (held_besides geo old n k) old) safe
-        (accepted, subst (λ v. Writes geo (with_view v) n k piece (becomes disk (moved v b) (held_besides geo (with_view v) n k) old)) stands.same (moved_writes geo disk q old safe n k b piece bytes stands.agree (kept users) may)) refl
-        (subst (λ v. Issues geo disk q (at_rest old.held safe) (moved v b) (at_rest (held_besides geo (with_view v) n k) safe)) stands.same (moved_issues geo disk q old safe n k b piece bytes stands.agree (kept users) may))
+        (accepted, subst (λ v. Writes geo (with_view v) n k piece (becomes disk (moved v b) (held_besides geo (with_view v) n k) old)) stands.same (moved_writes geo disk q old safe n k b piece bytes stands.agree (kept users b) may)) refl
+        (subst (λ v. Issues geo disk q (at_rest old.held safe) (moved v b) (at_rest (held_besides geo (with_view v) n k) safe)) stands.same (moved_issues geo disk q old safe n k b piece bytes stands.agree (kept users b) may))
 
   module _ (h size : ℕ) (accepted : Accepts geo old (Truncate h size)) where
     abbrev m : ℕ

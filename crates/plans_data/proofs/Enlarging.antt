@@ -32,14 +32,14 @@ enlarged_view disk p n old size after was more = elim (cases_Bool (ltb old.size 
 ]
 
 pub enlarge : (geo : Geometry) (disk : View) (q : List Pending) (ghost : Ghost) (p : List Pending) (g : Ghost) (n : ℕ) (old : Inode) (size : ℕ) (after : List Cell) → (users_view disk p).inode n ≡ old
-    → IsTrue (is_sound old) → old.mode ≡ 1 → blocks_of old.size ≡ blocks_of size → Goes geo disk q ghost p g → Goes geo disk q ghost (enlarged n old size after p) g
+    → IsTrue (is_sound geo old) → old.mode ≡ 1 → blocks_of old.size ≡ blocks_of size → Goes geo disk q ghost p g → Goes geo disk q ghost (enlarged n old size after p) g
 enlarge geo disk q ghost p g n old size after was sound one blocks goes = elim (cases_Bool (ltb old.size size)) [
   | inr stays ↦ subst (λ l. Goes geo disk q ghost l g) (sym (cond-false (ltb old.size size) (u ∷ p) p stays)) goes
   | inl grows ↦ subst (λ l. Goes geo disk q ghost l g) (sym (cond-true (ltb old.size size) (u ∷ p) p grows))
       (step geo disk q ghost p g u g goes (Raises after n (sized old size) (record {
         body = record {
-          sound = ap is_sound was ∙ sound;
-          still_sound = still_sound old (sized old size) one one (sym blocks) sound;
+          sound = ap (is_sound geo) was ∙ sound;
+          still_sound = still_sound geo old (sized old size) one one (sym blocks) sound;
           mode = ap (λ (x : Inode). x.mode) was;
           blocks = ap (λ (x : Inode). blocks_of x.size) was ∙ blocks;
           direct = ap (λ (x : Inode). x.direct) was;

@@ -5,8 +5,9 @@ use Rattle.std.proofs.lemmas.Bool.{both_ways, and_parts, and_from, or_left}
 use Rattle.model.specs.Layout.{Geometry}
 use Rattle.model.specs.View.{View, Inode, free_inode}
 use Rattle.model.specs.Cells.{SetInode, SetNumber, updated, updated_all}
-use Rattle.model.specs.Uses.{is_used, use_at, claim_at}
+use Rattle.model.specs.Uses.{has_position}
 use Rattle.model.specs.Rules.{ObeysRules}
+use Rattle.model.proofs.Shape.{reach_parts}
 use Rattle.machine.specs.State.{State, is_kept}
 use Rattle.machine.specs.Cells.{claims}
 use Rattle.machine.specs.Effects.{lets_go}
@@ -23,17 +24,12 @@ use Rattle.plans_data.specs.Issues.{Issues}
 use Rattle.plans_data.specs.Now.{now, becomes}
 use Rattle.plans_data.specs.Freeing.{MayFreeing, held_with, within, but_of, freeing}
 use Rattle.plans_data.proofs.Chains.{Goes, stand, step}
-use Rattle.plans_data.proofs.Used.{Direct, Middle, Last, uses}
 use Rattle.plans_data.proofs.Clearing.{among, cleared_marks, clear_all, all_cleared, none_left}
-use Rattle.plans_data.proofs.LetsGo.{Shrinks, among_let_go, went, given_unclaimed, given_not_held}
+use Rattle.plans_data.proofs.LetsGo.{Shrinks, same_claims, among_let_go, went, given_unclaimed, given_not_held}
 
--- a free record uses nothing
-pub uses_nothing : (geo : Geometry) (k : ℕ) → IsTrue (is_used geo free_inode k) → ⊥
-uses_nothing geo k u = elim (uses geo free_inode k u) [
-  | Direct a c ↦ omega (arith, c)
-  | Middle a c d e ↦ omega (arith, a, d)
-  | Last a c ↦ omega (arith, c)
-]
+-- a free record has no position
+pub uses_nothing : (geo : Geometry) (k : ℕ) → IsTrue (has_position geo free_inode k) → ⊥
+uses_nothing geo k has = let few = (reach_parts geo 0 k has).1 in omega (arith, few)
 
 pub free_shrinks : (geo : Geometry) (old : State) (n : ℕ) → Shrinks geo old n free_inode
 free_shrinks geo old n = record {
@@ -106,7 +102,7 @@ module _ (geo : Geometry) (disk : View) (q : List Pending) (old : State) (gone :
     owner = λ b m k t. eqb-true m n (and_parts (eqb m n) (among b blocks) t).0;
     no_position = λ b m k t sound used.
         let same : m ≡ n = eqb-true m n (and_parts (eqb m n) (among b blocks) t).0 in
-        uses_nothing geo k (ap (λ x. is_used geo x k) (sym (ap (users_view disk q2).inode same ∙ here)) ∙ used);
+        uses_nothing geo k (ap (λ x. has_position geo x k) (sym (ap (users_view disk q2).inode same ∙ here)) ∙ used);
   })
 
   ends : all_cleared blocks (number_cleared n ghost1) ≡ within held (but_of n gone) safe
@@ -121,11 +117,23 @@ module _ (geo : Geometry) (disk : View) (q : List Pending) (old : State) (gone :
   pub freeing_issues : Issues geo disk q ghost (freeing n blocks after q) (within held (but_of n gone) safe)
   freeing_issues = subst (λ g. Issues geo disk q ghost (freeing n blocks after q) g) ends all_steps.issues
 
-  freed_marks : (a : ℕ) → (users.block_marked a && not (among a blocks)) ≡ (users.block_marked a && not (claims geo users n a && not (claims geo (updated users (SetInode n free_inode)) n a) && not (is_kept old a)))
-  freed_marks a = ap (λ t. users.block_marked a && not t) (among_let_go geo s n free_inode blocks rules (free_shrinks geo s n) may.given_up a)
+  abbrev freed_view : View
+  freed_view = updated_all users (SetInode n free_inode ∷ SetNumber n false ∷ [])
+
+  -- the number's bit changes no claim
+  number_claims : (a : ℕ) → claims geo (updated users (SetInode n free_inode)) n a ≡ claims geo freed_view n a
+  number_claims a = same_claims geo (updated users (SetInode n free_inode)) freed_view n a ((number_bit_shape geo (updated users (SetInode n free_inode)) n false).uses n)
+
+  freed_marks : (a : ℕ) → (users.block_marked a && not (among a blocks)) ≡ (users.block_marked a && not (claims geo users n a && not (claims geo freed_view n a) && not (is_kept old a)))
+  freed_marks a =
+      ap (λ t. users.block_marked a && not t) (among_let_go geo s n free_inode blocks rules (free_shrinks geo s n) may.given_up a)
+      ∙ ap (λ t. users.block_marked a && not (claims geo users n a && not t && not (is_kept old a))) (number_claims a)
+
+  freed_held : (a : ℕ) → held a ≡ (old.held a || claims geo users n a && not (claims geo freed_view n a) && is_kept old a)
+  freed_held a = ap (λ t. old.held a || claims geo users n a && not t && is_kept old a) (number_claims a)
 
   pub freeing_lets_go : becomes disk (freeing n blocks after q) held old ≡ lets_go geo s n (updated_all users (SetInode n free_inode ∷ SetNumber n false ∷ []))
-  unfolding claims claim_at use_at
   freeing_lets_go =
       ap (λ v. record old { view = v; held = held }) (cleared_marks disk n blocks q2)
       ∙ ap (λ f. record old { view = record (users_view disk q2) { block_marked = f }; held = held }) (fun_ext freed_marks)
+      ∙ ap (λ g. record old { view = record (users_view disk q2) { block_marked = λ a. users.block_marked a && not (claims geo users n a && not (claims geo freed_view n a) && not (is_kept old a)) }; held = g }) (fun_ext freed_held)

@@ -2,7 +2,7 @@
 use Rattle.std.proofs.Common.{◌≡◌, ℕ, Bool, true, List, ◌⊎◌, inl, inr, refl, ap, ◌∙◌, subst, IsTrue, IsFalse}
 use Rattle.std.proofs.lemmas.Bool.{cases_eq, both_ways}
 use Rattle.model.specs.Layout.{Geometry}
-use Rattle.model.specs.View.{View, Inode}
+use Rattle.model.specs.View.{View}
 use Rattle.model.specs.Cells.{put_at}
 use Rattle.model.specs.Uses.{IsClaim}
 use Rattle.machine.specs.State.{State}
@@ -11,11 +11,9 @@ use Rattle.ordering.specs.Ghosts.{Ghost}
 use Rattle.ordering.specs.Agrees.{AllAgree}
 use Rattle.ordering.proofs.Records.{put_here, put_there}
 use Rattle.plans_data.specs.Now.{becomes}
-use Rattle.plans_data.specs.Append.{Holder, InRecord, InTable, InNewTable, MayAppend, appended}
+use Rattle.plans_data.specs.Append.{Holder, MayAppend, appended}
 use Rattle.plans_data.specs.Held.{HeldAreRight}
-use Rattle.plans_data.proofs.AppendDirect
-use Rattle.plans_data.proofs.AppendSlot
-use Rattle.plans_data.proofs.AppendTable
+use Rattle.plans_data.proofs.Append.{append_came, append_marks}
 
 -- a mark stays where another is set
 pub still_set : (f : ℕ → Bool) (b a : ℕ) → IsTrue (f a) → IsTrue (put_at f b true a)
@@ -35,20 +33,8 @@ held_stays geo s t came marks same h = record {
 }
 
 -- an inode got one more block
-pub append_came : (geo : Geometry) (disk : View) (q : List Pending) (ghost : Ghost) (n k b : ℕ) (bytes : List ℕ) (size : ℕ) (holder : Holder) → MayAppend geo (users_view disk q) ghost n k b bytes size holder
-    → AllAgree geo disk q ghost → (i j a : ℕ) → IsClaim geo (users_view disk (appended n ((users_view disk q).inode n) k b bytes size holder q)) i j a → IsClaim geo (users_view disk q) i j a ⊎ IsFalse (ghost.held a)
-append_came geo disk q ghost n k b bytes size InRecord may all = AppendDirect.came geo disk q ghost n k b bytes size all may
-append_came geo disk q ghost n k b bytes size (InTable table) may all = AppendSlot.came geo disk q ghost n k b bytes size all table may
-append_came geo disk q ghost n k b bytes size (InNewTable x table) may all = AppendTable.came geo disk q ghost n k b bytes size all x table may
-
-pub append_marks : (disk : View) (q : List Pending) (n : ℕ) (inode : Inode) (k b : ℕ) (bytes : List ℕ) (size : ℕ) (holder : Holder) (a : ℕ) → IsTrue ((users_view disk q).block_marked a)
-    → IsTrue ((users_view disk (appended n inode k b bytes size holder q)).block_marked a)
-append_marks disk q n inode k b bytes size InRecord a t = still_set (users_view disk q).block_marked b a t
-append_marks disk q n inode k b bytes size (InTable table) a t = still_set (users_view disk q).block_marked b a t
-append_marks disk q n inode k b bytes size (InNewTable x table) a t = still_set (put_at (users_view disk q).block_marked b true) x a (still_set (users_view disk q).block_marked b a t)
-
 pub append_right : (geo : Geometry) (disk : View) (q : List Pending) (ghost : Ghost) (n k b : ℕ) (bytes : List ℕ) (size : ℕ) (holder : Holder) → MayAppend geo (users_view disk q) ghost n k b bytes size holder
-    → AllAgree geo disk q ghost → (old : State) → HeldAreRight geo (becomes disk q ghost.held old) → HeldAreRight geo (becomes disk (appended n ((users_view disk q).inode n) k b bytes size holder q) ghost.held old)
+    → AllAgree geo disk q ghost → (old : State) → HeldAreRight geo (becomes disk q ghost.held old) → HeldAreRight geo (becomes disk (appended geo n ((users_view disk q).inode n) k b bytes size holder q) ghost.held old)
 append_right geo disk q ghost n k b bytes size holder may all old right =
-    held_stays geo (becomes disk q ghost.held old) (becomes disk (appended n ((users_view disk q).inode n) k b bytes size holder q) ghost.held old)
-    (append_came geo disk q ghost n k b bytes size holder may all) (append_marks disk q n ((users_view disk q).inode n) k b bytes size holder) refl right
+    held_stays geo (becomes disk q ghost.held old) (becomes disk (appended geo n ((users_view disk q).inode n) k b bytes size holder q) ghost.held old)
+    (append_came geo disk q ghost n k b bytes size holder may all) (append_marks geo disk q ghost n k b bytes size holder may all) refl right

@@ -1,12 +1,13 @@
 -- What is held stays right after a write.
 use Rattle.std.proofs.Common.{◌≡◌, ℕ, ◌<◌, Bool, eqb, List, [], ◌∷◌, length, ◌⊎◌, inl, inr, refl, sym, ◌∙◌, subst, IsTrue, IsFalse, arith, eqb-true}
-use Rattle.std.proofs.lemmas.Bool.{cases_eq, both_ways, or_cases, and_parts}
+use Rattle.std.proofs.lemmas.Bool.{cases_eq, both_ways, leb-true, or_cases, and_parts}
 use Rattle.model.specs.Layout.{Geometry, is_number}
 use Rattle.model.specs.View.{View}
 use Rattle.model.specs.Cells.{SetInode, SetBytes, updated}
+use Rattle.model.specs.Shape.{most_blocks, is_table}
 use Rattle.model.specs.Uses.{is_sound, blocks_of, use_at, IsClaim}
 use Rattle.model.specs.Rules.{ObeysRules}
-use Rattle.model.proofs.CellLemmas.{use_stays}
+use Rattle.model.proofs.Uses.{sound_few, bytes_leave_uses}
 use Rattle.machine.specs.State.{State}
 use Rattle.machine.specs.Cells.{block_of}
 use Rattle.machine.specs.Effects.{size_after}
@@ -16,18 +17,19 @@ use Rattle.ordering.specs.Agrees.{AllAgree}
 use Rattle.ordering.proofs.Bits.{users_obey}
 use Rattle.ordering.proofs.Records.{body_shape}
 use Rattle.plans_data.specs.Now.{now, becomes}
-use Rattle.plans_data.specs.Append.{Holder, InRecord, InTable, InNewTable, sized, appended, filled, linked}
+use Rattle.plans_data.specs.Append.{Holder, sized, appended}
 use Rattle.plans_data.specs.Held.{HeldAreRight}
 use Rattle.plans_data.specs.Write.{MayWriteInPlace, MayWriteAppended, MayWriteMoved, written, relocated, held_besides}
-use Rattle.plans_data.proofs.Blocks.{block_claimed, few_blocks, same_blocks, no_less}
+use Rattle.plans_data.proofs.Blocks.{block_claimed, same_blocks, no_less}
 use Rattle.plans_data.proofs.Enlarging.{enlarged_view}
-use Rattle.plans_data.proofs.MoveDirect.{moves_direct, others_direct}
-use Rattle.plans_data.proofs.MoveSlot.{moves_slot, others_slot}
+use Rattle.plans_data.proofs.Append.{append_came, append_marks}
+use Rattle.plans_data.proofs.Moved.{change, moves, moved_view, other_claims}
 use Rattle.plans_data.proofs.Moving.{Moves}
 use Rattle.plans_data.proofs.Numbers.{still_sound}
-use Rattle.plans_data.proofs.HeldAppends.{held_stays, append_came, append_marks, still_set}
+use Rattle.plans_data.proofs.HeldAppends.{held_stays}
 use Rattle.plans_data.proofs.WriteAppended.{may_append}
-use Rattle.plans_data.proofs.WriteMoved
+use Rattle.plans_data.proofs.Placed.{marks}
+use Rattle.plans_data.proofs.WriteMoved.{may_move, claim}
 
 module _ (geo : Geometry) (disk : View) (q : List Pending) (old : State) (safe : ℕ → Bool) (agree : AllAgree geo disk q (at_rest old.held safe)) (right : HeldAreRight geo (now disk q old)) where
   abbrev users : View
@@ -54,30 +56,33 @@ module _ (geo : Geometry) (disk : View) (q : List Pending) (old : State) (safe :
       w : View
       w = updated (updated users (SetBytes (block_of geo users n k) bytes)) (SetInode n (sized (users.inode n) (size_after users n k piece)))
 
-      sound : IsTrue (is_sound (users.inode n))
-      sound = (and_parts (is_number geo n) (is_sound (users.inode n)) may.write.sound).1
+      sound : IsTrue (is_sound geo (users.inode n))
+      sound = (and_parts (is_number geo n) (is_sound geo (users.inode n)) may.write.sound).1
 
-      low : k < 268
-      low = omega (arith, may.inside, few_blocks (users.inode n) sound)
+      low : k < most_blocks geo
+      low = omega (arith, may.inside, sound_few geo (users.inode n) sound)
 
       blocks : blocks_of (users.inode n).size ≡ blocks_of (size_after users n k piece)
       blocks = same_blocks (users.inode n).size k (length piece) may.inside may.write.few
 
-      no_table : (i : ℕ) → IsClaim geo users i 268 (block_of geo users n k) → ⊥
-      no_table i c = omega (arith, low, (rules.rule3.once i 268 n k (block_of geo users n k) c (block_claimed geo users rules n k may.write.sound may.inside low)).1)
+      no_table : (i m : ℕ) → IsTrue (is_table geo m) → IsClaim geo users i m (block_of geo users n k) → ⊥
+      no_table i m table c =
+          let past = leb-true (most_blocks geo) m table in
+          let same = (rules.rule3.once i m n k (block_of geo users n k) c (block_claimed geo users rules n k may.write.sound may.inside)).1 in
+          omega (arith, low, past, same)
 
       same : (i j : ℕ) → use_at geo users i j ≡ use_at geo w i j
       same i j =
-          use_stays geo users (block_of geo users n k) bytes no_table i j
+          bytes_leave_uses geo users (block_of geo users n k) bytes i (no_table i) j
           ∙ (body_shape geo (updated users (SetBytes (block_of geo users n k) bytes)) n (sized (users.inode n) (size_after users n k piece))
-          (record { sound = sound; still_sound = still_sound (users.inode n) (sized (users.inode n) (size_after users n k piece)) may.write.file may.write.file (sym blocks) sound; mode = refl; blocks = blocks; direct = refl; indirect = refl })).uses i j
+          (record { sound = sound; still_sound = still_sound geo (users.inode n) (sized (users.inode n) (size_after users n k piece)) may.write.file may.write.file (sym blocks) sound; mode = refl; blocks = blocks; direct = refl; indirect = refl })).uses i j
 
   pub appended_right : (n k b : ℕ) (piece bytes : List ℕ) (holder : Holder) → MayWriteAppended geo (now disk q old) n k b piece bytes holder
-      → HeldAreRight geo (becomes disk (appended n (users.inode n) k b bytes (size_after users n k piece) holder q) old.held old)
+      → HeldAreRight geo (becomes disk (appended geo n (users.inode n) k b bytes (size_after users n k piece) holder q) old.held old)
   appended_right n k b piece bytes holder may =
-      held_stays geo (now disk q old) (now disk (appended n (users.inode n) k b bytes (size_after users n k piece) holder q) old)
+      held_stays geo (now disk q old) (now disk (appended geo n (users.inode n) k b bytes (size_after users n k piece) holder q) old)
       (append_came geo disk q (at_rest old.held safe) n k b bytes (size_after users n k piece) holder (may_append geo disk q old safe n k b piece bytes holder may) agree)
-      (append_marks disk q n (users.inode n) k b bytes (size_after users n k piece) holder) refl right
+      (append_marks geo disk q (at_rest old.held safe) n k b bytes (size_after users n k piece) holder (may_append geo disk q old safe n k b piece bytes holder may) agree) refl right
 
   -- one of n's blocks has moved
   moved_right : (w : View) (n k b : ℕ) → Moves geo users w n k b → ((i j a : ℕ) → (i ≡ n → ⊥) → IsClaim geo w i j a → IsClaim geo users i j a) → ((a : ℕ) → IsTrue (users.block_marked a) → IsTrue (w.block_marked a))
@@ -111,24 +116,10 @@ module _ (geo : Geometry) (disk : View) (q : List Pending) (old : State) (safe :
       ]
 
   pub moved_block_right : (n k b : ℕ) (piece bytes : List ℕ) (holder : Holder) → MayWriteMoved geo (now disk q old) n k b piece bytes holder
-      → HeldAreRight geo (becomes disk (relocated n (users.inode n) k b bytes (size_after users n k piece) holder q) (held_besides geo (now disk q old) n k) old)
-  moved_block_right n k b piece bytes holder may = by holder may
-    where
-      by : (h : Holder) → MayWriteMoved geo (now disk q old) n k b piece bytes h
-          → HeldAreRight geo (record old { view = users_view disk (relocated n (users.inode n) k b bytes (size_after users n k piece) h q); held = held_besides geo (now disk q old) n k })
-      by InRecord m = moved_right (users_view disk (relocated n (users.inode n) k b bytes (size_after users n k piece) InRecord q)) n k b
-          (moves_direct geo disk q old safe n k b bytes (size_after users n k piece) (WriteMoved.number geo disk q old safe n k b piece bytes agree InRecord m) (WriteMoved.sound geo disk q old safe n k b piece bytes agree InRecord m) m.write.file m.moved m.inside
-          (m.whole.pointers n (WriteMoved.number geo disk q old safe n k b piece bytes agree InRecord m)) (WriteMoved.blocks geo disk q old safe n k b piece bytes agree InRecord m) m.free (WriteMoved.f geo disk q old safe n k b piece bytes agree InRecord m))
-          (others_direct geo disk q old safe n k b bytes (size_after users n k piece) (WriteMoved.number geo disk q old safe n k b piece bytes agree InRecord m) (WriteMoved.sound geo disk q old safe n k b piece bytes agree InRecord m) m.write.file m.moved m.inside
-          (m.whole.pointers n (WriteMoved.number geo disk q old safe n k b piece bytes agree InRecord m)) (WriteMoved.blocks geo disk q old safe n k b piece bytes agree InRecord m) m.free (WriteMoved.f geo disk q old safe n k b piece bytes agree InRecord m))
-          (still_set users.block_marked b) m.free.unmarked (WriteMoved.claim geo disk q old safe n k b piece bytes agree InRecord m)
-      by (InTable table) m =
-          subst (λ v. HeldAreRight geo (record old { view = v; held = held_besides geo (now disk q old) n k }))
-          (sym (enlarged_view disk (linked n (users.inode n) k b (InTable table) (filled b bytes q)) n (users.inode n) (size_after users n k piece) _ refl (no_less (users.inode n).size k (length piece))))
-          (moved_right _ n k b
-          (moves_slot geo disk q old safe n k b bytes (size_after users n k piece) table m.whole m.write.sound m.write.file m.moved.0 (WriteMoved.high geo disk q old safe n k b piece bytes agree (InTable table) m) m.inside m.moved.1
-          (WriteMoved.blocks geo disk q old safe n k b piece bytes agree (InTable table) m) m.free agree (WriteMoved.f geo disk q old safe n k b piece bytes agree (InTable table) m))
-          (others_slot geo disk q old safe n k b bytes (size_after users n k piece) table m.whole m.write.sound m.write.file m.moved.0 (WriteMoved.high geo disk q old safe n k b piece bytes agree (InTable table) m) m.inside m.moved.1
-          (WriteMoved.blocks geo disk q old safe n k b piece bytes agree (InTable table) m) m.free agree (WriteMoved.f geo disk q old safe n k b piece bytes agree (InTable table) m))
-          (still_set users.block_marked b) m.free.unmarked (WriteMoved.claim geo disk q old safe n k b piece bytes agree (InTable table) m))
-      by (InNewTable x table) m = absurd m.moved
+      → HeldAreRight geo (becomes disk (relocated geo n (users.inode n) k b bytes (size_after users n k piece) holder q) (held_besides geo (now disk q old) n k) old)
+  moved_block_right n k b piece bytes holder m =
+      let may = may_move geo disk q old safe n k b piece bytes agree holder m in
+      let size = size_after users n k piece in
+      subst (λ v. HeldAreRight geo (record old { view = v; held = held_besides geo (now disk q old) n k })) (sym (moved_view geo disk q old safe n k b bytes size holder may))
+      (moved_right _ n k b (moves geo disk q old safe n k b bytes size holder may) (other_claims geo disk q old safe n k b bytes size holder may)
+      (marks geo disk q n k b bytes size holder (change geo disk q old safe n k b bytes size holder may)) m.free.unmarked (claim geo disk q old safe n k b piece bytes agree holder m))

@@ -1,11 +1,12 @@
 -- What is held is right where an inode let blocks go, within any command.
-use Rattle.std.proofs.Common.{◌≡◌, ℕ, Bool, false, not, ◌&&◌, List, [], ◌∷◌, refl, sym, subst, IsTrue}
+use Rattle.std.proofs.Common.{◌≡◌, ℕ, Bool, false, not, ◌&&◌, List, [], ◌∷◌, refl, sym, subst, IsTrue, ◌/◌}
 use Rattle.model.specs.Layout.{Geometry}
 use Rattle.model.specs.View.{View, Inode, free_inode}
 use Rattle.model.specs.Cells.{SetInode, SetNumber, updated}
-use Rattle.model.specs.Uses.{use_at, claim_at, IsClaim}
-use Rattle.model.specs.Slots.{slot}
+use Rattle.model.specs.Uses.{use_at, IsClaim}
 use Rattle.model.specs.Rules.{ObeysRules}
+use Rattle.model.proofs.Slots.{slots_of_uses}
+use Rattle.model.proofs.Uses.{uses_agree}
 use Rattle.machine.specs.State.{State}
 use Rattle.ordering.specs.Cuts.{Cell, Record, Pending, users_view}
 use Rattle.ordering.proofs.Bits.{number_bit_shape}
@@ -17,9 +18,12 @@ use Rattle.plans_data.proofs.Clearing.{among, cleared_marks}
 use Rattle.plans_data.proofs.Freeing.{free_shrinks}
 use Rattle.plans_data.proofs.LetsGo.{Shrinks, held_unclaimed, held_marked}
 
-marks_shape : (geo : Geometry) (v : View) (f : ℕ → Bool) → SameShape geo v (record v { block_marked = f })
-unfolding use_at claim_at slot
-marks_shape geo v f = shape_from geo v (record v { block_marked = f }) (λ n. refl) (λ n. refl) (λ n. refl) (λ n k. refl) (λ d s. refl)
+-- other bits of blocks change no use and no slot
+pub marks_shape : (geo : Geometry) (v : View) (f : ℕ → Bool) → SameShape geo v (record v { block_marked = f })
+marks_shape geo v f = shape_from geo v (record v { block_marked = f }) (λ n. refl) (λ n. refl) (λ n. refl) uses (λ d s. slots_of_uses geo v (record v { block_marked = f }) d s refl (uses d (s / 16)) (λ a directory low c. refl))
+  where
+    uses : (n k : ℕ) → use_at geo v n k ≡ use_at geo (record v { block_marked = f }) n k
+    uses n k = uses_agree geo v (record v { block_marked = f }) n k (λ number. refl) (λ m a above c. refl)
 
 module _ (geo : Geometry) (disk : View) (q : List Pending) (old : State) (rules : ObeysRules geo (users_view disk q)) (right : HeldAreRight geo (now disk q old)) where
   abbrev users : View

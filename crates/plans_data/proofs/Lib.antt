@@ -1,24 +1,21 @@
-pub mod Used
+pub mod Holders
+pub mod Linking
+pub mod Placed
 pub mod Chains
 mod Growing
 pub mod Numbers
 mod Filling
-mod Appending
-mod AppendDirect
-mod AppendSlot
-mod AppendTable
 pub mod Append
 pub mod Clearing
 pub mod LetsGo
 pub mod Freeing
 pub mod Swept
 pub mod Blocks
-mod Enlarging
+pub mod Enlarging
 pub mod WriteInPlace
 pub mod WriteAppended
 mod Moving
-mod MoveDirect
-mod MoveSlot
+pub mod Moved
 pub mod WriteMoved
 pub mod Truncating
 pub mod Relinking
@@ -29,12 +26,12 @@ mod FewerSafe
 pub mod Lists
 pub mod Plans
 pub mod Room
-mod Tables
+pub mod Tables
 pub mod SafeFiles
 pub mod Stands
 pub mod CarriedWrites
 pub mod CarriedRepairs
 mod HeldAppends
-mod LetGoRight
+pub mod LetGoRight
 mod HeldWrites
 mod HeldFrees

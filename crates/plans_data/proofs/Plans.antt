@@ -1,9 +1,10 @@
 -- A command that no cause refuses has a plan.
-use Rattle.std.proofs.Common.{◌≡◌, ℕ, ◌<◌, ◌≤◌, Bool, true, false, cond, eqb, ltb, List, inl, inr, refl, IsTrue, IsFalse, arith, ltb-true, ltb-false, eqb-true, eq-eqb}
-use Rattle.std.proofs.lemmas.Bool.{cases_eq, and_parts, both_ways}
+use Rattle.std.proofs.Common.{◌≡◌, ℕ, ◌<◌, ◌≤◌, List, [], ◌∷◌, inl, inr, sym, subst, IsTrue, IsFalse, arith}
+use Rattle.std.proofs.lemmas.Bool.{and_parts}
 use Rattle.model.specs.Layout.{Geometry, IsGeometry, is_number}
 use Rattle.model.specs.View.{Inode, free_inode}
-use Rattle.model.specs.Uses.{blocks_of, is_sound, direct_positions}
+use Rattle.model.specs.Uses.{blocks_of, is_sound}
+use Rattle.model.proofs.Uses.{below_has}
 use Rattle.findings.specs.declared.repair.Repair.TheVariants.{DropInode, LowerCount, FreeBlock, FreeNumber}
 use Rattle.machine.specs.State.{State, is_kept}
 use Rattle.machine.specs.Command.{Write, Truncate, Close}
@@ -13,15 +14,17 @@ use Rattle.machine.specs.Effects.{IsOverwritten}
 use Rattle.machine.specs.Room.{IsFreeBlock}
 use Rattle.machine.specs.Snapshot.{held_still}
 use Rattle.machine.specs.Balance.{Balance, Owes}
-use Rattle.plans_data.specs.Append.{InRecord, InTable, InNewTable, IsKeptIn, sized}
+use Rattle.plans_data.specs.Append.{AreApart, sized}
 use Rattle.plans_data.specs.Grounds.{IsWritable}
 use Rattle.plans_data.specs.Lists.{given_up_with, let_go_below}
-use Rattle.plans_data.specs.Plans.{IsChoice, holder_of, holder_in_use}
+use Rattle.plans_data.specs.Plans.{IsChoice, holder_of}
 use Rattle.plans_data.specs.Relink.{MayClose, MayRepair}
 use Rattle.plans_data.specs.Release.{MayRelease}
 use Rattle.plans_data.specs.Truncate.{MayTruncate}
-use Rattle.plans_data.specs.Write.{IsWrite, IsMovedIn, MayWriteInPlace, MayWriteAppended, MayWriteMoved}
+use Rattle.plans_data.specs.Write.{IsWrite, MayWriteInPlace, MayWriteAppended, MayWriteMoved}
 use Rattle.plans_data.proofs.Accepted.{balance_held, balance_whole, accepted_write, accepted_truncate, accepted_close, owed_drop, owed_lower, owed_block, owed_number}
+use Rattle.plans_data.proofs.Blocks.{few_blocks}
+use Rattle.plans_data.proofs.Tables.{Keeps, rules_claim, kept_next, kept_in_use}
 use Rattle.plans_data.proofs.Lists.{given_up_are, let_go_are, let_go_parts}
 
 module _ (geo : Geometry) (ok : IsGeometry geo) (old : State) (bal : Balance geo old) where
@@ -42,23 +45,25 @@ module _ (geo : Geometry) (ok : IsGeometry geo) (old : State) (bal : Balance geo
     pub plan_in_place : k < blocks_of was.size → IsFalse (is_kept old (block_of geo old.view n k)) → MayWriteInPlace geo old n k piece bytes
     plan_in_place inside free = record { write = write; inside = inside; not_kept = free }
 
-    pub plan_appended : (b x : ℕ) (table : List ℕ) → IsChoice geo old.view k b x table → blocks_of was.size ≤ k → MayWriteAppended geo old n k b piece bytes (holder_of k (old.view.bytes was.indirect) x table)
-    plan_appended b x table choice past = record {
+    pub plan_appended : (b : ℕ) (news : List ℕ) → IsChoice geo old.view k b news → blocks_of was.size ≤ k → MayWriteAppended geo old n k b piece bytes (holder_of geo old.view n k b news)
+    plan_appended b news choice past = record {
       write = write;
       whole = balance_whole geo old ok bal;
       held = (balance_held geo old bal).0;
-      next = elim can.place [ inl inside ↦ absurd (omega (arith, inside, past)) | inr e ↦ e ];
+      next = next;
       room = can.room;
       free = choice.free;
-      kept = by (ltb k direct_positions) refl (eqb k direct_positions) refl;
+      kept = holds.kept;
+      apart = subst (λ xs. AreApart (b ∷ xs)) (sym holds.tables) choice.apart;
     }
       where
-        by : (t : Bool) → ltb k direct_positions ≡ t → (s : Bool) → eqb k direct_positions ≡ s → IsKeptIn geo old.view n k b (cond t InRecord (cond s (InNewTable x table) (InTable (old.view.bytes was.indirect))))
-        by true e s f = ltb-true k 12 e
-        by false e true f = (eqb-true k 12 f, choice.other (eqb-true k 12 f))
-        by false e false f = (elim (cases_eq k 12) [ inl g ↦ absurd (both_ways (eqb k direct_positions) f (eq-eqb k 12 g)) | inr g ↦ omega (arith, g, ltb-false k 12 e) ], refl)
+        next : k ≡ blocks_of was.size
+        next = elim can.place [ inl inside ↦ absurd (omega (arith, inside, past)) | inr e ↦ e ]
 
-    pub plan_moved : (b : ℕ) → IsFreeBlock geo old.view b → k < blocks_of was.size → IsTrue (is_kept old (block_of geo old.view n k)) → MayWriteMoved geo old n k b piece bytes (holder_in_use k (old.view.bytes was.indirect))
+        holds : Keeps geo old.view n k b (holder_of geo old.view n k b news) news
+        holds = kept_next geo old.view n ok (rules_claim geo old.view n bal.rules can.file.sound) k b next can.room news choice
+
+    pub plan_moved : (b : ℕ) → IsFreeBlock geo old.view b → k < blocks_of was.size → IsTrue (is_kept old (block_of geo old.view n k)) → MayWriteMoved geo old n k b piece bytes (holder_of geo old.view n k b [])
     plan_moved b free inside keeps = record {
       write = write;
       whole = balance_whole geo old ok bal;
@@ -66,12 +71,8 @@ module _ (geo : Geometry) (ok : IsGeometry geo) (old : State) (bal : Balance geo
       inside = inside;
       keeps = keeps;
       free = free;
-      moved = by (ltb k direct_positions) refl;
+      kept = (kept_in_use geo old.view n ok (rules_claim geo old.view n bal.rules can.file.sound) k b (below_has geo was k inside (few_blocks geo old.view n can.file.sound))).kept;
     }
-      where
-        by : (t : Bool) → ltb k direct_positions ≡ t → IsMovedIn old.view n k (cond t InRecord (InTable (old.view.bytes was.indirect)))
-        by true e = ltb-true k 12 e
-        by false e = (ltb-false k 12 e, refl)
 
   pub plan_truncate : (h size : ℕ) → Accepts geo old (Truncate h size) → MayTruncate geo old (file_of old h) size (given_up_with geo old (file_of old h) (sized (old.view.inode (file_of old h)) size))
   plan_truncate h size accepted = let a = accepted_truncate geo old bal h size accepted in record {
@@ -84,7 +85,7 @@ module _ (geo : Geometry) (ok : IsGeometry geo) (old : State) (bal : Balance geo
 
   pub plan_close : (h : ℕ) → Accepts geo old (Close h) → MayClose geo old h (file_of old h) (given_up_with geo old (file_of old h) free_inode)
   plan_close h accepted = let a = accepted_close geo old bal h accepted in record {
-    number = (and_parts (is_number geo (file_of old h)) (is_sound (old.view.inode (file_of old h))) a.sound).0;
+    number = (and_parts (is_number geo (file_of old h)) (is_sound geo (old.view.inode (file_of old h))) a.sound).0;
     given_up = λ t. given_up_are geo old (file_of old h) free_inode;
     held = (balance_held geo old bal).1;
   }

@@ -5,8 +5,7 @@ use Rattle.std.proofs.lemmas.Bool.{cases_Bool, and_parts, and_from, both_ways, o
 use Rattle.model.specs.Layout.{Geometry}
 use Rattle.model.specs.View.{View}
 use Rattle.model.specs.Cells.{SetBlock, updated}
-use Rattle.model.specs.Uses.{use_at, claim_at, IsClaimed}
-use Rattle.model.specs.Slots.{slot}
+use Rattle.model.specs.Uses.{IsClaimed}
 use Rattle.machine.specs.Standing.{others, ended}
 use Rattle.machine.specs.State.{State, keeps}
 use Rattle.machine.specs.Snapshot.{released, held_still}
@@ -17,7 +16,7 @@ use Rattle.ordering.specs.Agrees.{AllAgree}
 use Rattle.ordering.specs.Histories.{Comes_to, Begins, ClearsBlock}
 use Rattle.ordering.proofs.Bits.{block_bit_shape}
 use Rattle.ordering.proofs.Flushes.{base_agrees}
-use Rattle.ordering.proofs.Frames.{SameShape, shape_from, claim_back}
+use Rattle.ordering.proofs.Frames.{claim_back}
 use Rattle.ordering.proofs.HistoryLemmas.{comes_to_agrees}
 use Rattle.plans_data.specs.Issues.{Issues}
 use Rattle.plans_data.specs.Now.{now, becomes}
@@ -25,6 +24,7 @@ use Rattle.plans_data.specs.Held.{HeldAreRight}
 use Rattle.plans_data.specs.Release.{MayRelease, releasing}
 use Rattle.plans_data.proofs.Chains.{Goes, stand, step, issues_come}
 use Rattle.plans_data.proofs.Clearing.{among, among_contains, contains_among}
+use Rattle.plans_data.proofs.LetGoRight.{marks_shape}
 use Rattle.plans_data.proofs.LetsGo.{same_truth, true_not}
 
 -- ---- what users see
@@ -44,10 +44,6 @@ released_marks disk (b ∷ bs) p =
 -- the image without the bits of these blocks
 abbrev unmarking : View → List ℕ → View
 unmarking disk bs = record disk { block_marked = λ a. disk.block_marked a && not (among a bs) }
-
-marks_shape : (geo : Geometry) (disk : View) (bs : List ℕ) → SameShape geo disk (unmarking disk bs)
-unfolding use_at claim_at slot
-marks_shape geo disk bs = shape_from geo disk (unmarking disk bs) (λ n. refl) (λ n. refl) (λ n. refl) (λ n k. refl) (λ d s. refl)
 
 -- the bits of what is held now and not then are cleared
 pub release_unmarks : (geo : Geometry) (disk : View) (old : State) (held : ℕ → Bool) (blocks : List ℕ) → MayRelease geo (now disk [] old) held blocks
@@ -109,7 +105,7 @@ module _ (geo : Geometry) (disk : View) (old : State) (safe held : ℕ → Bool)
   -- what stays held stays right
   pub release_right : HeldAreRight geo (now disk [] old) → HeldAreRight geo (becomes disk (releasing blocks []) held old)
   release_right right = subst (λ v. HeldAreRight geo (record old { view = v; held = held })) (sym (released_marks disk blocks [])) (record {
-    unclaimed = λ a t c. right.unclaimed a (may.still a t) (c.0, c.1, claim_back geo disk (unmarking disk blocks) (marks_shape geo disk blocks) c.0 c.1 a c.2);
+    unclaimed = λ a t c. right.unclaimed a (may.still a t) (c.0, c.1, claim_back geo disk (unmarking disk blocks) (marks_shape geo disk (λ x. disk.block_marked x && not (among x blocks))) c.0 c.1 a c.2);
     marked = λ a t. ap (λ b. disk.block_marked a && not b) (not_among a t) ∙ and_true (disk.block_marked a) ∙ right.marked a (may.still a t);
   })
     where

@@ -69,7 +69,7 @@ module _ (geo : Geometry) (disk : View) (q : List Pending) (old : State) (safe :
 
     may_free : IsTrue gone → MayFreeing geo (now disk q old) (λ g. false) n blocks []
     may_free t = record {
-      number = (and_parts (is_number geo n) (is_sound (users.inode n)) may.sound).0;
+      number = (and_parts (is_number geo n) (is_sound geo (users.inode n)) may.sound).0;
       no_place = no_place geo users n (λ m h. omega (arith, may.enough m h, none_left t));
       witnesses = λ g h e. absurd (both_ways false refl h);
       given_up = may.given_up t;
@@ -79,7 +79,7 @@ module _ (geo : Geometry) (disk : View) (q : List Pending) (old : State) (safe :
     stays : Issues geo disk q ghost q1 ghost
     stays = (step geo disk q ghost q ghost (record { change = SetInode n fewer; after = [] }) ghost (stand geo disk q ghost all)
         (Lowers [] n fewer (record {
-          body = let sound = (and_parts (is_number geo n) (is_sound (users.inode n)) may.sound).1 in record { sound = sound; still_sound = sound; mode = refl; blocks = refl; direct = refl; indirect = refl };
+          body = let sound = (and_parts (is_number geo n) (is_sound geo (users.inode n)) may.sound).1 in record { sound = sound; still_sound = sound; mode = refl; blocks = refl; direct = refl; indirect = refl };
           witnesses = λ g h e. absurd (both_ways false refl h);
           links = may.enough;
         }))).issues

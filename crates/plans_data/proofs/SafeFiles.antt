@@ -49,14 +49,14 @@ step_mode geo disk q ghost u ghost' (RewritesFile held up after n x h) all f t =
 step_mode geo disk q ghost u ghost' (GrowsDirectory after n x h) all f t = same_mode (users_view disk q).inode n f x (h.directory ∙ sym h.still_directory)
 step_mode geo disk q ghost u ghost' (CreatesFile after n x h) all f t = at_other (users_view disk q).inode n f x (λ e.
     let r = sound_parts geo (users_view disk q) f (reachable_sound geo (users_view disk q) f (safe_reachable geo disk q ghost all f t)) in
-    sound_used ((users_view disk q).inode f) r.1 (ap (λ k. ((users_view disk q).inode k).mode) e ∙ h.free))
+    sound_used geo ((users_view disk q).inode f) r.1 (ap (λ k. ((users_view disk q).inode k).mode) e ∙ h.free))
 step_mode geo disk q ghost u ghost' (CreatesDirectory after n x h) all f t = at_other (users_view disk q).inode n f x (λ e.
     let r = sound_parts geo (users_view disk q) f (reachable_sound geo (users_view disk q) f (safe_reachable geo disk q ghost all f t)) in
-    sound_used ((users_view disk q).inode f) r.1 (ap (λ k. ((users_view disk q).inode k).mode) e ∙ h.free))
+    sound_used geo ((users_view disk q).inode f) r.1 (ap (λ k. ((users_view disk q).inode k).mode) e ∙ h.free))
 step_mode geo disk q ghost u ghost' (Frees held up after n x h) all f t = at_other (users_view disk q).inode n f x (λ e.
     placed geo (users_view disk q) (users_obey geo disk q ghost all) n (subst (λ k. IsReachable geo (users_view disk q) k) e (safe_reachable geo disk q ghost all f t)) h.no_place)
-step_mode geo disk q ghost u ghost' (AppendsSlot after n x bytes h) all f t = refl
-step_mode geo disk q ghost u ghost' (MovesSlot held up after n x p bytes h) all f t = refl
+step_mode geo disk q ghost u ghost' (AppendsSlot after n m x bytes h) all f t = refl
+step_mode geo disk q ghost u ghost' (MovesSlot held up after n m x p bytes h) all f t = refl
 step_mode geo disk q ghost u ghost' (Removes after block bytes d s i name safe h) all f t = refl
 step_mode geo disk q ghost u ghost' (Enters after block bytes d s i name h) all f t = refl
 step_mode geo disk q ghost u ghost' (Renames after block bytes d s i old new h) all f t = refl

@@ -1,21 +1,24 @@
 -- An inode that is freed, as the machine says it.
-use Rattle.std.proofs.Common.{◌≡◌, ℕ, Bool, true, false, not, ◌&&◌, ◌||◌, cond, eqb, List, [], ◌∷◌, refl, sym, ap, ◌∙◌, IsFalse, eq-eqb}
+use Rattle.std.proofs.Common.{◌≡◌, ℕ, Bool, true, false, not, ◌&&◌, ◌||◌, cond, eqb, List, [], ◌∷◌, refl, sym, ap, ◌∙◌, IsFalse, eq-eqb, None}
 use mathlib.Core.Path.{fun_ext}
 use Rattle.std.proofs.lemmas.Bool.{and_from, cond-true}
-use Rattle.model.specs.Layout.{Geometry}
+use Rattle.model.specs.Layout.{Geometry, is_number}
 use Rattle.model.specs.View.{View, Inode, free_inode}
 use Rattle.model.specs.Cells.{SetInode, SetNumber, updated, updated_all, put_at}
-use Rattle.model.specs.Uses.{use_at, claim_at}
+use Rattle.model.specs.Uses.{record_use}
+use Rattle.model.proofs.Steps.{use_at_is}
 use Rattle.machine.specs.State.{State, is_kept, is_open}
 use Rattle.machine.specs.Cells.{claims}
 use Rattle.machine.specs.Effects.{lets_go, swept, relinked, with_links}
 use Rattle.ordering.specs.Cuts.{Cell, Pending, users_view}
 use Rattle.ordering.specs.Ghosts.{Gone}
 use Rattle.ordering.specs.Agrees.{AllAgree}
+use Rattle.machine.proofs.Records.{links_uses, record_uses}
 use Rattle.ordering.proofs.Records.{put_here}
 use Rattle.plans_data.specs.Now.{now, becomes}
 use Rattle.plans_data.specs.Freeing.{held_with, within, freeing, MayFreeing}
 use Rattle.plans_data.proofs.Freeing.{freeing_lets_go}
+use Rattle.plans_data.proofs.LetsGo.{same_claims}
 
 pub put_over : {A : Type 0} (f : ℕ → A) (n : ℕ) (x y : A) → put_at (put_at f n x) n y ≡ put_at f n y
 put_over {A = A} f n x y = fun_ext (λ m. either (eqb m n) (f m))
@@ -26,10 +29,12 @@ put_over {A = A} f n x y = fun_ext (λ m. either (eqb m n) (f m))
 
 -- what an inode claims does not hang on its links
 pub claims_links : (geo : Geometry) (v : View) (n links a : ℕ) → claims geo (updated v (SetInode n (with_links (v.inode n) links))) n a ≡ claims geo v n a
-unfolding claims claim_at use_at
-claims_links geo v n links a = ap (λ x. claims geo (record v { inode = λ m. x }) n a) (put_here v.inode n (with_links (v.inode n) links))
+claims_links geo v n links a = same_claims geo (updated v (SetInode n (with_links (v.inode n) links))) v n a (λ k.
+    record_uses geo v n (with_links (v.inode n) links) n k
+    ∙ ap (λ x. cond (is_number geo n) (record_use geo v x k) None) (put_here v.inode n (with_links (v.inode n) links))
+    ∙ ap (λ o. cond (is_number geo n) o None) (links_uses geo v (v.inode n) links k)
+    ∙ sym (use_at_is geo v n k))
 
--- nor on how often the record was written before
 -- the machine frees an inode of no links that is not open
 pub swept_away : (geo : Geometry) (old : State) (n : ℕ) → (old.view.inode n).links ≡ 0 → IsFalse (is_open old n)
     → swept geo old n ≡ lets_go geo old n (updated_all old.view (SetInode n free_inode ∷ SetNumber n false ∷ []))

@@ -5,9 +5,10 @@ use Rattle.std.proofs.lemmas.Bool.{both_ways, and_parts, and_from, or_left}
 use Rattle.model.specs.Layout.{Geometry, is_number}
 use Rattle.model.specs.View.{View, Inode}
 use Rattle.model.specs.Cells.{SetInode}
-use Rattle.model.specs.Uses.{blocks_of, is_sound, is_used}
+use Rattle.model.specs.Uses.{blocks_of, is_sound, has_position}
 use Rattle.model.specs.Rules.{ObeysRules}
-use Rattle.model.proofs.UseLemmas.{use_from}
+use Rattle.model.proofs.Shape.{more_reach}
+use Rattle.model.proofs.Uses.{sound_few, number_use, same_field}
 use Rattle.machine.specs.State.{State}
 use Rattle.machine.specs.Effects.{truncated}
 use Rattle.ordering.specs.Cuts.{Pending, users_view}
@@ -22,12 +23,10 @@ use Rattle.plans_data.specs.Now.{now, becomes}
 use Rattle.plans_data.specs.Append.{sized}
 use Rattle.plans_data.specs.Freeing.{held_with}
 use Rattle.plans_data.specs.Truncate.{MayTruncate, truncation}
-use Rattle.plans_data.proofs.Blocks.{few_blocks}
 use Rattle.plans_data.proofs.Chains.{Goes, stand, step}
 use Rattle.plans_data.proofs.Clearing.{among, cleared_marks, clear_all, all_cleared, none_left}
 use Rattle.plans_data.proofs.LetsGo.{Shrinks, among_let_go, went, given_unclaimed, given_not_held, true_not, not_true}
 use Rattle.plans_data.proofs.Numbers.{sound_file}
-use Rattle.plans_data.proofs.Used.{Direct, Middle, Last, uses, used}
 
 module _ (geo : Geometry) (disk : View) (q : List Pending) (old : State) (safe : ℕ → Bool) (n size : ℕ) (blocks : List ℕ)
     (may : MayTruncate geo (now disk q old) n size blocks) (all : AllAgree geo disk q (at_rest old.held safe)) where
@@ -50,7 +49,7 @@ module _ (geo : Geometry) (disk : View) (q : List Pending) (old : State) (safe :
   held = held_with geo s n new
 
   abbrev given : ℕ → ℕ → ℕ → Bool
-  given b m k = eqb m n && among b blocks && not (is_used geo new k)
+  given b m k = eqb m n && among b blocks && not (has_position geo new k)
 
   abbrev ghost1 : Ghost
   ghost1 = moved held given ghost
@@ -62,31 +61,27 @@ module _ (geo : Geometry) (disk : View) (q : List Pending) (old : State) (safe :
   rules = users_obey geo disk q ghost all
 
   number : IsTrue (is_number geo n)
-  number = (and_parts (is_number geo n) (is_sound was) may.sound).0
+  number = (and_parts (is_number geo n) (is_sound geo was) may.sound).0
 
-  sound : IsTrue (is_sound was)
-  sound = (and_parts (is_number geo n) (is_sound was) may.sound).1
+  sound : IsTrue (is_sound geo was)
+  sound = (and_parts (is_number geo n) (is_sound geo was) may.sound).1
 
   fewer : blocks_of size ≤ blocks_of was.size
   fewer = omega (arith, may.no_more)
 
-  new_sound : IsTrue (is_sound new)
-  new_sound = sound_file new may.file (omega (arith, fewer, few_blocks was sound))
+  new_sound : IsTrue (is_sound geo new)
+  new_sound = sound_file geo new may.file (omega (arith, fewer, sound_few geo was sound))
 
-  was_used : (k : ℕ) → IsTrue (is_used geo new k) → IsTrue (is_used geo was k)
-  was_used k u = elim (uses geo new k u) [
-    | Direct a c ↦ used geo was k (Direct a (omega (arith, c, fewer)))
-    | Middle a c d e ↦ used geo was k (Middle a c (omega (arith, d, fewer)) e)
-    | Last a c ↦ used geo was k (Last a (omega (arith, c, fewer)))
-  ]
+  was_used : (k : ℕ) → IsTrue (has_position geo new k) → IsTrue (has_position geo was k)
+  was_used k has = more_reach geo (blocks_of size) (blocks_of was.size) k fewer has
 
   pub shrinks : Shrinks geo s n new
-  shrinks = record { sound = λ t. sound; kept = λ k t u. (was_used k u, λ view. refl); used = λ k u. new_sound }
+  shrinks = record { sound = λ t. sound; kept = λ k t has. (was_used k has, refl); used = λ k has. new_sound }
 
   -- no block comes
-  none_comes : (k b : ℕ) → IsTrue (is_used geo new k) → Comes geo disk q ghost [] new k b → ⊥
-  none_comes k b u comes =
-      comes.free.unclaimed (n, k, (use_from geo users n k b (record { sound = and_from (is_number geo n) (is_sound was) number sound; used = was_used k u; value = comes.value }), comes.address))
+  none_comes : (k b : ℕ) → IsTrue (has_position geo new k) → Comes geo disk q ghost [] new k b → ⊥
+  none_comes k b has comes =
+      comes.free.unclaimed (n, k, (number_use geo users n k b number (same_field geo users was new sound new_sound k (was_used k has) has refl ∙ comes.uses), comes.address))
 
   record_step : Goes geo disk q ghost q1 ghost1
   record_step = step geo disk q ghost q ghost (record { change = SetInode n new; after = [] }) ghost1 (stand geo disk q ghost all)
@@ -98,13 +93,13 @@ module _ (geo : Geometry) (disk : View) (q : List Pending) (old : State) (safe :
         blocks = record {
           number = number;
           sound = inr new_sound;
-          came = λ k t u. inl (record { sound = sound; used = was_used k u; value = λ view. refl });
+          came = λ k t u. inl (record { sound = sound; used = was_used k u; field = refl });
           once = λ k j b u v x y. absurd (none_comes k b u x);
           went = λ k b c. elim (went geo s n new blocks rules shrinks may.given_up k b c) [
             | inl stays ↦ inl stays
             | inr gives ↦ inr (elim gives [
               | inl h ↦ inl h
-              | inr t ↦ inr (and_from (eqb n n && among b blocks) (not (is_used geo new k)) (and_from (eqb n n) (among b blocks) (eq-eqb n n refl) t.0) (not_true (is_used geo new k) t.1))
+              | inr t ↦ inr (and_from (eqb n n && among b blocks) (not (has_position geo new k)) (and_from (eqb n n) (among b blocks) (eq-eqb n n refl) t.0) (not_true (has_position geo new k) t.1))
             ])
           ];
           held = λ b t. or_left (old.held b) _ t;
@@ -112,11 +107,11 @@ module _ (geo : Geometry) (disk : View) (q : List Pending) (old : State) (safe :
         };
       }))
 
-  given_parts : (b m k : ℕ) → IsTrue (given b m k) → (m ≡ n) × IsTrue (among b blocks) × IsFalse (is_used geo new k)
+  given_parts : (b m k : ℕ) → IsTrue (given b m k) → (m ≡ n) × IsTrue (among b blocks) × IsFalse (has_position geo new k)
   given_parts b m k t =
-      let parts = and_parts (eqb m n && among b blocks) (not (is_used geo new k)) t in
+      let parts = and_parts (eqb m n && among b blocks) (not (has_position geo new k)) t in
       let first = and_parts (eqb m n) (among b blocks) parts.0 in
-      (eqb-true m n first.0, first.1, true_not (is_used geo new k) parts.1)
+      (eqb-true m n first.0, first.1, true_not (has_position geo new k) parts.1)
 
   all_steps : Goes geo disk q ghost (truncation n was size blocks q) (all_cleared blocks ghost1)
   all_steps = clear_all geo disk q ghost q1 ghost1 n blocks record_step (record {
@@ -125,7 +120,7 @@ module _ (geo : Geometry) (disk : View) (q : List Pending) (old : State) (safe :
     owner = λ b m k t. (given_parts b m k t).0;
     no_position = λ b m k t sound used.
         let parts = given_parts b m k t in
-        both_ways (is_used geo new k) parts.2 (ap (λ x. is_used geo x k) (sym (ap (users_view disk q1).inode parts.0 ∙ put_here users.inode n new)) ∙ used);
+        both_ways (has_position geo new k) parts.2 (ap (λ x. has_position geo x k) (sym (ap (users_view disk q1).inode parts.0 ∙ put_here users.inode n new)) ∙ used);
   })
 
   pub truncate_issues : Issues geo disk q ghost (truncation n was size blocks q) (at_rest held safe)

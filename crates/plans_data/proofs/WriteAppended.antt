@@ -40,15 +40,16 @@ module _ (geo : Geometry) (disk : View) (q : List Pending) (old : State) (safe :
     blocks = one_more (users.inode n).size k (length piece) may.next may.write.some may.write.few;
     free = may.free;
     kept = may.kept;
+    apart = may.apart;
     content = OfFile may.write.file;
   }
 
-  pub appended_writes : Writes geo (now disk q old) n k piece (becomes disk (appended n (users.inode n) k b bytes size holder q) old.held old)
+  pub appended_writes : Writes geo (now disk q old) n k piece (becomes disk (appended geo n (users.inode n) k b bytes size holder q) old.held old)
   appended_writes = record {
     bytes = bytes;
     overwritten = may.write.overwritten;
-    stores = Appended (users_view disk (appended n (users.inode n) k b bytes size holder q)) may.next (append_places geo disk q ghost n k b bytes size holder may_append) refl;
+    stores = Appended (users_view disk (appended geo n (users.inode n) k b bytes size holder q)) may.next (append_places geo disk q ghost n k b bytes size holder may_append) refl;
   }
 
-  pub appended_issues : AllAgree geo disk q ghost → Issues geo disk q ghost (appended n (users.inode n) k b bytes size holder q) ghost
+  pub appended_issues : AllAgree geo disk q ghost → Issues geo disk q ghost (appended geo n (users.inode n) k b bytes size holder q) ghost
   appended_issues = append_issues geo disk q ghost n k b bytes size holder may_append

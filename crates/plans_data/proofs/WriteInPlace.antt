@@ -1,9 +1,10 @@
 -- A block of a file is written in place.
 use Rattle.std.proofs.Common.{ℕ, Bool, ◌<◌, List, [], ◌∷◌, length, refl, ap, IsTrue, arith}
-use Rattle.std.proofs.lemmas.Bool.{and_parts}
+use Rattle.std.proofs.lemmas.Bool.{and_parts, lt-leb}
 use Rattle.model.specs.Layout.{Geometry, is_number}
 use Rattle.model.specs.View.{View}
 use Rattle.model.specs.Cells.{SetBytes}
+use Rattle.model.specs.Shape.{most_blocks}
 use Rattle.model.specs.Uses.{is_sound, IsClaim}
 use Rattle.model.specs.Rules.{ObeysRules}
 use Rattle.machine.specs.State.{State}
@@ -17,7 +18,7 @@ use Rattle.ordering.proofs.Bits.{users_obey}
 use Rattle.plans_data.specs.Issues.{Issues}
 use Rattle.plans_data.specs.Now.{now, becomes}
 use Rattle.plans_data.specs.Write.{MayWriteInPlace, written}
-use Rattle.plans_data.proofs.Blocks.{block_claimed, few_blocks, same_blocks, no_less}
+use Rattle.plans_data.proofs.Blocks.{few_blocks, block_claimed, same_blocks, no_less}
 use Rattle.plans_data.proofs.Chains.{stand, step}
 use Rattle.plans_data.proofs.Enlarging.{enlarged_view, enlarge}
 
@@ -49,16 +50,16 @@ module _ (geo : Geometry) (disk : View) (q : List Pending) (old : State) (safe :
   in_place_issues all =
       (enlarge geo disk q ghost q1 ghost n (users.inode n) size (Block b ∷ []) refl sound may.write.file (same_blocks (users.inode n).size k (length piece) may.inside may.write.few)
       (step geo disk q ghost q ghost (record { change = SetBytes b bytes; after = [] }) ghost (stand geo disk q ghost all)
-      (WritesBlock [] n k b bytes (record { claims = claim; below = λ e. omega (arith, e, low); file = may.write.file })))).issues
+      (WritesBlock [] n k b bytes (record { claims = claim; no_table = lt-leb (most_blocks geo) k low; file = may.write.file })))).issues
     where
       rules : ObeysRules geo users
       rules = users_obey geo disk q ghost all
 
-      sound : IsTrue (is_sound (users.inode n))
-      sound = (and_parts (is_number geo n) (is_sound (users.inode n)) may.write.sound).1
+      sound : IsTrue (is_sound geo (users.inode n))
+      sound = (and_parts (is_number geo n) (is_sound geo (users.inode n)) may.write.sound).1
 
-      low : k < 268
-      low = omega (arith, may.inside, few_blocks (users.inode n) sound)
+      low : k < most_blocks geo
+      low = omega (arith, may.inside, few_blocks geo users n may.write.sound)
 
       claim : IsClaim geo users n k b
-      claim = block_claimed geo users rules n k may.write.sound may.inside low
+      claim = block_claimed geo users rules n k may.write.sound may.inside

@@ -4,7 +4,7 @@ use Rattle.std.specs.List.{Contains}
 use Rattle.model.specs.Layout.{Geometry, is_number}
 use Rattle.model.specs.View.{Inode, free_inode}
 use Rattle.model.specs.Cells.{SetInode, SetNumber, SetBlock, updated}
-use Rattle.model.specs.Uses.{is_used, IsClaim, IsClaimed}
+use Rattle.model.specs.Uses.{has_position, IsClaim, IsClaimed}
 use Rattle.machine.specs.State.{State, is_kept}
 use Rattle.machine.specs.Cells.{claims}
 use Rattle.ordering.specs.Cuts.{Cell, Record, Block, Pending}
@@ -25,9 +25,9 @@ freeing n blocks after q =
 
 -- ---- when they may be issued
 
--- exactly the blocks that n claims at a position that its new record does not use, those left out that the snapshot keeps
+-- exactly the blocks that n claims at a position that its new record does not have, those left out that the snapshot keeps
 abbrev pub AreGivenUp : Geometry → State → ℕ → Inode → List ℕ → Type 0
-AreGivenUp geo old n new blocks = (a : ℕ) → Contains blocks a ↔ (((k : ℕ) × IsClaim geo old.view n k a × IsFalse (is_used geo new k)) × IsFalse (is_kept old a))
+AreGivenUp geo old n new blocks = (a : ℕ) → Contains blocks a ↔ (((k : ℕ) × IsClaim geo old.view n k a × IsFalse (has_position geo new k)) × IsFalse (is_kept old a))
 
 -- the blocks that are held once n has its new record: those that it no longer claims and that the snapshot keeps, besides those held before
 abbrev pub held_with : Geometry → State → ℕ → Inode → ℕ → Bool

@@ -3,13 +3,14 @@ use Rattle.std.specs.Prelude.{◌≡◌, ℕ, ◌≤◌, ◌<◌, Bool, ◌||◌
 use Rattle.model.specs.Layout.{Geometry}
 use Rattle.model.specs.View.{View, Inode}
 use Rattle.model.specs.Cells.{SetInode, SetBytes}
-use Rattle.model.specs.Uses.{blocks_of, is_sound_at, direct_positions, indirect_position}
+use Rattle.model.specs.Shape.{most_blocks}
+use Rattle.model.specs.Uses.{blocks_of, is_sound_at}
 use Rattle.machine.specs.State.{State, is_kept}
 use Rattle.machine.specs.Room.{IsFreeBlock}
 use Rattle.machine.specs.Cells.{block_of, seen}
 use Rattle.machine.specs.Effects.{IsOverwritten}
 use Rattle.ordering.specs.Cuts.{Cell, Block, Pending}
-use Rattle.plans_data.specs.Append.{Holder, InRecord, InTable, InNewTable, IsWhole, IsKeptIn, filled, linked, known, sized, appended}
+use Rattle.plans_data.specs.Append.{Holder, KeptInRecord, KeptInTable, KeptInNew, IsWhole, IsKeptIn, AreApart, new_blocks, filled, linked, known, sized, appended}
 
 -- ---- the updates
 
@@ -21,11 +22,12 @@ enlarged n inode size after q = if nat_lt inode.size size then record { change =
 abbrev pub written : ℕ → Inode → ℕ → List ℕ → ℕ → List Pending → List Pending
 written n inode b bytes size q = enlarged n inode size (Block b ∷ []) (record { change = SetBytes b bytes; after = [] } ∷ q)
 
--- into block b, to which position k then points; the indirect block is there already, and the record is written only where it changes
-abbrev pub relocated : ℕ → Inode → ℕ → ℕ → List ℕ → ℕ → Holder → List Pending → List Pending
-relocated n inode k b bytes size (InTable table) q = enlarged n inode size (known inode b (InTable table)) (linked n inode k b (InTable table) (filled b bytes q))
-relocated n inode k b bytes size InRecord q = appended n inode k b bytes size InRecord q
-relocated n inode k b bytes size (InNewTable x table) q = appended n inode k b bytes size (InNewTable x table) q
+-- into block b, to which position k then points; the record is written only where it changes
+abbrev pub relocated : Geometry → ℕ → Inode → ℕ → ℕ → List ℕ → ℕ → Holder → List Pending → List Pending
+relocated geo n inode k b bytes size (KeptInTable m x table over) q =
+    enlarged n inode size (known b (KeptInTable m x table over)) (linked geo n k b (KeptInTable m x table over) (filled b bytes q))
+relocated geo n inode k b bytes size KeptInRecord q = appended geo n inode k b bytes size KeptInRecord q
+relocated geo n inode k b bytes size (KeptInNew m x table up) q = appended geo n inode k b bytes size (KeptInNew m x table up) q
 
 -- ---- when they may be issued
 
@@ -53,15 +55,10 @@ pub record MayWriteAppended (geo : Geometry) (old : State) (n k b : ℕ) (piece 
   pub whole : IsWhole geo old.view
   pub held : HeldAreMarked old
   pub next : k ≡ blocks_of (old.view.inode n).size
-  pub room : k < indirect_position
+  pub room : k < most_blocks geo
   pub free : IsFreeBlock geo old.view b
   pub kept : IsKeptIn geo old.view n k b holder
-
--- The pointer to a block that is in use is kept in the record, or in the indirect block, whose bytes these are.
-abbrev pub IsMovedIn : View → ℕ → ℕ → Holder → Type 0
-IsMovedIn view n k InRecord = k < direct_positions
-IsMovedIn view n k (InTable table) = (direct_positions ≤ k) × (table ≡ view.bytes (view.inode n).indirect)
-IsMovedIn view n k (InNewTable x table) = ⊥
+  pub apart : AreApart (b ∷ new_blocks holder)
 
 -- over a block that the snapshot keeps: the file has block k, and gets an unmarked one in its place
 pub record MayWriteMoved (geo : Geometry) (old : State) (n k b : ℕ) (piece bytes : List ℕ) (holder : Holder) : Type 0 where
@@ -71,7 +68,7 @@ pub record MayWriteMoved (geo : Geometry) (old : State) (n k b : ℕ) (piece byt
   pub inside : k < blocks_of (old.view.inode n).size
   pub keeps : IsTrue (is_kept old (block_of geo old.view n k))
   pub free : IsFreeBlock geo old.view b
-  pub moved : IsMovedIn old.view n k holder
+  pub kept : IsKeptIn geo old.view n k b holder
 
 -- the blocks that are held once block k of file n has moved
 abbrev pub held_besides : Geometry → State → ℕ → ℕ → ℕ → Bool

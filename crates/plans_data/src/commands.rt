@@ -26,7 +26,7 @@ ghost use Rattle.plans_data.specs.Write.{written, relocated, held_besides};
 ghost use Rattle.plans_data.specs.Truncate.{truncation};
 ghost use Rattle.plans_data.specs.Relink.{closing, repairing, goes_away, held_if, held_after, inode_of, open_of, without_handle};
 ghost use Rattle.plans_data.specs.Release.{releasing};
-ghost use Rattle.plans_data.specs.Plans.{IsChoice, holder_of, holder_in_use, named_by};
+ghost use Rattle.plans_data.specs.Plans.{IsChoice, holder_of, named_by};
 ghost use Rattle.plans_data.specs.Lists.{given_up_with, let_go_below};
 
 /// A write that no cause refuses is carried out: in place, after the last block, or elsewhere where a snapshot keeps the
@@ -39,13 +39,13 @@ pub fn writes_are_carried_out()
         IsCarriedOut geo disk q old (Write h k piece) Done p (becomes disk p old.held old) safe safe }
     ensures extended { (geo : Geometry) (disk : View) (q : List Pending) (old : State) (safe : ℕ → Bool) → Stands geo disk q old safe
         → (h k : ℕ) (piece : List ℕ) → Accepts geo old (Write h k piece) → (bytes : List ℕ) → IsOverwritten piece (seen geo old.view (file_of old h) k) bytes
-        → (b x : ℕ) (table : List ℕ) → IsChoice geo old.view k b x table → blocks_of (old.view.inode (file_of old h)).size ≤ k
-        → let n = file_of old h in let p = appended n (old.view.inode n) k b bytes (size_after old.view n k piece) (holder_of k (old.view.bytes (old.view.inode n).indirect) x table) q in
+        → (b : ℕ) (news : List ℕ) → IsChoice geo old.view k b news → blocks_of (old.view.inode (file_of old h)).size ≤ k
+        → let n = file_of old h in let p = appended geo n (old.view.inode n) k b bytes (size_after old.view n k piece) (holder_of geo old.view n k b news) q in
         IsCarriedOut geo disk q old (Write h k piece) Done p (becomes disk p old.held old) safe safe }
     ensures moved { (geo : Geometry) (disk : View) (q : List Pending) (old : State) (safe : ℕ → Bool) → Stands geo disk q old safe
         → (h k : ℕ) (piece : List ℕ) → Accepts geo old (Write h k piece) → (bytes : List ℕ) → IsOverwritten piece (seen geo old.view (file_of old h) k) bytes
         → (b : ℕ) → IsFreeBlock geo old.view b → k < blocks_of (old.view.inode (file_of old h)).size → IsTrue (is_kept old (block_of geo old.view (file_of old h) k))
-        → let n = file_of old h in let p = relocated n (old.view.inode n) k b bytes (size_after old.view n k piece) (holder_in_use k (old.view.bytes (old.view.inode n).indirect)) q in
+        → let n = file_of old h in let p = relocated geo n (old.view.inode n) k b bytes (size_after old.view n k piece) (holder_of geo old.view n k b []) q in
         IsCarriedOut geo disk q old (Write h k piece) Done p (becomes disk p (held_besides geo old n k) old) safe safe }
 {}
 

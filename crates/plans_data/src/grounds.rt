@@ -1,10 +1,10 @@
 //! Whoever knows the balance and that a command is not refused has what its updates ask for.
 
-ghost use Rattle.std.specs.Prelude.{◌≡◌, ℕ, List, ◌<◌, ◌≤◌, ◌-◌, ◌↔◌, replicate, IsTrue, IsFalse};
+ghost use Rattle.std.specs.Prelude.{◌≡◌, ℕ, List, [], ◌<◌, ◌≤◌, ◌-◌, ◌↔◌, replicate, IsTrue, IsFalse};
 ghost use Rattle.std.specs.List.{Contains};
 ghost use Rattle.model.specs.Layout.{Geometry, IsGeometry};
 ghost use Rattle.model.specs.View.{View, Inode, free_inode};
-ghost use Rattle.model.specs.Uses.{IsClaimed, blocks_of, direct_positions};
+ghost use Rattle.model.specs.Uses.{IsClaimed, blocks_of};
 ghost use Rattle.findings.specs.declared.repair.Repair.TheVariants.{DropInode, LowerCount, FreeBlock, FreeNumber};
 ghost use Rattle.machine.specs.Balance.{Balance, Owes};
 ghost use Rattle.machine.specs.Command.{Write, Truncate, Close};
@@ -21,7 +21,7 @@ ghost use Rattle.plans_data.specs.Write.{MayWriteInPlace, MayWriteAppended, MayW
 ghost use Rattle.plans_data.specs.Truncate.{MayTruncate};
 ghost use Rattle.plans_data.specs.Relink.{MayClose, MayRepair};
 ghost use Rattle.plans_data.specs.Release.{MayRelease};
-ghost use Rattle.plans_data.specs.Plans.{IsChoice, holder_of, holder_in_use};
+ghost use Rattle.plans_data.specs.Plans.{IsChoice, holder_of};
 ghost use Rattle.plans_data.specs.Lists.{given_up_with, let_go_below};
 
 /// Where the volume is in balance, the commands that no cause refuses, and the repairs that are owed, find what their
@@ -50,14 +50,14 @@ pub fn accepted_commands_have_plans()
         → MayWriteInPlace geo old (file_of old h) k piece bytes }
     ensures extended { (geo : Geometry) → IsGeometry geo → (old : State) → Balance geo old → (h k : ℕ) (piece : List ℕ) → Accepts geo old (Write h k piece)
         → (bytes : List ℕ) → IsOverwritten piece (seen geo old.view (file_of old h) k) bytes
-        → (b x : ℕ) (table : List ℕ) → IsChoice geo old.view k b x table
+        → (b : ℕ) (news : List ℕ) → IsChoice geo old.view k b news
         → blocks_of (old.view.inode (file_of old h)).size ≤ k
-        → MayWriteAppended geo old (file_of old h) k b piece bytes (holder_of k (old.view.bytes (old.view.inode (file_of old h)).indirect) x table) }
+        → MayWriteAppended geo old (file_of old h) k b piece bytes (holder_of geo old.view (file_of old h) k b news) }
     ensures moved { (geo : Geometry) → IsGeometry geo → (old : State) → Balance geo old → (h k : ℕ) (piece : List ℕ) → Accepts geo old (Write h k piece)
         → (bytes : List ℕ) → IsOverwritten piece (seen geo old.view (file_of old h) k) bytes
         → (b : ℕ) → IsFreeBlock geo old.view b
         → k < blocks_of (old.view.inode (file_of old h)).size → IsTrue (is_kept old (block_of geo old.view (file_of old h) k))
-        → MayWriteMoved geo old (file_of old h) k b piece bytes (holder_in_use k (old.view.bytes (old.view.inode (file_of old h)).indirect)) }
+        → MayWriteMoved geo old (file_of old h) k b piece bytes (holder_of geo old.view (file_of old h) k b []) }
     ensures truncated { (geo : Geometry) → IsGeometry geo → (old : State) → Balance geo old → (h size : ℕ) → Accepts geo old (Truncate h size)
         → MayTruncate geo old (file_of old h) size (given_up_with geo old (file_of old h) (sized (old.view.inode (file_of old h)) size)) }
     ensures closed { (geo : Geometry) → IsGeometry geo → (old : State) → Balance geo old → (h : ℕ) → Accepts geo old (Close h)
@@ -74,18 +74,14 @@ pub fn accepted_commands_have_plans()
         → MayRelease geo old (held_still old s) (let_go_below old s n) }
 {}
 
-/// A write that no cause refuses finds the unmarked blocks that it needs, and zeroes with the pointer will do as its new
-/// indirect block.
+/// A write that no cause refuses finds the unmarked blocks that it needs, one for each table that comes with its block, and
+/// zeroes with the pointer will do as a new table.
 pub fn accepted_writes_have_room()
     ensures moved { (geo : Geometry) (old : State) (h k : ℕ) (piece : List ℕ) → Accepts geo old (Write h k piece)
         → k < blocks_of (old.view.inode (file_of old h)).size
         → IsTrue (is_kept old (block_of geo old.view (file_of old h) k)) → (b : ℕ) × IsFreeBlock geo old.view b }
     ensures extended { (geo : Geometry) (old : State) (h k : ℕ) (piece : List ℕ) → Accepts geo old (Write h k piece)
-        → blocks_of (old.view.inode (file_of old h)).size ≤ k → (b : ℕ) × IsFreeBlock geo old.view b }
-    ensures table { (geo : Geometry) (old : State) (h k : ℕ) (piece : List ℕ) → Accepts geo old (Write h k piece)
-        → blocks_of (old.view.inode (file_of old h)).size ≤ k
-        → blocks_of (old.view.inode (file_of old h)).size ≡ direct_positions
-        → (b : ℕ) × (x : ℕ) × IsFreeBlock geo old.view b × IsFreeBlock geo old.view x × (x ≡ b → ⊥) }
+        → blocks_of (old.view.inode (file_of old h)).size ≤ k → (b : ℕ) × (news : List ℕ) × IsChoice geo old.view k b news }
     ensures zeroes { (geo : Geometry) → IsGeometry geo → (view : View) (b x : ℕ) → IsFreeBlock geo view b → IsFreeBlock geo view x → (x ≡ b → ⊥)
         → IsNewTable geo view b x (with_pointer (replicate 1024 0) 0 b) }
 {}

@@ -64,14 +64,14 @@ pub fn fewer_files_may_be_safe()
 pub fn a_block_is_appended()
     ensures places { (geo : Geometry) (disk : View) (q : List Pending) (ghost : Ghost) (n k b : ℕ) (bytes : List ℕ) (size : ℕ) (holder : Holder)
         → MayAppend geo (users_view disk q) ghost n k b bytes size holder
-        → Places geo (users_view disk q) n k bytes size (users_view disk (appended n ((users_view disk q).inode n) k b bytes size holder q)) }
+        → Places geo (users_view disk q) n k bytes size (users_view disk (appended geo n ((users_view disk q).inode n) k b bytes size holder q)) }
     ensures issues { (geo : Geometry) (disk : View) (q : List Pending) (ghost : Ghost) (n k b : ℕ) (bytes : List ℕ) (size : ℕ) (holder : Holder)
         → MayAppend geo (users_view disk q) ghost n k b bytes size holder
-        → AllAgree geo disk q ghost → Issues geo disk q ghost (appended n ((users_view disk q).inode n) k b bytes size holder q) ghost }
+        → AllAgree geo disk q ghost → Issues geo disk q ghost (appended geo n ((users_view disk q).inode n) k b bytes size holder q) ghost }
     ensures held { (geo : Geometry) (disk : View) (q : List Pending) (ghost : Ghost) (n k b : ℕ) (bytes : List ℕ) (size : ℕ) (holder : Holder)
         → MayAppend geo (users_view disk q) ghost n k b bytes size holder
         → AllAgree geo disk q ghost → (old : State) → HeldAreRight geo (becomes disk q ghost.held old)
-        → HeldAreRight geo (becomes disk (appended n ((users_view disk q).inode n) k b bytes size holder q) ghost.held old) }
+        → HeldAreRight geo (becomes disk (appended geo n ((users_view disk q).inode n) k b bytes size holder q) ghost.held old) }
 {}
 
 /// Once a block was appended, a cut with its contents claims it only with the new record.
@@ -79,7 +79,7 @@ pub fn an_appended_block_gives_credit()
     ensures { (geo : Geometry) (disk : View) (q : List Pending) (ghost : Ghost) (n k b : ℕ) (bytes : List ℕ) (size : ℕ) (holder : Holder)
         → MayAppend geo (users_view disk q) ghost n k b bytes size holder
         → AllAgree geo disk q ghost
-        → EachCut disk (appended n ((users_view disk q).inode n) k b bytes size holder q) (λ set view. IsTrue (set (Block b)) → (m j : ℕ)
+        → EachCut disk (appended geo n ((users_view disk q).inode n) k b bytes size holder q) (λ set view. IsTrue (set (Block b)) → (m j : ℕ)
         → IsClaim geo view m j b → IsTrue (set (Record n))) }
 {}
 
@@ -117,11 +117,11 @@ pub fn a_block_is_written_in_place()
 pub fn a_file_is_extended()
     ensures writes { (geo : Geometry) (disk : View) (q : List Pending) (old : State) (safe : ℕ → Bool) (n k b : ℕ) (piece bytes : List ℕ) (holder : Holder)
         → MayWriteAppended geo (now disk q old) n k b piece bytes holder
-        → Writes geo (now disk q old) n k piece (becomes disk (appended n ((users_view disk q).inode n) k b bytes (size_after (users_view disk q) n k piece) holder q) old.held old) }
+        → Writes geo (now disk q old) n k piece (becomes disk (appended geo n ((users_view disk q).inode n) k b bytes (size_after (users_view disk q) n k piece) holder q) old.held old) }
     ensures issues { (geo : Geometry) (disk : View) (q : List Pending) (old : State) (safe : ℕ → Bool) (n k b : ℕ) (piece bytes : List ℕ) (holder : Holder)
         → MayWriteAppended geo (now disk q old) n k b piece bytes holder
         → AllAgree geo disk q (at_rest old.held safe)
-        → Issues geo disk q (at_rest old.held safe) (appended n ((users_view disk q).inode n) k b bytes (size_after (users_view disk q) n k piece) holder q) (at_rest old.held safe) }
+        → Issues geo disk q (at_rest old.held safe) (appended geo n ((users_view disk q).inode n) k b bytes (size_after (users_view disk q) n k piece) holder q) (at_rest old.held safe) }
 {}
 
 /// A block of a file that a snapshot keeps is written elsewhere, as the machine says, by updates of their kinds; the
@@ -130,11 +130,11 @@ pub fn a_kept_block_moves()
     ensures writes { (geo : Geometry) (disk : View) (q : List Pending) (old : State) (safe : ℕ → Bool) (n k b : ℕ) (piece bytes : List ℕ)
         → AllAgree geo disk q (at_rest old.held safe)
         → (holder : Holder) → MayWriteMoved geo (now disk q old) n k b piece bytes holder
-        → Writes geo (now disk q old) n k piece (becomes disk (relocated n ((users_view disk q).inode n) k b bytes (size_after (users_view disk q) n k piece) holder q) (held_besides geo (now disk q old) n k) old) }
+        → Writes geo (now disk q old) n k piece (becomes disk (relocated geo n ((users_view disk q).inode n) k b bytes (size_after (users_view disk q) n k piece) holder q) (held_besides geo (now disk q old) n k) old) }
     ensures issues { (geo : Geometry) (disk : View) (q : List Pending) (old : State) (safe : ℕ → Bool) (n k b : ℕ) (piece bytes : List ℕ)
         → AllAgree geo disk q (at_rest old.held safe)
         → (holder : Holder) → MayWriteMoved geo (now disk q old) n k b piece bytes holder
-        → Issues geo disk q (at_rest old.held safe) (relocated n ((users_view disk q).inode n) k b bytes (size_after (users_view disk q) n k piece) holder q) (at_rest (held_besides geo (now disk q old) n k) safe) }
+        → Issues geo disk q (at_rest old.held safe) (relocated geo n ((users_view disk q).inode n) k b bytes (size_after (users_view disk q) n k piece) holder q) (at_rest (held_besides geo (now disk q old) n k) safe) }
 {}
 
 /// A file is truncated, as the machine says, by updates of their kinds; what a snapshot keeps is held.
@@ -201,11 +201,11 @@ pub fn held_blocks_stay_right()
     ensures extended { (geo : Geometry) (disk : View) (q : List Pending) (old : State) (safe : ℕ → Bool)
         → AllAgree geo disk q (at_rest old.held safe) → HeldAreRight geo (now disk q old)
         → (n k b : ℕ) (piece bytes : List ℕ) (holder : Holder) → MayWriteAppended geo (now disk q old) n k b piece bytes holder
-        → HeldAreRight geo (becomes disk (appended n ((users_view disk q).inode n) k b bytes (size_after (users_view disk q) n k piece) holder q) old.held old) }
+        → HeldAreRight geo (becomes disk (appended geo n ((users_view disk q).inode n) k b bytes (size_after (users_view disk q) n k piece) holder q) old.held old) }
     ensures moved { (geo : Geometry) (disk : View) (q : List Pending) (old : State) (safe : ℕ → Bool)
         → AllAgree geo disk q (at_rest old.held safe) → HeldAreRight geo (now disk q old)
         → (n k b : ℕ) (piece bytes : List ℕ) (holder : Holder) → MayWriteMoved geo (now disk q old) n k b piece bytes holder
-        → HeldAreRight geo (becomes disk (relocated n ((users_view disk q).inode n) k b bytes (size_after (users_view disk q) n k piece) holder q) (held_besides geo (now disk q old) n k) old) }
+        → HeldAreRight geo (becomes disk (relocated geo n ((users_view disk q).inode n) k b bytes (size_after (users_view disk q) n k piece) holder q) (held_besides geo (now disk q old) n k) old) }
     ensures truncated { (geo : Geometry) (disk : View) (q : List Pending) (old : State) (safe : ℕ → Bool)
         → AllAgree geo disk q (at_rest old.held safe) → HeldAreRight geo (now disk q old)
         → (n size : ℕ) (blocks : List ℕ) → MayTruncate geo (now disk q old) n size blocks

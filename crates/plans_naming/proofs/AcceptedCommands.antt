@@ -1,10 +1,10 @@
 -- What the commands ask for holds where no cause refuses them.
-use Rattle.std.proofs.Common.{◌≡◌, ◌≤◌, ◌/◌, ℕ, Bool, true, false, not, ◌&&◌, eqb, leb, List, refl, sym, ap, subst, arith, IsTrue, IsFalse, Ok, Contains, ne_eqb, le-leb}
+use Rattle.std.proofs.Common.{◌≡◌, ◌≤◌, ◌/◌, ℕ, Bool, true, false, not, ◌&&◌, eqb, leb, List, ◌∷◌, refl, sym, ap, subst, arith, IsTrue, IsFalse, Ok, Contains, ne_eqb, le-leb}
 use Rattle.std.specs.List.{list_all}
 use Rattle.std.proofs.lemmas.Bool.{both_ways, and_from}
 use Rattle.model.specs.Layout.{Geometry, IsGeometry}
 use Rattle.model.specs.View.{View}
-use Rattle.model.specs.Uses.{is_directory_at, blocks_of, direct_positions}
+use Rattle.model.specs.Uses.{is_directory_at, blocks_of}
 use Rattle.model.specs.Slots.{Empty, Good, slot, number_in, Names}
 use Rattle.model.specs.Reach.{IsReachable, slot_count}
 use Rattle.model.proofs.ReachLemmas.{directory_reached}
@@ -24,7 +24,7 @@ use Rattle.machine.proofs.Decisions.{any_here}
 use Rattle.machine.proofs.Holders.{new_place, good_parts}
 use Rattle.machine.proofs.Renaming.{place_at}
 use Rattle.machine.proofs.Walks.{Quiet, quiet, when_none, no_error, target_reachable}
-use Rattle.plans_data.specs.Append.{Holder, IsWhole, IsKeptIn, pointed}
+use Rattle.plans_data.specs.Append.{Holder, IsWhole, IsKeptIn, AreApart, new_blocks, blocks_on_way}
 use Rattle.plans_naming.specs.Entries.{TakesName, HasBlocks, HasOtherBlocks}
 use Rattle.plans_naming.specs.Grow.{AreOther}
 use Rattle.plans_naming.specs.Create.{CanCreate, CanCreateGrown}
@@ -53,13 +53,13 @@ module _ (geo : Geometry) (old : State) (b : Balance geo old) (ok : IsGeometry g
       record { number = free.number; unmarked = free.unmarked; place = empty_at geo v whole.blocks b.rules (holder geo v p) s at.reachable empty; takes = takes geo v p at; says = says; record_first = first; others_first = others }
 
   pub accepted_create_grown : (p : List ℕ) → Accepts geo old (Create p) → (n c : ℕ) (kept : Holder) (s : ℕ) (entry : List ℕ) (after : List Cell) → IsFreeNumber geo v n → IsFalse (has_room geo v (holder geo v p))
-      → IsFreeBlock geo v c → IsKeptIn geo v (holder geo v p) (blocks_of (v.inode (holder geo v p)).size) c kept → s / 16 ≡ blocks_of (v.inode (holder geo v p)).size → IsEntryFor n (name_in p) entry
+      → IsFreeBlock geo v c → IsKeptIn geo v (holder geo v p) (blocks_of (v.inode (holder geo v p)).size) c kept → AreApart (c ∷ new_blocks kept) → s / 16 ≡ blocks_of (v.inode (holder geo v p)).size → IsEntryFor n (name_in p) entry
       → Contains after (Record n) → HasBlocks geo v (holder geo v p) after → CanCreateGrown geo v n (holder geo v p) c kept s (name_in p) entry after
   unfolding causes
-  accepted_create_grown p accepts n c kept s entry after free no_room block keeps stands says first blocks =
+  accepted_create_grown p accepts n c kept s entry after free no_room block keeps news stands says first blocks =
       let q = quiet (causes geo old (Create p)) accepts.0 in
       let at = new_place geo v p q.0 q.1.1.0 q.1.1.1.0 in
-      record { number = free.number; unmarked = free.unmarked; enter = enters_grown geo v p c kept s after at q.1.1.1.1.1.0 whole no_room block keeps stands blocks; says = says; record_first = first }
+      record { number = free.number; unmarked = free.unmarked; enter = enters_grown geo v p c kept s after at q.1.1.1.1.1.0 whole no_room block keeps news stands blocks; says = says; record_first = first }
 
   pub accepted_make : (p : List ℕ) → Accepts geo old (Mkdir p) → (i a : ℕ) (dots : List ℕ) (s : ℕ) (entry : List ℕ) (after : List Cell) → IsFreeNumber geo v i → IsFreeBlock geo v a → AreDots i (holder geo v p) dots
       → slot geo v (holder geo v p) s ≡ Empty → IsEntryFor i (name_in p) entry → Contains after (Record i) → HasOtherBlocks geo v (holder geo v p) (block_of geo v (holder geo v p) (s / 16)) after
@@ -78,15 +78,15 @@ module _ (geo : Geometry) (old : State) (b : Balance geo old) (ok : IsGeometry g
       }
 
   pub accepted_make_grown : (p : List ℕ) → Accepts geo old (Mkdir p) → (i a : ℕ) (dots : List ℕ) (c : ℕ) (kept : Holder) (s : ℕ) (entry : List ℕ) (after : List Cell) → IsFreeNumber geo v i → IsFreeBlock geo v a → AreDots i (holder geo v p) dots
-      → IsFalse (has_room geo v (holder geo v p)) → IsFreeBlock geo v c → AreOther a c kept → IsKeptIn geo v (holder geo v p) (blocks_of (v.inode (holder geo v p)).size) c kept → s / 16 ≡ blocks_of (v.inode (holder geo v p)).size
+      → IsFalse (has_room geo v (holder geo v p)) → IsFreeBlock geo v c → AreOther a c kept → IsKeptIn geo v (holder geo v p) (blocks_of (v.inode (holder geo v p)).size) c kept → AreApart (c ∷ new_blocks kept) → s / 16 ≡ blocks_of (v.inode (holder geo v p)).size
       → IsEntryFor i (name_in p) entry → Contains after (Record i) → HasBlocks geo v (holder geo v p) after → CanMakeGrown geo v i a dots (holder geo v p) c kept s (name_in p) entry after
   unfolding causes
-  accepted_make_grown p accepts i a dots c kept s entry after free block are no_room other_block other keeps stands says first blocks =
+  accepted_make_grown p accepts i a dots c kept s entry after free block are no_room other_block other keeps news stands says first blocks =
       let q = quiet (causes geo old (Mkdir p)) accepts.0 in
       let at = new_place geo v p q.0 q.1.1.0 q.1.1.1.0 in
       record {
         make = record { number = free.number; unmarked = free.unmarked; address = block.address; block_unmarked = block.unmarked; are_dots = are };
-        enter = enters_grown geo v p c kept s after at q.1.1.1.1.1.1.0 whole no_room other_block keeps stands blocks;
+        enter = enters_grown geo v p c kept s after at q.1.1.1.1.1.1.0 whole no_room other_block keeps news stands blocks;
         other = other;
         says = says;
         record_first = first;
@@ -108,14 +108,14 @@ module _ (geo : Geometry) (old : State) (b : Balance geo old) (ok : IsGeometry g
       record { reachable = it.0; file = it.1; place = empty_at geo v whole.blocks b.rules (holder geo v q) s at.reachable empty; takes = takes geo v q at; says = says; record_first = first; others_first = others }
 
   pub accepted_link_grown : (p q : List ℕ) → Accepts geo old (Link p q) → (c : ℕ) (kept : Holder) (s : ℕ) (entry : List ℕ) (after : List Cell) → IsFalse (has_room geo v (holder geo v q)) → IsFreeBlock geo v c
-      → IsKeptIn geo v (holder geo v q) (blocks_of (v.inode (holder geo v q)).size) c kept → s / 16 ≡ blocks_of (v.inode (holder geo v q)).size → IsEntryFor (number_at geo v p) (name_in q) entry
+      → IsKeptIn geo v (holder geo v q) (blocks_of (v.inode (holder geo v q)).size) c kept → AreApart (c ∷ new_blocks kept) → s / 16 ≡ blocks_of (v.inode (holder geo v q)).size → IsEntryFor (number_at geo v p) (name_in q) entry
       → Contains after (Record (number_at geo v p)) → HasBlocks geo v (holder geo v q) after → CanLinkGrown geo v (number_at geo v p) (holder geo v q) c kept s (name_in q) entry after
   unfolding causes
-  accepted_link_grown p q accepts c kept s entry after no_room block keeps stands says first blocks =
+  accepted_link_grown p q accepts c kept s entry after no_room block keeps news stands says first blocks =
       let k = quiet (causes geo old (Link p q)) accepts.0 in
       let at = new_place geo v q k.1.0 k.1.1.1.1.1.0 k.1.1.1.1.1.1.0 in
       let it = file_there p (good_parts p k.0) (no_error (target geo v (parts p)) 0 k.1.1.1.0) (when_none (is_directory_at geo v (number_at geo v p)) IsDirectory k.1.1.1.1.0) in
-      record { reachable = it.0; file = it.1; enter = enters_grown geo v q c kept s after at k.1.1.1.1.1.1.1.1.0 whole no_room block keeps stands blocks; says = says; record_first = first }
+      record { reachable = it.0; file = it.1; enter = enters_grown geo v q c kept s after at k.1.1.1.1.1.1.1.1.0 whole no_room block keeps news stands blocks; says = says; record_first = first }
 
   pub accepted_unlink : (p : List ℕ) → Accepts geo old (Unlink p) → CanUnlink geo v (number_at geo v p) (holder geo v p) (slot_at geo v p) (block_of geo v (holder geo v p) (slot_at geo v p / 16)) (name_in p)
   unfolding causes
@@ -150,7 +150,7 @@ module _ (geo : Geometry) (old : State) (b : Balance geo old) (ok : IsGeometry g
       no_names : (i : ℕ) → has_names geo v i ≡ false → (t j : ℕ) → 2 ≤ t → Names geo v i t j → ⊥
       no_names i f t j low n =
           let at = names_stands geo v i t j n in
-          both_ways (has_names geo v i) f (any_here slot_count (λ s. leb 2 s && not (eqb (number_in (slot geo v i s)) 0)) t at.place.below
+          both_ways (has_names geo v i) f (any_here (slot_count geo) (λ s. leb 2 s && not (eqb (number_in (slot geo v i s)) 0)) t at.place.below
           (and_from (leb 2 t) (not (eqb (number_in (slot geo v i t)) 0)) (le-leb 2 t low)
           (ap not (ne_eqb (number_in (slot geo v i t)) 0 (λ z. let two = number_low geo j at.number in omega (arith, z, two, number_from_names geo v i t j n))))))
 
@@ -191,14 +191,14 @@ module _ (geo : Geometry) (old : State) (b : Balance geo old) (ok : IsGeometry g
       }
 
   pub accepted_move_grown : (p q : List ℕ) → Accepts geo old (Rename p q) → (holder geo v p ≡ holder geo v q → ⊥) → (e : ℕ) (kept : Holder) (s : ℕ) (entry : List ℕ) (after' after : List Cell) → IsFalse (has_room geo v (holder geo v q))
-      → IsFreeBlock geo v e → IsKeptIn geo v (holder geo v q) (blocks_of (v.inode (holder geo v q)).size) e kept → s / 16 ≡ blocks_of (v.inode (holder geo v q)).size → IsEntryFor (number_at geo v p) (name_in q) entry
+      → IsFreeBlock geo v e → IsKeptIn geo v (holder geo v q) (blocks_of (v.inode (holder geo v q)).size) e kept → AreApart (e ∷ new_blocks kept) → s / 16 ≡ blocks_of (v.inode (holder geo v q)).size → IsEntryFor (number_at geo v p) (name_in q) entry
       → Contains after' (Record (number_at geo v p)) → HasBlocks geo v (holder geo v q) after'
       → Contains after (Block e) → HasGrounds geo v (holder geo v q) (block_of geo v (holder geo v p) (slot_at geo v p / 16)) after
-      → (direct_positions ≤ blocks_of (v.inode (holder geo v q)).size → IsKnown after (block_of geo v (holder geo v p) (slot_at geo v p / 16)) (Block (pointed (v.inode (holder geo v q)) (blocks_of (v.inode (holder geo v q)).size) e kept).indirect))
+      → ((x : ℕ) → Contains (blocks_on_way kept) x → IsKnown after (block_of geo v (holder geo v p) (slot_at geo v p / 16)) (Block x))
       → CanMoveGrown geo v (number_at geo v p) (holder geo v q) e kept s (name_in q) entry after'
       (holder geo v p) (slot_at geo v p) (block_of geo v (holder geo v p) (slot_at geo v p / 16)) (name_in p) after
   unfolding causes
-  accepted_move_grown p q accepts apart e kept s entry after' after no_room block keeps stands says first blocks entry_first grounds table =
+  accepted_move_grown p q accepts apart e kept s entry after' after no_room block keeps news stands says first blocks entry_first grounds table =
       let c = quiet (causes geo old (Rename p q)) accepts.0 in
       let at = place_at geo v p c.0 c.1.1.0 c.1.1.1.1.0 in
       let to = new_place geo v q c.1.0 c.1.1.1.1.1.0 c.1.1.1.1.1.1.1.0 in
@@ -207,7 +207,7 @@ module _ (geo : Geometry) (old : State) (b : Balance geo old) (ok : IsGeometry g
         to = record {
           reachable = it.0;
           file = it.1;
-          enter = enters_grown geo v q e kept s after' to (across_none (holder geo v p) (holder geo v q) (full geo v (holder geo v q)) apart c.1.1.1.1.1.1.1.1.1.0) whole no_room block keeps stands blocks;
+          enter = enters_grown geo v q e kept s after' to (across_none (holder geo v p) (holder geo v q) (full geo v (holder geo v q)) apart c.1.1.1.1.1.1.1.1.1.0) whole no_room block keeps news stands blocks;
           says = says;
           record_first = first;
         };
@@ -215,5 +215,5 @@ module _ (geo : Geometry) (old : State) (b : Balance geo old) (ok : IsGeometry g
         apart = apart;
         entry_first = entry_first;
         grounds = grounds;
-        table_first = table;
+        tables_first = table;
       }

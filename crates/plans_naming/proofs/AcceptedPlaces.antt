@@ -1,10 +1,11 @@
 -- Places of an image that a path leads to, as the commands ask for them.
-use Rattle.std.proofs.Common.{◌≡◌, ◌<◌, ◌≤◌, ◌/◌, ℕ, Bool, true, false, not, ◌&&◌, eqb, leb, List, inl, inr, refl, sym, ap, ◌∙◌, subst, arith, IsFalse, None, Option, eqb-true, ne_eqb, leb-false}
+use Rattle.std.proofs.Common.{◌≡◌, ◌<◌, ◌≤◌, ◌/◌, ℕ, Bool, true, false, not, ◌&&◌, eqb, leb, List, ◌∷◌, inl, inr, refl, sym, ap, ◌∙◌, subst, arith, IsFalse, None, Option, eqb-true, ne_eqb, leb-false}
 use Rattle.std.specs.Prelude.{unwrap_or}
 use Rattle.std.proofs.lemmas.Bool.{both_ways, and_parts, and_from, or_cases, cond-true}
 use Rattle.model.specs.Layout.{Geometry, is_number}
 use Rattle.model.specs.View.{View}
-use Rattle.model.specs.Uses.{IsClaim, is_directory, is_directory_at, is_sound, blocks_of, indirect_position}
+use Rattle.model.specs.Shape.{most_blocks}
+use Rattle.model.specs.Uses.{IsClaim, is_directory, is_directory_at, is_sound, blocks_of}
 use Rattle.model.specs.Slots.{Slot, Absent, Empty, Good, slot}
 use Rattle.model.specs.Reach.{IsReachableDirectory, IsReachable}
 use Rattle.model.specs.Rules.{ObeysRules}
@@ -26,7 +27,7 @@ use Rattle.machine.proofs.Decisions.{sound_parts}
 use Rattle.machine.proofs.Holders.{IsNewPlace}
 use Rattle.machine.proofs.Renaming.{IsPlace}
 use Rattle.machine.proofs.Walks.{when_none}
-use Rattle.plans_data.specs.Append.{Holder, IsWhole, IsKeptIn}
+use Rattle.plans_data.specs.Append.{Holder, IsWhole, IsKeptIn, AreApart, new_blocks}
 use Rattle.plans_naming.specs.Entries.{StandsAt, TakesName, HasBlocks, UnmarkedAreNotHeld}
 use Rattle.plans_naming.specs.Grow.{CanEnterGrown}
 
@@ -70,9 +71,9 @@ pub file_mode : (geo : Geometry) (v : View) (i : ℕ) → IsReachable geo v i �
 file_mode geo v i r f =
     let p = sound_parts geo v i (reachable_sound geo v i r) in
     let x = v.inode i in
-    elim (or_cases (eqb x.mode 1) _ (and_parts _ (leb (blocks_of x.size) indirect_position) p.1).0) [
+    elim (or_cases (eqb x.mode 1) _ (and_parts _ (leb (blocks_of x.size) (most_blocks geo)) p.1).0) [
       | inl one ↦ eqb-true x.mode 1 one
-      | inr dir ↦ absurd (both_ways (is_directory_at geo v i) f (and_from (is_number geo i && is_sound x) (is_directory x) (and_from (is_number geo i) (is_sound x) p.0 p.1) (and_parts (is_directory x) _ (and_parts _ _ dir).0).0))
+      | inr dir ↦ absurd (both_ways (is_directory_at geo v i) f (and_from (is_number geo i && is_sound geo x) (is_directory x) (and_from (is_number geo i) (is_sound geo x) p.0 p.1) (and_parts (is_directory x) _ (and_parts _ _ dir).0).0))
     ]
 
 pub takes : (geo : Geometry) (v : View) (p : List ℕ) → IsNewPlace geo v p → TakesName geo v (holder geo v p) (name_in p)
@@ -80,12 +81,12 @@ takes geo v p at = record { part = at.part; new = at.new }
 
 -- the directory that is to get a block
 pub enters_grown : (geo : Geometry) (v : View) (p : List ℕ) (b : ℕ) (kept : Holder) (s : ℕ) (after : List Cell) → IsNewPlace geo v p → full geo v (holder geo v p) ≡ None → IsWhole geo v
-    → IsFalse (has_room geo v (holder geo v p)) → IsFreeBlock geo v b → IsKeptIn geo v (holder geo v p) (blocks_of (v.inode (holder geo v p)).size) b kept → s / 16 ≡ blocks_of (v.inode (holder geo v p)).size
+    → IsFalse (has_room geo v (holder geo v p)) → IsFreeBlock geo v b → IsKeptIn geo v (holder geo v p) (blocks_of (v.inode (holder geo v p)).size) b kept → AreApart (b ∷ new_blocks kept) → s / 16 ≡ blocks_of (v.inode (holder geo v p)).size
     → HasBlocks geo v (holder geo v p) after → CanEnterGrown geo v (holder geo v p) b kept s (name_in p) after
-enters_grown geo v p b kept s after at not_full whole no_room free keeps stands first = record {
+enters_grown geo v p b kept s after at not_full whole no_room free keeps news stands first = record {
   reachable = at.reachable;
   takes = takes geo v p at;
-  grow = record { whole = whole; full = no_room; room = room; free = free; kept = keeps };
+  grow = record { whole = whole; full = no_room; room = room; free = free; kept = keeps; apart = news };
   stands = stands;
   blocks_first = first;
 }
@@ -93,13 +94,13 @@ enters_grown geo v p b kept s after at not_full whole no_room free keeps stands 
     d : ℕ
     d = holder geo v p
 
-    room : blocks_of (v.inode d).size < indirect_position
-    room = by (leb indirect_position (blocks_of (v.inode d).size)) refl
+    room : blocks_of (v.inode d).size < most_blocks geo
+    room = by (leb (most_blocks geo) (blocks_of (v.inode d).size)) refl
       where
-        by : (t : Bool) → leb indirect_position (blocks_of (v.inode d).size) ≡ t → blocks_of (v.inode d).size < indirect_position
-        by false e = leb-false indirect_position (blocks_of (v.inode d).size) e
-        by true e = absurd (both_ways (not (has_room geo v d) && leb indirect_position (blocks_of (v.inode d).size)) (when_none (not (has_room geo v d) && leb indirect_position (blocks_of (v.inode d).size)) TooBig not_full)
-            (and_from (not (has_room geo v d)) (leb indirect_position (blocks_of (v.inode d).size)) (ap not no_room) e))
+        by : (t : Bool) → leb (most_blocks geo) (blocks_of (v.inode d).size) ≡ t → blocks_of (v.inode d).size < most_blocks geo
+        by false e = leb-false (most_blocks geo) (blocks_of (v.inode d).size) e
+        by true e = absurd (both_ways (not (has_room geo v d) && leb (most_blocks geo) (blocks_of (v.inode d).size)) (when_none (not (has_room geo v d) && leb (most_blocks geo) (blocks_of (v.inode d).size)) TooBig not_full)
+            (and_from (not (has_room geo v d)) (leb (most_blocks geo) (blocks_of (v.inode d).size)) (ap not no_room) e))
 
 -- between directories each cause matters
 pub across_none : (d e : ℕ) (cause : Option Refusal) → (d ≡ e → ⊥) → only (not (eqb d e)) cause ≡ None → cause ≡ None

@@ -1,5 +1,5 @@
 -- Each command that no cause refuses is carried out by its updates.
-use Rattle.std.proofs.Common.{◌≡◌, ◌/◌, ℕ, Bool, List, refl, sym, subst, IsFalse, Contains}
+use Rattle.std.proofs.Common.{◌≡◌, ◌/◌, ℕ, Bool, List, ◌∷◌, refl, sym, subst, IsFalse, Contains}
 use Rattle.model.specs.Layout.{Geometry}
 use Rattle.model.specs.View.{View}
 use Rattle.model.specs.Uses.{blocks_of}
@@ -13,7 +13,7 @@ use Rattle.machine.specs.Room.{IsFreeNumber, IsFreeBlock, has_room}
 use Rattle.machine.specs.Cells.{IsEntryFor, block_of}
 use Rattle.machine.specs.Causes.{Accepts}
 use Rattle.machine.specs.Effects.{AreDots}
-use Rattle.plans_data.specs.Append.{Holder, IsKeptIn}
+use Rattle.plans_data.specs.Append.{Holder, IsKeptIn, AreApart, new_blocks}
 use Rattle.plans_data.specs.Issues.{Issues}
 use Rattle.plans_naming.specs.Entries.{HasBlocks, HasOtherBlocks, UnmarkedAreNotHeld}
 use Rattle.plans_data.specs.Carried.{Stands, IsCarriedOut}
@@ -62,16 +62,16 @@ module _ (geo : Geometry) (disk : View) (q : List Pending) (old : State) (safe :
       (creating_leads geo disk q old.held safe n d s c (name_in p) entry after (subst (λ w. CanCreate geo w n d s c (name_in p) entry after) (sym stands.same) can) stands.agree))
 
   pub carries_create_grown : (p : List ℕ) → Accepts geo old (Create p) → (n c : ℕ) (kept : Holder) (s : ℕ) (entry : List ℕ) (after : List Cell) → IsFreeNumber geo v n → IsFalse (has_room geo v (holder geo v p))
-      → IsFreeBlock geo v c → IsKeptIn geo v (holder geo v p) (blocks_of (v.inode (holder geo v p)).size) c kept → s / 16 ≡ blocks_of (v.inode (holder geo v p)).size → IsEntryFor n (name_in p) entry
+      → IsFreeBlock geo v c → IsKeptIn geo v (holder geo v p) (blocks_of (v.inode (holder geo v p)).size) c kept → AreApart (c ∷ new_blocks kept) → s / 16 ≡ blocks_of (v.inode (holder geo v p)).size → IsEntryFor n (name_in p) entry
       → Contains after (Record n) → HasBlocks geo v (holder geo v p) after
-      → IsCarriedOut geo disk q old (Create p) (Number n) (creating_grown n (holder geo v p) (v.inode (holder geo v p)) c kept s entry after q)
-      (record old { view = users_view disk (creating_grown n (holder geo v p) (v.inode (holder geo v p)) c kept s entry after q) }) safe safe
-  carries_create_grown p accepts n c kept s entry after free no_room block keeps at says first blocks =
+      → IsCarriedOut geo disk q old (Create p) (Number n) (creating_grown geo n (holder geo v p) (v.inode (holder geo v p)) c kept s entry after q)
+      (record old { view = users_view disk (creating_grown geo n (holder geo v p) (v.inode (holder geo v p)) c kept s entry after q) }) safe safe
+  carries_create_grown p accepts n c kept s entry after free no_room block keeps news at says first blocks =
       let d = holder geo v p in
-      let can = accepted_create_grown geo old stands.balance stands.geometry p accepts n c kept s entry after free no_room block keeps at says first blocks in
-      carried geo disk q old safe stands (Create p) (Number n) (creating_grown n d (v.inode d) c kept s entry after q) (record old { view = users_view disk (creating_grown n d (v.inode d) c kept s entry after q) }) safe
+      let can = accepted_create_grown geo old stands.balance stands.geometry p accepts n c kept s entry after free no_room block keeps news at says first blocks in
+      carried geo disk q old safe stands (Create p) (Number n) (creating_grown geo n d (v.inode d) c kept s entry after q) (record old { view = users_view disk (creating_grown geo n d (v.inode d) c kept s entry after q) }) safe
       (accepts, creating_grown_creates geo old p n c kept s entry after can disk q stands.same safe not_held stands.agree) refl
-      (over (λ w. creating_grown n d (w.inode d) c kept s entry after q) safe
+      (over (λ w. creating_grown geo n d (w.inode d) c kept s entry after q) safe
       (creating_grown_issues geo disk q old.held safe not_held' n d c kept s (name_in p) entry after (subst (λ w. CanCreateGrown geo w n d c kept s (name_in p) entry after) (sym stands.same) can) stands.agree))
 
   pub carries_make : (p : List ℕ) → Accepts geo old (Mkdir p) → (i a : ℕ) (dots : List ℕ) (s : ℕ) (entry : List ℕ) (after : List Cell) → IsFreeNumber geo v i → IsFreeBlock geo v a → AreDots i (holder geo v p) dots
@@ -88,16 +88,16 @@ module _ (geo : Geometry) (disk : View) (q : List Pending) (old : State) (safe :
       (making_issues geo disk q old.held safe i a dots d s c (name_in p) entry after (subst (λ w. CanMakeIn geo w i a dots d s c (name_in p) entry after) (sym stands.same) can) not_held' stands.agree))
 
   pub carries_make_grown : (p : List ℕ) → Accepts geo old (Mkdir p) → (i a : ℕ) (dots : List ℕ) (c : ℕ) (kept : Holder) (s : ℕ) (entry : List ℕ) (after : List Cell) → IsFreeNumber geo v i → IsFreeBlock geo v a → AreDots i (holder geo v p) dots
-      → IsFalse (has_room geo v (holder geo v p)) → IsFreeBlock geo v c → AreOther a c kept → IsKeptIn geo v (holder geo v p) (blocks_of (v.inode (holder geo v p)).size) c kept → s / 16 ≡ blocks_of (v.inode (holder geo v p)).size
+      → IsFalse (has_room geo v (holder geo v p)) → IsFreeBlock geo v c → AreOther a c kept → IsKeptIn geo v (holder geo v p) (blocks_of (v.inode (holder geo v p)).size) c kept → AreApart (c ∷ new_blocks kept) → s / 16 ≡ blocks_of (v.inode (holder geo v p)).size
       → IsEntryFor i (name_in p) entry → Contains after (Record i) → HasBlocks geo v (holder geo v p) after
-      → IsCarriedOut geo disk q old (Mkdir p) (Number i) (making_grown i a dots (holder geo v p) (v.inode (holder geo v p)) c kept s entry after q)
-      (record old { view = users_view disk (making_grown i a dots (holder geo v p) (v.inode (holder geo v p)) c kept s entry after q) }) safe safe
-  carries_make_grown p accepts i a dots c kept s entry after free block are no_room other_block other keeps at says first blocks =
+      → IsCarriedOut geo disk q old (Mkdir p) (Number i) (making_grown geo i a dots (holder geo v p) (v.inode (holder geo v p)) c kept s entry after q)
+      (record old { view = users_view disk (making_grown geo i a dots (holder geo v p) (v.inode (holder geo v p)) c kept s entry after q) }) safe safe
+  carries_make_grown p accepts i a dots c kept s entry after free block are no_room other_block other keeps news at says first blocks =
       let d = holder geo v p in
-      let can = accepted_make_grown geo old stands.balance stands.geometry p accepts i a dots c kept s entry after free block are no_room other_block other keeps at says first blocks in
-      carried geo disk q old safe stands (Mkdir p) (Number i) (making_grown i a dots d (v.inode d) c kept s entry after q) (record old { view = users_view disk (making_grown i a dots d (v.inode d) c kept s entry after q) }) safe
+      let can = accepted_make_grown geo old stands.balance stands.geometry p accepts i a dots c kept s entry after free block are no_room other_block other keeps news at says first blocks in
+      carried geo disk q old safe stands (Mkdir p) (Number i) (making_grown geo i a dots d (v.inode d) c kept s entry after q) (record old { view = users_view disk (making_grown geo i a dots d (v.inode d) c kept s entry after q) }) safe
       (accepts, making_grown_makes geo old p i a dots c kept s entry after can disk q stands.same safe not_held stands.agree) refl
-      (over (λ w. making_grown i a dots d (w.inode d) c kept s entry after q) safe
+      (over (λ w. making_grown geo i a dots d (w.inode d) c kept s entry after q) safe
       (making_grown_issues geo disk q old.held safe not_held' i a dots d c kept s (name_in p) entry after (subst (λ w. CanMakeGrown geo w i a dots d c kept s (name_in p) entry after) (sym stands.same) can) stands.agree))
 
   pub carries_link : (p r : List ℕ) → Accepts geo old (Link p r) → (s : ℕ) (entry : List ℕ) (after : List Cell) → slot geo v (holder geo v r) s ≡ Empty → IsEntryFor (number_at geo v p) (name_in r) entry
@@ -115,15 +115,15 @@ module _ (geo : Geometry) (disk : View) (q : List Pending) (old : State) (safe :
       (linking_leads geo disk q old.held safe i d s c (name_in r) entry after (subst (λ w. CanLink geo w i d s c (name_in r) entry after) (sym stands.same) can) stands.agree))
 
   pub carries_link_grown : (p r : List ℕ) → Accepts geo old (Link p r) → (c : ℕ) (kept : Holder) (s : ℕ) (entry : List ℕ) (after : List Cell) → IsFalse (has_room geo v (holder geo v r)) → IsFreeBlock geo v c
-      → IsKeptIn geo v (holder geo v r) (blocks_of (v.inode (holder geo v r)).size) c kept → s / 16 ≡ blocks_of (v.inode (holder geo v r)).size → IsEntryFor (number_at geo v p) (name_in r) entry
+      → IsKeptIn geo v (holder geo v r) (blocks_of (v.inode (holder geo v r)).size) c kept → AreApart (c ∷ new_blocks kept) → s / 16 ≡ blocks_of (v.inode (holder geo v r)).size → IsEntryFor (number_at geo v p) (name_in r) entry
       → Contains after (Record (number_at geo v p)) → HasBlocks geo v (holder geo v r) after
-      → IsCarriedOut geo disk q old (Link p r) Done (linking_grown (number_at geo v p) (v.inode (number_at geo v p)) (holder geo v r) (v.inode (holder geo v r)) c kept s entry after q)
-      (record old { view = users_view disk (linking_grown (number_at geo v p) (v.inode (number_at geo v p)) (holder geo v r) (v.inode (holder geo v r)) c kept s entry after q) }) safe safe
-  carries_link_grown p r accepts c kept s entry after no_room block keeps at says first blocks =
+      → IsCarriedOut geo disk q old (Link p r) Done (linking_grown geo (number_at geo v p) (v.inode (number_at geo v p)) (holder geo v r) (v.inode (holder geo v r)) c kept s entry after q)
+      (record old { view = users_view disk (linking_grown geo (number_at geo v p) (v.inode (number_at geo v p)) (holder geo v r) (v.inode (holder geo v r)) c kept s entry after q) }) safe safe
+  carries_link_grown p r accepts c kept s entry after no_room block keeps news at says first blocks =
       let i = number_at geo v p in
       let d = holder geo v r in
-      let can = accepted_link_grown geo old stands.balance stands.geometry p r accepts c kept s entry after no_room block keeps at says first blocks in
-      carried geo disk q old safe stands (Link p r) Done (linking_grown i (v.inode i) d (v.inode d) c kept s entry after q) (record old { view = users_view disk (linking_grown i (v.inode i) d (v.inode d) c kept s entry after q) }) safe
+      let can = accepted_link_grown geo old stands.balance stands.geometry p r accepts c kept s entry after no_room block keeps news at says first blocks in
+      carried geo disk q old safe stands (Link p r) Done (linking_grown geo i (v.inode i) d (v.inode d) c kept s entry after q) (record old { view = users_view disk (linking_grown geo i (v.inode i) d (v.inode d) c kept s entry after q) }) safe
       (accepts, linking_grown_links geo old p r c kept s entry after can disk q stands.same safe not_held stands.agree) refl
-      (over (λ w. linking_grown i (w.inode i) d (w.inode d) c kept s entry after q) safe
+      (over (λ w. linking_grown geo i (w.inode i) d (w.inode d) c kept s entry after q) safe
       (linking_grown_issues geo disk q old.held safe not_held' i d c kept s (name_in r) entry after (subst (λ w. CanLinkGrown geo w i d c kept s (name_in r) entry after) (sym stands.same) can) stands.agree))

@@ -1,11 +1,12 @@
 -- An accepted command finds the number, the slot and the blocks that it needs.
-use Rattle.std.proofs.Common.{◌≡◌, ◌<◌, ◌≤◌, ◌+◌, ℕ, zero, suc, Bool, true, false, not, ◌&&◌, cond, eqb, ltb, List, inl, inr, refl, ◌∙◌, arith, IsTrue, IsFalse, None, ltb-false, eq-eqb}
-use Rattle.std.proofs.lemmas.Bool.{cases_Bool, cases_eq, cond-true, cond-false, and_parts, both_ways}
-use Rattle.model.specs.Layout.{Geometry, is_data_address, is_number, block_count, inode_count}
+use Rattle.std.proofs.Common.{◌≡◌, ◌≤◌, ◌+◌, ℕ, Bool, true, false, not, ◌&&◌, ltb, List, [], ◌∷◌, length, refl, arith, IsTrue, IsFalse, None, ltb-false}
+use Rattle.std.proofs.lemmas.Bool.{cond-false, and_parts, both_ways}
+use Rattle.model.specs.Layout.{Geometry, is_number, block_count, inode_count}
 use Rattle.model.specs.View.{View}
-use Rattle.model.specs.Uses.{blocks_of, direct_positions}
+use Rattle.model.specs.Shape.{new_tables}
+use Rattle.model.specs.Uses.{blocks_of}
 use Rattle.model.specs.Slots.{Slot, Absent, Empty, Good, Bad, slot}
-use Rattle.model.specs.Reach.{slot_count, sum_below}
+use Rattle.model.specs.Reach.{slot_count}
 use Rattle.layout.specs.declared.refusal.Refusal.TheVariants.{NoInode, NoBlock}
 use Rattle.machine.specs.State.{State}
 use Rattle.machine.specs.Command.{Create, Mkdir, Link, Rename}
@@ -14,7 +15,9 @@ use Rattle.machine.specs.Causes.{Accepts, causes, too_few}
 use Rattle.machine.specs.Room.{IsFreeNumber, IsFreeBlock, has_number, has_room, is_empty, unmarked_blocks, blocks_to_append, blocks_to_enter}
 use Rattle.machine.proofs.Decisions.{any_found}
 use Rattle.machine.proofs.Walks.{quiet, when_none}
-use Rattle.plans_data.proofs.Room.{one_free, two_free}
+use Rattle.plans_data.specs.Append.{AreApart}
+use Rattle.plans_data.specs.Plans.{AllFree}
+use Rattle.plans_data.proofs.Room.{Found, found, choice, one_free}
 use Rattle.plans_naming.specs.Choices.{FindsBlocks, FindsOtherBlocks}
 use Rattle.plans_naming.proofs.AcceptedPlaces.{across_none}
 
@@ -29,7 +32,7 @@ number_there geo view h =
     (r.0, record { number = p.0; unmarked = is_false (view.number_marked r.0) p.1 })
 
 pub slot_there : (geo : Geometry) (view : View) (d : ℕ) → IsTrue (has_room geo view d) → (s : ℕ) × (slot geo view d s ≡ Empty)
-slot_there geo view d h = let r = any_found slot_count (λ s. is_empty (slot geo view d s)) h in (r.0, empty (slot geo view d r.0) r.2)
+slot_there geo view d h = let r = any_found (slot_count geo) (λ s. is_empty (slot geo view d s)) h in (r.0, empty (slot geo view d r.0) r.2)
   where
     empty : (x : Slot) → is_empty x ≡ true → x ≡ Empty
     empty Absent e = absurd (both_ways false refl e)
@@ -41,73 +44,31 @@ not_false : (t : Bool) → not t ≡ false → t ≡ true
 not_false true e = refl
 not_false false e = absurd (both_ways true e refl)
 
-one_of : (p : ℕ → Bool) (n : ℕ) → 1 ≤ sum_below n (λ a. cond (p a) 1 0) → (a : ℕ) × (a < n) × IsTrue (p a)
-unfolding sum_below
-one_of p zero h = absurd (omega (arith, h))
-one_of p (suc n) h = elim (cases_Bool (p n)) [
-  | inl t ↦ (n, omega arith, t)
-  | inr f ↦ let r = one_of p n (omega (arith, h, cond-false {A = ℕ} (p n) 1 0 f)) in (r.0, omega (arith, r.1), r.2)
-]
-
-two_of : (p : ℕ → Bool) (n : ℕ) → 2 ≤ sum_below n (λ a. cond (p a) 1 0) → (a b : ℕ) × (a < b) × (b < n) × IsTrue (p a) × IsTrue (p b)
-unfolding sum_below
-two_of p zero h = absurd (omega (arith, h))
-two_of p (suc n) h = elim (cases_Bool (p n)) [
-  | inl t ↦ let r = one_of p n (omega (arith, h, cond-true {A = ℕ} (p n) 1 0 t)) in (r.0, n, r.1, omega arith, r.2, t)
-  | inr f ↦ let r = two_of p n (omega (arith, h, cond-false {A = ℕ} (p n) 1 0 f)) in (r.0, r.1, r.2, omega (arith, r.3), r.4, r.5)
-]
-
-three_of : (p : ℕ → Bool) (n : ℕ) → 3 ≤ sum_below n (λ a. cond (p a) 1 0) → (a b c : ℕ) × (a < b) × (b < c) × (c < n) × IsTrue (p a) × IsTrue (p b) × IsTrue (p c)
-unfolding sum_below
-three_of p zero h = absurd (omega (arith, h))
-three_of p (suc n) h = elim (cases_Bool (p n)) [
-  | inl t ↦ let r = two_of p n (omega (arith, h, cond-true {A = ℕ} (p n) 1 0 t)) in (r.0, r.1, n, r.2, r.3, omega arith, r.4, r.5, t)
-  | inr f ↦ let r = three_of p n (omega (arith, h, cond-false {A = ℕ} (p n) 1 0 f)) in (r.0, r.1, r.2, r.3, r.4, omega (arith, r.5), r.6, r.7, r.8)
-]
-
 module _ (geo : Geometry) (view : View) (d : ℕ) where
-  need_one : IsFalse (has_room geo view d) → 1 ≤ blocks_to_enter geo view d
-  need_one none = by (eqb (blocks_of (view.inode d).size) direct_positions) (cond-false (has_room geo view d) 0 (blocks_to_append (view.inode d)) none)
-    where
-      by : (t : Bool) → blocks_to_enter geo view d ≡ blocks_to_append (view.inode d) → 1 ≤ blocks_to_enter geo view d
-      by t e = elim (cases_Bool (eqb (blocks_of (view.inode d).size) direct_positions)) [
-        | inl y ↦ omega (arith, e, cond-true {A = ℕ} (eqb (blocks_of (view.inode d).size) direct_positions) 2 1 y)
-        | inr n ↦ omega (arith, e, cond-false {A = ℕ} (eqb (blocks_of (view.inode d).size) direct_positions) 2 1 n)
-      ]
+  abbrev k : ℕ
+  k = blocks_of (view.inode d).size
 
-  need_two : IsFalse (has_room geo view d) → blocks_of (view.inode d).size ≡ direct_positions → blocks_to_enter geo view d ≡ 2
-  need_two none twelve = cond-false (has_room geo view d) 0 (blocks_to_append (view.inode d)) none ∙ cond-true (eqb (blocks_of (view.inode d).size) direct_positions) 2 1 (eq-eqb (blocks_of (view.inode d).size) direct_positions twelve)
-
-  free_at : (a : ℕ) → IsTrue (is_data_address geo a && not (view.block_marked a)) → IsFreeBlock geo view a
-  free_at a t = let p = and_parts (is_data_address geo a) (not (view.block_marked a)) t in record { address = p.0; unmarked = is_false (view.block_marked a) p.1 }
+  need : IsFalse (has_room geo view d) → blocks_to_enter geo view d ≡ 1 + length (new_tables geo k)
+  need none = cond-false (has_room geo view d) 0 (blocks_to_append geo (view.inode d)) none
 
   finds : IsFalse (has_room geo view d) → blocks_to_enter geo view d ≤ unmarked_blocks geo view → FindsBlocks geo view d
-  finds none enough = elim (cases_eq (blocks_of (view.inode d).size) direct_positions) [
-    | inl twelve ↦ let r = two_free geo view (omega (arith, enough, need_two none twelve)) in record { block = r.0; free = r.2; table = r.1; free_table = λ e. (r.3, r.4) }
-    | inr other ↦ let r = one_free geo view (omega (arith, enough, need_one none)) in record { block = r.0; free = r.1; table = r.0; free_table = λ e. absurd (other e) }
-  ]
+  finds none enough = let r = choice geo view k (omega (arith, enough, need none)) in record { block = r.0; tables = r.1; choice = r.2 }
 
   finds_other : IsFalse (has_room geo view d) → 1 + blocks_to_enter geo view d ≤ unmarked_blocks geo view → FindsOtherBlocks geo view d
-  finds_other none enough = elim (cases_eq (blocks_of (view.inode d).size) direct_positions) [
-    | inl twelve ↦
-        let r = three_of (λ a. is_data_address geo a && not (view.block_marked a)) (block_count geo) (omega (arith, enough, need_two none twelve)) in
-        record {
-          own = r.0;
-          free_own = free_at r.0 r.6;
-          blocks = record { block = r.1; free = free_at r.1 r.7; table = r.2; free_table = λ e. (free_at r.2 r.8, λ q. omega (arith, r.4, q)) };
-          other = λ q. omega (arith, r.3, q);
-          table_other = λ e q. omega (arith, r.3, r.4, q);
-        }
-    | inr differs ↦
-        let r = two_free geo view (omega (arith, enough, need_one none)) in
-        record {
-          own = r.0;
-          free_own = r.2;
-          blocks = record { block = r.1; free = r.3; table = r.1; free_table = λ e. absurd (differs e) };
-          other = r.4;
-          table_other = λ e q. absurd (differs e);
-        }
-  ]
+  finds_other none enough = by r.blocks r.many r.free r.apart
+    where
+      r : Found geo view (2 + length (new_tables geo k)) (block_count geo)
+      r = found geo view (block_count geo) (2 + length (new_tables geo k)) (omega (arith, enough, need none))
+
+      by : (xs : List ℕ) → length xs ≡ 2 + length (new_tables geo k) → AllFree geo view xs → AreApart xs → FindsOtherBlocks geo view d
+      by [] many free apart = absurd (omega (arith, many))
+      by (a ∷ []) many free apart = absurd (omega (arith, many))
+      by (a ∷ b ∷ news) many free apart = record {
+        own = a;
+        free_own = free.0;
+        blocks = record { block = b; tables = news; choice = record { free = (free.1).0; many = omega (arith, many); tables = (free.1).1; apart = apart.1 } };
+        other = apart.0;
+      }
 
 enough_of : (geo : Geometry) (view : View) (need : ℕ) → too_few geo view need ≡ None → need ≤ unmarked_blocks geo view
 enough_of geo view need e = ltb-false (unmarked_blocks geo view) need (when_none (ltb (unmarked_blocks geo view) need) NoBlock e)

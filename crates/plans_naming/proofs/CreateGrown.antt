@@ -8,6 +8,7 @@ use Rattle.model.specs.Cells.{SetInode, SetNumber, updated}
 use Rattle.model.specs.Uses.{is_sound, is_directory_at, direct_positions}
 use Rattle.model.specs.Rules.{ObeysRules}
 use Rattle.model.proofs.SlotLemmas.{reachable_directory, directory_sound, number_low}
+use Rattle.model.proofs.Uses.{new_file_sound}
 use Rattle.ordering.specs.Cuts.{Cell, Pending, users_view}
 use Rattle.ordering.specs.Ghosts.{Ghost, at_rest}
 use Rattle.ordering.specs.Agrees.{AllAgree}
@@ -41,7 +42,7 @@ module _ (geo : Geometry) (v : View) (rules : ObeysRules geo v) (n d b : ℕ) (k
   dir = reachable_directory geo v d can.enter.reachable
 
   pub apart : n ≡ d → ⊥
-  apart e = sound_used (v.inode n) (subst (λ k. IsTrue (is_sound (v.inode k))) (sym e) (directory_sound geo v d dir)) (free geo v rules n can.number can.unmarked new_file)
+  apart e = sound_used geo (v.inode n) (subst (λ k. IsTrue (is_sound geo (v.inode k))) (sym e) (directory_sound geo v d dir)) (free geo v rules n can.number can.unmarked new_file)
 
   pub same : SameFolder geo v mid d
   same = born_folder geo v rules n can.number can.unmarked new_file d dir
@@ -50,8 +51,8 @@ module _ (geo : Geometry) (v : View) (rules : ObeysRules geo v) (n d b : ℕ) (k
   parent_same = put_there v.inode n d new_file (λ e. apart (sym e))
 
   pub can_grow : CanGrow geo mid d b kept
-  can_grow = grow_there geo v mid d b kept can.enter.grow pointers (can.enter.grow.whole).blocks (ap (λ (y : Inode). y.size) parent_same) (ap (λ (y : Inode). y.indirect) parent_same)
-      (λ t. same.slots t) (can.enter.grow.free).unmarked (λ x table e f. f) (λ l. refl)
+  can_grow = grow_there geo v mid d b kept can.enter.grow pointers (can.enter.grow.whole).blocks (ap (λ (y : Inode). y.size) parent_same)
+      same (can.enter.grow.free).unmarked (λ x i f. f) (λ m x c. refl)
     where
       pointers : (m : ℕ) → IsTrue (is_number geo m) → length (mid.inode m).direct ≡ direct_positions
       pointers m number = elim (cases_eq m n) [
@@ -90,12 +91,12 @@ module _ (geo : Geometry) (disk : View) (q : List Pending) (held safe : ℕ → 
   grows = grow_issues geo disk p ghost d (users.inode d) b kept s parent (can_grow geo users o n d b kept s name entry after can) (folder.reach can.enter.reachable)
       (λ a f. (marked a f, λ m k. refl)) can.enter.stands all1
 
-  pub creating_grown_enters : Enters geo (users_view disk p) d name n (users_view disk (creating_grown n d (users.inode d) b kept s entry after q))
+  pub creating_grown_enters : Enters geo (users_view disk p) d name n (users_view disk (creating_grown geo n d (users.inode d) b kept s entry after q))
   creating_grown_enters = enters_in_block geo disk p ghost d (users.inode d) b kept s parent (can_grow geo users o n d b kept s name entry after can) (folder.reach can.enter.reachable)
       (λ a f. (marked a f, λ m k. refl)) can.enter.stands all1 n name entry after can.says
 
   abbrev q2 : List Pending
-  q2 = grown d (users.inode d) b kept p
+  q2 = grown geo d (users.inode d) b kept p
 
   abbrev w : View
   w = users_view disk q2
@@ -106,7 +107,7 @@ module _ (geo : Geometry) (disk : View) (q : List Pending) (held safe : ℕ → 
   record_is : w.inode n ≡ new_file
   record_is = (grows.room).records n (apart geo users o n d b kept s name entry after can) ∙ put_here users.inode n new_file
 
-  pub creating_grown_issues : Issues geo disk q ghost (creating_grown n d (users.inode d) b kept s entry after q) ghost
+  pub creating_grown_issues : Issues geo disk q ghost (creating_grown geo n d (users.inode d) b kept s entry after q) ghost
   creating_grown_issues =
       let room = grows.room in
       let links : (w.inode n).links ≡ 1 = ap (λ (y : Inode). y.links) record_is in
@@ -114,7 +115,7 @@ module _ (geo : Geometry) (disk : View) (q : List Pending) (held safe : ℕ → 
       (may_enter geo w ghost after b (with_slot empty_block s entry) d s n name (users_obey geo disk q2 ghost (issues_agree geo disk q ghost q2 ghost second all)) (λ g. refl)
       (fills_slot geo (users_view disk p) w d b s n name entry room (takes_there geo users (users_view disk p) d folder name can.enter.takes) can.number can.says)
       (new_name geo w d s b name after (room.takes name (takes_there geo users (users_view disk p) d folder name can.enter.takes)) (room.others after (blocks_there geo users (users_view disk p) d folder after can.enter.blocks_first)))
-      (ap (λ (y : Inode). y.mode) record_is) can.number (and_from (is_number geo n) (is_sound (w.inode n)) can.number (ap is_sound record_is)) can.record_first
+      (ap (λ (y : Inode). y.mode) record_is) can.number (and_from (is_number geo n) (is_sound geo (w.inode n)) can.number (ap (is_sound geo) record_is ∙ new_file_sound geo)) can.record_first
       (λ m h. let none = none_counted geo w n (omega (arith, number_low geo n can.number)) (λ e t c y. born_unnamed geo users o n can.number can.unmarked new_file e t c (place_back geo (users_view disk p) w room.tree n e t c y)) m h in omega (arith, none, links))))
 
 -- ---- what users see
@@ -122,11 +123,11 @@ module _ (geo : Geometry) (disk : View) (q : List Pending) (held safe : ℕ → 
 pub creating_grown_creates : (geo : Geometry) (old : State) (path : List ℕ) (n b : ℕ) (kept : Holder) (s : ℕ) (entry : List ℕ) (after : List Cell) → CanCreateGrown geo old.view n (holder geo old.view path) b kept s (name_in path) entry after
     → (disk : View) (q : List Pending) → users_view disk q ≡ old.view → (safe : ℕ → Bool) → UnmarkedAreNotHeld old.view old.held
     → AllAgree geo disk q (at_rest old.held safe)
-    → Creates geo old path n (record old { view = users_view disk (creating_grown n (holder geo old.view path) (old.view.inode (holder geo old.view path)) b kept s entry after q) })
+    → Creates geo old path n (record old { view = users_view disk (creating_grown geo n (holder geo old.view path) (old.view.inode (holder geo old.view path)) b kept s entry after q) })
 creating_grown_creates geo old path n b kept s entry after can disk q same safe marked all = record {
   free = record { number = can.number; unmarked = can.unmarked };
-  view = users_view disk (creating_grown n d (old.view.inode d) b kept s entry after q);
-  enters = subst (λ (v : View). Enters geo (updated (updated v (SetNumber n true)) (SetInode n new_file)) d (name_in path) n (users_view disk (creating_grown n d (v.inode d) b kept s entry after q))) same
+  view = users_view disk (creating_grown geo n d (old.view.inode d) b kept s entry after q);
+  enters = subst (λ (v : View). Enters geo (updated (updated v (SetNumber n true)) (SetInode n new_file)) d (name_in path) n (users_view disk (creating_grown geo n d (v.inode d) b kept s entry after q))) same
       (creating_grown_enters geo disk q old.held safe (subst (λ v. UnmarkedAreNotHeld v old.held) (sym same) marked) n d b kept s (name_in path) entry after
       (subst (λ v. CanCreateGrown geo v n d b kept s (name_in path) entry after) (sym same) can) all);
   whole = refl;

@@ -1,13 +1,14 @@
 -- The updates by which a file is created in an empty slot, in their order.
-use Rattle.std.proofs.Common.{◌≡◌, ℕ, Bool, true, List, [], ◌∷◌, inr, refl, ap, arith, IsTrue, IsFalse}
+use Rattle.std.proofs.Common.{◌≡◌, ℕ, Bool, true, List, [], ◌∷◌, inr, refl, ap, ◌∙◌, arith, IsTrue, IsFalse}
 use Rattle.std.proofs.lemmas.Bool.{both_ways, and_from}
 use Rattle.model.specs.Layout.{Geometry, is_number}
 use Rattle.model.specs.View.{View, Inode, new_file}
 use Rattle.model.specs.Cells.{SetInode, SetNumber, updated, put_at}
-use Rattle.model.specs.Uses.{is_sound, is_used}
+use Rattle.model.specs.Uses.{is_sound, has_position}
 use Rattle.model.specs.Slots.{Empty, Good}
 use Rattle.model.specs.Rules.{ObeysRules}
 use Rattle.model.proofs.SlotLemmas.{reachable_directory, number_low}
+use Rattle.model.proofs.Uses.{new_file_sound}
 use Rattle.ordering.specs.Cuts.{Cell, NumberBit, Pending, users_view}
 use Rattle.ordering.specs.Ghosts.{Ghost, at_rest}
 use Rattle.ordering.specs.Agrees.{AllAgree}
@@ -16,7 +17,7 @@ use Rattle.ordering.specs.Histories.{SetsNumber, CreatesFile, Enters}
 use Rattle.ordering.proofs.Bits.{users_obey, claim_used}
 use Rattle.ordering.proofs.Records.{put_here}
 use Rattle.machine.specs.Cells.{with_slot}
-use Rattle.machine.proofs.NewFile.{new_unused}
+use Rattle.machine.proofs.NewFile.{new_has_none}
 use Rattle.plans_data.specs.Issues.{Issues, Nothing, Then}
 use Rattle.plans_naming.specs.Create.{CanCreate, born, creating}
 use Rattle.plans_data.proofs.Chains.{issues_agree}
@@ -25,8 +26,8 @@ use Rattle.plans_naming.proofs.Puts.{enters_slot, new_name, may_enter}
 use Rattle.plans_naming.proofs.Births.{free, born_folder, born_unnamed}
 use Rattle.plans_naming.proofs.Tallies.{none_counted}
 
-unused : (geo : Geometry) (k : ℕ) → IsTrue (is_used geo new_file k) → ⊥
-unused geo k u = both_ways (is_used geo new_file k) (new_unused geo k) u
+unused : (geo : Geometry) (k : ℕ) → IsTrue (has_position geo new_file k) → ⊥
+unused geo k u = both_ways (has_position geo new_file k) (new_has_none geo k) u
 
 module _ (geo : Geometry) (disk : View) (q : List Pending) (held safe : ℕ → Bool) where
   abbrev ghost : Ghost
@@ -49,11 +50,10 @@ module _ (geo : Geometry) (disk : View) (q : List Pending) (held safe : ℕ → 
       marked = put_here users.number_marked n true;
       not_zeroed = refl;
       bit = (0, omega arith, refl);
-      sound = refl;
-      pointers = λ t k u low high. absurd (unused geo k u);
+      sound = new_file_sound geo;
       blocks = record {
         number = number;
-        sound = inr refl;
+        sound = inr (new_file_sound geo);
         came = λ k t u. absurd (unused geo k u);
         once = λ k j b u v x y. absurd (unused geo k u);
         went = λ k b c. absurd (claim_used geo (updated users (SetNumber n true)) n k b c (free geo users rules n number unmarked new_file));
@@ -81,5 +81,5 @@ module _ (geo : Geometry) (disk : View) (q : List Pending) (held safe : ℕ → 
         let links : (put_at users.inode n new_file n).links ≡ 1 = ap (λ (y : Inode). y.links) here in
         Then _ ghost first (Enters after block (with_slot (users.bytes block) s entry) d s n name
         (may_enter geo mid ghost after block (with_slot (users.bytes block) s entry) d s n name (users_obey geo disk (born n new_file [] q) ghost all2) (λ g. refl) change fresh_name
-        (ap (λ (y : Inode). y.mode) here) can.number (and_from (is_number geo n) (is_sound (put_at users.inode n new_file n)) can.number (ap is_sound here)) can.record_first
+        (ap (λ (y : Inode). y.mode) here) can.number (and_from (is_number geo n) (is_sound geo (put_at users.inode n new_file n)) can.number (ap (is_sound geo) here ∙ new_file_sound geo)) can.record_first
         (λ m h. let none = none_counted geo mid n (omega (arith, number_low geo n can.number)) (born_unnamed geo users o n can.number can.unmarked new_file) m h in omega (arith, none, links))))

@@ -3,7 +3,8 @@ use Rattle.std.proofs.Common.{◌≡◌, ◌<◌, ◌/◌, ℕ, Bool, List, leng
 use Rattle.model.specs.Layout.{Geometry}
 use Rattle.model.specs.View.{View, Inode}
 use Rattle.model.specs.Cells.{SetInode, SetNumber, SetBlock, SetBytes, updated}
-use Rattle.model.specs.Uses.{use_at, is_directory_at, IsClaim, IsClaimed, indirect_position, claim_at}
+use Rattle.model.specs.Shape.{most_blocks}
+use Rattle.model.specs.Uses.{use_at, is_directory_at, IsClaim, IsClaimed}
 use Rattle.model.specs.Slots.{Slot, slot, slot_in}
 use Rattle.model.specs.Reach.{IsReachableDirectory}
 use Rattle.ordering.specs.Cuts.{Cell}
@@ -13,7 +14,8 @@ use Rattle.ordering.proofs.Trees.{SameTree, kept, names_kept}
 use Rattle.ordering.proofs.Data.{bytes_shape}
 use Rattle.model.proofs.CellLemmas.{slot_stays}
 use Rattle.ordering.proofs.Bits.{number_bit_shape, block_bit_shape}
-use Rattle.ordering.proofs.Records.{slots_of_uses, body_shape, put_there}
+use Rattle.model.proofs.Slots.{slots_of_uses}
+use Rattle.ordering.proofs.Records.{body_shape, put_there}
 use Rattle.ordering.proofs.Outside.{other_directory, other_use}
 use Rattle.plans_naming.specs.Entries.{StandsAt, TakesName, HasBlocks}
 
@@ -22,7 +24,7 @@ pub record SameFolder (geo : Geometry) (v w : View) (d : ℕ) : Type 0 where
   pub directory : is_directory_at geo v d ≡ is_directory_at geo w d
   pub uses : (k : ℕ) → use_at geo v d k ≡ use_at geo w d k
   pub slots : (t : ℕ) → slot geo v d t ≡ slot geo w d t
-  pub bytes : (k b : ℕ) → k < indirect_position → IsClaim geo v d k b → v.bytes b ≡ w.bytes b
+  pub bytes : (k b : ℕ) → k < most_blocks geo → IsClaim geo v d k b → v.bytes b ≡ w.bytes b
 
 pub folder_on : (geo : Geometry) (u v w : View) (d : ℕ) → SameFolder geo u v d → SameFolder geo v w d → SameFolder geo u w d
 folder_on geo u v w d f g = record {
@@ -80,34 +82,32 @@ module _ (geo : Geometry) (v w : View) (d : ℕ) (f : SameFolder geo v w d) wher
 
 -- a bit
 pub number_folder : (geo : Geometry) (v : View) (n : ℕ) (marked : Bool) (d : ℕ) → SameFolder geo v (updated v (SetNumber n marked)) d
-unfolding use_at claim_at slot
 number_folder geo v n marked d = record {
   reach = kept geo v (updated v (SetNumber n marked)) (number_bit_shape geo v n marked).tree d;
-  directory = refl;
-  uses = λ k. refl;
-  slots = λ t. refl;
+  directory = (number_bit_shape geo v n marked).directories d;
+  uses = (number_bit_shape geo v n marked).uses d;
+  slots = λ t. slots_of_uses geo v (updated v (SetNumber n marked)) d t ((number_bit_shape geo v n marked).directories d) ((number_bit_shape geo v n marked).uses d (t / 16)) (λ a dir low c. refl);
   bytes = λ k b low c. refl;
 }
 
 pub block_folder : (geo : Geometry) (v : View) (b : ℕ) (marked : Bool) (d : ℕ) → SameFolder geo v (updated v (SetBlock b marked)) d
-unfolding use_at claim_at slot
 block_folder geo v b marked d = record {
   reach = kept geo v (updated v (SetBlock b marked)) (block_bit_shape geo v b marked).tree d;
-  directory = refl;
-  uses = λ k. refl;
-  slots = λ t. refl;
+  directory = (block_bit_shape geo v b marked).directories d;
+  uses = (block_bit_shape geo v b marked).uses d;
+  slots = λ t. slots_of_uses geo v (updated v (SetBlock b marked)) d t ((block_bit_shape geo v b marked).directories d) ((block_bit_shape geo v b marked).uses d (t / 16)) (λ a dir low c. refl);
   bytes = λ k b low c. refl;
 }
 
 -- a record with the same blocks
-pub body_folder : (geo : Geometry) (v : View) (n : ℕ) (x : Inode) (d : ℕ) → SameBody (v.inode n) x → SameFolder geo v (updated v (SetInode n x)) d
+pub body_folder : (geo : Geometry) (v : View) (n : ℕ) (x : Inode) (d : ℕ) → SameBody geo (v.inode n) x → SameFolder geo v (updated v (SetInode n x)) d
 body_folder geo v n x d body =
     let shape = body_shape geo v n x body in
     record {
       reach = kept geo v (updated v (SetInode n x)) shape.tree d;
       directory = shape.directories d;
       uses = λ k. shape.uses d k;
-      slots = λ t. slots_of_uses geo v (updated v (SetInode n x)) refl d t (shape.directories d) (shape.uses d (t / 16));
+      slots = λ t. slots_of_uses geo v (updated v (SetInode n x)) d t (shape.directories d) (shape.uses d (t / 16)) (λ a dir low c. refl);
       bytes = λ k b low c. refl;
     }
 
@@ -118,19 +118,19 @@ other_folder geo v n x d apart reach = record {
   reach = reach;
   directory = other_directory geo v n x d apart;
   uses = λ k. other_use geo v n x d k apart;
-  slots = λ t. slots_of_uses geo v (updated v (SetInode n x)) refl d t (other_directory geo v n x d apart) (other_use geo v n x d (t / 16) apart);
+  slots = λ t. slots_of_uses geo v (updated v (SetInode n x)) d t (other_directory geo v n x d apart) (other_use geo v n x d (t / 16) apart) (λ a dir low c. refl);
   bytes = λ k b low c. refl;
 }
 
 -- new bytes of a block that nobody claims
 pub bytes_folder : (geo : Geometry) (v : View) (b : ℕ) (bytes : List ℕ) (d : ℕ) → (IsClaimed geo v b → ⊥) → SameFolder geo v (updated v (SetBytes b bytes)) d
 bytes_folder geo v b bytes d none =
-    let shape = bytes_shape geo v b bytes (λ i c. none (i, indirect_position, c)) (λ e k t c. none (e, k, c)) in
+    let shape = bytes_shape geo v b bytes (λ i m t c. none (i, m, c)) (λ e k t c. none (e, k, c)) in
     record {
       reach = kept geo v (updated v (SetBytes b bytes)) shape.tree d;
       directory = shape.directories d;
       uses = λ k. shape.uses d k;
-      slots = λ t. slot_stays geo v b bytes (λ i c. none (i, indirect_position, c)) d t (λ c. none (d, t / 16, c));
+      slots = λ t. slot_stays geo v b bytes (λ i m t c. none (i, m, c)) d t (λ c. none (d, t / 16, c));
       bytes = λ k c low claim. sym (put_there v.bytes b c bytes (λ e. none (d, k, subst (λ x. IsClaim geo v d k x) e claim)));
     }
 

@@ -37,7 +37,7 @@ use Rattle.plans_naming.proofs.Rooms.{grow_there, Grows, grow_issues, fills_slot
 pub grow_beside : (geo : Geometry) (v : View) (i : ℕ) (x : Inode) (d b : ℕ) (kept : Holder) → CanGrow geo v d b kept → x.direct ≡ (v.inode i).direct → (d ≡ i → ⊥) → SameFolder geo v (updated v (SetInode i x)) d
     → CanGrow geo (updated v (SetInode i x)) d b kept
 grow_beside geo v i x d b kept can direct apart folder =
-    grow_there geo v (updated v (SetInode i x)) d b kept can pointers (can.whole).blocks (ap (λ (y : Inode). y.size) parent) (ap (λ (y : Inode). y.indirect) parent) (λ t. folder.slots t) (can.free).unmarked (λ y table e f. f) (λ l. refl)
+    grow_there geo v (updated v (SetInode i x)) d b kept can pointers (can.whole).blocks (ap (λ (y : Inode). y.size) parent) folder (can.free).unmarked (λ y i f. f) (λ m y c. refl)
   where
     parent : put_at v.inode i x d ≡ v.inode d
     parent = put_there v.inode i d x apart
@@ -73,11 +73,11 @@ module _ (geo : Geometry) (disk : View) (q : List Pending) (held safe : ℕ → 
   o : ObeysRules geo users
   o = users_obey geo disk q ghost all
 
-  pub parts : IsTrue (is_number geo i) × IsTrue (is_sound x)
+  pub parts : IsTrue (is_number geo i) × IsTrue (is_sound geo x)
   parts = reachable_parts geo users i can.reachable
 
-  pub body : SameBody x more
-  body = same_body x (x.links + 1) parts.1
+  pub body : SameBody geo x more
+  body = same_body geo x (x.links + 1) parts.1
 
   first : Issues geo disk q ghost p ghost
   first = raised_leads geo disk q ghost i parts.1
@@ -103,11 +103,11 @@ module _ (geo : Geometry) (disk : View) (q : List Pending) (held safe : ℕ → 
   pub grows : Grows geo disk p ghost d (users.inode d) b kept s
   grows = grow_issues geo disk p ghost d (users.inode d) b kept s parent can_grow (folder.reach can.enter.reachable) (λ a f. (marked a f, λ m k. refl)) can.enter.stands all1
 
-  pub linking_grown_enters : Enters geo mid d name i (users_view disk (linking_grown i x d (users.inode d) b kept s entry after q))
+  pub linking_grown_enters : Enters geo mid d name i (users_view disk (linking_grown geo i x d (users.inode d) b kept s entry after q))
   linking_grown_enters = enters_in_block geo disk p ghost d (users.inode d) b kept s parent can_grow (folder.reach can.enter.reachable) (λ a f. (marked a f, λ m k. refl)) can.enter.stands all1 i name entry after can.says
 
   abbrev pub q2 : List Pending
-  q2 = grown d (users.inode d) b kept p
+  q2 = grown geo d (users.inode d) b kept p
 
   abbrev w : View
   w = users_view disk q2
@@ -121,7 +121,7 @@ module _ (geo : Geometry) (disk : View) (q : List Pending) (held safe : ℕ → 
   pub fills : ChangesSlot geo w b (with_slot empty_block s entry) d s Empty (Good i name)
   fills = fills_slot geo mid w d b s i name entry grows.room (takes_there geo users mid d folder name can.enter.takes) parts.0 can.says
 
-  pub linking_grown_issues : Issues geo disk q ghost (linking_grown i x d (users.inode d) b kept s entry after q) ghost
+  pub linking_grown_issues : Issues geo disk q ghost (linking_grown geo i x d (users.inode d) b kept s entry after q) ghost
   linking_grown_issues =
       let room = grows.room in
       let links : (w.inode i).links ≡ x.links + 1 = ap (λ (y : Inode). y.links) record_is in
@@ -129,7 +129,7 @@ module _ (geo : Geometry) (disk : View) (q : List Pending) (held safe : ℕ → 
       Then _ ghost second (histories.Enters after b (with_slot empty_block s entry) d s i name
       (may_enter geo w ghost after b (with_slot empty_block s entry) d s i name (users_obey geo disk q2 ghost (issues_agree geo disk q ghost q2 ghost second all)) (λ g. refl) fills
       (new_name geo w d s b name after (room.takes name (takes_there geo users mid d folder name can.enter.takes)) (room.others after (blocks_there geo users mid d folder after can.enter.blocks_first)))
-      (ap (λ (y : Inode). y.mode) record_is ∙ can.file) parts.0 (and_from (is_number geo i) (is_sound (w.inode i)) parts.0 (ap is_sound record_is ∙ parts.1)) can.record_first
+      (ap (λ (y : Inode). y.mode) record_is ∙ can.file) parts.0 (and_from (is_number geo i) (is_sound geo (w.inode i)) parts.0 (ap (is_sound geo) record_is ∙ parts.1)) can.record_first
       (λ m h.
       let then = fewer_entries geo mid w room.tree i m (omega (arith, low)) h in
       let was = fewer_entries geo users mid (body_shape geo users i more body).tree i then.0 (omega (arith, low)) then.1 in
@@ -144,11 +144,11 @@ pub linking_grown_links : (geo : Geometry) (old : State) (path other : List ℕ)
     → AllAgree geo disk q (at_rest old.held safe)
     → Links geo old path other (record old {
       view = users_view disk
-          (linking_grown (number_at geo old.view path) (old.view.inode (number_at geo old.view path)) (holder geo old.view other) (old.view.inode (holder geo old.view other)) b kept s entry after q);
+          (linking_grown geo (number_at geo old.view path) (old.view.inode (number_at geo old.view path)) (holder geo old.view other) (old.view.inode (holder geo old.view other)) b kept s entry after q);
     })
 linking_grown_links geo old path other b kept s entry after can disk q same safe marked all = record {
-  view = users_view disk (linking_grown i (old.view.inode i) d (old.view.inode d) b kept s entry after q);
-  enters = subst (λ (v : View). Enters geo (updated v (SetInode i (with_links (v.inode i) ((v.inode i).links + 1)))) d (name_in other) i (users_view disk (linking_grown i (v.inode i) d (v.inode d) b kept s entry after q))) same
+  view = users_view disk (linking_grown geo i (old.view.inode i) d (old.view.inode d) b kept s entry after q);
+  enters = subst (λ (v : View). Enters geo (updated v (SetInode i (with_links (v.inode i) ((v.inode i).links + 1)))) d (name_in other) i (users_view disk (linking_grown geo i (v.inode i) d (v.inode d) b kept s entry after q))) same
       (linking_grown_enters geo disk q old.held safe (subst (λ v. UnmarkedAreNotHeld v old.held) (sym same) marked) i d b kept s (name_in other) entry after
       (subst (λ v. CanLinkGrown geo v i d b kept s (name_in other) entry after) (sym same) can) all);
   whole = refl;

@@ -29,10 +29,10 @@ use Rattle.plans_naming.proofs.Folders.{body_folder, stands_there, change_there,
 use Rattle.plans_naming.proofs.Puts.{enters_slot, new_name, may_enter}
 use Rattle.plans_naming.proofs.EntryEffects.{enters_in_slot}
 
-pub same_body : (x : Inode) (n : ℕ) → IsTrue (is_sound x) → SameBody x (with_links x n)
-same_body x n h = record { sound = h; still_sound = h; mode = refl; blocks = refl; direct = refl; indirect = refl }
+pub same_body : (geo : Geometry) (x : Inode) (n : ℕ) → IsTrue (is_sound geo x) → SameBody geo x (with_links x n)
+same_body geo x n h = record { sound = h; still_sound = h; mode = refl; blocks = refl; direct = refl; indirect = refl }
 
-pub reachable_parts : (geo : Geometry) (v : View) (i : ℕ) → IsReachable geo v i → IsTrue (is_number geo i) × IsTrue (is_sound (v.inode i))
+pub reachable_parts : (geo : Geometry) (v : View) (i : ℕ) → IsReachable geo v i → IsTrue (is_number geo i) × IsTrue (is_sound geo (v.inode i))
 reachable_parts geo v i r = sound_parts geo v i (reachable_sound geo v i r)
 
 module _ (geo : Geometry) (old : State) (path other : List ℕ) (s block : ℕ) (entry : List ℕ) (after : List Cell)
@@ -49,7 +49,7 @@ module _ (geo : Geometry) (old : State) (path other : List ℕ) (s block : ℕ) 
   links : Links geo old path other (record old { view = updated mid (SetBytes block (with_slot (old.view.bytes block) s entry)) })
   links =
       let d = holder geo old.view other in
-      let same = body_folder geo old.view i more d (same_body (old.view.inode i) ((old.view.inode i).links + 1) (reachable_parts geo old.view i can.reachable).1) in
+      let same = body_folder geo old.view i more d (same_body geo (old.view.inode i) ((old.view.inode i).links + 1) (reachable_parts geo old.view i can.reachable).1) in
       record {
         view = updated mid (SetBytes block (with_slot (old.view.bytes block) s entry));
         enters = enters_in_slot geo mid d s block i (name_in other) entry (stands_there geo old.view mid d same s block Empty can.place) can.says;
@@ -65,11 +65,11 @@ module _ (geo : Geometry) (disk : View) (q : List Pending) (ghost : Ghost) where
   abbrev users : View
   users = users_view disk q
 
-  pub raised_leads : (i : ℕ) → IsTrue (is_sound (users.inode i)) → Issues geo disk q ghost (raised i (users.inode i) q) ghost
+  pub raised_leads : (i : ℕ) → IsTrue (is_sound geo (users.inode i)) → Issues geo disk q ghost (raised i (users.inode i) q) ghost
   raised_leads i sound =
       let x = users.inode i in
       Then (record { change = SetInode i (with_links x (x.links + 1)); after = [] }) ghost Nothing
-      (Raises [] i (with_links x (x.links + 1)) (record { body = same_body x (x.links + 1) sound; links = omega arith }))
+      (Raises [] i (with_links x (x.links + 1)) (record { body = same_body geo x (x.links + 1) sound; links = omega arith }))
 
 module _ (geo : Geometry) (disk : View) (q : List Pending) (held safe : ℕ → Bool)
     (i d s block : ℕ) (name entry : List ℕ) (after : List Cell) (can : CanLink geo (users_view disk q) i d s block name entry after) where
@@ -88,7 +88,7 @@ module _ (geo : Geometry) (disk : View) (q : List Pending) (held safe : ℕ → 
       let all1 = issues_agree geo disk q ghost (raised i x q) ghost first all in
       let now = with_links x (x.links + 1) in
       let mid = users_view disk (raised i x q) in
-      let body = same_body x (x.links + 1) parts.1 in
+      let body = same_body geo x (x.links + 1) parts.1 in
       let same = body_folder geo before i now d body in
       let here : put_at before.inode i now i ≡ now = put_here before.inode i now in
       let change = change_there geo before mid d same block (with_slot (before.bytes block) s entry) s Empty (Good i name) (enters_slot geo before d s block i Empty name entry can.place can.takes parts.0 can.says) in
@@ -96,7 +96,7 @@ module _ (geo : Geometry) (disk : View) (q : List Pending) (held safe : ℕ → 
       let links : (put_at before.inode i now i).links ≡ x.links + 1 = ap (λ (y : Inode). y.links) here in
       Then _ ghost first (Enters after block (with_slot (before.bytes block) s entry) d s i name
       (may_enter geo mid ghost after block (with_slot (before.bytes block) s entry) d s i name (users_obey geo disk (raised i x q) ghost all1) (λ g. refl) change fresh_name
-      (ap (λ (y : Inode). y.mode) here ∙ can.file) parts.0 (and_from (is_number geo i) (is_sound (put_at before.inode i now i)) parts.0 (ap is_sound here ∙ parts.1)) can.record_first
+      (ap (λ (y : Inode). y.mode) here ∙ can.file) parts.0 (and_from (is_number geo i) (is_sound geo (put_at before.inode i now i)) parts.0 (ap (is_sound geo) here ∙ parts.1)) can.record_first
       (λ m h.
       let was = fewer_entries geo before mid (body_shape geo before i now body).tree i m (omega (arith, number_low geo i parts.0)) h in
       let enough = o.rule8 i was.0 can.reachable was.1 in

@@ -10,8 +10,6 @@ use Rattle.model.specs.Image.{IsBlock}
 use Rattle.model.specs.Uses.{blocks_of, IsClaim, direct_positions}
 use Rattle.model.specs.Rules.{ObeysRules}
 use Rattle.model.proofs.SlotLemmas.{number_low, directory_number, reachable_directory}
-use Rattle.model.proofs.ReachLemmas.{sound_directory}
-use Rattle.model.proofs.UseLemmas.{use_from}
 use Rattle.ordering.specs.Cuts.{Cell, Record, Block, Pending, users_view, IsAfter}
 use Rattle.ordering.specs.Ghosts.{Ghost, at_rest}
 use Rattle.ordering.specs.Agrees.{AllAgree}
@@ -25,11 +23,11 @@ use Rattle.machine.specs.Cells.{with_slot, Enters}
 use Rattle.machine.specs.Whole.{HasWholeBlocks}
 use Rattle.machine.specs.Effects.{with_links, new_directory, AreDots}
 use Rattle.plans_data.specs.Issues.{Issues, Then}
-use Rattle.plans_data.specs.Append.{Holder, InRecord, InTable, InNewTable, IsSpare, IsKeptIn}
+use Rattle.plans_data.specs.Append.{Holder, KeptInRecord, KeptInTable, KeptInNew, IsSpare, IsKeptIn, new_blocks}
 use Rattle.plans_data.proofs.Chains.{issues_agree, joined}
-use Rattle.plans_data.proofs.Used.{Last, used, value_last}
+use Rattle.plans_data.proofs.Holders.{is_none}
 use Rattle.plans_naming.specs.Entries.{UnmarkedAreNotHeld, slot_written}
-use Rattle.plans_naming.specs.Grow.{CanGrow, AreOther, empty_block, grown}
+use Rattle.plans_naming.specs.Grow.{CanGrow, empty_block, grown}
 use Rattle.plans_naming.specs.Make.{CanMakeGrown, made, making_grown}
 use Rattle.plans_naming.proofs.DirectoryEntries.{may_enter_directory}
 use Rattle.plans_naming.proofs.Dots.{dots_first}
@@ -38,7 +36,7 @@ use Rattle.plans_naming.proofs.MakeInSlot.{entered_again}
 use Rattle.plans_naming.proofs.MakeOrder.{made_issues, dots_before}
 use Rattle.plans_naming.proofs.MakeViews.{v5, more, unclaimed, apart, made_folder, made_tree, made_unnamed, made_record, made_dots, parent_record}
 use Rattle.plans_naming.proofs.Puts.{new_name}
-use Rattle.plans_naming.proofs.Rooms.{grow_there, NewRoom, Grows, grow_issues, IsTableKept, after_grown, fills_slot, enters_in_block}
+use Rattle.plans_naming.proofs.Rooms.{grow_there, NewRoom, Grows, grow_issues, IsOtherTable, after_grown, fills_slot, enters_in_block}
 
 dots_whole : (i d : ℕ) (bytes : List ℕ) → AreDots i d bytes → IsBlock bytes
 dots_whole i d bytes h = subst IsBlock (sym h.whole) (record {
@@ -65,28 +63,24 @@ module _ (geo : Geometry) (v : View) (rules : ObeysRules geo v) (i a : ℕ) (dot
   parent : w.inode d ≡ with_links (v.inode d) ((v.inode d).links + 1)
   parent = parent_record geo v rules i a d dots can.make can.enter.reachable
 
-  pub not_indirect : direct_positions < blocks_of (v.inode d).size → a ≡ (v.inode d).indirect → ⊥
-  not_indirect many e =
-      let it = use_from geo v d 268 (v.inode d).indirect (record { sound = sound_directory geo v d (reachable_directory geo v d can.enter.reachable); used = used geo (v.inode d) 268 (Last refl (omega (arith, many))); value = value_last v (v.inode d) 268 refl }) in
-      unclaimed geo v rules i a d dots can.make can.enter.reachable (d, 268, (subst (λ c. IsClaim geo v d 268 c) (sym e) (it, rules.rule3.claims d 268 (v.inode d).indirect it)))
+  pub not_claimed : (m x : ℕ) → IsClaim geo v d m x → x ≡ a → ⊥
+  not_claimed m x c e = unclaimed geo v rules i a d dots can.make can.enter.reachable (d, m, subst (λ y. IsClaim geo v d m y) e c)
+
+  pub other_table : IsOtherTable a kept
+  other_table = go (blocks_of (v.inode d).size) b kept can.enter.grow.kept
+    where
+      go : (k b : ℕ) (h : Holder) → IsKeptIn geo v d k b h → IsOtherTable a h
+      go k b KeptInRecord h = tt
+      go k b (KeptInTable m x table over) h = λ e. not_claimed m x h.1 e
+      go k b (KeptInNew m x table up) h = go m x up h.3
 
   pub can_grow : CanGrow geo w d b kept
-  can_grow = grow_there geo v w d b kept can.enter.grow pointers blocks (ap (λ (y : Inode). y.size) parent) (ap (λ (y : Inode). y.indirect) parent)
-      (λ t. (made_folder geo v rules i a d dots can.make can.enter.reachable).slots t)
-      (put_there v.block_marked a b true (first kept can.other) ∙ (can.enter.grow.free).unmarked)
-      (λ x table e f. put_there v.block_marked a x true (second kept can.other x table e) ∙ f)
-      (λ many. sym (put_there v.bytes a (v.inode d).indirect dots (λ e. not_indirect many (sym e))))
+  can_grow = grow_there geo v w d b kept can.enter.grow pointers blocks (ap (λ (y : Inode). y.size) parent)
+      (made_folder geo v rules i a d dots can.make can.enter.reachable)
+      (put_there v.block_marked a b true (can.other).0 ∙ (can.enter.grow.free).unmarked)
+      (λ x c f. put_there v.block_marked a x true (is_none a x (new_blocks kept) (can.other).1 c) ∙ f)
+      (λ m x c. sym (put_there v.bytes a x dots (not_claimed m x c)))
     where
-      first : (h : Holder) → AreOther a b h → b ≡ a → ⊥
-      first InRecord o = o
-      first (InTable t) o = o
-      first (InNewTable x t) o = o.0
-
-      second : (h : Holder) → AreOther a b h → (x : ℕ) (table : List ℕ) → h ≡ InNewTable x table → x ≡ a → ⊥
-      second InRecord o x table e = absurd cc
-      second (InTable t) o x table e = absurd cc
-      second (InNewTable y t) o x table e = let same : y ≡ x = cc in λ q. o.1 (same ∙ q)
-
       pointers : (m : ℕ) → IsTrue (is_number geo m) → length (w.inode m).direct ≡ direct_positions
       pointers m number = elim (cases_eq m i) [
         | inl e ↦ ap (λ k. length (w.inode k).direct) e ∙ ap (λ (y : Inode). length y.direct) (made_record geo v rules i a d dots can.make can.enter.reachable) ∙ ap (λ n. 1 + n) (length-replicate {A = ℕ} 11 0)
@@ -160,11 +154,11 @@ module _ (geo : Geometry) (disk : View) (q : List Pending) (held safe : ℕ → 
   grows : Grows geo disk p ghost' d y b kept s
   grows = grow_issues geo disk p ghost' d y b kept s here grow_now (folder.reach can.enter.reachable) spare can.enter.stands all5
 
-  pub making_grown_enters : Enters geo mid d name i (users_view disk (making_grown i a dots d x b kept s entry after q))
+  pub making_grown_enters : Enters geo mid d name i (users_view disk (making_grown geo i a dots d x b kept s entry after q))
   making_grown_enters = enters_in_block geo disk p ghost' d y b kept s here grow_now (folder.reach can.enter.reachable) spare can.enter.stands all5 i name entry after can.says
 
   abbrev q2 : List Pending
-  q2 = grown d y b kept p
+  q2 = grown geo d y b kept p
 
   abbrev w2 : View
   w2 = users_view disk q2
@@ -190,19 +184,11 @@ module _ (geo : Geometry) (disk : View) (q : List Pending) (held safe : ℕ → 
       let claim = dots_first geo mid i d a dots can.make.are_dots can.make.number parent_number can.make.address (made_record geo users o i a d dots can.make can.enter.reachable) at in
       sym ((room.folder i (λ e. apart_it (sym e))).bytes 0 a (omega arith) claim) ∙ at
 
-  table_kept : IsTableKept y kept
-  table_kept = go kept can.enter.grow.kept
-    where
-      go : (h : Holder) → IsKeptIn geo users d (blocks_of x.size) b h → IsTableKept y h
-      go InRecord k = tt
-      go (InTable t) k = k.0
-      go (InNewTable z t) k = tt
-
   still_before : IsAfter disk q2 (Record i) (Block a)
-  still_before = after_grown disk p d y b kept (Record i) a can.other (not_indirect geo users o i a dots d b kept s name entry after can) table_kept
+  still_before = after_grown geo disk p d y b kept (Record i) a can.other (other_table geo users o i a dots d b kept s name entry after can)
       (dots_before geo disk q held safe i a d dots can.make can.enter.reachable not_held all)
 
-  pub making_grown_issues : Issues geo disk q ghost (making_grown i a dots d x b kept s entry after q) ghost
+  pub making_grown_issues : Issues geo disk q ghost (making_grown geo i a dots d x b kept s entry after q) ghost
   making_grown_issues =
       let links : (w2.inode d).links ≡ x.links + 1 = room.links ∙ ap (λ (z : Inode). z.links) here in
       let low = number_low geo d parent_number in
@@ -218,5 +204,5 @@ module _ (geo : Geometry) (disk : View) (q : List Pending) (held safe : ℕ → 
       let was = fewer_entries geo users mid (made_tree geo users o i a d dots can.make can.enter.reachable) d then.0 (omega (arith, low)) then.1 in
       let enough = o.rule8 d was.0 (inl can.enter.reachable) was.1 in
       omega (arith, then.2, was.2, enough, links)) in
-      subst (λ g. Issues geo disk q ghost (making_grown i a dots d x b kept s entry after q) g) (entered_again geo disk q held safe i a dots d s b name entry after)
+      subst (λ g. Issues geo disk q ghost (making_grown geo i a dots d x b kept s entry after q) g) (entered_again geo disk q held safe i a dots d s b name entry after)
       (Then (slot_written b empty_block s entry after) (now_entered i ghost') second (EntersDirectory after b (with_slot empty_block s entry) d s i a name enter))

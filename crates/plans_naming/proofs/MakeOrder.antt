@@ -1,9 +1,10 @@
 -- The updates by which a directory is made, before its entry, in their order.
-use Rattle.std.proofs.Common.{◌≤◌, ◌+◌, ℕ, Bool, true, List, [], ◌∷◌, inr, refl, sym, ap, ◌∙◌, arith, IsTrue, IsFalse}
+use Rattle.std.proofs.Common.{◌+◌, ℕ, Bool, true, List, [], ◌∷◌, inr, refl, sym, ap, ◌∙◌, subst, arith, IsTrue, IsFalse}
 use Rattle.model.specs.Layout.{Geometry}
 use Rattle.model.specs.View.{View, Inode}
 use Rattle.model.specs.Cells.{SetInode, SetNumber, SetBlock, SetBytes}
-use Rattle.model.specs.Uses.{is_used, value_at, direct_positions}
+use Rattle.model.specs.Shape.{IsAbove}
+use Rattle.model.specs.Uses.{has_position, record_use}
 use Rattle.model.specs.Reach.{IsReachableDirectory}
 use Rattle.model.specs.Rules.{ObeysRules}
 use Rattle.ordering.specs.Cuts.{Record, NumberBit, BlockBit, Block, Pending, users_view, IsAfter}
@@ -17,10 +18,11 @@ use Rattle.ordering.proofs.Bits.{users_obey, claim_used}
 use Rattle.ordering.proofs.Frames.{claim_back}
 use Rattle.ordering.proofs.Records.{put_here}
 use Rattle.machine.specs.Effects.{with_links, new_directory}
+use Rattle.machine.proofs.Records.{new_directory_sound, new_directory_first}
 use Rattle.plans_data.specs.Issues.{Issues, Nothing, Then}
 use Rattle.plans_naming.specs.Link.{raised}
 use Rattle.plans_naming.specs.Make.{CanMake, made}
-use Rattle.plans_naming.proofs.Dots.{only_first}
+use Rattle.plans_naming.proofs.Dots.{none_above, only_first}
 use Rattle.plans_naming.proofs.MakeViews.{body, still_unclaimed, to_dots, free4}
 
 module _ (geo : Geometry) (disk : View) (q : List Pending) (held safe : ℕ → Bool)
@@ -63,17 +65,14 @@ module _ (geo : Geometry) (disk : View) (q : List Pending) (held safe : ℕ → 
     not_given_up = λ n k. refl;
   }
 
-  one : (k : ℕ) → IsTrue (is_used geo (new_directory b) k) → direct_positions ≤ k → ⊥
-  one k u low = let e = only_first geo b k u in let l : 12 ≤ k = low in omega (arith, e, l)
-
-  comes : (k : ℕ) → IsTrue (is_used geo (new_directory b) k) → Comes geo disk q4 ghost (NumberBit i ∷ Block b ∷ []) (new_directory b) k b
+  comes : (k : ℕ) → IsTrue (has_position geo (new_directory b) k) → Comes geo disk q4 ghost (NumberBit i ∷ Block b ∷ []) (new_directory b) k b
   comes k u = record {
-    value = ap (λ j. value_at (users_view disk q4) (new_directory b) j) (only_first geo b k u);
+    uses = ap (λ j. record_use geo (users_view disk q4) (new_directory b) j) (only_first geo b k u) ∙ new_directory_first geo (users_view disk q4) b;
     address = can.address;
     free = free4';
     bit = after_own disk q3 (record { change = SetBytes b dots; after = BlockBit b ∷ Record d ∷ [] }) (BlockBit b) (0, omega arith, refl);
     contents = (1, omega arith, refl);
-    pointer = λ low high. absurd (one k u low);
+    tables = λ m t above used. absurd (none_above geo m (subst (λ j. IsAbove geo j m) (only_first geo b k u) above));
   }
 
   create : MayCreate geo disk q4 ghost (NumberBit i ∷ Block b ∷ []) i (new_directory b)
@@ -82,11 +81,10 @@ module _ (geo : Geometry) (disk : View) (q : List Pending) (held safe : ℕ → 
     marked = put_here users.number_marked i true;
     not_zeroed = refl;
     bit = (0, omega arith, refl);
-    sound = refl;
-    pointers = λ t k u low high. absurd (one k u low);
+    sound = new_directory_sound geo b;
     blocks = record {
       number = can.number;
-      sound = inr refl;
+      sound = inr (new_directory_sound geo b);
       came = λ k t u. inr (b, comes k u);
       once = λ k j c u v y z. only_first geo b k u ∙ sym (only_first geo b j v);
       went = λ k c y. absurd (claim_used geo (users_view disk q4) i k c y (free4 geo users rules i b d dots can reachable));

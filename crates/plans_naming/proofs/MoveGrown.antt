@@ -1,26 +1,26 @@
 -- A file's name goes to a directory that gets a block for it: the updates in their order.
-use Rattle.std.proofs.Common.{◌≡◌, ◌<◌, ◌≤◌, ◌+◌, ◌-◌, ◌/◌, ℕ, Bool, List, [], ◌∷◌, inl, inr, refl, sym, ap, ◌∙◌, subst, arith, IsTrue}
+use Rattle.std.proofs.Common.{◌≡◌, ◌+◌, ◌/◌, ℕ, Bool, List, Contains, ◌∷◌, inl, inr, refl, sym, ap, ◌∙◌, subst, arith, IsTrue}
 use Rattle.std.proofs.lemmas.Bool.{cases_eq, both_ways}
 use Rattle.model.specs.Layout.{Geometry}
 use Rattle.model.specs.View.{View, Inode}
 use Rattle.model.specs.Cells.{SetInode, SetBytes, updated}
-use Rattle.model.specs.Uses.{blocks_of, is_used, is_sound, IsClaim, direct_positions}
+use Rattle.model.specs.Uses.{blocks_of, is_sound, IsClaim}
 use Rattle.model.specs.Slots.{Empty, Good}
 use Rattle.model.specs.Rules.{ObeysRules}
-use Rattle.ordering.specs.Cuts.{Cell, Block, Pending, users_view}
+use Rattle.ordering.specs.Cuts.{Cell, Pending, users_view}
 use Rattle.ordering.specs.Ghosts.{Ghost, at_rest}
 use Rattle.ordering.specs.Agrees.{AllAgree}
 use Rattle.ordering.specs.Kinds.{SameBody}
-use Rattle.ordering.specs.OneSlot.{ChangesSlot, HasOtherName, IsKnown}
+use Rattle.ordering.specs.OneSlot.{ChangesSlot, HasOtherName, ArePointersKnown}
 use Rattle.ordering.proofs.Bits.{users_obey}
 use Rattle.ordering.proofs.OneSlots.{slot_uses, slot_now}
 use Rattle.ordering.proofs.SlotKinds.{no_file_directory}
 use Rattle.machine.specs.Cells.{with_slot}
 use Rattle.machine.specs.Effects.{with_links}
 use Rattle.plans_data.specs.Issues.{Issues}
-use Rattle.plans_data.specs.Append.{Holder, pointed, sized}
+use Rattle.plans_data.specs.Append.{Holder, KeptInRecord, KeptInTable, KeptInNew, new_blocks, blocks_on_way}
 use Rattle.plans_data.proofs.Chains.{issues_agree, joined}
-use Rattle.plans_data.proofs.Used.{Direct, Middle, Last, uses}
+use Rattle.plans_data.proofs.Holders.{first_of, later_of, nothing_in, one_of_both}
 use Rattle.plans_naming.specs.Entries.{UnmarkedAreNotHeld, no_entry}
 use Rattle.plans_naming.specs.Grow.{empty_block}
 use Rattle.plans_naming.specs.Link.{linking_grown}
@@ -30,28 +30,29 @@ use Rattle.plans_naming.proofs.Grounds.{SameGrounds, body_grounds, entry_grounds
 use Rattle.plans_naming.proofs.LinkGrown.{q2, parts, body, grows, second, record_is, fills, linking_grown_issues}
 use Rattle.plans_naming.proofs.Puts.{empties_slot, entry_folder}
 use Rattle.plans_naming.proofs.Removals.{lower_leads}
-use Rattle.plans_naming.proofs.Rooms.{NewRoom, grown_record}
+use Rattle.plans_naming.proofs.Rooms.{NewRoom}
 
--- the grounds, where a directory got a block and its indirect block is known
-pub room_grounds : (geo : Geometry) (after : List Cell) (block : ℕ) (v w : View) (d b s : ℕ) (x : Inode) → NewRoom geo v w d b s → w.inode d ≡ x
-    → (direct_positions ≤ blocks_of x.size - 1 → IsKnown after block (Block x.indirect)) → SameGrounds geo after block v w
-room_grounds geo after block v w d b s x r here table = record {
+-- the grounds, where a directory got a block and its tables are known
+pub room_grounds : (geo : Geometry) (after : List Cell) (block : ℕ) (v w : View) (d b s : ℕ) → NewRoom geo v w d b s
+    → (ArePointersKnown geo v after block d → ArePointersKnown geo w after block d) → SameGrounds geo after block v w
+room_grounds geo after block v w d b s r tables = record {
   directories = λ e t. sym (r.directories e) ∙ t;
   names = r.names;
   claims = r.claims;
-  pointers = λ e known k u low high. elim (cases_eq e d) [
-    | inr other ↦
-        let same : w.inode e ≡ v.inode e = r.records e other in
-        subst (λ (y : Inode). IsKnown after block (Block y.indirect)) (sym same) (known k (subst (λ y. IsTrue (is_used geo y k)) same u) low high)
-    | inl at ↦
-        let mine : w.inode e ≡ x = ap w.inode at ∙ here in
-        subst (λ (y : Inode). IsKnown after block (Block y.indirect)) (sym mine) (table (elim (uses geo x k (subst (λ y. IsTrue (is_used geo y k)) mine u)) [
-          | Direct a c ↦ absurd (let l : 12 ≤ k = low in omega (arith, a, l))
-          | Middle a c f g ↦ omega (arith, a, f)
-          | Last a c ↦ absurd (let h : k < 268 = high in omega (arith, a, h))
-        ]))
+  pointers = λ e known m t one c. elim (cases_eq e d) [
+    | inr other ↦ known m t one ((r.folder e other).uses m ∙ c.0, c.1)
+    | inl at ↦ tables (subst (ArePointersKnown geo v after block) at known) m t one (subst (λ n. IsClaim geo w n m t) at c)
   ];
 }
+
+-- a new table is one on the way
+new_on_way : (h : Holder) (x : ℕ) → Contains (new_blocks h) x → Contains (blocks_on_way h) x
+new_on_way KeptInRecord x c = c
+new_on_way (KeptInTable m y table over) x c = absurd (nothing_in x c)
+new_on_way (KeptInNew m y table up) x c = elim (one_of_both y (new_blocks up) x c) [
+  | inl e ↦ subst (λ z. Contains (y ∷ blocks_on_way up) z) e (first_of y (blocks_on_way up))
+  | inr d ↦ later_of y (blocks_on_way up) x (new_on_way up x d)
+]
 
 module _ (geo : Geometry) (disk : View) (q : List Pending) (held safe : ℕ → Bool)
     (i d' b : ℕ) (kept : Holder) (s' : ℕ) (name' entry : List ℕ) (after' : List Cell) (d s block : ℕ) (name : List ℕ) (after : List Cell)
@@ -91,7 +92,7 @@ module _ (geo : Geometry) (disk : View) (q : List Pending) (held safe : ℕ → 
   users2 = users_view disk grown_list
 
   abbrev q3 : List Pending
-  q3 = linking_grown i x d' parent b kept s' entry after' q
+  q3 = linking_grown geo i x d' parent b kept s' entry after' q
 
   abbrev users3 : View
   users3 = updated users2 (SetBytes b bytes')
@@ -117,10 +118,10 @@ module _ (geo : Geometry) (disk : View) (q : List Pending) (held safe : ℕ → 
   enters : ChangesSlot geo users2 b bytes' d' s' Empty (Good i name')
   enters = fills geo disk q held safe marked i d' b kept s' name' entry after' can.to all
 
-  its_body : SameBody x more
+  its_body : SameBody geo x more
   its_body = body geo disk q held safe marked i d' b kept s' name' entry after' can.to all
 
-  sound : IsTrue (is_sound x)
+  sound : IsTrue (is_sound geo x)
   sound = (parts geo disk q held safe marked i d' b kept s' name' entry after' can.to all).1
 
   folder : SameFolder geo users users3 d
@@ -130,14 +131,17 @@ module _ (geo : Geometry) (disk : View) (q : List Pending) (held safe : ℕ → 
   goes : ChangesSlot geo users3 block zeroed d s (Good i name) Empty
   goes = change_there geo users users3 d folder block zeroed s (Good i name) Empty (empties_slot geo users d s block (Good i name) can.from)
 
-  table_known : direct_positions ≤ blocks_of (parent.size + 1024) - 1 → IsKnown after block (Block (sized (pointed parent k b kept) (parent.size + 1024)).indirect)
-  table_known low = can.table_first (omega (arith, low))
+  tables_known : ArePointersKnown geo users1 after block d' → ArePointersKnown geo users2 after block d'
+  tables_known known m t one c = elim ((grows geo disk q held safe marked i d' b kept s' name' entry after' can.to all).tables m t one c) [
+    | inl was ↦ known m t one was
+    | inr new ↦ can.tables_first t (new_on_way kept t new)
+  ]
 
   to_raised : SameGrounds geo after block users users1
-  to_raised = body_grounds geo after block users i more its_body (λ j. refl)
+  to_raised = body_grounds geo after block users i more its_body
 
   to_grown : SameGrounds geo after block users1 users2
-  to_grown = room_grounds geo after block users1 users2 d' b s' (sized (pointed parent k b kept) (parent.size + 1024)) room (grown_record disk (record { change = SetInode i more; after = [] } ∷ q) d' parent b kept) table_known
+  to_grown = room_grounds geo after block users1 users2 d' b s' room tables_known
 
   to_entered : SameGrounds geo after block users2 users3
   to_entered = entry_grounds geo after block users2 b bytes' d' s' (Good i name') enters.slot o2.rule3
@@ -164,9 +168,9 @@ module _ (geo : Geometry) (disk : View) (q : List Pending) (held safe : ℕ → 
         known = can.entry_first;
       }
 
-  pub moving_grown_issues : Issues geo disk q ghost (moving_grown i x d' parent b kept s' entry after' block (users.bytes block) s after q) ghost
+  pub moving_grown_issues : Issues geo disk q ghost (moving_grown geo i x d' parent b kept s' entry after' block (users.bytes block) s after q) ghost
   moving_grown_issues =
-      joined geo disk q ghost q3 ghost (moving_grown i x d' parent b kept s' entry after' block (users.bytes block) s after q) ghost first
+      joined geo disk q ghost q3 ghost (moving_grown geo i x d' parent b kept s' entry after' block (users.bytes block) s after q) ghost first
       (lower_leads geo disk q3 held safe after block zeroed d s i name safe goes file2 (λ f t. t) (λ t. other_name) (issues_agree geo disk q ghost q3 ghost first all)
-      x (subst (λ y. SameBody y x) (sym here) (record { sound = sound; still_sound = sound; mode = refl; blocks = refl; direct = refl; indirect = refl }))
+      x (subst (λ y. SameBody geo y x) (sym here) (record { sound = sound; still_sound = sound; mode = refl; blocks = refl; direct = refl; indirect = refl }))
       (let links : (users2.inode i).links ≡ x.links + 1 = ap (λ (y : Inode). y.links) here in omega (arith, links)))

@@ -62,11 +62,11 @@ module _ (geo : Geometry) (disk : View) (q : List Pending) (held safe : ℕ → 
   first : Issues geo disk q ghost q2 ghost
   first = linking_leads geo disk q held safe i d' s' block' name' entry after' can.to all
 
-  parts : IsTrue (is_number geo i) × IsTrue (is_sound x)
+  parts : IsTrue (is_number geo i) × IsTrue (is_sound geo x)
   parts = reachable_parts geo users i can.to.reachable
 
-  body : SameBody x more
-  body = same_body x (x.links + 1) parts.1
+  body : SameBody geo x more
+  body = same_body geo x (x.links + 1) parts.1
 
   o1 : ObeysRules geo users1
   o1 = users_obey geo disk (raised i x q) ghost (issues_agree geo disk q ghost (raised i x q) ghost (raised_leads geo disk q ghost i parts.1) all)
@@ -88,7 +88,7 @@ module _ (geo : Geometry) (disk : View) (q : List Pending) (held safe : ℕ → 
   goes = change_there geo users users2 d folder block zeroed s (Good i name) Empty (empties_slot geo users d s block (Good i name) can.from)
 
   to_raised : SameGrounds geo after block users users1
-  to_raised = body_grounds geo after block users i more body (λ k. refl)
+  to_raised = body_grounds geo after block users i more body
 
   to_entered : SameGrounds geo after block users1 users2
   to_entered = entry_grounds geo after block users1 block' bytes' d' s' (Good i name') enters.slot o1.rule3
@@ -118,5 +118,5 @@ module _ (geo : Geometry) (disk : View) (q : List Pending) (held safe : ℕ → 
   moving_leads =
       joined geo disk q ghost q2 ghost (moving i x block' (users.bytes block') s' entry after' block (users.bytes block) s after q) ghost first
       (lower_leads geo disk q2 held safe after block zeroed d s i name safe goes file1 (λ f t. t) (λ t. other_name) (issues_agree geo disk q ghost q2 ghost first all)
-      x (subst (λ y. SameBody y x) (sym here) (record { sound = parts.1; still_sound = parts.1; mode = refl; blocks = refl; direct = refl; indirect = refl }))
+      x (subst (λ y. SameBody geo y x) (sym here) (record { sound = parts.1; still_sound = parts.1; mode = refl; blocks = refl; direct = refl; indirect = refl }))
       (let links : (put_at users.inode i more i).links ≡ x.links + 1 = ap (λ (y : Inode). y.links) here in omega (arith, links)))

@@ -60,11 +60,11 @@ module _ (geo : Geometry) (disk : View) (q : List Pending) (held safe : ℕ → 
   pub it_number : IsTrue (is_number geo i)
   it_number = (names_stands geo users d s i names_it).number
 
-  pub it_sound : IsTrue (is_sound (users.inode i))
+  pub it_sound : IsTrue (is_sound geo (users.inode i))
   it_sound = o.rule6.sound d s i change.reachable names_it
 
   pub it_reachable : IsReachable geo users i
-  it_reachable = inr (and_from (is_number geo i) (is_sound (users.inode i)) it_number it_sound, d, s, record { reachable = change.reachable; after_dots = change.after_dots; names = names_it })
+  it_reachable = inr (and_from (is_number geo i) (is_sound geo (users.inode i)) it_number it_sound, d, s, record { reachable = change.reachable; after_dots = change.after_dots; names = names_it })
 
   same : SameReach geo users users1
   same = reach geo disk q ghost after block bytes d s i name safe' remove o
@@ -90,7 +90,7 @@ module _ (geo : Geometry) (disk : View) (q : List Pending) (held safe : ℕ → 
   pub at_rest_again : settled i gone ≡ at_rest held safe'
   at_rest_again = same_ghost refl (fun_ext (λ g. out_again (is_gone_at g i d s block) (eqb g.number i) (λ t. eq-eqb g.number i (gone_parts g i d s block t).number))) refl refl refl refl
 
-  pub lower_leads : (x : Inode) → SameBody (users.inode i) x → (users.inode i).links ≤ x.links + 1
+  pub lower_leads : (x : Inode) → SameBody geo (users.inode i) x → (users.inode i).links ≤ x.links + 1
       → Issues geo disk q ghost (record { change = SetInode i x; after = Block block ∷ [] } ∷ q1) (at_rest held safe')
   lower_leads x body links =
       let lower : MayLower geo users1 gone (Block block ∷ []) i x = record {

@@ -5,8 +5,8 @@ use Rattle.std.proofs.lemmas.Bool.{and_parts}
 use Rattle.model.specs.Layout.{Geometry}
 use Rattle.model.specs.View.{View, Inode, free_inode}
 use Rattle.model.specs.Cells.{SetInode, SetNumber, SetBytes, updated}
-use Rattle.model.specs.Uses.{use_at, claim_at}
-use Rattle.model.specs.Slots.{Empty, Good, slot}
+use Rattle.model.specs.Uses.{use_at}
+use Rattle.model.specs.Slots.{Empty, Good}
 use Rattle.model.proofs.Finite.{entries_exist}
 use Rattle.model.proofs.SlotLemmas.{number_low, directory_sound, reachable_directory}
 use Rattle.ordering.specs.Cuts.{Cell, Record, Block, Pending, users_view}
@@ -17,7 +17,6 @@ use Rattle.ordering.specs.Kinds.{SameBody, MayLower, settled}
 use Rattle.ordering.specs.Histories.{Lowers}
 use Rattle.ordering.proofs.Bits.{users_obey, number_bit_shape}
 use Rattle.ordering.proofs.Counts.{place_of}
-use Rattle.ordering.proofs.Frames.{shape_from}
 use Rattle.ordering.proofs.OneSlots.{slot_uses}
 use Rattle.ordering.proofs.Outside.{outside_tree}
 use Rattle.ordering.proofs.Records.{put_there}
@@ -37,6 +36,7 @@ use Rattle.plans_naming.specs.Entries.{no_entry, slot_written}
 use Rattle.plans_naming.specs.Unlink.{CanFree}
 use Rattle.plans_naming.specs.RemoveDirectory.{CanRemove, removing}
 use Rattle.plans_naming.proofs.EntryEffects.{written_slot}
+use Rattle.plans_data.proofs.LetGoRight.{marks_shape}
 use Rattle.plans_naming.proofs.Folders.{tree_on}
 use Rattle.plans_naming.proofs.Frees.{given_there, held_there, held_with_there}
 use Rattle.plans_naming.proofs.Links.{same_body}
@@ -48,8 +48,7 @@ use Rattle.plans_naming.proofs.UnlinkLast.{now_is}
 
 -- other marks of blocks
 marks_tree : (geo : Geometry) (v : View) (marks : ℕ → Bool) → SameTree geo v (record v { block_marked = marks })
-unfolding use_at claim_at slot
-marks_tree geo v marks = (shape_from geo v (record v { block_marked = marks }) (λ n. refl) (λ n. refl) (λ n. refl) (λ n k. refl) (λ d s. refl)).tree
+marks_tree geo v marks = (marks_shape geo v marks).tree
 
 module _ (geo : Geometry) (disk : View) (q : List Pending) (st : State) (i b d s block : ℕ) (name : List ℕ) (after : List Cell) (blocks : List ℕ) (safe : ℕ → Bool)
     (can : CanRemove geo (users_view disk q) i b d s block name after) (free : CanFree geo (now disk q st) i blocks) (two : ((users_view disk q).inode i).links ≡ 2) (not_safe : IsFalse (safe i))
@@ -134,7 +133,7 @@ module _ (geo : Geometry) (disk : View) (q : List Pending) (st : State) (i b d s
 
   lower_parent : MayLower geo users2 (within held' (but_of i gone.gone) safe) (Block block ∷ []) d less
   lower_parent = record {
-    body = subst (λ r. SameBody r less) (sym parent_there) (same_body y (y.links - 1) (directory_sound geo users d (reachable_directory geo users d can.place.reachable)));
+    body = subst (λ r. SameBody geo r less) (sym parent_there) (same_body geo y (y.links - 1) (directory_sound geo users d (reachable_directory geo users d can.place.reachable)));
     witnesses = λ g t e. gone_first geo disk q st.held safe i b d s block name after can not_safe all g (and_parts (gone.gone g) (not (eqb g.number i)) t).0;
     links = λ m h.
         let was = fewer_entries geo users1 users2 tree d m (omega (arith, number_low geo d (parent_number geo disk q st.held safe i b d s block name after can not_safe all))) h in

@@ -59,8 +59,8 @@ module _ (geo : Geometry) (disk : View) (q : List Pending) (held safe : ℕ → 
   abbrev users2 : View
   users2 = updated users1 (SetInode i fewer)
 
-  body : SameBody x fewer
-  body = same_body x (x.links - 2) (directory_sound geo users i can.directory)
+  body : SameBody geo x fewer
+  body = same_body geo x (x.links - 2) (directory_sound geo users i can.directory)
 
   lower : MayLower geo users1 gone (Block block ∷ []) i fewer
   lower = record {
@@ -74,7 +74,7 @@ module _ (geo : Geometry) (disk : View) (q : List Pending) (held safe : ℕ → 
 
   lower_parent : MayLower geo users2 (settled i gone) (Block block ∷ []) d less
   lower_parent = record {
-    body = subst (λ r. SameBody r less) (sym parent_there) (same_body y (y.links - 1) (directory_sound geo users d (reachable_directory geo users d can.place.reachable)));
+    body = subst (λ r. SameBody geo r less) (sym parent_there) (same_body geo y (y.links - 1) (directory_sound geo users d (reachable_directory geo users d can.place.reachable)));
     witnesses = λ g t e. gone_first geo disk q held safe i b d s block name after can not_safe all g (and_parts (gone.gone g) (not (eqb g.number i)) t).0;
     links = λ m h.
         let was = fewer_entries geo users1 users2 (body_shape geo users1 i fewer body).tree d m (omega (arith, number_low geo d (parent_number geo disk q held safe i b d s block name after can not_safe all))) h in

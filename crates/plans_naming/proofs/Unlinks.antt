@@ -74,5 +74,5 @@ module _ (geo : Geometry) (disk : View) (q : List Pending) (held safe : ℕ → 
       let change = empties_slot geo users d s block (Good i name) can.place in
       let zeroed = with_slot (users.bytes block) s no_entry in
       lower_leads geo disk q held safe [] block zeroed d s i name (safe_but i safe) change can.file but_it (λ t. it_is_out t) all
-      (with_links x (x.links - 1)) (same_body x (x.links - 1) (it_sound geo disk q held safe [] block zeroed d s i name (safe_but i safe) change can.file but_it (λ t. it_is_out t) all))
+      (with_links x (x.links - 1)) (same_body geo x (x.links - 1) (it_sound geo disk q held safe [] block zeroed d s i name (safe_but i safe) change can.file but_it (λ t. it_is_out t) all))
       (omega arith)

@@ -34,8 +34,8 @@ pub record CanCreate (geo : Geometry) (users : View) (n d s block : ℕ) (name e
   pub others_first : HasOtherBlocks geo users d block after
 
 -- the updates of the command where directory d, with this record, gets block b for the entry
-abbrev pub creating_grown : ℕ → ℕ → Inode → ℕ → Holder → ℕ → List ℕ → List Cell → List Pending → List Pending
-creating_grown n d parent b holder s entry after q = slot_written b empty_block s entry after ∷ grown d parent b holder (born n new_file [] q)
+abbrev pub creating_grown : Geometry → ℕ → ℕ → Inode → ℕ → Holder → ℕ → List ℕ → List Cell → List Pending → List Pending
+creating_grown geo n d parent b holder s entry after q = slot_written b empty_block s entry after ∷ grown geo d parent b holder (born n new_file [] q)
 
 -- what the command asks for then
 pub record CanCreateGrown (geo : Geometry) (users : View) (n d b : ℕ) (holder : Holder) (s : ℕ) (name entry : List ℕ) (after : List Cell) : Type 0 where

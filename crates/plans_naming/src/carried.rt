@@ -1,11 +1,11 @@
 //! Each command that changes names and that no cause refuses is carried out by its updates, whatever is chosen where
 //! there is a choice; users see what the machine says, every cut of the updates is safe, and the volume stands as before.
 
-ghost use Rattle.std.specs.Prelude.{◌≡◌, ◌≤◌, ◌-◌, ◌/◌, ℕ, Bool, List, IsFalse};
+ghost use Rattle.std.specs.Prelude.{◌≡◌, ◌≤◌, ◌-◌, ◌/◌, ℕ, Bool, List, ◌∷◌, IsFalse};
 ghost use Rattle.std.specs.List.{Contains};
 ghost use Rattle.model.specs.Layout.{Geometry};
 ghost use Rattle.model.specs.View.{View, free_inode};
-ghost use Rattle.model.specs.Uses.{blocks_of, direct_positions};
+ghost use Rattle.model.specs.Uses.{blocks_of};
 ghost use Rattle.model.specs.Slots.{Empty, slot};
 ghost use Rattle.ordering.specs.Cuts.{Cell, Record, Block, Pending};
 ghost use Rattle.ordering.specs.OneSlot.{IsKnown};
@@ -16,7 +16,7 @@ ghost use Rattle.machine.specs.Room.{IsFreeNumber, IsFreeBlock, has_room};
 ghost use Rattle.machine.specs.Cells.{IsEntryFor};
 ghost use Rattle.machine.specs.Causes.{Accepts};
 ghost use Rattle.machine.specs.Effects.{AreDots};
-ghost use Rattle.plans_data.specs.Append.{Holder, IsKeptIn, pointed};
+ghost use Rattle.plans_data.specs.Append.{Holder, AreApart, IsKeptIn, blocks_on_way, new_blocks};
 ghost use Rattle.plans_data.specs.Freeing.{AreGivenUp, held_with};
 ghost use Rattle.plans_data.specs.Now.{now, becomes};
 ghost use Rattle.plans_naming.specs.Entries.{HasBlocks, HasOtherBlocks};
@@ -38,7 +38,7 @@ pub fn creations_are_carried_out()
     ensures in_a_new_block { (geo : Geometry) (disk : View) (q : List Pending) (old : State) (safe : ℕ → Bool)
         → Stands geo disk q old safe → (p : List ℕ) → Accepts geo old (Create p) → (n b : ℕ) (kept : Holder) (s : ℕ) (entry : List ℕ) (after : List Cell)
         → IsFreeNumber geo old.view n → IsFalse (has_room geo old.view (holder geo old.view p)) → IsFreeBlock geo old.view b
-        → IsKeptIn geo old.view (holder geo old.view p) (blocks_of (old.view.inode (holder geo old.view p)).size) b kept
+        → IsKeptIn geo old.view (holder geo old.view p) (blocks_of (old.view.inode (holder geo old.view p)).size) b kept → AreApart (b ∷ new_blocks kept)
         → s / 16 ≡ blocks_of (old.view.inode (holder geo old.view p)).size
         → IsEntryFor n (name_in p) entry → Contains after (Record n) → HasBlocks geo old.view (holder geo old.view p) after
         → IsCarriedOut geo disk q old (Create p) (Number n)
@@ -60,7 +60,7 @@ pub fn new_directories_are_carried_out()
         → (i a : ℕ) (dots : List ℕ) (b : ℕ) (kept : Holder) (s : ℕ) (entry : List ℕ) (after : List Cell)
         → IsFreeNumber geo old.view i → IsFreeBlock geo old.view a → AreDots i (holder geo old.view p) dots
         → IsFalse (has_room geo old.view (holder geo old.view p)) → IsFreeBlock geo old.view b → AreOther a b kept
-        → IsKeptIn geo old.view (holder geo old.view p) (blocks_of (old.view.inode (holder geo old.view p)).size) b kept
+        → IsKeptIn geo old.view (holder geo old.view p) (blocks_of (old.view.inode (holder geo old.view p)).size) b kept → AreApart (b ∷ new_blocks kept)
         → s / 16 ≡ blocks_of (old.view.inode (holder geo old.view p)).size
         → IsEntryFor i (name_in p) entry → Contains after (Record i) → HasBlocks geo old.view (holder geo old.view p) after
         → IsCarriedOut geo disk q old (Mkdir p) (Number i)
@@ -80,7 +80,7 @@ pub fn links_are_carried_out()
     ensures in_a_new_block { (geo : Geometry) (disk : View) (q : List Pending) (old : State) (safe : ℕ → Bool)
         → Stands geo disk q old safe → (p r : List ℕ) → Accepts geo old (Link p r) → (b : ℕ) (kept : Holder) (s : ℕ) (entry : List ℕ) (after : List Cell)
         → IsFalse (has_room geo old.view (holder geo old.view r)) → IsFreeBlock geo old.view b
-        → IsKeptIn geo old.view (holder geo old.view r) (blocks_of (old.view.inode (holder geo old.view r)).size) b kept
+        → IsKeptIn geo old.view (holder geo old.view r) (blocks_of (old.view.inode (holder geo old.view r)).size) b kept → AreApart (b ∷ new_blocks kept)
         → s / 16 ≡ blocks_of (old.view.inode (holder geo old.view r)).size
         → IsEntryFor (number_at geo old.view p) (name_in r) entry → Contains after (Record (number_at geo old.view p))
         → HasBlocks geo old.view (holder geo old.view r) after
@@ -111,13 +111,13 @@ pub fn renames_are_carried_out()
         → Stands geo disk q old safe → (p r : List ℕ) → Accepts geo old (Rename p r) → (holder geo old.view p ≡ holder geo old.view r → ⊥)
         → (b : ℕ) (kept : Holder) (s : ℕ) (entry : List ℕ) (after' after : List Cell)
         → IsFalse (has_room geo old.view (holder geo old.view r)) → IsFreeBlock geo old.view b
-        → IsKeptIn geo old.view (holder geo old.view r) (blocks_of (old.view.inode (holder geo old.view r)).size) b kept
+        → IsKeptIn geo old.view (holder geo old.view r) (blocks_of (old.view.inode (holder geo old.view r)).size) b kept → AreApart (b ∷ new_blocks kept)
         → s / 16 ≡ blocks_of (old.view.inode (holder geo old.view r)).size
         → IsEntryFor (number_at geo old.view p) (name_in r) entry → Contains after' (Record (number_at geo old.view p))
         → HasBlocks geo old.view (holder geo old.view r) after'
         → Contains after (Block b) → HasGrounds geo old.view (holder geo old.view r) (entry_block geo old.view p) after
-        → (direct_positions ≤ blocks_of (old.view.inode (holder geo old.view r)).size
-        → IsKnown after (entry_block geo old.view p) (Block (pointed (old.view.inode (holder geo old.view r)) (blocks_of (old.view.inode (holder geo old.view r)).size) b kept).indirect))
+        → ((x : ℕ) → Contains (blocks_on_way kept) x
+        → IsKnown after (entry_block geo old.view p) (Block x))
         → IsCarriedOut geo disk q old (Rename p r) Done
         (move_plan_grown geo old.view p r b kept s entry after' after q)
         (now disk (move_plan_grown geo old.view p r b kept s entry after' after q) old) safe safe }

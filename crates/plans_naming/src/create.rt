@@ -38,12 +38,12 @@ pub fn create_in_a_new_block()
         → AllAgree geo disk q (at_rest old.held safe)
         → Creates geo old path n (record old {
           view = users_view disk
-              (creating_grown n (holder geo old.view path) (old.view.inode (holder geo old.view path)) b kept s entry after q);
+              (creating_grown geo n (holder geo old.view path) (old.view.inode (holder geo old.view path)) b kept s entry after q);
         }) }
     ensures ordered { (geo : Geometry) (disk : View) (q : List Pending) (held safe : ℕ → Bool)
         → UnmarkedAreNotHeld (users_view disk q) held
         → (n d b : ℕ) (kept : Holder) (s : ℕ) (name entry : List ℕ) (after : List Cell)
         → CanCreateGrown geo (users_view disk q) n d b kept s name entry after → AllAgree geo disk q (at_rest held safe)
         → Issues geo disk q (at_rest held safe)
-        (creating_grown n d ((users_view disk q).inode d) b kept s entry after q) (at_rest held safe) }
+        (creating_grown geo n d ((users_view disk q).inode d) b kept s entry after q) (at_rest held safe) }
 {}

@@ -40,7 +40,7 @@ pub fn link_in_a_new_block()
         → AllAgree geo disk q (at_rest old.held safe)
         → Links geo old path other (record old {
           view = users_view disk
-              (linking_grown (number_at geo old.view path) (old.view.inode (number_at geo old.view path))
+              (linking_grown geo (number_at geo old.view path) (old.view.inode (number_at geo old.view path))
               (holder geo old.view other) (old.view.inode (holder geo old.view other)) b kept s entry after q);
         }) }
     ensures ordered { (geo : Geometry) (disk : View) (q : List Pending) (held safe : ℕ → Bool)
@@ -48,5 +48,5 @@ pub fn link_in_a_new_block()
         → (i d b : ℕ) (kept : Holder) (s : ℕ) (name entry : List ℕ) (after : List Cell)
         → CanLinkGrown geo (users_view disk q) i d b kept s name entry after → AllAgree geo disk q (at_rest held safe)
         → Issues geo disk q (at_rest held safe)
-        (linking_grown i ((users_view disk q).inode i) d ((users_view disk q).inode d) b kept s entry after q) (at_rest held safe) }
+        (linking_grown geo i ((users_view disk q).inode i) d ((users_view disk q).inode d) b kept s entry after q) (at_rest held safe) }
 {}

@@ -42,12 +42,12 @@ pub fn make_in_a_new_block()
         → AllAgree geo disk q (at_rest old.held safe)
         → MakesDirectory geo old path i (record old {
           view = users_view disk
-              (making_grown i a dots (holder geo old.view path) (old.view.inode (holder geo old.view path)) b kept s entry after q);
+              (making_grown geo i a dots (holder geo old.view path) (old.view.inode (holder geo old.view path)) b kept s entry after q);
         }) }
     ensures ordered { (geo : Geometry) (disk : View) (q : List Pending) (held safe : ℕ → Bool)
         → UnmarkedAreNotHeld (users_view disk q) held
         → (i a : ℕ) (dots : List ℕ) (d b : ℕ) (kept : Holder) (s : ℕ) (name entry : List ℕ) (after : List Cell)
         → CanMakeGrown geo (users_view disk q) i a dots d b kept s name entry after → AllAgree geo disk q (at_rest held safe)
         → Issues geo disk q (at_rest held safe)
-        (making_grown i a dots d ((users_view disk q).inode d) b kept s entry after q) (at_rest held safe) }
+        (making_grown geo i a dots d ((users_view disk q).inode d) b kept s entry after q) (at_rest held safe) }
 {}

@@ -63,7 +63,7 @@ pub fn rename_to_a_new_block_of_another_directory()
         → AllAgree geo disk q (at_rest old.held safe)
         → Renames geo old path other (record old {
           view = users_view disk
-              (moving_grown (number_at geo old.view path) (old.view.inode (number_at geo old.view path)) (holder geo old.view other) (old.view.inode (holder geo old.view other))
+              (moving_grown geo (number_at geo old.view path) (old.view.inode (number_at geo old.view path)) (holder geo old.view other) (old.view.inode (holder geo old.view other))
               b kept s' entry after' block (old.view.bytes block) (slot_at geo old.view path) after q);
         }) }
     ensures ordered { (geo : Geometry) (disk : View) (q : List Pending) (held safe : ℕ → Bool)
@@ -71,7 +71,7 @@ pub fn rename_to_a_new_block_of_another_directory()
         → UnmarkedAreNotHeld (users_view disk q) held
         → CanMoveGrown geo (users_view disk q) i d' b kept s' name' entry after' d s block name after → AllAgree geo disk q (at_rest held safe)
         → Issues geo disk q (at_rest held safe)
-        (moving_grown i ((users_view disk q).inode i) d' ((users_view disk q).inode d') b kept s' entry after' block ((users_view disk q).bytes block) s after q)
+        (moving_grown geo i ((users_view disk q).inode i) d' ((users_view disk q).inode d') b kept s' entry after' block ((users_view disk q).bytes block) s after q)
         (at_rest held safe) }
 {}
 

@@ -6,8 +6,7 @@ ghost use Rattle.putting.specs.Placing.{IsNew};
 use archives::Kind;
 use failures::Failure;
 use frozen::Frozen;
-use inode::INDIRECT_POSITION;
-use layout::{BLOCK_BYTES, Refusal};
+use layout::{BLOCK_BYTES, MOST_BLOCKS, Refusal};
 use reading::{joined, stat};
 use std::alloc::Global;
 use std::fs;
@@ -20,8 +19,8 @@ pub(crate) const NAME_BYTES: usize = 56;
 /// How many bytes a path in an image may have.
 pub(crate) const PATH_BYTES: usize = 4_096;
 
-/// How many bytes a file in an image may have.
-pub(crate) const FILE_BYTES: u64 = INDIRECT_POSITION as u64 * BLOCK_BYTES as u64;
+/// How many bytes a file in an image may have, whatever image it is.
+pub(crate) const FILE_BYTES: u64 = MOST_BLOCKS as u64 * BLOCK_BYTES as u64;
 
 /// Where the bytes of an item come from.
 #[derive(Debug, Drop)]

@@ -1,9 +1,9 @@
 -- What is true of the bytes of each file's block, as users see them after each update, is true of them in each closed cut.
-use Rattle.std.proofs.Common.{◌≡◌, ◌≤◌, ◌+◌, ℕ, zero, suc, Bool, true, false, List, [], ◌∷◌, Contains, length, drop, inl, inr, sym, subst, IsTrue, arith}
+use Rattle.std.proofs.Common.{◌≡◌, ◌≤◌, ◌+◌, ℕ, zero, suc, Bool, true, false, List, [], ◌∷◌, Contains, length, drop, inl, inr, sym, subst, arith}
 use Rattle.model.specs.Layout.{Geometry}
 use Rattle.model.specs.View.{View}
 use Rattle.model.specs.Cells.{Update, updated}
-use Rattle.ordering.specs.Cuts.{Cell, Block, IsClosed, cell_of, fresh, seen, rest, joined, users_view}
+use Rattle.ordering.specs.Cuts.{Block, IsClosed, cell_of, fresh, seen, rest, joined, users_view}
 use Rattle.ordering.specs.Ghosts.{Ghost}
 use Rattle.ordering.specs.Histories.{Step}
 use Rattle.ordering.proofs.Bits.{claim_used}

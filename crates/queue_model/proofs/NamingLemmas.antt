@@ -1,18 +1,20 @@
 -- Each kind of update names its file, where it shows what its kind asks for.
 use Rattle.std.proofs.Common.{◌≡◌, ℕ, ◌/◌, Bool, true, false, List, ◌∷◌, inl, inr, Some, refl, sym, ap, ◌∙◌, subst, IsTrue, IsFalse, arith}
-use Rattle.std.proofs.lemmas.Bool.{both_ways, cases_eq, and_parts, cond-true, cond-false}
+use Rattle.std.proofs.lemmas.Bool.{both_ways, cases_eq, and_parts, leb-true, cond-true, cond-false}
+use Rattle.std.proofs.lemmas.Option.{same_Some}
 use Rattle.model.specs.Layout.{Geometry, is_number}
 use Rattle.model.specs.View.{View, Inode}
 use Rattle.model.specs.Cells.{Update, SetInode, SetNumber, SetBlock, SetBytes, updated, put_at}
-use Rattle.model.specs.Uses.{use_at, is_sound, is_used, IsUse, IsClaim, indirect_position}
+use Rattle.model.specs.Shape.{most_blocks, is_table, place_in_table, pointer_in}
+use Rattle.model.specs.Uses.{use_at, has_position, is_sound, IsUse, IsClaim}
 use Rattle.model.specs.Rules.{ObeysRules}
 use Rattle.model.specs.Slots.{Slot}
 use Rattle.model.proofs.CellLemmas.{use_stays}
-use Rattle.model.proofs.UseLemmas.{use_parts}
+use Rattle.model.proofs.Uses.{use_parts}
 use Rattle.ordering.specs.Cuts.{Cell, Block, Pending, cell_of, same_cell, seen, rest, users_view}
 use Rattle.ordering.specs.Ghosts.{Ghost}
 use Rattle.ordering.specs.Kinds.{MayFill, MayWrite, SameBody}
-use Rattle.ordering.specs.Rewrites.{Comes, Rewrites, MayAppendSlot, MayMoveSlot, pointer_at, moved}
+use Rattle.ordering.specs.Rewrites.{Comes, Rewrites, MayAppendSlot, MayMoveSlot, moved}
 use Rattle.ordering.specs.OneSlot.{ChangesSlot}
 use Rattle.ordering.specs.Histories.{Step, SetsBlock, SetsNumber, ClearsNumber, ClearsBlock, Fills, Writes, Raises, Lowers, RewritesFile, GrowsDirectory, CreatesFile, CreatesDirectory, Frees, AppendsSlot, MovesSlot, Removes, Enters, Renames, RemovesDirectory, EntersDirectory}
 use Rattle.ordering.proofs.Bits.{users_obey, sound_used}
@@ -22,11 +24,11 @@ use Rattle.ordering.proofs.Frames.{claim_back}
 use Rattle.ordering.proofs.Records.{body_shape, put_here}
 use Rattle.ordering.proofs.Outside.{other_mode}
 use Rattle.ordering.proofs.RecordSteps.{use_before}
-use Rattle.ordering.proofs.Indirect.{same_use}
+use Rattle.ordering.proofs.Tables.{append_uses, move_elsewhere, move_here, moved_table}
 use Rattle.queue_model.specs.Files.{Written, updates, creates, generation, last_writer, IsFileBlock, WroteLast, NamesFiles}
 use Rattle.queue_model.specs.Course.{IsGood}
 use Rattle.queue_model.specs.Naming.{Naming}
-use Rattle.queue_model.proofs.NewClaims.{number_of_block, bit_use, number_use, at_position, new_pointer}
+use Rattle.queue_model.proofs.NewClaims.{number_of_block, bit_use, number_use, at_position}
 use Rattle.queue_model.proofs.FileLemmas.{same_from, in_use, no_creation, differs_from, generation_stays}
 
 -- what an update must show, over a users' view
@@ -46,36 +48,36 @@ slot_shows : (geo : Geometry) (users : View) (file : ℕ) (Wrote : ℕ → ℕ �
 slot_shows geo users file Wrote rules x bytes d s old new may =
     let below = may.slot.below in
     plain_shows geo users x bytes file Wrote
-    (use_stays geo users x bytes (λ i c. let e : 268 ≡ s / 16 = (rules.rule3.once i indirect_position d (s / 16) x c may.slot.claim).1 in omega (arith, e, below)))
+    (use_stays geo users x bytes (λ i j tab c. let e : j ≡ s / 16 = (rules.rule3.once i j d (s / 16) x c may.slot.claim).1 in let past = leb-true (most_blocks geo) j tab in omega (arith, e, below, past)))
     (λ n k (c, low, one). let two : (users.inode d).mode ≡ 2 = directory_mode geo users d may.slot.directory in
     let same = ap (λ j. (users.inode j).mode) (rules.rule3.once n k d (s / 16) x c may.slot.claim).0 in absurd (omega (arith, two, same, one)))
 
 fill_shows : (geo : Geometry) (users : View) (ghost : Ghost) (after : List Cell) (file : ℕ) (Wrote : ℕ → ℕ → Type 0) (x : ℕ) (bytes : List ℕ) → MayFill geo users ghost after x → Shows geo users (SetBytes x bytes) file Wrote
 fill_shows geo users ghost after file Wrote x bytes may =
-    plain_shows geo users x bytes file Wrote (use_stays geo users x bytes (λ i c. may.free.unclaimed (i, indirect_position, c))) (λ n k (c, low, one). absurd (may.free.unclaimed (n, k, c)))
+    plain_shows geo users x bytes file Wrote (use_stays geo users x bytes (λ i j tab c. may.free.unclaimed (i, j, c))) (λ n k (c, low, one). absurd (may.free.unclaimed (n, k, c)))
 
 write_shows : (geo : Geometry) (users : View) (file : ℕ) (Wrote : ℕ → ℕ → Type 0) → ObeysRules geo users → (m l x : ℕ) (bytes : List ℕ) → MayWrite geo users m l x → file ≡ m → Shows geo users (SetBytes x bytes) file Wrote
 write_shows geo users file Wrote rules m l x bytes may mine =
-    plain_shows geo users x bytes file Wrote (use_stays geo users x bytes (λ i c. may.below (sym (rules.rule3.once i indirect_position m l x c may.claims).1)))
+    plain_shows geo users x bytes file Wrote (use_stays geo users x bytes (λ i j tab c. both_ways (is_table geo l) may.no_table (subst (λ k. IsTrue (is_table geo k)) (rules.rule3.once i j m l x c may.claims).1 tab)))
     (λ n k (c, low, one). mine ∙ sym (rules.rule3.once n k m l x c may.claims).0)
 
-append_shows : (geo : Geometry) (users : View) (after : List Cell) (file : ℕ) (Wrote : ℕ → ℕ → Type 0) → ObeysRules geo users → (m x : ℕ) (bytes : List ℕ) → MayAppendSlot geo users after m x bytes → Shows geo users (SetBytes x bytes) file Wrote
-append_shows geo users after file Wrote rules m x bytes may =
-    plain_shows geo users x bytes file Wrote
-    (λ n k. same_use geo users m x bytes may.claims rules.rule3 n k (λ e low high used. may.others k low high used))
-    (λ n k (c, low, one). absurd (low (rules.rule3.once n k m indirect_position x c may.claims).1))
+append_shows : (geo : Geometry) (users : View) (after : List Cell) (file : ℕ) (Wrote : ℕ → ℕ → Type 0) → ObeysRules geo users → (m t x : ℕ) (bytes : List ℕ) → MayAppendSlot geo users after m t x bytes → Shows geo users (SetBytes x bytes) file Wrote
+append_shows geo users after file Wrote rules m t x bytes may =
+    plain_shows geo users x bytes file Wrote (append_uses geo users after m t x bytes may rules.rule3)
+    (λ n k (c, low, one). absurd (both_ways (is_table geo k) low (subst (λ l. IsTrue (is_table geo l)) (sym (rules.rule3.once n k m t x c may.claims).1) may.table)))
 
-move_shows : (geo : Geometry) (disk : View) (q : List Pending) (ghost ghost' : Ghost) (after : List Cell) (file : ℕ) (Wrote : ℕ → ℕ → Type 0) → ObeysRules geo (users_view disk q) → (m x p : ℕ) (bytes : List ℕ)
-    → MayMoveSlot geo disk q ghost ghost' after m x p bytes → ((x ≡ pointer_at bytes p → ⊥) → Wrote m (pointer_at bytes p)) → Shows geo (users_view disk q) (SetBytes x bytes) file Wrote
-move_shows geo disk q ghost ghost' after file Wrote rules m x p bytes may mine = record {
+move_shows : (geo : Geometry) (disk : View) (q : List Pending) (ghost : Ghost) (held : ℕ → Bool) (up : ℕ → ℕ → ℕ → Bool) (after : List Cell) (file : ℕ) (Wrote : ℕ → ℕ → Type 0) → ObeysRules geo (users_view disk q) → (m t x p : ℕ) (bytes : List ℕ)
+    → MayMoveSlot geo disk q ghost (moved held up ghost) after m t x p bytes → ((x ≡ pointer_in bytes (place_in_table geo p) → ⊥) → Wrote m (pointer_in bytes (place_in_table geo p))) → Shows geo (users_view disk q) (SetBytes x bytes) file Wrote
+move_shows geo disk q ghost held up after file Wrote rules m t x p bytes may mine = record {
   written = λ n k b others e (c, low, one).
-      absurd (low (rules.rule3.once n k m indirect_position x (subst (λ y. IsClaim geo users n k y) (sym (ap (λ u. number_of_block (cell_of u)) e)) c) may.claims).1);
+      let at = (rules.rule3.once n k m t x (subst (λ y. IsClaim geo users n k y) (sym (ap (λ u. number_of_block (cell_of u)) e)) c) may.claims).1 in
+      absurd (both_ways (is_table geo k) low (subst (λ l. IsTrue (is_table geo l)) (sym at) (moved_table geo disk q ghost held up after m t x p bytes may)));
   given = λ n k b (c, low, one) new. elim (at_position n m k p) [
-    | inr other ↦ absurd (new ((same_use geo users m x bytes may.claims rules.rule3 n k (λ e l h used. may.others k l h (λ d. other (e, d))) ∙ c.0, c.1), low, one))
+    | inr other ↦ absurd (new ((move_elsewhere geo disk q ghost held up after m t x p bytes may users may.claims rules.rule3 refl refl n k other ∙ c.0, c.1), low, one))
     | inl at ↦
-        let here : IsClaim geo users' m p b = subst (λ j. IsClaim geo users' j p b) at.0 (subst (λ j. IsClaim geo users' n j b) at.1 c) in
-        let value : pointer_at bytes p ≡ b = sym (new_pointer users (users.inode m) x p bytes may.low may.high (use_parts geo users m indirect_position x may.claims.0).value) ∙ (use_parts geo users' m p b here.0).value in
-        subst (λ y. Wrote n y) value (subst (λ j. Wrote j (pointer_at bytes p)) (sym at.0) (mine (λ e. may.free.unclaimed (m, indirect_position, subst (λ y. IsClaim geo users m indirect_position y) e may.claims))))
+        let here : IsUse geo users' m p b = subst (λ j. IsUse geo users' j p b) at.0 (subst (λ j. IsUse geo users' n j b) at.1 c.0) in
+        let value : to ≡ b = same_Some to b (sym (move_here geo disk q ghost held up after m t x p bytes may users may.claims rules.rule3 refl refl) ∙ here) in
+        subst (λ y. Wrote n y) value (subst (λ j. Wrote j to) (sym at.0) (mine (λ e. may.free.unclaimed (m, t, subst (λ y. IsClaim geo users m t y) e may.claims))))
   ];
 }
   where
@@ -85,13 +87,16 @@ move_shows geo disk q ghost ghost' after file Wrote rules m x p bytes may mine =
     users' : View
     users' = updated users (SetBytes x bytes)
 
+    to : ℕ
+    to = pointer_in bytes (place_in_table geo p)
+
 bit_shows : (geo : Geometry) (users : View) (file : ℕ) (Wrote : ℕ → ℕ → Type 0) (a : ℕ) (x : Bool) → Shows geo users (SetBlock a x) file Wrote
 bit_shows geo users file Wrote a x = record { written = λ n k b bytes e f. cc; given = λ n k b (c, low, one) new. absurd (new ((sym (bit_use geo users a x n k) ∙ c.0, c.1), low, one)) }
 
 number_shows : (geo : Geometry) (users : View) (file : ℕ) (Wrote : ℕ → ℕ → Type 0) (m : ℕ) (x : Bool) → Shows geo users (SetNumber m x) file Wrote
 number_shows geo users file Wrote m x = record { written = λ n k b bytes e f. cc; given = λ n k b (c, low, one) new. absurd (new ((sym (number_use geo users m x n k) ∙ c.0, c.1), low, one)) }
 
-body_shows : (geo : Geometry) (users : View) (file : ℕ) (Wrote : ℕ → ℕ → Type 0) (m : ℕ) (x : Inode) → SameBody (users.inode m) x → Shows geo users (SetInode m x) file Wrote
+body_shows : (geo : Geometry) (users : View) (file : ℕ) (Wrote : ℕ → ℕ → Type 0) (m : ℕ) (x : Inode) → SameBody geo (users.inode m) x → Shows geo users (SetInode m x) file Wrote
 body_shows geo users file Wrote m x body =
     let shape = body_shape geo users m x body in record {
       written = λ n k b bytes e f. cc;
@@ -99,11 +104,11 @@ body_shows geo users file Wrote m x body =
     }
 
 record_shows : (geo : Geometry) (disk : View) (q : List Pending) (ghost ghost' : Ghost) (after : List Cell) (file : ℕ) (Wrote : ℕ → ℕ → Type 0) (m : ℕ) (x : Inode) → Rewrites geo disk q ghost ghost' after m x
-    → (x.mode ≡ 1 → IsTrue (is_sound ((users_view disk q).inode m)) → ((users_view disk q).inode m).mode ≡ 1)
-    → ((k b : ℕ) → x.mode ≡ 1 → (k ≡ indirect_position → ⊥) → IsTrue (is_used geo x k) → Comes geo disk q ghost after x k b → Wrote m b) → Shows geo (users_view disk q) (SetInode m x) file Wrote
+    → (x.mode ≡ 1 → IsTrue (is_sound geo ((users_view disk q).inode m)) → ((users_view disk q).inode m).mode ≡ 1)
+    → ((k b : ℕ) → x.mode ≡ 1 → IsFalse (is_table geo k) → IsTrue (has_position geo x k) → Comes geo disk q ghost after x k b → Wrote m b) → Shows geo (users_view disk q) (SetInode m x) file Wrote
 record_shows geo disk q ghost ghost' after file Wrote m x r was mine = record {
   written = λ n k b bytes e f. cc;
-  given = λ n k b (c, low, file) new. elim (use_before geo disk q ghost ghost' after m x r users refl (λ j d comes l h. refl) n k b c.0) [
+  given = λ n k b (c, low, file) new. elim (use_before geo disk q ghost ghost' after m x r users refl (λ t c. refl) n k b c.0) [
     | inl old ↦ absurd (new ((old, c.1), low, mode n k b file old))
     | inr came ↦ subst (λ j. Wrote j b) (sym came.0.mine) (mine k b (one n file came.0.mine) low came.0.used came.0.comes)
   ];
@@ -119,8 +124,8 @@ record_shows geo disk q ghost ghost' after file Wrote m x r was mine = record {
     mode n k b file old = elim (cases_eq n m) [
       | inr other ↦ other_mode geo users m x n other ∙ file
       | inl e ↦
-          let sound = (and_parts (is_number geo n) (is_sound (users.inode n)) (use_parts geo users n k b old).sound).1 in
-          ap (λ j. (users.inode j).mode) e ∙ was (one n file e) (subst (λ j. IsTrue (is_sound (users.inode j))) e sound)
+          let sound = (and_parts (is_number geo n) (is_sound geo (users.inode n)) (use_parts geo users n k b old).sound).1 in
+          ap (λ j. (users.inode j).mode) e ∙ was (one n file e) (subst (λ j. IsTrue (is_sound geo (users.inode j))) e sound)
     ]
 
 -- ---- kinds
@@ -156,15 +161,15 @@ step_shows geo mounted h disk q ghost u ghost' (RewritesFile held up after n x m
 step_shows geo mounted h disk q ghost u ghost' (GrowsDirectory after n x may) file e o names =
     record_shows geo disk q ghost ghost after file _ n x may.blocks (λ m s. let two = may.still_directory in absurd (omega (arith, m, two))) (λ k b m low used comes. let two = may.still_directory in absurd (omega (arith, m, two)))
 step_shows geo mounted h disk q ghost u ghost' (CreatesFile after n x may) file e o names =
-    record_shows geo disk q ghost ghost after file _ n x may.blocks (λ m s. absurd (sound_used ((users_view disk q).inode n) s may.free)) (λ k b m low used comes. absurd (both_ways (is_used geo x k) (names k) used))
+    record_shows geo disk q ghost ghost after file _ n x may.blocks (λ m s. absurd (sound_used geo ((users_view disk q).inode n) s may.free)) (λ k b m low used comes. absurd (both_ways (has_position geo x k) (names k) used))
 step_shows geo mounted h disk q ghost u ghost' (CreatesDirectory after n x may) file e o names =
-    record_shows geo disk q ghost ghost after file _ n x may.blocks (λ m s. absurd (sound_used ((users_view disk q).inode n) s may.free)) (λ k b m low used comes. absurd (omega (arith, m, names)))
+    record_shows geo disk q ghost ghost after file _ n x may.blocks (λ m s. absurd (sound_used geo ((users_view disk q).inode n) s may.free)) (λ k b m low used comes. absurd (omega (arith, m, names)))
 step_shows geo mounted h disk q ghost u ghost' (Frees held up after n x may) file e o names =
     record_shows geo disk q ghost _ after file _ n x may.blocks (λ m s. let z = may.free in absurd (omega (arith, m, z))) (λ k b m low used comes. let z = may.free in absurd (omega (arith, m, z)))
-step_shows geo mounted h disk q ghost u ghost' (AppendsSlot after n x bytes may) file e o names = append_shows geo (users_view disk q) after file _ o n x bytes may
-step_shows geo mounted h disk q ghost u ghost' (MovesSlot held up after n x p bytes may) file e o names =
-    move_shows geo disk q ghost (moved held up ghost) after file _ o n x p bytes may
-    (λ other. still_wrote mounted h (record { update = u; file = file }) n (pointer_at bytes p) (no_creation (users_view mounted (updates h)) u.change n refl) (λ d. other (ap number_of_block d)) names)
+step_shows geo mounted h disk q ghost u ghost' (AppendsSlot after n m x bytes may) file e o names = append_shows geo (users_view disk q) after file _ o n m x bytes may
+step_shows geo mounted h disk q ghost u ghost' (MovesSlot held up after n m x p bytes may) file e o names =
+    move_shows geo disk q ghost held up after file _ o n m x p bytes may
+    (λ other. still_wrote mounted h (record { update = u; file = file }) n (pointer_in bytes (place_in_table geo p)) (no_creation (users_view mounted (updates h)) u.change n refl) (λ d. other (ap number_of_block d)) names)
 step_shows geo mounted h disk q ghost u ghost' (Removes after block bytes d s i name safe may) file e o names = slot_shows geo (users_view disk q) file _ o block bytes d s _ _ may.change
 step_shows geo mounted h disk q ghost u ghost' (Enters after block bytes d s i name may) file e o names = slot_shows geo (users_view disk q) file _ o block bytes d s _ _ may.change
 step_shows geo mounted h disk q ghost u ghost' (Renames after block bytes d s i old new may) file e o names = slot_shows geo (users_view disk q) file _ o block bytes d s _ _ may.change

@@ -2,9 +2,8 @@
 use Rattle.std.proofs.Common.{◌≡◌, ℕ, ◌<◌, List, [], ◌∷◌, inl, inr, Some, sym, ap, ◌∙◌, subst, IsTrue, Contains, arith, refl, false, true, eqb, eqb-true}
 use Rattle.std.proofs.lemmas.Bool.{or_cases}
 use Rattle.ordering.specs.Cuts.{Cell, Pending, cell_of}
-use Rattle.queue_model.specs.Entries.{Entry, has_id, entries_at, Stand, Queue, Represents}
+use Rattle.queue_model.specs.Entries.{Entry, has_id, Stand, Queue, Represents}
 use Rattle.queue_model.proofs.Lists.{contains_head, contains_tail, contains_cases, contains_none}
-use Rattle.queue_model.proofs.EntryLemmas.{has_below}
 use Rattle.queue_model.proofs.Listed.{at_within, at_from, at_to, has_from, one_entry, last_listed}
 
 -- its id is below the next one, and what it waits for is older

@@ -142,7 +142,7 @@ itself geo view = record {
   inode = λ i n. refl;
   number_marked = λ i n. refl;
   block_marked = λ a n. refl;
-  indirect_blocks = λ i a c. refl;
+  tables = λ i m a t c. refl;
   directory_blocks = λ d k a t c. refl;
 }
 

@@ -10,7 +10,7 @@ use Rattle.reading.specs.declared.trees.Listing.{Listing}
 
 -- its names are those of the directory of its number, in the order of the slots
 abbrev pub IsListing : Geometry → View → Listing → Type 0
-IsListing geo view listing = map name_of listing.names.items ≡ names_below geo view listing.number slot_count
+IsListing geo view listing = map name_of listing.names.items ≡ names_below geo view listing.number (slot_count geo)
 
 -- the path of a name, or of names with a '/' between any two, in the directory of a path
 abbrev pub joined_path : List ℕ → List ℕ → List ℕ

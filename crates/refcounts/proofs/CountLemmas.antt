@@ -18,7 +18,7 @@ use Rattle.model.proofs.Addresses.{number_in_group}
 use Rattle.model.proofs.Counting.{entries_few, times-append}
 use Rattle.model.proofs.ReachLemmas.{directory_reached}
 use Rattle.model.proofs.SlotLemmas.{directory_number, reachable_directory}
-use Rattle.by_group.specs.Groups.{IsEach}
+use Rattle.findings.specs.Groups.{IsEach}
 use Rattle.sets.specs.Members.{is_among}
 use Rattle.refcounts.specs.Counts.{most, count_at, AreCounts, AreEntries, Counted, CountsOne}
 use Rattle.refcounts.specs.Parts.{IsPart, is_read, numbers_at}

@@ -6,7 +6,7 @@ use Rattle.findings.specs.declared.finding.Finding.{Finding}
 use Rattle.findings.specs.declared.finding.Finding.TheVariants.{CountHigh, CountLow}
 use Rattle.findings.specs.Findings.{IsFinding, is_of_counts}
 use Rattle.findings.proofs.Sorted.{Contains-none}
-use Rattle.by_group.specs.Groups.{AreFoundIn, group_of}
+use Rattle.findings.specs.Groups.{AreFoundIn, group_of}
 use Rattle.model.specs.Growth.{Adds}
 use Rattle.model.specs.Layout.{Geometry, is_number}
 use Rattle.model.specs.Units.{only, stands_in}

@@ -2,7 +2,7 @@
 ghost use Rattle.std.specs.Prelude.{◌≡◌, ◌<◌, ◌≤◌, ℕ, List, IfOk, IsOkUnless, [], length};
 ghost use Rattle.frozen.specs.Kept.{frozen_view};
 ghost use Rattle.model.specs.Reached.{AreReached};
-ghost use Rattle.by_group.specs.Groups.{IsEach};
+ghost use Rattle.findings.specs.Groups.{IsEach};
 ghost use Rattle.refcounts.specs.Counts.{AreCounts, AreEntries, Counted, CountsOne, count_at};
 ghost use Rattle.refcounts.specs.Parts.{IsPart};
 

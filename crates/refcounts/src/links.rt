@@ -1,6 +1,6 @@
 //! What is found of the links of a group's inodes.
 ghost use Rattle.std.specs.Prelude.{◌≡◌, ◌<◌, ◌≤◌, [], IfOk, OnOk, IsOkUnless, IsTrue};
-ghost use Rattle.by_group.specs.Groups.{AreFoundIn};
+ghost use Rattle.findings.specs.Groups.{AreFoundIn};
 ghost use Rattle.findings.specs.Findings.{is_of_counts};
 ghost use Rattle.frozen.specs.Kept.{frozen_view};
 ghost use Rattle.model.specs.Growth.{Adds};

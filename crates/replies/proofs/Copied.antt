@@ -50,7 +50,7 @@ plan_not_copied geo disk q old safe command answer file plan new safe' (UnlinksF
 plan_not_copied geo disk q old safe command answer file plan new safe' (RemovesName p after has stays) c = c
 plan_not_copied geo disk q old safe command answer file plan new safe' (RemovesDirectory p blocks after has two goes) c = c
 plan_not_copied geo disk q old safe command answer file plan new safe' (WritesInPlace h k piece bytes over within unkept) c = c
-plan_not_copied geo disk q old safe command answer file plan new safe' (WritesBehind h k piece bytes b x table over choice behind) c = c
+plan_not_copied geo disk q old safe command answer file plan new safe' (WritesBehind h k piece bytes b news over choice behind) c = c
 plan_not_copied geo disk q old safe command answer file plan new safe' (WritesElsewhere h k piece bytes b over free within is_kept) c = c
 plan_not_copied geo disk q old safe command answer file plan new safe' (TruncatesFile h size) c = c
 plan_not_copied geo disk q old safe command answer file plan new safe' (ClosesHandle h) c = c

@@ -61,7 +61,7 @@ module _ (one other : Kept) (same : one.geometry ≡ other.geometry) where
         inode = λ i t. refl;
         number_marked = λ i t. refl;
         block_marked = λ a t. refl;
-        indirect_blocks = λ i a c. refl;
+        tables = λ i m a is c. refl;
         directory_blocks = λ d k a t c. refl;
       })
     where

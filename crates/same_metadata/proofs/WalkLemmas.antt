@@ -1,14 +1,15 @@
 -- What the walks over all inodes and blocks say together.
-use Rattle.std.proofs.Common.{◌≡◌, ◌<◌, ◌≤◌, ◌↔◌, ℕ, Bool, ◌&&◌, eqb, ltb, leb, cond, true, IsTrue, subst, arith, inl, inr}
-use Rattle.std.proofs.lemmas.Bool.{and_parts, and_from, cases_eq, le-leb, leb-true, lt-ltb, ltb-true}
-use Rattle.std.proofs.lemmas.Bool.Decides.{nat_tests}
+use Rattle.std.proofs.Common.{◌≡◌, ◌<◌, ◌≤◌, ◌+◌, ◌↔◌, ℕ, Bool, ltb, leb, IsTrue, IsFalse, sym, ◌∙◌, subst, arith, inl, inr}
+use Rattle.std.proofs.lemmas.Bool.{and_parts, and_from, le-leb, leb-true, lt-ltb, ltb-true, false≢true}
 use Rattle.model.specs.Layout.{Geometry, inode_count, is_data_address, is_number}
 use Rattle.model.specs.View.{View}
-use Rattle.model.specs.Uses.{is_sound, IsClaim, indirect_position, blocks_of}
+use Rattle.model.specs.Shape.{is_table, most_blocks, tables}
+use Rattle.model.specs.Uses.{is_sound_at, blocks_of}
 use Rattle.model.specs.Metadata.{SameMetadata}
 use Rattle.model.proofs.SlotLemmas.{directory_number}
-use Rattle.model.proofs.UseLemmas.{use_parts}
-use Rattle.same_metadata.specs.Same.{HasSameClaim, HasSameDirectory, HasSameInode}
+use Rattle.model.proofs.Ranges.{table_below, use_places}
+use Rattle.model.proofs.Uses.{use_number, use_parts}
+use Rattle.same_metadata.specs.Same.{HasSameClaim, HasSameDirectory, HasSameInode, HasSameTables}
 
 -- the numbers that are looked at are those from 2 on, below the count
 pub number_range : (geo : Geometry) (i : ℕ) → IsTrue (is_number geo i) → (2 ≤ i) × (i < inode_count geo)
@@ -18,15 +19,6 @@ number_range geo i n =
 pub number_from : (geo : Geometry) (i : ℕ) → 2 ≤ i → i < inode_count geo → IsTrue (is_number geo i)
 number_from geo i from low = and_from (leb 2 i) (ltb i (inode_count geo)) (le-leb 2 i from) (lt-ltb i (inode_count geo) low)
 
-claiming_number : (geo : Geometry) (view : View) (i k a : ℕ) → IsClaim geo view i k a → IsTrue (is_number geo i)
-claiming_number geo view i k a c =
-    (and_parts (is_number geo i) (is_sound (view.inode i)) (use_parts geo view i k a c.0).sound).0
-
--- a position that is used is below the blocks, or it is the indirect pointer's
-used_below : (k blocks : ℕ) (is_data : Bool) → (k ≡ 268 → ⊥)
-    → cond (ltb k 12) (ltb k blocks) (cond (ltb k 268) (ltb k blocks && is_data) (eqb k 268 && ltb 12 blocks)) ≡ true → k < blocks
-used_below k blocks is_data differs used = grind (arith, nat_tests)
-
 module _ (geo : Geometry) (view other : View) where
   -- all inodes and all bits of blocks are all metadata
   all_metadata : ((a : ℕ) → IsTrue (is_data_address geo a) → view.block_marked a ≡ other.block_marked a) → ((i : ℕ) → IsTrue (is_number geo i) → HasSameInode geo view other i)
@@ -35,12 +27,12 @@ module _ (geo : Geometry) (view other : View) where
     inode = λ i n. (inodes i n).inode;
     number_marked = λ i n. (inodes i n).marked;
     block_marked = bits;
-    indirect_blocks = λ i a c. (inodes i (claiming_number geo view i indirect_position a c)).indirect_block a c;
+    tables = λ i m a is c. (inodes i (use_number geo view i m a c.0).0).tables m is a c;
     directory_blocks = λ d k a t c.
         let here = inodes d (directory_number geo view d t) in
-        elim (cases_eq k indirect_position) [
-          | inl e ↦ here.indirect_block a (subst (λ j. IsClaim geo view d j a) e c)
-          | inr differs ↦ here.directory_blocks t k (used_below k (blocks_of (view.inode d).size) (is_data_address geo (view.inode d).indirect) differs (use_parts geo view d k a c.0).used) a c
+        elim (use_places geo view d k a c.0) [
+          | inl low ↦ here.directory_blocks t k low a c
+          | inr table ↦ here.tables k table.0 a c
         ];
   }
 
@@ -48,15 +40,22 @@ module _ (geo : Geometry) (view other : View) where
   inode_of m i n = record {
     inode = m.inode i n;
     marked = m.number_marked i n;
-    indirect_block = m.indirect_blocks i;
+    tables = λ k is a. m.tables i k a is;
     directory_blocks = λ t k _ a c. m.directory_blocks i k a t c;
   }
 
+  -- with those below the end of its tables all of a sound inode are the same, and one that is not sound has none
+  pub all_tables : (i n : ℕ) → n ≡ most_blocks geo + tables (blocks_of (view.inode i).size) → ((m : ℕ) → m < n → IsTrue (is_table geo m) → HasSameClaim geo view other i m) → HasSameTables geo view other i
+  all_tables i n end below m is a c = below m (subst (λ x. m < x) (sym end) (table_below geo view i m a is c.0)) is a c
+
+  pub no_tables : (i : ℕ) → IsFalse (is_sound_at geo view i) → HasSameTables geo view other i
+  no_tables i unsound m is a c = absurd (false≢true (sym unsound ∙ (use_parts geo view i m a c.0).sound))
+
   -- where the rest of an inode is the same, its directory's blocks decide
-  pub by_directory : (i : ℕ) (told : Bool) → view.inode i ≡ other.inode i → view.number_marked i ≡ other.number_marked i → HasSameClaim geo view other i indirect_position
+  pub by_directory : (i : ℕ) (told : Bool) → view.inode i ≡ other.inode i → view.number_marked i ≡ other.number_marked i → HasSameTables geo view other i
       → (IsTrue told ↔ HasSameDirectory geo view other i) → IsTrue told ↔ HasSameInode geo view other i
-  by_directory i told inode marked indirect means = (
-    (λ yes. record { inode = inode; marked = marked; indirect_block = indirect; directory_blocks = means.0 yes }),
+  by_directory i told inode marked tables means = (
+    (λ yes. record { inode = inode; marked = marked; tables = tables; directory_blocks = means.0 yes }),
     (λ h. means.1 h.directory_blocks),
   )
 

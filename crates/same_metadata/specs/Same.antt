@@ -2,7 +2,8 @@
 use Rattle.std.specs.Prelude.{◌≡◌, ℕ, ◌<◌, IsTrue}
 use Rattle.model.specs.Layout.{Geometry}
 use Rattle.model.specs.View.{View}
-use Rattle.model.specs.Uses.{is_directory_at, IsClaim, indirect_position, blocks_of}
+use Rattle.model.specs.Shape.{is_table}
+use Rattle.model.specs.Uses.{is_directory_at, IsClaim, blocks_of}
 
 -- the bytes of the block that inode i claims at position k, if it claims one
 abbrev pub HasSameClaim : Geometry → View → View → ℕ → ℕ → Type 0
@@ -12,9 +13,13 @@ HasSameClaim geo view other i k = (a : ℕ) → IsClaim geo view i k a → view.
 abbrev pub HasSameDirectory : Geometry → View → View → ℕ → Type 0
 HasSameDirectory geo view other i = IsTrue (is_directory_at geo view i) → (k : ℕ) → k < blocks_of (view.inode i).size → HasSameClaim geo view other i k
 
--- the record and the bit of inode i, its indirect block, and its blocks if it is a sound directory
+-- the bytes of the tables that i claims
+abbrev pub HasSameTables : Geometry → View → View → ℕ → Type 0
+HasSameTables geo view other i = (m : ℕ) → IsTrue (is_table geo m) → HasSameClaim geo view other i m
+
+-- the record and the bit of inode i, its tables, and its blocks if it is a sound directory
 pub record HasSameInode (geo : Geometry) (view other : View) (i : ℕ) : Type 0 where
   pub inode : view.inode i ≡ other.inode i
   pub marked : view.number_marked i ≡ other.number_marked i
-  pub indirect_block : HasSameClaim geo view other i indirect_position
+  pub tables : HasSameTables geo view other i
   pub directory_blocks : HasSameDirectory geo view other i

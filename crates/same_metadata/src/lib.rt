@@ -6,18 +6,17 @@ ghost use Rattle.std.specs.Prelude.{◌≡◌, ◌<◌, ◌↔◌, ℕ, IsTrue};
 ghost use Rattle.model.specs.Layout.{is_data_address, is_number};
 ghost use Rattle.model.specs.Metadata.{SameMetadata};
 ghost use Rattle.frozen.specs.Kept.{frozen_view, kept_bytes};
-ghost use Rattle.same_metadata.specs.Same.{HasSameClaim, HasSameDirectory, HasSameInode};
+ghost use Rattle.same_metadata.specs.Same.{HasSameClaim, HasSameDirectory, HasSameInode, HasSameTables};
 
 use cgmaps::{Map, bit_of};
 use frozen::Frozen;
-use inode::INDIRECT_POSITION;
 use layout::{DataPlace, ROOT};
 
 #[cfg(test)]
 mod tests;
 
 /// Whether two images have the same geometry and the same metadata: all that a check looks at. That is the records of
-/// all inodes from number 2 on, the bits of these numbers and of the data blocks, and the bytes of the indirect blocks
+/// all inodes from number 2 on, the bits of these numbers and of the data blocks, and the bytes of the blocks of pointers
 /// and of the blocks of sound directories that are claimed. It takes no memory, and time in proportion to the volume's
 /// size and to the claims of its directories; where both keep the same blocks, these alone are compared.
 pub fn have_same_metadata(one: &Frozen, other: &Frozen) -> bool
@@ -91,8 +90,8 @@ fn have_same_inodes(one: &Frozen, other: &Frozen) -> bool
     true
 }
 
-/// Whether an inode is the same in both to a check: its record, its number's bit, its indirect block, and its blocks if
-/// it is a sound directory.
+/// Whether an inode is the same in both to a check: its record, its number's bit, its tables, and its blocks if it is a
+/// sound directory.
 fn has_same_inode(one: &Frozen, other: &Frozen, number: u32) -> bool
     requires geometry { one.now.geometry ≡ other.now.geometry }
     requires number { IsTrue (is_number one.now.geometry number) }
@@ -100,7 +99,7 @@ fn has_same_inode(one: &Frozen, other: &Frozen, number: u32) -> bool
 {
     has_same_record(one, other, number)
         && is_number_marked(one, number) == is_number_marked(other, number)
-        && has_same_claim(one, other, number, INDIRECT_POSITION)
+        && has_same_tables(one, other, number)
         && has_same_directory(one, other, number)
 }
 
@@ -123,7 +122,24 @@ fn is_number_marked(frozen: &Frozen, number: u32) -> bool
     bit_of(maps, Map::Inodes, number % geometry.inodes_a_group())
 }
 
-/// Whether the blocks that an inode claims are the same in both, if it is a sound directory, but for its indirect block.
+/// Whether the tables that an inode claims are the same in both.
+fn has_same_tables(one: &Frozen, other: &Frozen, number: u32) -> bool
+    requires { one.now.geometry ≡ other.now.geometry }
+    ensures { IsTrue result ↔ HasSameTables one.now.geometry (frozen_view one.now) (frozen_view other.now) number }
+{
+    if !one.is_sound_at(number) {
+        return true;
+    }
+    let geometry = one.geometry();
+    for position in geometry.most_blocks()..geometry.tables_end(one.record(number).blocks()) {
+        if !has_same_claim(one, other, number, position) {
+            return false;
+        }
+    }
+    true
+}
+
+/// Whether the blocks that an inode claims are the same in both, if it is a sound directory, but for its tables.
 fn has_same_directory(one: &Frozen, other: &Frozen, number: u32) -> bool
     requires geometry { one.now.geometry ≡ other.now.geometry }
     requires number { IsTrue (is_number one.now.geometry number) }

@@ -1,14 +1,14 @@
 use crate::have_same_metadata;
-use device::{Before, Device, MemDevice, format};
+use device::{Byte, MemDevice, set_byte};
 use frozen::{Frozen, load};
-use layout::{BLOCK_BYTES, Geometry, Refusal};
+use layout::{Geometry, Refusal};
 use std::alloc::Global;
 use std::process::Abort;
 
 /// Bytes of an image of one group of 16 blocks and 16 inodes: an address, a byte and its value. Inode 3 is a file of 13
 /// blocks, of which the first is block 6, with the indirect block 5. Inode 4 is a directory of 13 blocks, of which the
 /// first is block 7 and the last block 9, with the indirect block 8.
-const FILES: [(u32, usize, u8); 9] = [
+const FILES: [Byte; 9] = [
     (2, 384, 1),
     (2, 389, 52),
     (2, 392, 6),
@@ -52,43 +52,11 @@ const CHANGES: [(u32, usize, u8, bool); 23] = [
     (10, 0, 1, true),
 ];
 
-/// Changes one byte of a block.
-fn set_byte(device: &mut MemDevice, address: u32, byte: usize, value: u8) -> Result<(), Refusal> {
-    if address >= device.blocks() || byte >= BLOCK_BYTES {
-        return Err(Refusal::BadIndex);
-    }
-    let mut block = [0; BLOCK_BYTES];
-    device.read(address, &mut block)?;
-    block[byte] = value;
-    device.write(address, &block)?;
-    Ok(())
-}
-
-/// A device in memory with a fresh image.
-fn fresh(alloc: Global, geometry: &Geometry) -> Result<MemDevice, Refusal> {
-    let bytes = vec![in alloc; 0u8; geometry.blocks() as usize * BLOCK_BYTES]?;
-    let mut device = MemDevice::from_bytes(alloc, bytes.as_slice())?;
-    if device.blocks() != geometry.blocks() {
-        return Err(Refusal::BadLength);
-    }
-    format(&mut device, geometry, Before::Anything)?;
-    Ok(device)
-}
-
-/// A device in memory with the image that has `FILES`.
-fn with_files(alloc: Global) -> Result<MemDevice, Refusal> {
-    let mut device = fresh(alloc, &Geometry::new(1, 16, 16)?)?;
-    for (address, byte, value) in FILES {
-        set_byte(&mut device, address, byte, value)?;
-    }
-    Ok(device)
-}
-
-/// The metadata of that image, with one byte changed where one is named.
-fn loaded(alloc: Global, change: Option<(u32, usize, u8)>) -> Result<Frozen, Refusal> {
-    let mut device = with_files(alloc)?;
-    if let Some((address, byte, value)) = change {
-        set_byte(&mut device, address, byte, value)?;
+/// The metadata of the image that has `FILES`, with one byte changed where one is named.
+fn loaded(alloc: Global, change: Option<Byte>) -> Result<Frozen, Refusal> {
+    let mut device = MemDevice::formatted(alloc, &Geometry::new(1, 16, 16)?, &FILES)?;
+    if let Some(byte) = change {
+        set_byte(&mut device, byte)?;
     }
     load(alloc, &mut device)
 }
@@ -134,7 +102,8 @@ fn a_change_of_what_a_check_looks_at_is_told(rt: HostRuntime) -> Result<(), Refu
 
 /// The metadata of a fresh image.
 fn loaded_fresh(alloc: Global, groups: u32, blocks: u32, inodes: u32) -> Result<Frozen, Refusal> {
-    let mut device = fresh(alloc, &Geometry::new(groups, blocks, inodes)?)?;
+    let geometry = Geometry::new(groups, blocks, inodes)?;
+    let mut device = MemDevice::formatted(alloc, &geometry, &[])?;
     load(alloc, &mut device)
 }
 

@@ -3,6 +3,7 @@ use Rattle.std.proofs.Common.{◌≡◌, true, ◌&&◌, eqb, length, IsTrue, in
 use Rattle.std.proofs.lemmas.Bool.{and_from, and_parts, cases_Bool, cond-true, cond-false, eq-eqb, eqb-true}
 use Rattle.model.specs.Layout.{Geometry, IsGeometry, inode_block, inode_byte, is_number, root}
 use Rattle.model.specs.Metadata.{SameMetadata}
+use Rattle.model.specs.Shape.{direct_positions}
 use Rattle.model.specs.View.{Inode, View, free_inode, inode_at}
 use Rattle.model.proofs.FreshLemmas.{root_number}
 use Rattle.model.proofs.Same.{claim_there, directory_there, other_way, same_facts}
@@ -15,7 +16,7 @@ same_as_itself geo v = record {
   inode = λ i t. refl;
   number_marked = λ i t. refl;
   block_marked = λ a t. refl;
-  indirect_blocks = λ i a c. refl;
+  tables = λ i m a t c. refl;
   directory_blocks = λ d k a t c. refl;
 }
 
@@ -26,7 +27,7 @@ other_metadata geo v w m =
       inode = λ i t. sym (m.inode i t);
       number_marked = λ i t. sym (m.number_marked i t);
       block_marked = λ a t. sym (m.block_marked a t);
-      indirect_blocks = λ i a c. sym (m.indirect_blocks i a (claim_there geo w v back i 268 a c));
+      tables = λ i n a t c. sym (m.tables i n a t (claim_there geo w v back i n a c));
       directory_blocks = λ d k a t c. sym (m.directory_blocks d k a (directory_there geo w v back d t) (claim_there geo w v back d k a c));
     }
 
@@ -37,7 +38,7 @@ then_metadata geo u v w m n =
       inode = λ i t. m.inode i t ∙ n.inode i t;
       number_marked = λ i t. m.number_marked i t ∙ n.number_marked i t;
       block_marked = λ a t. m.block_marked a t ∙ n.block_marked a t;
-      indirect_blocks = λ i a c. m.indirect_blocks i a c ∙ n.indirect_blocks i a (claim_there geo u v there i 268 a c);
+      tables = λ i k a t c. m.tables i k a t c ∙ n.tables i k a t (claim_there geo u v there i k a c);
       directory_blocks = λ d k a t c. m.directory_blocks d k a t c ∙ n.directory_blocks d k a (directory_there geo u v there d t) (claim_there geo u v there d k a c);
     }
 
@@ -50,7 +51,7 @@ pub alike_through : (geo : Geometry) (u v w : View) → SameMetadata geo u v →
 alike_through geo u v w one two = then_metadata geo u v w one two
 
 -- the record of the root has pointers
-root_pointers : (geo : Geometry) (kept : Kept) → IsGeometry geo → kept.geometry ≡ geo → length (((frozen_view kept).inode root).direct) ≡ 12
+root_pointers : (geo : Geometry) (kept : Kept) → IsGeometry geo → kept.geometry ≡ geo → length (((frozen_view kept).inode root).direct) ≡ direct_positions
 root_pointers geo kept ok same =
     let number : IsTrue (is_number kept.geometry root) = subst (λ g. IsTrue (is_number g root)) (sym same) (root_number geo ok) in
     ap (λ (x : Inode). length x.direct) (cond-true (is_number kept.geometry root) (inode_at (kept_bytes kept.blocks (inode_block kept.geometry root)) (inode_byte root)) free_inode number)
@@ -59,7 +60,7 @@ root_pointers geo kept ok same =
 pub not_no_image : (geo : Geometry) (kept : Kept) (view : View) → IsGeometry geo → kept.geometry ≡ geo → SameMetadata geo (frozen_view kept) view → SameMetadata geo view no_image → ⊥
 not_no_image geo kept view ok same shown none =
     let number = root_number geo ok in
-    let bad : 12 ≡ 0 = sym (root_pointers geo kept ok same) ∙ ap (λ (x : Inode). length x.direct) (shown.inode root number ∙ none.inode root number) in omega (arith, bad)
+    let bad : direct_positions ≡ 0 = sym (root_pointers geo kept ok same) ∙ ap (λ (x : Inode). length x.direct) (shown.inode root number ∙ none.inode root number) in omega (arith, bad)
 
 geometry_parts : (g h : Geometry) → is_same_geometry g h ≡ true → g ≡ h
 geometry_parts g h t =

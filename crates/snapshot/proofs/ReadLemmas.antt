@@ -1,14 +1,15 @@
 -- A read of a snapshot gives the bytes of its image.
-use Rattle.std.proofs.Common.{◌≡◌, ◌<◌, ◌-◌, ◌*◌, ℕ, Bool, true, false, not, ◌&&◌, eqb, leb, min, List, [], ◌∷◌, length, take, Option, Some, None, is_none, Ok, IsTrue, inl, inr, refl, sym, ap, ◌∙◌, subst, arith, leb-true}
+use Rattle.std.proofs.Common.{◌≡◌, ◌<◌, ◌-◌, ◌*◌, ℕ, Bool, true, false, not, ◌&&◌, eqb, leb, min, List, [], ◌∷◌, length, take, Option, Some, None, is_none, Ok, IsTrue, inl, inr, refl, sym, ap, ◌∙◌, subst, arith}
 use Rattle.std.specs.Bool.{then_some}
 use Rattle.std.specs.Option.{option_or}
-use Rattle.std.proofs.lemmas.Bool.{and_parts, and_from, leb-false}
+use Rattle.std.proofs.lemmas.Bool.{and_parts, and_from, leb-false, lt-leb}
 use Rattle.std.proofs.lemmas.List.{take_min}
 use Rattle.layout.specs.declared.refusal.Refusal.{Refusal}
 use Rattle.layout.specs.declared.refusal.Refusal.TheVariants.{NotFound, IsDirectory, BadIndex, NoSnapshot}
 use Rattle.model.specs.Layout.{Geometry, is_number, is_data_address}
 use Rattle.model.specs.Metadata.{SameMetadata}
 use Rattle.model.specs.Rules.{ObeysRules}
+use Rattle.model.specs.Shape.{most_blocks}
 use Rattle.model.specs.Uses.{IsClaim, blocks_of, claim_at, is_directory, is_directory_at, is_sound, is_sound_at}
 use Rattle.model.specs.View.{Inode, View}
 use Rattle.model.proofs.Same.{claim_there, same_facts, same_rules}
@@ -20,7 +21,7 @@ use Rattle.machine.specs.Cells.{block_of, seen}
 use Rattle.machine.specs.Command.{Bytes, SnapRead}
 use Rattle.machine.specs.State.{State, snapshot_at}
 use Rattle.machine.specs.Step.{Step}
-use Rattle.plans_data.proofs.Blocks.{block_claimed}
+use Rattle.plans_data.proofs.Blocks.{block_claimed, few_blocks}
 use Rattle.frozen.specs.Kept.{Kept, KeepsMetadata, frozen_view}
 use Rattle.frozen_files.specs.Standing.{IsFileClaim, KeepsFiles}
 use Rattle.frozen_files.proofs.Laws.{read_of_users}
@@ -62,7 +63,7 @@ no_snapshot geo old s i k e = by (snapshot_at old s) e
 -- it is told by the record alone
 why_of : Geometry → Inode → ℕ → ℕ → Option Refusal
 why_of geo x i k = option_or (then_some (not (is_number geo i && not (eqb x.mode 0))) NotFound)
-    (option_or (then_some ((is_number geo i && is_sound x) && is_directory x) IsDirectory) (then_some (leb (blocks_of x.size) k) BadIndex))
+    (option_or (then_some ((is_number geo i && is_sound geo x) && is_directory x) IsDirectory) (then_some (leb (blocks_of x.size) k) BadIndex))
 
 same_why : (geo : Geometry) (v w : View) (i k : ℕ) → v.inode i ≡ w.inode i → why_no_piece geo v i k ≡ why_no_piece geo w i k
 unfolding why_of
@@ -80,7 +81,7 @@ module _ (geo : Geometry) (v : View) (i k : ℕ) (o : ObeysRules geo v) where
   used_sound : is_used_number geo v i ≡ true → IsTrue (is_sound_at geo v i)
   used_sound u =
       let parts = and_parts (is_number geo i) (not (eqb (v.inode i).mode 0)) u in
-      and_from (is_number geo i) (is_sound (v.inode i)) parts.0 (elim (o.rule2 i parts.0) [ inl z ↦ absurd (not_free (v.inode i).mode parts.1 z) | inr sound ↦ sound ])
+      and_from (is_number geo i) (is_sound geo (v.inode i)) parts.0 (elim (o.rule2 i parts.0) [ inl z ↦ absurd (not_free (v.inode i).mode parts.1 z) | inr sound ↦ sound ])
     where
       not_free : (n : ℕ) → not (eqb n 0) ≡ true → n ≡ 0 → ⊥
       not_free n t e = let bad : not (eqb 0 0) ≡ true = subst (λ m. not (eqb m 0) ≡ true) e t in cc
@@ -88,17 +89,13 @@ module _ (geo : Geometry) (v : View) (i k : ℕ) (o : ObeysRules geo v) where
   inside_claims : is_used_number geo v i ≡ true → k < blocks_of (v.inode i).size → IsClaim geo v i k (block_of geo v i k)
   inside_claims u within =
       let sound = used_sound u in
-      block_claimed geo v o i k sound within (few sound)
-    where
-      few : IsTrue (is_sound_at geo v i) → k < 268
-      few sound = let parts = and_parts (is_number geo i) (is_sound (v.inode i)) sound in omega (arith, within, leb-true (blocks_of (v.inode i).size) 268 (and_parts _ (leb (blocks_of (v.inode i).size) 268) parts.1).1)
+      block_claimed geo v o i k sound within
 
   file_claimed : (a : ℕ) → why_no_piece geo v i k ≡ None → IsClaim geo v i k a → IsFileClaim geo v i k a
   file_claimed a none claim =
       let parts = why_bools (is_used_number geo v i) (is_directory_at geo v i) (leb (blocks_of (v.inode i).size) k) none in
       let sound = used_sound parts.0 in
-      let halves = and_parts (is_number geo i) (is_sound (v.inode i)) sound in
-      ((sound, parts.1), claim, λ e. omega (arith, e, leb-false (blocks_of (v.inode i).size) k parts.2, leb-true (blocks_of (v.inode i).size) 268 (and_parts _ (leb (blocks_of (v.inode i).size) 268) halves.1).1))
+      ((sound, parts.1), claim, lt-leb (most_blocks geo) k (omega (arith, leb-false (blocks_of (v.inode i).size) k parts.2, few_blocks geo v i sound)))
 
   -- no block is missing
   pub none_lacks : why_no_piece geo v i k ≡ None → claim_at geo v i k ≡ None → ⊥

@@ -26,7 +26,7 @@ impl<D: Device> Volume<D> {
     /// Takes the repairs of a check of the snapshot of the latest freeze, none of them done. Refused with `NoSnapshot` where
     /// that one stands no more, whatever else stands, with `PlanStands` where a check of it was installed before, with
     /// `PlanNotSoft` where the image that was checked is damaged, with `ForeignPlan` where that image is another one than the
-    /// snapshot's: its geometry, a record, a bit, or a byte of an indirect block or a directory's block differs; and with
+    /// snapshot's: its geometry, a record, a bit, or a byte of a table or a directory's block differs; and with
     /// `NoMemory`.
     pub fn install(&mut self, alloc: Global, checked: &Checked) -> Result<(), Refusal>
         ensures installed { OnOk result (D.honest self.new.device → GotReply D.held D.image self.old (asks_install self.old checked.now) (Ok Done) self.new) }

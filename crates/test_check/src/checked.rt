@@ -1,4 +1,5 @@
 use crate::expect::same;
+use device::Byte;
 use findings::{Finding, Repair, Verdict};
 use frozen::Frozen;
 use fsck::{Checked, check, check_one};
@@ -11,7 +12,7 @@ use std::test::Fail;
 use std::thread;
 use std::thread::Threads;
 use std::time::{Clock, Duration};
-use test_images::{Byte, frozen_with};
+use test_images::frozen_with;
 use workers::{Gate, OpenGate};
 
 /// Blocks 9 and 10 are marked, and number 5.

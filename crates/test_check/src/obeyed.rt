@@ -1,9 +1,10 @@
 use crate::expect::same;
+use device::Byte;
 use layout::{Geometry, Refusal};
 use rules::obeys;
 use std::alloc::Global;
 use std::test::Fail;
-use test_images::{Byte, frozen_with};
+use test_images::frozen_with;
 
 /// Bytes of the first inodes of a fresh image that differ, and the rule that is broken then.
 const CASES: &[(&[Byte], Option<u8>)] = &[

@@ -2,13 +2,13 @@ ghost use Rattle.std.specs.Prelude.{◌≡◌, ◌+◌, ◌-◌, ◌^◌, min};
 ghost use Rattle.device.specs.Writes.{CountsFaults, image_after, images_held};
 
 use crate::expect::{holds, same};
-use device::{Device, DeviceFault, MemDevice};
+use device::{Byte, Device, DeviceFault, MemDevice, set_byte, set_bytes};
 use frozen::{Frozen, load};
 use layout::{Block, Geometry, Refusal};
 use std::alloc::Global;
 use std::process::Abort;
 use std::test::Fail;
-use test_images::{Byte, device_with, frozen_with, set_byte, set_bytes, zeroes};
+use test_images::{frozen_with, zeroes};
 
 /// The bytes of a superblock that are not zero, for one group of 16 blocks and 16 inodes.
 const SUPERBLOCK: &[Byte] = &[
@@ -125,7 +125,7 @@ impl Device for FakeDevice {
 
 /// A device in memory with a fresh image of so many groups, each of 16 blocks and 16 inodes.
 fn fresh(alloc: Global, groups: u32) -> Result<MemDevice, Refusal> {
-    device_with(alloc, &Geometry::new(groups, 16, 16)?, &[])
+    MemDevice::formatted(alloc, &Geometry::new(groups, 16, 16)?, &[])
 }
 
 /// Expects a load to be refused so, or not to be.
@@ -211,7 +211,7 @@ fn a_changed_image_is_refused(rt: HostRuntime) -> Result<(), Fail> {
     for (groups, address, byte, wanted) in CHANGED {
         let mut device = fresh(rt.alloc(), *groups)?;
         expect_load(&rt, (*groups, 0), &mut device, None);
-        set_byte(&mut device, *address, *byte, 2)?;
+        set_byte(&mut device, (*address, *byte, 2))?;
         expect_load(&rt, (*address, *byte), &mut device, Some(*wanted));
     }
     Ok(())
@@ -253,7 +253,7 @@ fn a_load_with_a_fault_answers_device(rt: HostRuntime) -> Result<(), Fail> {
 fn shared(alloc: Global) -> Result<FakeDevice, Refusal> {
     let geometry = Geometry::new(1, 16, 16)?;
     let bytes = [(2, 384, 2), (2, 389, 4), (2, 392, 4)];
-    Ok(FakeDevice::new(device_with(alloc, &geometry, &bytes)?))
+    Ok(FakeDevice::new(MemDevice::formatted(alloc, &geometry, &bytes)?))
 }
 
 #[test]

@@ -1,9 +1,9 @@
 use crate::expect::same;
-use device::{Device, Fuse, MemDevice};
+use device::{Device, Fuse, MemDevice, set_byte};
 use layout::{BLOCK_BYTES, Block, Refusal};
 use std::alloc::{AllocError, Global};
 use std::test::Fail;
-use test_images::{set_byte, zeroes};
+use test_images::zeroes;
 
 /// The block of this address; `None` where there is none, or the device failed.
 fn read_block<D: Device>(device: &mut D, address: u32) -> Option<Block> {
@@ -52,7 +52,7 @@ fn bytes_are_taken_as_whole_blocks(rt: HostRuntime) -> Result<(), Fail> {
 /// A device in memory of three blocks, of which block 1 was written with 7 as its last byte.
 fn written_once(alloc: Global) -> Result<MemDevice, Refusal> {
     let mut device = zeroes(alloc, 3)?;
-    match set_byte(&mut device, 1, 1023, 7) {
+    match set_byte(&mut device, (1, 1023, 7)) {
         Ok(()) => Ok(device),
         Err(refusal) => Err(refusal),
     }
@@ -71,8 +71,8 @@ fn a_block_in_memory_is_read_back(rt: HostRuntime) -> Result<(), Fail> {
 
 /// Writes 7 and then 8 as the first byte of block 1.
 fn write_twice(device: &mut MemDevice) -> Result<(), Refusal> {
-    set_byte(device, 1, 0, 7)?;
-    set_byte(device, 1, 0, 8)
+    set_byte(device, (1, 0, 7))?;
+    set_byte(device, (1, 0, 8))
 }
 
 /// A device in memory of three blocks, of which block 1 was written with 7 and then with 8 as its first byte.

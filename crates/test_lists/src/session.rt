@@ -2,11 +2,11 @@
 use crate::answer::Answer;
 use crate::line::Line;
 use crate::recorded::{Recorded, copy_of};
-use device::{Before, Device, MemDevice, format};
+use device::{MemDevice, set_byte};
 use findings::Finding;
 use frozen::load;
 use fsck::check_one;
-use layout::{BLOCK_BYTES, Geometry, Refusal};
+use layout::{Geometry, Refusal};
 use snapshot::Answer as VolumeAnswer;
 use std::alloc::{AllocError, Global};
 use std::mem::replace;
@@ -63,7 +63,7 @@ impl Session {
                 address,
                 place,
                 value,
-            } => self.set_byte(address, place, value),
+            } => self.put_byte(address, place, value),
             Line::Other => Some(Answer::NoCommand),
             Line::Check | Line::Stop | Line::Stops | Line::Writes | Line::Request(_) => {
                 self.mount(alloc);
@@ -84,9 +84,9 @@ impl Session {
     }
 
     /// Sets a byte of a block before the volume is mounted; it cannot be mounted where it has no such byte.
-    fn set_byte(&mut self, address: u32, place: u32, value: u8) -> Option<Answer> {
+    fn put_byte(&mut self, address: u32, place: u32, value: u8) -> Option<Answer> {
         let done = match &mut self.volume {
-            Stage::Made(device) => put_byte(device, address, place as usize, value),
+            Stage::Made(device) => set_byte(device, (address, place as usize, value)),
             Stage::Refused(_) => Ok(()),
             Stage::Absent | Stage::Mounted(_) => return Some(Answer::NoCommand),
         };
@@ -155,41 +155,7 @@ fn made(alloc: Global, groups: u32, blocks: u32, inodes: u32) -> Stage {
 
 /// A device in memory with a fresh volume of these numbers.
 fn fresh_of(alloc: Global, groups: u32, blocks: u32, inodes: u32) -> Result<MemDevice, Refusal> {
-    let geometry = Geometry::new(groups, blocks, inodes)?;
-    fresh_device(alloc, &geometry)
-}
-
-/// A device in memory with a fresh volume.
-fn fresh_device(alloc: Global, geometry: &Geometry) -> Result<MemDevice, Refusal> {
-    let bytes = vec![in alloc; 0u8; geometry.blocks() as usize * BLOCK_BYTES]?;
-    let mut device = MemDevice::from_bytes(alloc, bytes.as_slice())?;
-    format_all(&mut device, geometry)?;
-    Ok(device)
-}
-
-/// Formats a device, unless it is of another length.
-fn format_all<D: Device>(device: &mut D, geometry: &Geometry) -> Result<(), Refusal> {
-    if device.blocks() != geometry.blocks() {
-        return Err(Refusal::BadLength);
-    }
-    format(device, geometry, Before::Anything)
-}
-
-/// Sets a byte of a block, unless the device has no such byte.
-fn put_byte<D: Device>(
-    device: &mut D,
-    address: u32,
-    place: usize,
-    value: u8,
-) -> Result<(), Refusal> {
-    if address >= device.blocks() || place >= BLOCK_BYTES {
-        return Err(Refusal::BadIndex);
-    }
-    let mut block = [0; BLOCK_BYTES];
-    device.read(address, &mut block)?;
-    block[place] = value;
-    device.write(address, &block)?;
-    Ok(())
+    MemDevice::formatted(alloc, &Geometry::new(groups, blocks, inodes)?, &[])
 }
 
 /// What a device holds, mounted on a device of its own that was never written.

@@ -1,6 +1,6 @@
 //! Volumes of small images, and what a check finds on what their devices hold.
 use changing::mount;
-use device::MemDevice;
+use device::{Byte, MemDevice};
 use findings::Finding;
 use frozen::{Frozen, load};
 use fsck::check_one;
@@ -9,7 +9,6 @@ use snapshot::Volume;
 use std::alloc::Global;
 use std::sync::Arc;
 use std::thread::Threads;
-use test_images::{Byte, device_with};
 
 /// The mounted volume of the image of so many groups of 16 blocks and so many inodes each that is fresh but for these bytes.
 pub fn mounted(
@@ -19,7 +18,7 @@ pub fn mounted(
     bytes: &[Byte],
 ) -> Result<Volume<MemDevice>, Refusal> {
     let geometry = Geometry::new(groups, 16, inodes)?;
-    mount(alloc, device_with(alloc, &geometry, bytes)?)
+    mount(alloc, MemDevice::formatted(alloc, &geometry, bytes)?)
 }
 
 /// What the device of a volume holds.

@@ -1,5 +1,5 @@
 use crate::expect::same;
-use device::{Device, MemDevice};
+use device::{Byte, Device, MemDevice, set_byte, set_bytes};
 use frozen::{Frozen, load};
 use layout::{BLOCK_BYTES, Geometry, Refusal};
 use live_places::{Place, Places, choose};
@@ -7,7 +7,6 @@ use metadata::Metadata;
 use std::alloc::Global;
 use std::process::Abort;
 use std::test::Fail;
-use test_images::{Byte, device_with, set_byte, set_bytes};
 
 /// The bytes that differ from a fresh image of one group of 16 blocks and 16 inodes: the block, the byte, the value.
 /// The root, in block 4, has its dots alone. Directory 3 has one block, which is block 5; directory 4 has twelve, each
@@ -42,13 +41,13 @@ fn change(device: &mut MemDevice, marks: [u8; 2]) -> Result<(), Refusal> {
     }
     device.write(5, &[255; BLOCK_BYTES])?;
     set_bytes(device, CHANGES)?;
-    set_byte(device, 1, 160, marks[0])?;
-    set_byte(device, 1, 161, marks[1])
+    set_byte(device, (1, 160, marks[0]))?;
+    set_byte(device, (1, 161, marks[1]))
 }
 
 /// What is kept of this image.
 fn frozen(alloc: Global, marks: [u8; 2]) -> Result<Frozen, Refusal> {
-    let mut device = device_with(alloc, &Geometry::new(1, 16, 16)?, &[])?;
+    let mut device = MemDevice::formatted(alloc, &Geometry::new(1, 16, 16)?, &[])?;
     match change(&mut device, marks) {
         Ok(()) => load(alloc, &mut device),
         Err(refusal) => Err(refusal),

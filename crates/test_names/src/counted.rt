@@ -1,15 +1,15 @@
 use crate::expect::same;
 use census::{Census, census_of};
+use device::{Byte, MemDevice};
 use layout::{Geometry, Refusal};
 use std::alloc::Global;
 use std::test::Fail;
-use test_images::{Byte, device_with};
 
 /// What is counted on the image of two groups of 16 blocks and 16 inodes that is fresh but for these bytes. The maps
 /// stand in blocks 1 and 17, the records in 2, 3, 18 and 19; number 2 and block 4 are marked.
 fn counted(alloc: Global, bytes: &[Byte]) -> Result<Census, Refusal> {
     let geometry = Geometry::new(2, 16, 16)?;
-    census_of(alloc, &mut device_with(alloc, &geometry, bytes)?)
+    census_of(alloc, &mut MemDevice::formatted(alloc, &geometry, bytes)?)
 }
 
 /// What is written of a count.

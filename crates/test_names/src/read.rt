@@ -1,12 +1,12 @@
 use crate::expect::same;
-use device::{Device, MemDevice};
+use device::{Byte, Device, MemDevice};
 use frozen::{Frozen, load};
 use layout::{Geometry, Refusal};
 use reading::{list, read, stat, tree};
 use std::alloc::Global;
 use std::process::Abort;
 use std::test::Fail;
-use test_images::{Byte, device_with, frozen_with};
+use test_images::frozen_with;
 
 /// What differs from a fresh image of one group of 16 blocks and 16 inodes: the block, the byte, the value. The root, in
 /// block 4, names file 3 "f" and directory 4 "d"; directory 4, in block 7, names the same file "g". The file has 1,500
@@ -48,7 +48,7 @@ const CHANGES: &[Byte] = &[
 
 /// The device with such an image.
 fn device(alloc: Global) -> Result<MemDevice, Refusal> {
-    device_with(alloc, &Geometry::new(1, 16, 16)?, CHANGES)
+    MemDevice::formatted(alloc, &Geometry::new(1, 16, 16)?, CHANGES)
 }
 
 /// What is kept of such an image.

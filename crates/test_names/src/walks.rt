@@ -1,11 +1,12 @@
 use crate::expect::same;
+use device::Byte;
 use frozen::Frozen;
 use layout::{Geometry, Refusal};
 use live_paths::{Entry, Path, empty_slot, find, has_names, names, target, walk};
 use std::alloc::Global;
 use std::process::Abort;
 use std::test::Fail;
-use test_images::{Byte, frozen_with};
+use test_images::frozen_with;
 
 /// The bytes that differ from a fresh image of one group of 16 blocks and 16 inodes: the block, the byte, the value.
 /// The root, in block 4, names directory 3 "a" in slot 3 and file 4 "f" in slot 4; its slot 2 is bad. Directory 3, in

@@ -1,7 +1,6 @@
 use crate::expect::same;
-use by_group::OfGroup;
 use device::{Device, MemDevice};
-use findings::{Finding, in_order};
+use findings::{Finding, OfGroup, in_order};
 use frozen::{Frozen, load};
 use inode::{DIRECT_POINTERS, FILE, RECORD_BYTES, Record};
 use layout::{BLOCK_BYTES, Geometry, INODES_PER_BLOCK, Refusal};
@@ -9,7 +8,6 @@ use phase_blocks::{BlockOwners, Claim, Part, owners, part};
 use std::alloc::Global;
 use std::process::Abort;
 use std::test::Fail;
-use test_images::device_with;
 
 /// Writes the record of an inode.
 fn write_record(
@@ -73,7 +71,7 @@ fn write_records(
 /// are 4 to 16 and 20 to 32, and the root claims block 4.
 fn image_with(alloc: Global, records: &[Numbered]) -> Result<Frozen, Refusal> {
     let geometry = Geometry::new(2, 16, 16)?;
-    let mut device = device_with(alloc, &geometry, &[])?;
+    let mut device = MemDevice::formatted(alloc, &geometry, &[])?;
     match write_records(&mut device, &geometry, records) {
         Ok(()) => load(alloc, &mut device),
         Err(refusal) => Err(refusal),

@@ -1,8 +1,9 @@
 //! What is kept of small images of two groups of 16 blocks and 16 inodes.
+use device::Byte;
 use frozen::Frozen;
 use layout::{Geometry, Refusal};
 use std::alloc::Global;
-use test_images::{Byte, frozen_with};
+use test_images::frozen_with;
 
 /// The bytes that differ from a fresh image of two groups of 16 blocks and 16 inodes: the block, the byte, the value.
 /// The root names 3, 18 and 6, and has a bad slot. Directory 3, in block 5, names the root in slot 2 and 17 in its last

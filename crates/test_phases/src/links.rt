@@ -1,5 +1,6 @@
 use crate::expect::same;
 use crate::images::image_with;
+use device::Byte;
 use findings::Finding;
 use frozen::Frozen;
 use layout::Refusal;
@@ -8,7 +9,6 @@ use sets::Members;
 use std::alloc::Global;
 use std::process::Abort;
 use std::test::Fail;
-use test_images::Byte;
 
 /// The bytes that differ from a fresh image of two groups of 16 blocks and 16 inodes: the block, the byte, the value.
 /// The root has 3 links; its slots 2 and 3 name file 5, which has 1 link, "a" and "b", and its slot 4 names file 20 of

@@ -1,7 +1,7 @@
 use crate::expect::same;
 use crate::images::image_with;
-use by_group::OfGroup;
-use findings::{Finding, in_order};
+use device::Byte;
+use findings::{Finding, OfGroup, in_order};
 use frozen::Frozen;
 use layout::Refusal;
 use phase_blocks::{Part, owners, part};
@@ -9,7 +9,6 @@ use phase_maps::{findings, number_findings};
 use std::alloc::Global;
 use std::process::Abort;
 use std::test::Fail;
-use test_images::Byte;
 
 /// The bytes that differ from a fresh image of two groups of 16 blocks and 16 inodes: the block, the byte, the value.
 /// Block 16 is marked, which is the last one of group 0, and number 31, which is the last one of group 1. Inode 18 has

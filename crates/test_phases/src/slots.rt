@@ -1,5 +1,5 @@
 use crate::expect::same;
-use device::MemDevice;
+use device::{Byte, MemDevice, set_bytes};
 use findings::Finding;
 use frozen::{Frozen, load};
 use layout::{Geometry, Refusal};
@@ -8,7 +8,6 @@ use std::alloc::Global;
 use std::collections::BTreeSet;
 use std::process::Abort;
 use std::test::Fail;
-use test_images::{Byte, device_with, set_bytes};
 
 /// The records of directories that differ from a fresh image of two groups of 16 blocks and 16 inodes. Directory 3 has
 /// block 5, 4 has block 6 and 5 has block 7. Directory 18 has 13 blocks: it claims 20, and 22 at position 12.
@@ -94,7 +93,7 @@ fn change(device: &mut MemDevice, tables: &[&[Byte]]) -> Result<(), Refusal> {
 
 /// What is kept of an image of two groups, fresh but for the bytes of these tables.
 fn image_with(alloc: Global, tables: &[&[Byte]]) -> Result<Frozen, Refusal> {
-    let mut device = device_with(alloc, &Geometry::new(2, 16, 16)?, &[])?;
+    let mut device = MemDevice::formatted(alloc, &Geometry::new(2, 16, 16)?, &[])?;
     match change(&mut device, tables) {
         Ok(()) => load(alloc, &mut device),
         Err(refusal) => Err(refusal),

@@ -1,11 +1,10 @@
 use crate::expect::{holds, same};
-use device::{Device, MemDevice};
+use device::{Device, MemDevice, set_byte};
 use inode::{DIRECT_POINTERS, FILE, RECORD_BYTES, Record};
 use layout::{BLOCK_BYTES, Geometry, INODES_PER_BLOCK, Refusal};
 use pictures::{Picture, Use, draw, look};
 use std::alloc::Global;
 use std::test::Fail;
-use test_images::{device_with, set_byte};
 
 /// What the blocks of the image of `used` are used for.
 const CELLS: &[Use] = &[
@@ -86,15 +85,15 @@ fn write_file(
 fn damage(device: &mut MemDevice, geometry: &Geometry) -> Result<(), Refusal> {
     write_file(device, geometry, 3, 2 * 1024, [5, 6, 0], 0)?;
     write_file(device, geometry, 16, 13 * 1024, [20, 21, 20], 22)?;
-    set_byte(device, 22, 0, 23)?;
-    set_byte(device, 1, 160, 65)
+    set_byte(device, (22, 0, 23))?;
+    set_byte(device, (1, 160, 65))
 }
 
 /// The picture of that image, which is else a fresh one of two groups of 16 blocks and 16 inodes: the maps stand in
 /// blocks 1 and 17, the records in 2, 3, 18 and 19, and the root claims block 4.
 fn used(alloc: Global) -> Result<Picture, Refusal> {
     let geometry = Geometry::new(2, 16, 16)?;
-    let mut device = device_with(alloc, &geometry, &[])?;
+    let mut device = MemDevice::formatted(alloc, &geometry, &[])?;
     match damage(&mut device, &geometry) {
         Ok(()) => look(alloc, &mut device),
         Err(refusal) => Err(refusal),
@@ -140,7 +139,7 @@ fn rows_are_drawn_by_runs(rt: HostRuntime) -> Result<(), Fail> {
 
 /// Why an image has no picture whose second block of maps is not its own.
 fn refused(alloc: Global) -> Result<Option<Refusal>, Refusal> {
-    let mut device = device_with(alloc, &Geometry::new(2, 16, 16)?, &[(17, 4, 7)])?;
+    let mut device = MemDevice::formatted(alloc, &Geometry::new(2, 16, 16)?, &[(17, 4, 7)])?;
     Ok(look(alloc, &mut device).err())
 }
 

@@ -2,6 +2,7 @@ ghost use Rattle.std.specs.Prelude.{◌≡◌, true};
 ghost use Rattle.live_states.specs.Snapshots.{IsRepairOf};
 
 use crate::expect::same;
+use device::Byte;
 use findings::Repair;
 use frozen::Frozen;
 use inode::{FILE, FREE};
@@ -13,7 +14,7 @@ use metadata::Metadata;
 use std::alloc::{AllocError, Global};
 use std::process::Abort;
 use std::test::Fail;
-use test_images::{Byte, frozen_with};
+use test_images::frozen_with;
 use updates::{Cell, Change, Update};
 
 /// The bytes that differ from a fresh image of one group of 32 blocks and 16 inodes: the block, the byte, the value. File

@@ -6,7 +6,7 @@ mod meeting;
 mod stage;
 
 use crate::expect::{holds, same};
-use device::MemDevice;
+use device::{Byte, MemDevice};
 use findings::Finding;
 use fsck::check_one;
 use images::{FILE_WITH_TWO_LINKS, FRESH, LOST_BLOCK, LOST_DIRECTORY};
@@ -22,7 +22,6 @@ use std::sync::Wait;
 use std::sync::ledger::{Blank, Ledger};
 use std::test::Fail;
 use std::thread::Threads;
-use test_images::Byte;
 use test_mounted::{Asked, Wanted, found_on, is_as, mounted};
 
 /// How often a row with threads is carried out.

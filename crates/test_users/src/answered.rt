@@ -2,7 +2,7 @@ mod scripts;
 
 use crate::expect::{holds, same};
 use command_text::write_reply;
-use device::MemDevice;
+use device::{Byte, MemDevice};
 use findings::Repair;
 use layout::Refusal;
 use scripts::SCRIPTS;
@@ -11,7 +11,6 @@ use std::process::Abort;
 use std::sync::Wait;
 use std::test::Fail;
 use std::thread::Threads;
-use test_images::Byte;
 use test_mounted::{found_on, mounted};
 use user_scripts::{Commands, UserLine, parse};
 use users::{Answered, Ran, run};

@@ -1,6 +1,6 @@
 use crate::expect::{holds, same};
 use crate::volumes::on_mounted;
-use device::MemDevice;
+use device::{Byte, MemDevice};
 use frozen::Frozen;
 use fsck::{Checked, check_one};
 use layout::{Geometry, Refusal};
@@ -10,7 +10,7 @@ use std::process::Abort;
 use std::sync::Arc;
 use std::test::Fail;
 use std::thread::Threads;
-use test_images::{Byte, frozen_with};
+use test_images::frozen_with;
 use test_mounted::{Asked, Wanted, commands_of, is_as};
 
 /// Block 9 is marked, and in no use.

@@ -1,11 +1,10 @@
 //! Mounted volumes of small images.
 ghost use Rattle.std.specs.Prelude.{◌≡◌};
 
-use device::MemDevice;
+use device::{Byte, MemDevice};
 use layout::Refusal;
 use snapshot::Volume;
 use std::alloc::Global;
-use test_images::Byte;
 use test_mounted::mounted;
 
 /// Hands over the mounted volume of the image of one group and so many inodes that is fresh but for these bytes. What lets a

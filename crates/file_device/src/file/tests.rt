@@ -1,6 +1,6 @@
 use super::FileDevice;
-use crate::tests::{format_groups, read_block, set_byte};
-use device::{Before, Device, DeviceFault, format};
+use crate::tests::{format_groups, read_block};
+use device::{Before, Device, DeviceFault, format, set_byte};
 use layout::{BLOCK_BYTES, Geometry, Refusal};
 use std::alloc::{AllocError, Global};
 use std::cell::{Cell, RefCell};
@@ -192,7 +192,7 @@ fn take(device: &mut FakeDevice, step: Step) -> bool {
         Step::ReadRun(from, to, byte) => reads_run(device, from, to, byte),
         Step::Write(address, byte, is_well) => write_byte(device, address, byte).is_ok() == is_well,
         Step::WriteRun(from, to, byte) => writes_run(device, from, to, byte),
-        Step::Change(address, at, byte) => set_byte(device, address, at, byte).is_ok(),
+        Step::Change(address, at, byte) => set_byte(device, (address, at, byte)).is_ok(),
         Step::ByteOf(address, at, byte) => has_byte(device, address, at, byte),
         Step::Sync(is_well) => device.sync().is_ok() == is_well,
         Step::Give => device.give().is_ok(),

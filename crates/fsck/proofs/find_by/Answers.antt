@@ -2,7 +2,7 @@ use Rattle.std.proofs.Common.{◌≡◌, ◌++◌, List, Option, Ok, ap, ◌∙�
 use Rattle.frozen.specs.Kept.{frozen_view}
 use Rattle.findings.specs.declared.finding.Finding.{Finding}
 use Rattle.findings.specs.Findings.{is_of_blocks, is_of_counts, is_of_maps}
-use Rattle.by_group.specs.Groups.{IsEach}
+use Rattle.findings.specs.Groups.{IsEach}
 use Rattle.phase_blocks.specs.declared.parts.Claim.{Claim}
 use Rattle.phase_blocks.specs.Owners.{AreOwners}
 use Rattle.fsck.specs.Checked.{IsFoundIn}

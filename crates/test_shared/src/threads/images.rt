@@ -1,5 +1,5 @@
 //! Small images. Each is the fresh image of one group of 16 blocks and 16 inodes but for some bytes.
-use test_images::Byte;
+use device::Byte;
 
 /// No byte differs.
 pub const FRESH: &[Byte] = &[];

@@ -2,7 +2,7 @@
 ghost use Rattle.std.specs.Prelude.{◌≡◌, ◌∷◌, [], IfOk, vec_len};
 ghost use Rattle.shared.specs.Opened.{Opened};
 
-use device::MemDevice;
+use device::{Byte, MemDevice};
 use findings::Finding;
 use fsck::{Checked, check_one};
 use layout::Refusal;
@@ -14,7 +14,6 @@ use std::marker::Brand;
 use std::sync::ledger::{Blank, Ledger};
 use std::sync::{Arc, Wait};
 use std::thread::{Threads, join};
-use test_images::Byte;
 use test_mounted::{Asked, command_of, mounted};
 
 /// What is done next.

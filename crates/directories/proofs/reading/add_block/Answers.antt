@@ -7,9 +7,17 @@ use Rattle.model.specs.Layout.{inode_count}
 use Rattle.model.specs.Named.{named_below, number_of}
 use Rattle.model.specs.Slots.{Absent, slot_in, slot_of}
 use Rattle.model.proofs.NamedLemmas.{named_before}
+use Rattle.model.proofs.Shape.{numbers}
 use Rattle.directories.proofs.SlotLemmas.{block_absent, slot_more}
 use Rattle.directories.proofs.reading.add_block.Goals as goal
 use Rattle.directories.proofs.reading.add_block.Goals.{then-slot-first+in_ok-add_number, else-slot-first}
+
+-- a position is a small number
+pub overflow_mul-start : goal.overflow_mul-start
+overflow_mul-start c = let small = (numbers c.args.frozen.now.geometry).1 in omega (arith, small.most, small.few, c.requires)
+
+pub overflow_add-slot-end : goal.overflow_add-slot-end
+overflow_add-slot-end c = let small = (numbers c.args.frozen.now.geometry).1 in omega (arith, small.most, small.few, c.requires)
 
 pub returns-in_default-clause-added : goal.returns-in_default-clause-added
 returns-in_default-clause-added c = λ e.

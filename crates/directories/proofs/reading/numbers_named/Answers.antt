@@ -14,6 +14,6 @@ returns-clause-numbers c =
     let geo = c.args.frozen.now.geometry in
     let view = frozen_view c.args.frozen.now in
     let last : c.loop-position.position ≡ c.block_count-position-end.result = omega arith in
-    let all : 16 * c.block_count-position-end.result ≤ slot_count = omega (arith, c.block_count-position-end.ensures.few) in
+    let all : 16 * c.block_count-position-end.result ≤ slot_count geo = omega (arith, c.block_count-position-end.ensures.few) in
     c.loop-position.invariant ∙ ap (λ n. named_below geo view c.args.first c.args.directory (16 * n)) last
     ∙ named_whole geo view c.args.directory c.args.first (16 * c.block_count-position-end.result) all c.block_count-position-end.ensures.past

@@ -11,10 +11,10 @@ use Rattle.frozen.proofs.loading.load.Goals as goal
 pub returns-clause-ok : goal.returns-clause-ok
 returns-clause-ok g c = λ honest.
     let kept : Kept = record { geometry = c.in_ok-geometry.geometry; blocks = shared_blocks c.in_ok-blocks.blocks.items } in
-    let middle = c.read_indirect.new.held in
+    let middle = c.read_tables.new.held in
     let held = c.read_directories.new.held in
     let image = g.D.Device.image c.args.device.now in
-    let steps = c.in_ok-read_indirect.ensures in
+    let steps = c.in_ok-read_tables.ensures in
     let last = c.in_ok-read_directories.ensures in
     let before = steps.reads.honest (last.reads.honest honest) in
     let first : c.read.new.to ≡ block_at image 0 = c.in_ok-read.ensures.block (c.in_ok-blocks.ensures.reads.honest before) in

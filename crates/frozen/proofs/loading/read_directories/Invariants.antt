@@ -1,5 +1,5 @@
 use Rattle.std.proofs.Common.{◌≡◌}
-use Rattle.frozen.specs.Kept.{KeepsFrame, KeepsIndirect, KeepsMore}
+use Rattle.frozen.specs.Kept.{KeepsFrame, KeepsTables, KeepsMore}
 use Rattle.frozen.specs.Loading.{AreBlocksOf}
 use Rattle.device.specs.Reading.{ReadsOnly}
 use Rattle.frozen.proofs.KeepingLemmas.{KeepsDirectoriesBelow}
@@ -9,7 +9,7 @@ abbrev pub invariant-loop-number : goal.invariant-loop-number
 invariant-loop-number g l = record {
   frame : KeepsFrame l.held;
   more : KeepsMore l.fn.held l.held;
-  indirect : KeepsIndirect l.held;
+  tables : KeepsTables l.held;
   directories : KeepsDirectoriesBelow l.held l.number;
   blocks : g.D.Device.honest l.device → AreBlocksOf l.fn.held.blocks (g.D.Device.image l.fn.device) → AreBlocksOf l.held.blocks (g.D.Device.image l.fn.device);
   reads : ReadsOnly g.D.Device.honest g.D.Device.image g.D.Device.held l.fn.device l.device;

@@ -3,7 +3,7 @@ use Rattle.model.specs.View.{Inode}
 use Rattle.model.specs.Uses.{blocks_of}
 use Rattle.frozen.specs.Loading.{AreBlocksOf}
 use Rattle.device.proofs.ReadingLemmas.{reads_on}
-use Rattle.frozen.proofs.ClaimLemmas.{more_of_more, indirect_stays, inode_stays}
+use Rattle.frozen.proofs.ClaimLemmas.{more_of_more, all_tables_stay, inode_stays}
 use Rattle.frozen.proofs.KeepingLemmas.{one_position_more, all_positions}
 use Rattle.frozen.proofs.loading.read_directory.Goals as goal
 
@@ -14,8 +14,8 @@ loop-position-preserved g c =
     record {
       frame = step.frame i.frame;
       more = more_of_more c.args.held.now c.loop-position.held c.keep_claimed.new.held i.more step.more;
-      indirect = indirect_stays c.loop-position.held c.keep_claimed.new.held i.frame step.more i.indirect;
-      positions = one_position_more c.loop-position.held c.keep_claimed.new.held i.frame step.more i.indirect c.args.number c.loop-position.position i.positions step.claim;
+      tables = all_tables_stay c.loop-position.held c.keep_claimed.new.held i.frame step.more i.tables;
+      positions = one_position_more c.loop-position.held c.keep_claimed.new.held i.frame step.more i.tables c.args.number c.loop-position.position i.positions step.claim;
       blocks = λ honest are.
           subst (AreBlocksOf c.keep_claimed.new.held.blocks) i.reads.same (step.blocks honest (subst (AreBlocksOf c.loop-position.held.blocks) (sym i.reads.same) (i.blocks (step.reads.honest honest) are)));
       reads = reads_on i.reads step.reads;
@@ -27,4 +27,4 @@ returns-clause-directory g c =
     let i = c.loop-position.invariant in
     let blocks = ap (λ (r : Inode). blocks_of r.size) (c.record.ensures ∙ inode_stays c.args.held.now c.loop-position.held c.requires.frame i.more c.args.number) in
     all_positions c.loop-position.held c.args.number c.loop-position.position
-    (omega (arith, c.loop-position-test.false, c.blocks-position-end.ensures, blocks)) i.indirect i.positions
+    (omega (arith, c.loop-position-test.false, c.blocks-position-end.ensures, blocks)) i.tables i.positions

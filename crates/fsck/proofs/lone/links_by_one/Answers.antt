@@ -1,6 +1,6 @@
 use Rattle.std.proofs.Common.{List, ℕ, sym, subst}
 use Rattle.frozen.specs.Kept.{frozen_view}
-use Rattle.by_group.specs.Groups.{IsEach}
+use Rattle.findings.specs.Groups.{IsEach}
 use Rattle.model.specs.Reached.{AreReached}
 use Rattle.refcounts.specs.Parts.{IsPart}
 use Rattle.fsck.specs.Parts.{are_links_if, are_links_of, is_counts_part}

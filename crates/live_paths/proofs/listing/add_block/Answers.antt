@@ -5,12 +5,20 @@ use Rattle.frozen.specs.Kept.{frozen_view}
 use Rattle.dirent.specs.Seen.{seen}
 use Rattle.model.specs.Layout.{inode_count}
 use Rattle.model.specs.Slots.{Absent, slot_in, slot_of}
+use Rattle.model.proofs.Shape.{numbers}
 use Rattle.machine.specs.Effects as machine
 use Rattle.live_paths.specs.Listed.{name_of}
 use Rattle.live_paths.specs.declared.listing.Named.{Named}
 use Rattle.live_paths.proofs.ListedLemmas.{block_absent, dots_more, slot_more}
 use Rattle.live_paths.proofs.listing.add_block.Goals as goal
 use Rattle.live_paths.proofs.listing.add_block.Goals.{then-slot-ge-FIRST_NAME+in_ok-add_name, else-slot-ge-FIRST_NAME}
+
+-- a position is a small number
+pub overflow_mul-start : goal.overflow_mul-start
+overflow_mul-start c = let small = (numbers c.args.frozen.now.geometry).1 in omega (arith, small.most, small.few, c.requires)
+
+pub overflow_add-slot-end : goal.overflow_add-slot-end
+overflow_add-slot-end c = let small = (numbers c.args.frozen.now.geometry).1 in omega (arith, small.most, small.few, c.requires)
 
 pub returns-in_default : goal.returns-in_default
 returns-in_default c = λ e.

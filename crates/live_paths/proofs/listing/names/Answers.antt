@@ -15,7 +15,7 @@ returns c = λ view shown.
     let geo = c.args.frozen.now.geometry in
     let kept = frozen_view c.args.frozen.now in
     let last : c.loop-position.position ≡ c.block_count-position-end.result = omega arith in
-    let all : 16 * c.block_count-position-end.result ≤ slot_count = omega (arith, c.block_count-position-end.ensures.few) in
+    let all : 16 * c.block_count-position-end.result ≤ slot_count geo = omega (arith, c.block_count-position-end.ensures.few) in
     c.loop-position.invariant ∙ ap (λ n. names_below geo kept c.args.directory (16 * n)) last
     ∙ names_whole geo kept c.args.directory (16 * c.block_count-position-end.result) all c.block_count-position-end.ensures.past
-    ∙ shown_names c.args.frozen.now view shown c.args.directory slot_count
+    ∙ shown_names c.args.frozen.now view shown c.args.directory (slot_count geo)

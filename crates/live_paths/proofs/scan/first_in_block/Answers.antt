@@ -2,9 +2,17 @@
 use Rattle.std.proofs.Common.{◌≡◌, ◌+◌, ◌*◌, ◌/◌, sym, ap, ◌∙◌, arith}
 use Rattle.model.specs.Layout.{inode_count}
 use Rattle.model.specs.Slots.{number_in, slot_of}
+use Rattle.model.proofs.Shape.{numbers}
 use Rattle.live_paths.specs.Sought.{is_sought, kept_slot}
 use Rattle.live_paths.proofs.ScanLemmas.{absent_none, none_more}
 use Rattle.live_paths.proofs.scan.first_in_block.Goals as goal
+
+-- a position is a small number
+pub overflow_mul-start : goal.overflow_mul-start
+overflow_mul-start c = let small = (numbers c.args.frozen.now.geometry).1 in omega (arith, small.most, small.few, c.requires.position)
+
+pub overflow_add-slot-end : goal.overflow_add-slot-end
+overflow_add-slot-end c = let small = (numbers c.args.frozen.now.geometry).1 in omega (arith, small.most, small.few, c.requires.position)
 
 pub returns-then-is_met-clause-found : goal.returns-then-is_met-clause-found
 returns-then-is_met-clause-found c =

@@ -6,10 +6,10 @@ use Rattle.model.specs.Layout.{Geometry, is_data_address}
 use Rattle.model.proofs.UseLemmas.{claim_parts}
 use Rattle.updates.specs.Places.{IsCell}
 use Rattle.updates.specs.Values.{cell}
-use Rattle.live_places.specs.Chosen.{IsEmptySlot, IsPlace}
+use Rattle.live_places.specs.Chosen.{IsEmptySlot, IsNewBlock, IsPlace}
 use Rattle.live_plans.specs.Entered.{EntersAt}
 use Rattle.live_plans.proofs.EnterLemmas.{cells_after, enters_new_block, enters_slot, only_these, record_first}
-use Rattle.live_plans.proofs.GrowLemmas.{same_size}
+use Rattle.live_plans.proofs.GrowLemmas.{few_before, same_size}
 use Rattle.live_plans.proofs.entering.enter_at.Goals as goal
 
 pub bytes_of-bytes-requires-clause-claim : goal.bytes_of-bytes-requires-clause-claim
@@ -18,6 +18,15 @@ bytes_of-bytes-requires-clause-claim c =
     let d = c.args.new.now.directory in
     let is : IsEmptySlot kept.geometry (frozen_view kept) d c.in-Slot.slot c.in-Slot.block = subst (IsPlace kept.geometry (frozen_view kept) d) c.in-Slot.is c.requires.place in
     claim_parts kept.geometry (frozen_view kept) d (c.in-Slot.slot / 16) c.in-Slot.block is.stands
+
+-- the directory has a position left, which is a small number
+pub overflow_mul-slot : goal.overflow_mul-slot
+overflow_mul-slot c =
+    let kept = c.args.metadata.now in
+    let new = c.args.new.now in
+    let is : IsNewBlock kept.geometry (frozen_view kept) new.directory c.in-NewBlock.block c.in-NewBlock.table = subst (IsPlace kept.geometry (frozen_view kept) new.directory) c.in-NewBlock.is c.requires.place in
+    let few = few_before kept.geometry (frozen_view kept) new.directory new.parent c.requires.parent.0 c.requires.parent.1 is.none c.requires.room in
+    omega (arith, few.1, c.blocks-in-NewBlock.ensures)
 
 pub put_slot-requires-clause-block : goal.put_slot-requires-clause-block
 put_slot-requires-clause-block c =

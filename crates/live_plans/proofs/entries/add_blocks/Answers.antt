@@ -5,12 +5,14 @@ use Rattle.std.proofs.lemmas.List.{map-append}
 use Rattle.frozen.specs.Kept.{Kept, frozen_view}
 use Rattle.model.specs.Layout.{is_number}
 use Rattle.model.specs.View.{Inode}
-use Rattle.model.specs.Uses.{blocks_of, claim_at, indirect_position, is_sound, is_sound_at}
+use Rattle.model.specs.Shape.{most_blocks}
+use Rattle.model.specs.Uses.{blocks_of, claim_at, is_sound, is_sound_at}
+use Rattle.model.proofs.Uses.{sound_few}
 use Rattle.ordering.specs.Cuts.{Block}
 use Rattle.updates.specs.declared.cell.Cell.{Cell}
 use Rattle.updates.specs.declared.cell.Cell.TheVariants as variants
 use Rattle.updates.specs.Values.{cell}
-use Rattle.live_plans.proofs.BlockLemmas.{AddsBlocks, adds_block, adds_none, adds_nothing, few_blocks, has_blocks, has_only}
+use Rattle.live_plans.proofs.BlockLemmas.{AddsBlocks, adds_block, adds_none, adds_nothing, has_blocks, has_only}
 use Rattle.live_plans.proofs.entries.add_blocks.Goals as goal
 use Rattle.live_plans.proofs.entries.add_blocks.Goals.{in-Some+in_ok-push, in_default}
 
@@ -27,11 +29,12 @@ loop-position-preserved c =
     let so_far = c.loop-position.cells.items in
     let held = c.frozen-frozen.result.now in
     let sound : IsTrue (is_sound_at held.geometry (frozen_view held) d) = sym c.is_sound_at.ensures ∙ c.if-not-is_sound_at.false in
-    let parts = and_parts (is_number held.geometry d) (is_sound ((frozen_view held).inode d)) sound in
+    let parts = and_parts (is_number held.geometry d) (is_sound held.geometry ((frozen_view held).inode d)) sound in
     let on = parts.0 in
-    let few : blocks_of ((frozen_view held).inode d).size ≤ indirect_position = few_blocks ((frozen_view held).inode d) parts.1 in
+    let few : blocks_of ((frozen_view held).inode d).size ≤ most_blocks held.geometry = sound_few held.geometry ((frozen_view held).inode d) parts.1 in
     let count : c.blocks-position-end.result ≡ blocks_of ((frozen_view held).inode d).size = c.blocks-position-end.ensures ∙ ap (λ (n : Inode). blocks_of n.size) c.record-inode.ensures in
-    let below : k < indirect_position = omega (arith, few, count, c.loop-position-test.true) in
+    let same : most_blocks held.geometry ≡ most_blocks geo = ap (λ (kept : Kept). most_blocks kept.geometry) c.frozen-frozen.ensures.same in
+    let below : k < most_blocks geo = omega (arith, few, count, same, c.loop-position-test.true) in
     let claimed : c.claim_of.result ≡ claim_at geo view d k =
     c.claim_of.ensures d on (sym c.record-inode.ensures) ∙ ap (λ (kept : Kept). claim_at kept.geometry (frozen_view kept) d k) c.frozen-frozen.ensures.same in
     elim c.match-claim_of.branch [

@@ -1,7 +1,11 @@
-use Rattle.std.proofs.Common.{ap, ◌∙◌}
+use Rattle.std.proofs.Common.{ap, ◌∙◌, subst}
 use Rattle.frozen.specs.Kept.{Kept, frozen_view}
+use Rattle.live_plans.specs.Linked.{HasPointers}
 use Rattle.live_plans.proofs.FoundLemmas.{self_shown}
 use Rattle.live_plans.proofs.tests.entered_on.Goals as goal
+
+pub enter_at-requires-clause-pointers : goal.enter_at-requires-clause-pointers
+enter_at-requires-clause-pointers c = subst (λ (held : Kept). HasPointers held c.args.directory) c.frozen-frozen.ensures.same (c.has_pointers.ensures c.if-not-has_pointers.false)
 
 pub enter_at-requires-clause-parent : goal.enter_at-requires-clause-parent
 enter_at-requires-clause-parent c = (

@@ -1,5 +1,5 @@
 -- Each turn frees one more orphan, or finds none; at the end all handles were looked at.
-use Rattle.std.proofs.Common.{◌≡◌, ◌+◌, sym, ◌∙◌, subst, add-one, arith}
+use Rattle.std.proofs.Common.{◌≡◌, sym, ◌∙◌, subst, add-one, arith}
 use Rattle.live_snapshots.proofs.Finding.{FreesFound, an_orphan, no_orphan, none_found}
 use Rattle.live_snapshots.proofs.orphans.free_orphans.Goals as goal
 use Rattle.live_snapshots.proofs.orphans.free_orphans.Goals.{in-Some+in_ok-free, in_default}

@@ -1,14 +1,19 @@
 -- Each test is one of the causes, in their order, and what is left is where the piece goes.
-use Rattle.std.proofs.Common.{◌<◌, ◌≤◌, ◌/◌, length, inl, inr, refl, sym, ap, ◌∙◌, subst, arith, IsTrue}
+use Rattle.std.proofs.Common.{◌≡◌, ℕ, ◌<◌, ◌≤◌, ◌/◌, length, inl, inr, refl, sym, ap, ◌∙◌, subst, arith, IsTrue}
 use Rattle.std.proofs.lemmas.Result.{err_from_is_err_and}
-use Rattle.model.specs.Layout.{is_number}
+use Rattle.model.specs.Layout.{Geometry, is_number}
 use Rattle.model.specs.View.{Inode}
+use Rattle.model.specs.Shape.{most_blocks}
 use Rattle.model.specs.Uses.{blocks_of}
 use Rattle.frozen.specs.Kept.{Kept, frozen_view}
 use Rattle.live_writes.proofs.Facts.{behind_needed, claimed, next_is, none_from, numbered, opened_sound, placed_seen, some_from}
 use Rattle.live_writes.proofs.Refusals.{bad_if, good_if, handle_refused, index_refused, piece_refused, position_refused, room_refused}
 use Rattle.live_writes.proofs.aiming.aim.Goals.{then-is_empty-via-then-is_empty, then-is_empty-via-else-is_empty+then-piece-gt-BLOCK_BYTES}
 use Rattle.live_writes.proofs.aiming.aim.Goals as goal
+
+-- what the geometry says of the limit
+limit : {kept held : Kept} {geo : Geometry} {n : ℕ} → n ≡ most_blocks geo → geo ≡ held.geometry → held ≡ kept → n ≡ most_blocks kept.geometry
+limit e f g = e ∙ ap most_blocks f ∙ ap (λ (k : Kept). most_blocks k.geometry) g
 
 pub returns-in_default-clause-refused : goal.returns-in_default-clause-refused
 returns-in_default-clause-refused c =
@@ -22,31 +27,33 @@ returns-then-is_empty-clause-refused c =
       | then-is_empty-via-else-is_empty+then-piece-gt-BLOCK_BYTES w ↦ bad_if c.args.piece.now (inr w.if-piece-gt-BLOCK_BYTES.true)
     ])
 
-pub returns-then-index-ge-INDIRECT_POSITION-clause-refused : goal.returns-then-index-ge-INDIRECT_POSITION-clause-refused
-returns-then-index-ge-INDIRECT_POSITION-clause-refused c =
+pub returns-then-index-most_blocks-clause-refused : goal.returns-then-index-most_blocks-clause-refused
+returns-then-index-most_blocks-clause-refused c =
+    let past = subst (λ n. n ≤ c.args.index) (limit c.most_blocks.ensures.count c.geometry.ensures.geometry c.frozen.ensures.same) c.if-index-most_blocks.true in
     let some : 1 ≤ length c.args.piece.now = some_from (length c.args.piece.now) c.is_empty.result c.is_empty.ensures c.if-is_empty.false in
     position_refused c.args.metadata.now c.args.holdings.now c.args.handle c.args.index c.args.piece.now c.in-Some.file (sym c.file_of.ensures ∙ c.in-Some.is)
-    (good_if c.args.piece.now some c.if-piece-gt-BLOCK_BYTES.false) c.if-index-ge-INDIRECT_POSITION.true
+    (good_if c.args.piece.now some c.if-piece-gt-BLOCK_BYTES.false) past
 
 pub record-requires : goal.record-requires
 record-requires c =
     let kept = c.args.metadata.now in
     let sound = opened_sound kept c.args.holdings.now c.requires.volume c.args.handle c.in-Some.file (sym c.file_of.ensures ∙ c.in-Some.is) in
-    subst (λ (f : Kept). IsTrue (is_number f.geometry c.in-Some.file)) (sym c.frozen.ensures.same) (numbered kept c.requires.volume.volume c.in-Some.file sound)
+    subst (λ (f : Kept). IsTrue (is_number f.geometry c.in-Some.file)) (sym c.frozen-2.ensures.same) (numbered kept c.requires.volume.volume c.in-Some.file sound)
 
 pub record-requires-2 : goal.record-requires-2
 record-requires-2 c =
     let kept = c.args.metadata.now in
     let sound = opened_sound kept c.args.holdings.now c.requires.volume c.args.handle c.in-Some.file (sym c.file_of.ensures ∙ c.in-Some.is) in
-    subst (λ (f : Kept). IsTrue (is_number f.geometry c.in-Some.file)) (sym c.frozen-2.ensures.same) (numbered kept c.requires.volume.volume c.in-Some.file sound)
+    subst (λ (f : Kept). IsTrue (is_number f.geometry c.in-Some.file)) (sym c.frozen-3.ensures.same) (numbered kept c.requires.volume.volume c.in-Some.file sound)
 
 pub returns-then-size-index-clause-refused : goal.returns-then-size-index-clause-refused
 returns-then-size-index-clause-refused c =
     let kept = c.args.metadata.now in
+    let low = subst (λ n. c.args.index < n) (limit c.most_blocks.ensures.count c.geometry.ensures.geometry c.frozen.ensures.same) c.if-index-most_blocks.false in
     let some : 1 ≤ length c.args.piece.now = some_from (length c.args.piece.now) c.is_empty.result c.is_empty.ensures c.if-is_empty.false in
-    let same = c.size.view_is ∙ c.record.ensures ∙ ap (λ (f : Kept). (frozen_view f).inode c.in-Some.file) c.frozen.ensures.same in
+    let same = c.size.view_is ∙ c.record.ensures ∙ ap (λ (f : Kept). (frozen_view f).inode c.in-Some.file) c.frozen-2.ensures.same in
     index_refused kept c.args.holdings.now c.args.handle c.args.index c.args.piece.now c.in-Some.file (sym c.file_of.ensures ∙ c.in-Some.is)
-    (good_if c.args.piece.now some c.if-piece-gt-BLOCK_BYTES.false) c.if-index-ge-INDIRECT_POSITION.false
+    (good_if c.args.piece.now some c.if-piece-gt-BLOCK_BYTES.false) low
     (subst (λ (n : Inode). n.size / 1024 < c.args.index) same c.if-size-index.true)
 
 pub place_over-requires-clause-claimed : goal.place_over-requires-clause-claimed
@@ -54,53 +61,57 @@ place_over-requires-clause-claimed c =
     let kept = c.args.metadata.now in
     let i = c.in-Some.file in
     let sound = opened_sound kept c.args.holdings.now c.requires.volume c.args.handle i (sym c.file_of.ensures ∙ c.in-Some.is) in
-    let same = c.record-2.ensures ∙ ap (λ (f : Kept). (frozen_view f).inode i) c.frozen-2.ensures.same in
+    let same = c.record-2.ensures ∙ ap (λ (f : Kept). (frozen_view f).inode i) c.frozen-3.ensures.same in
     claimed kept c.requires.volume.volume i sound c.frozen.ensures.metadata c.args.index
-    (subst (λ (n : Inode). c.args.index < blocks_of n.size) same (subst (λ n. c.args.index < n) c.blocks-2.ensures c.if-index-blocks.true)) c.if-index-ge-INDIRECT_POSITION.false
+    (subst (λ (n : Inode). c.args.index < blocks_of n.size) same (subst (λ n. c.args.index < n) c.blocks-2.ensures c.if-index-blocks.true))
 
 pub returns-in_err-place-clause-refused : goal.returns-in_err-place-clause-refused
 returns-in_err-place-clause-refused c =
     let kept = c.args.metadata.now in
+    let low = subst (λ n. c.args.index < n) (limit c.most_blocks.ensures.count c.geometry.ensures.geometry c.frozen.ensures.same) c.if-index-most_blocks.false in
     let some : 1 ≤ length c.args.piece.now = some_from (length c.args.piece.now) c.is_empty.result c.is_empty.ensures c.if-is_empty.false in
-    let same = c.size.view_is ∙ c.record.ensures ∙ ap (λ (f : Kept). (frozen_view f).inode c.in-Some.file) c.frozen.ensures.same in
+    let same = c.size.view_is ∙ c.record.ensures ∙ ap (λ (f : Kept). (frozen_view f).inode c.in-Some.file) c.frozen-2.ensures.same in
     let p = err_from_is_err_and c.from_residual.result c.from_residual.ensures.1 in
     rw (p.1, p.2)
     (room_refused kept c.args.holdings.now c.args.handle c.args.index c.args.piece.now c.in-Some.file (sym c.file_of.ensures ∙ c.in-Some.is)
-    (good_if c.args.piece.now some c.if-piece-gt-BLOCK_BYTES.false) c.if-index-ge-INDIRECT_POSITION.false
+    (good_if c.args.piece.now some c.if-piece-gt-BLOCK_BYTES.false) low
     (subst (λ (n : Inode). c.args.index ≤ n.size / 1024) same c.if-size-index.false) c.frozen.ensures.metadata
     c.in_err-place.field-0.0 c.in_err-place.ensures.refused.0 c.in_err-place.ensures.refused.1)
 
 pub returns-in_err-place-2-clause-refused : goal.returns-in_err-place-2-clause-refused
 returns-in_err-place-2-clause-refused c =
     let kept = c.args.metadata.now in
+    let low = subst (λ n. c.args.index < n) (limit c.most_blocks.ensures.count c.geometry.ensures.geometry c.frozen.ensures.same) c.if-index-most_blocks.false in
     let i = c.in-Some.file in
     let some : 1 ≤ length c.args.piece.now = some_from (length c.args.piece.now) c.is_empty.result c.is_empty.ensures c.if-is_empty.false in
-    let same = c.size.view_is ∙ c.record.ensures ∙ ap (λ (f : Kept). (frozen_view f).inode i) c.frozen.ensures.same in
-    let same_record = c.record-2.ensures ∙ ap (λ (f : Kept). (frozen_view f).inode i) c.frozen-2.ensures.same in
+    let same = c.size.view_is ∙ c.record.ensures ∙ ap (λ (f : Kept). (frozen_view f).inode i) c.frozen-2.ensures.same in
+    let same_record = c.record-2.ensures ∙ ap (λ (f : Kept). (frozen_view f).inode i) c.frozen-3.ensures.same in
     let near = subst (λ (n : Inode). c.args.index ≤ n.size / 1024) same c.if-size-index.false in
     let past = subst (λ (n : Inode). blocks_of n.size ≤ c.args.index) same_record (subst (λ n. n ≤ c.args.index) c.blocks-2.ensures c.if-index-blocks.false) in
     let next = next_is ((frozen_view kept).inode i).size c.args.index near past in
     let p = err_from_is_err_and c.from_residual-in_err-place-2.result c.from_residual-in_err-place-2.ensures.1 in
     rw (p.1, p.2)
     (room_refused kept c.args.holdings.now c.args.handle c.args.index c.args.piece.now i (sym c.file_of.ensures ∙ c.in-Some.is)
-    (good_if c.args.piece.now some c.if-piece-gt-BLOCK_BYTES.false) c.if-index-ge-INDIRECT_POSITION.false near c.frozen.ensures.metadata
+    (good_if c.args.piece.now some c.if-piece-gt-BLOCK_BYTES.false) low near c.frozen.ensures.metadata
     c.in_err-place-2.field-0.0 c.in_err-place-2.ensures.refused.0 (omega (arith, c.in_err-place-2.ensures.refused.1, behind_needed kept c.args.holdings.now i c.args.index next)))
 
 pub returns-in_ok-place-clause-aimed : goal.returns-in_ok-place-clause-aimed
-returns-in_ok-place-clause-aimed c = record {
-  opened = sym c.file_of.ensures ∙ c.in-Some.is;
-  index = refl;
-  some = some_from (length c.args.piece.now) c.is_empty.result c.is_empty.ensures c.if-is_empty.false;
-  few = c.if-piece-gt-BLOCK_BYTES.false;
-  near =
-      subst (λ (n : Inode). c.args.index ≤ n.size / 1024) (c.size.view_is ∙ c.record.ensures ∙ ap (λ (f : Kept). (frozen_view f).inode c.in-Some.file) c.frozen.ensures.same) c.if-size-index.false;
-  fits = record {
-    sound = opened_sound c.args.metadata.now c.args.holdings.now c.requires.volume c.args.handle c.in-Some.file (sym c.file_of.ensures ∙ c.in-Some.is);
-    room = c.if-index-ge-INDIRECT_POSITION.false;
-    placed = c.in_ok-place.ensures.placed;
-  };
-  enough = c.in_ok-place.ensures.enough;
-}
+returns-in_ok-place-clause-aimed c =
+    let low = subst (λ n. c.args.index < n) (limit c.most_blocks.ensures.count c.geometry.ensures.geometry c.frozen.ensures.same) c.if-index-most_blocks.false in
+    record {
+      opened = sym c.file_of.ensures ∙ c.in-Some.is;
+      index = refl;
+      some = some_from (length c.args.piece.now) c.is_empty.result c.is_empty.ensures c.if-is_empty.false;
+      few = c.if-piece-gt-BLOCK_BYTES.false;
+      near =
+          subst (λ (n : Inode). c.args.index ≤ n.size / 1024) (c.size.view_is ∙ c.record.ensures ∙ ap (λ (f : Kept). (frozen_view f).inode c.in-Some.file) c.frozen-2.ensures.same) c.if-size-index.false;
+      fits = record {
+        sound = opened_sound c.args.metadata.now c.args.holdings.now c.requires.volume c.args.handle c.in-Some.file (sym c.file_of.ensures ∙ c.in-Some.is);
+        room = low;
+        placed = c.in_ok-place.ensures.placed;
+      };
+      enough = c.in_ok-place.ensures.enough;
+    }
 
 pub returns-in_ok-place-clause-seen : goal.returns-in_ok-place-clause-seen
 returns-in_ok-place-clause-seen c =
@@ -109,9 +120,10 @@ returns-in_ok-place-clause-seen c =
 pub returns-in_ok-place-2-clause-aimed : goal.returns-in_ok-place-2-clause-aimed
 returns-in_ok-place-2-clause-aimed c =
     let kept = c.args.metadata.now in
+    let low = subst (λ n. c.args.index < n) (limit c.most_blocks.ensures.count c.geometry.ensures.geometry c.frozen.ensures.same) c.if-index-most_blocks.false in
     let i = c.in-Some.file in
-    let same = c.size.view_is ∙ c.record.ensures ∙ ap (λ (f : Kept). (frozen_view f).inode i) c.frozen.ensures.same in
-    let same_record = c.record-2.ensures ∙ ap (λ (f : Kept). (frozen_view f).inode i) c.frozen-2.ensures.same in
+    let same = c.size.view_is ∙ c.record.ensures ∙ ap (λ (f : Kept). (frozen_view f).inode i) c.frozen-2.ensures.same in
+    let same_record = c.record-2.ensures ∙ ap (λ (f : Kept). (frozen_view f).inode i) c.frozen-3.ensures.same in
     let near = subst (λ (n : Inode). c.args.index ≤ n.size / 1024) same c.if-size-index.false in
     let past = subst (λ (n : Inode). blocks_of n.size ≤ c.args.index) same_record (subst (λ n. n ≤ c.args.index) c.blocks-2.ensures c.if-index-blocks.false) in
     let next = next_is ((frozen_view kept).inode i).size c.args.index near past in
@@ -123,7 +135,7 @@ returns-in_ok-place-2-clause-aimed c =
       near = near;
       fits = record {
         sound = opened_sound kept c.args.holdings.now c.requires.volume c.args.handle i (sym c.file_of.ensures ∙ c.in-Some.is);
-        room = c.if-index-ge-INDIRECT_POSITION.false;
+        room = low;
         placed = c.in_ok-place-2.ensures.placed c.args.holdings.now i next;
       };
       enough = omega (arith, c.in_ok-place-2.ensures.enough, behind_needed kept c.args.holdings.now i c.args.index next);
@@ -133,9 +145,13 @@ pub returns-in_ok-place-2-clause-seen : goal.returns-in_ok-place-2-clause-seen
 returns-in_ok-place-2-clause-seen c =
     let kept = c.args.metadata.now in
     let i = c.in-Some.file in
-    let same = c.size.view_is ∙ c.record.ensures ∙ ap (λ (f : Kept). (frozen_view f).inode i) c.frozen.ensures.same in
-    let same_record = c.record-2.ensures ∙ ap (λ (f : Kept). (frozen_view f).inode i) c.frozen-2.ensures.same in
+    let same = c.size.view_is ∙ c.record.ensures ∙ ap (λ (f : Kept). (frozen_view f).inode i) c.frozen-2.ensures.same in
+    let same_record = c.record-2.ensures ∙ ap (λ (f : Kept). (frozen_view f).inode i) c.frozen-3.ensures.same in
     let near = subst (λ (n : Inode). c.args.index ≤ n.size / 1024) same c.if-size-index.false in
     let past = subst (λ (n : Inode). blocks_of n.size ≤ c.args.index) same_record (subst (λ n. n ≤ c.args.index) c.blocks-2.ensures c.if-index-blocks.false) in
     placed_seen kept c.args.holdings.now i c.args.index c.in_ok-place-2.place
     (c.in_ok-place-2.ensures.placed c.args.holdings.now i (next_is ((frozen_view kept).inode i).size c.args.index near past))
+
+pub place_behind-requires : goal.place_behind-requires
+place_behind-requires c =
+    subst (λ n. c.args.index < n) (limit c.most_blocks.ensures.count c.geometry.ensures.geometry c.frozen.ensures.same) c.if-index-most_blocks.false

@@ -21,5 +21,5 @@ returns-in_err-block-clause-refused c =
     let block = ap (λ o. unwrap_or o 0) (sym c.claim_at.ensures ∙ c.in-Some.is) in
     let keeps : is_kept_by holdings c.in-Some.old ≡ true = sym c.keeps.ensures ∙ c.if-not-keeps.false in
     let one : blocks_needed kept holdings i k ≡ 1 =
-    ap₂ (λ (t u : Bool). cond t (cond u 1 0) (blocks_behind (block_count_of kept i))) inside (ap (is_kept_by holdings) (ap (λ (f : Kept). unwrap_or (claim_at f.geometry (frozen_view f) i k) 0) (sym c.frozen.ensures.same) ∙ block) ∙ keeps) in
+    ap₂ (λ (t u : Bool). cond t (cond u 1 0) (blocks_behind kept.geometry (block_count_of kept i))) inside (ap (is_kept_by holdings) (ap (λ (f : Kept). unwrap_or (claim_at f.geometry (frozen_view f) i k) 0) (sym c.frozen.ensures.same) ∙ block) ∙ keeps) in
     rw (p.1, p.2) (c.in_err-block.ensures.none.0, omega (arith, one, c.in_err-block.ensures.none.1, none_below kept.geometry (frozen_view kept)))

@@ -1,77 +1,57 @@
--- The pointer is put, and then the record.
-use Rattle.std.proofs.Common.{◌∷◌, [], map, slice_set, sym, ap, ◌∙◌, subst, IsTrue}
+-- The pointer is put, and then the record, where it changes.
+use Rattle.std.proofs.Common.{◌≡◌, ◌||◌, not, false, true, map, sym, ap, ap₂, ◌∙◌, subst, refl, arith, Option, Some, None, is_some, All}
 use Rattle.std.proofs.lemmas.Result.{on_ok_weaker}
-use Rattle.std.specs.Arc.{arc_value}
-use Rattle.model.specs.Layout.{Geometry, is_data_address}
+use Rattle.std.specs.Option.{option_map}
+use Rattle.layout.specs.declared.geometry.TablePlace.{TablePlace}
+use Rattle.model.specs.Layout.{Geometry}
 use Rattle.model.specs.View.{Inode}
-use Rattle.model.specs.Uses.{IsClaim, indirect_position}
+use Rattle.model.specs.Shape.{position_count, table_of}
+use Rattle.model.proofs.Shape.{some_table}
 use Rattle.frozen.specs.Kept.{Kept, frozen_view}
-use Rattle.ordering.specs.Cuts.{Block}
+use Rattle.updates.specs.Places.{IsCell}
 use Rattle.updates.specs.Values.{cell}
-use Rattle.live_states.specs.Drafts.{GoesOn}
-use Rattle.live_writes.specs.Written.{HasTable, holder_at, repointed}
-use Rattle.live_writes.proofs.Pointing.{all_two, in_new_table, in_record, in_table}
+use Rattle.live_writes.specs.Written.{holder_at}
+use Rattle.live_writes.proofs.Pointing.{in_record, in_table, is_of_record, which_record}
+use Rattle.live_writes.proofs.writing.repoint.Goals.{else-is_none-via-then-is_none+else-is_some, else-is_none-via-else-is_none}
 use Rattle.live_writes.proofs.writing.repoint.Goals as goal
 
-pub returns-then-position-lt-DIRECT_POINTERS : goal.returns-then-position-lt-DIRECT_POINTERS
-returns-then-position-lt-DIRECT_POINTERS c =
-    let kept = c.args.metadata.now in
-    let i = c.args.target.now.file in
-    let k = c.args.target.now.index in
-    let b = c.args.block in
-    let before : Inode = record { mode = c.changed.inside.mode; links = c.changed.inside.links; size = c.changed.inside.size; direct = c.changed.inside.direct; indirect = c.changed.inside.indirect } in
-    let given : Inode = record before { size = c.args.size; direct = slice_set before.direct k b } in
-    let same = c.changed.view_is ∙ c.record-owner.ensures ∙ ap (λ (f : Kept). (frozen_view f).inode i) c.frozen.ensures.same in
-    on_ok_weaker c.push.result
-    (λ sets. in_record kept i k b c.args.size c.args.table c.args.plan.now c.push.new.self given (map cell c.in_ok-after.after.items) c.if-position-lt-DIRECT_POINTERS.true
-    (ap (λ (n : Inode). record n { size = c.args.size; direct = slice_set n.direct k b }) same) (ap (map cell) c.in_ok-after.ensures.items) sets)
-    c.push.ensures
+-- what the geometry says of the pointer's place
+mapped : (place : Option TablePlace) → is_some (option_map (λ (p : TablePlace). p.table) place) ≡ is_some place
+mapped None = refl
+mapped (Some p) = refl
 
-pub returns-in-Some : goal.returns-in-Some
-returns-in-Some c =
-    let kept = c.args.metadata.now in
-    let i = c.args.target.now.file in
-    let k = c.args.target.now.index in
-    let b = c.args.block in
-    let before : Inode = record { mode = c.changed.inside.mode; links = c.changed.inside.links; size = c.changed.inside.size; direct = c.changed.inside.direct; indirect = c.changed.inside.indirect } in
-    let given : Inode = record before { size = c.args.size; indirect = c.in-Some.table } in
-    let same = c.changed.view_is ∙ c.record-owner.ensures ∙ ap (λ (f : Kept). (frozen_view f).inode i) c.frozen.ensures.same in
-    on_ok_weaker c.push-in-Some.result
-    (λ sets. subst (λ t. GoesOn c.args.plan.now c.push-in-Some.new.self (repointed i ((frozen_view kept).inode i) k b c.args.size (holder_at kept i k b t))) (sym c.in-Some.is)
-    (in_new_table kept i k b c.args.size c.in-Some.table c.args.plan.now c.point_first.new.plan c.push-in-Some.new.self given (map cell c.in_ok-after-2.after.items) c.if-position-lt-DIRECT_POINTERS.false
-    (ap (λ (n : Inode). record n { size = c.args.size; indirect = c.in-Some.table }) same) (ap (map cell) c.in_ok-after-2.ensures.items) c.in_ok-point_first.ensures sets))
-    c.push-in-Some.ensures
+pub link-requires-clause-position : goal.link-requires-clause-position
+link-requires-clause-position c = omega (arith, c.requires.room, some_table c.args.metadata.now.geometry)
 
-pub pointers_of-pointers-requires : goal.pointers_of-pointers-requires
-pointers_of-pointers-requires c =
-    let kept = c.args.metadata.now in
-    let i = c.args.target.now.file in
-    let same = c.owner.view_is ∙ c.record-owner.ensures ∙ ap (λ (f : Kept). (frozen_view f).inode i) c.frozen.ensures.same in
-    let many = subst (HasTable kept i c.args.target.now.index) c.in_default.is c.requires.table in
-    subst (λ x. IsClaim kept.geometry (frozen_view kept) i indirect_position x) (sym (ap (λ (n : Inode). n.indirect) same))
-    (c.requires.pointers (many c.if-position-lt-DIRECT_POINTERS.false))
-
-pub point_at-requires-clause-indirect : goal.point_at-requires-clause-indirect
-point_at-requires-clause-indirect c =
-    let kept = c.args.metadata.now in
-    let i = c.args.target.now.file in
-    let same = c.record-owner.ensures ∙ ap (λ (f : Kept). (frozen_view f).inode i) c.frozen.ensures.same in
-    let many = subst (HasTable kept i c.args.target.now.index) c.in_default.is c.requires.table in
-    let claim = c.requires.pointers (many c.if-position-lt-DIRECT_POINTERS.false) in
-    subst (λ (g : Geometry). IsTrue (is_data_address g c.record-owner.result.indirect)) (sym c.requires.geometry)
-    (subst (λ (n : Inode). IsTrue (is_data_address kept.geometry n.indirect)) (sym same) claim.1)
+pub pointer_place-requires : goal.pointer_place-requires
+pointer_place-requires c =
+    let here = ap position_count (c.geometry.ensures.geometry ∙ ap (λ (f : Kept). f.geometry) c.frozen-frozen.ensures.same) in
+    omega (arith, c.requires.room, some_table c.args.metadata.now.geometry, here)
 
 pub enlarge-requires-clause-after : goal.enlarge-requires-clause-after
 enlarge-requires-clause-after c =
+    subst (λ (g : Geometry). All (IsCell g) (map cell c.in_ok-linked.linked.after.items)) (sym (c.in_ok-linked.ensures.geometry ∙ c.requires.geometry)) c.in_ok-linked.ensures.links.cells
+
+pub push-requires-clause-after : goal.push-requires-clause-after
+push-requires-clause-after c =
+    subst (λ (g : Geometry). All (IsCell g) (map cell c.in_ok-linked.linked.after.items)) (sym (c.in_ok-linked.ensures.geometry ∙ c.requires.geometry)) c.in_ok-linked.ensures.links.cells
+
+pub returns-then-is_some : goal.returns-then-is_some
+returns-then-is_some c =
     let kept = c.args.metadata.now in
     let i = c.args.target.now.file in
-    let same = c.owner.view_is ∙ c.record-owner.ensures ∙ ap (λ (f : Kept). (frozen_view f).inode i) c.frozen.ensures.same in
-    let many = subst (HasTable kept i c.args.target.now.index) c.in_default.is c.requires.table in
-    let claim = c.requires.pointers (many c.if-position-lt-DIRECT_POINTERS.false) in
-    let geometry = sym (c.in_ok-point_at.ensures.geometry ∙ c.requires.geometry) in
-    all_two c.point_at.new.plan.geometry (map cell c.in_ok-after-3.after.items) c.owner.inside.indirect c.args.block (ap (map cell) c.in_ok-after-3.ensures.items)
-    (subst (λ (g : Geometry). IsTrue (is_data_address g c.owner.inside.indirect)) geometry (subst (λ (n : Inode). IsTrue (is_data_address kept.geometry n.indirect)) (sym same) claim.1))
-    (subst (λ (g : Geometry). IsTrue (is_data_address g c.args.block)) geometry c.requires.block)
+    let k = c.args.target.now.index in
+    let b = c.args.block in
+    let table = c.args.table in
+    let same = c.record-owner.ensures ∙ ap (λ (f : Kept). (frozen_view f).inode i) c.frozen-frozen.ensures.same in
+    let one : is_some (table_of kept.geometry k) ≡ true =
+    sym (ap (λ (g : Geometry). is_some (table_of g k)) (c.geometry.ensures.geometry ∙ ap (λ (f : Kept). f.geometry) c.frozen-frozen.ensures.same))
+    ∙ ap is_some (sym c.pointer_place.ensures.table) ∙ mapped c.pointer_place.result ∙ sym c.is_some.ensures ∙ c.if-is_some.true in
+    let none : is_some table ≡ false = c.is_none.ensures ∙ ap not c.if-is_none.true in
+    on_ok_weaker c.enlarge.result
+    (λ sets. in_table kept.geometry i ((frozen_view kept).inode i) k b c.args.size c.args.plan.now c.link.new.plan c.enlarge.new.plan (holder_at kept i k b table) c.in_ok-linked.linked.record c.record-owner.result
+    (map cell c.in_ok-linked.linked.after.items) (which_record kept i k b table c.requires.table ∙ ap₂ (λ s t. s || not t) none one) same c.in_ok-linked.ensures.links sets)
+    c.enlarge.ensures
 
 pub returns : goal.returns
 returns c =
@@ -79,11 +59,23 @@ returns c =
     let i = c.args.target.now.file in
     let k = c.args.target.now.index in
     let b = c.args.block in
-    let owner = c.record-owner.result in
-    let same = c.record-owner.ensures ∙ ap (λ (f : Kept). (frozen_view f).inode i) c.frozen.ensures.same in
-    on_ok_weaker c.enlarge.result
-    (λ sets. subst (λ t. GoesOn c.args.plan.now c.enlarge.new.plan (repointed i ((frozen_view kept).inode i) k b c.args.size (holder_at kept i k b t))) (sym c.in_default.is)
-    (in_table kept i k b c.args.size c.args.plan.now c.point_at.new.plan c.enlarge.new.plan owner (arc_value c.in_ok-copy.copy) (map cell c.in_ok-after-3.after.items) c.if-position-lt-DIRECT_POINTERS.false
-    same (c.in_ok-copy.ensures.bytes ∙ c.pointers_of-pointers.ensures ∙ ap (λ (n : Inode). (frozen_view kept).bytes n.indirect) c.owner.view_is)
-    (ap (map cell) c.in_ok-after-3.ensures.items ∙ ap (λ (n : Inode). Block n.indirect ∷ Block b ∷ []) c.owner.view_is) c.in_ok-point_at.ensures sets))
-    c.enlarge.ensures
+    let table = c.args.table in
+    let same = c.record-owner.ensures ∙ ap (λ (f : Kept). (frozen_view f).inode i) c.frozen-frozen.ensures.same in
+    let before : Inode = record { mode = c.changed.inside.mode; links = c.changed.inside.links; size = c.changed.inside.size; direct = c.changed.inside.direct; indirect = c.changed.inside.indirect } in
+    let given : Inode = record before { size = c.args.size } in
+    let sized_so = ap (λ (n : Inode). record n { size = c.args.size }) c.changed.view_is in
+    let of_record : is_of_record (holder_at kept i k b table) ≡ true = elim c.else-is_none.branch [
+      | else-is_none-via-then-is_none+else-is_some w ↦
+          let none : is_some table ≡ false = c.is_none.ensures ∙ ap not w.if-is_none.true in
+          let nowhere : is_some (table_of kept.geometry k) ≡ false =
+          sym (ap (λ (g : Geometry). is_some (table_of g k)) (w.geometry.ensures.geometry ∙ ap (λ (f : Kept). f.geometry) c.frozen-frozen.ensures.same))
+          ∙ ap is_some (sym w.pointer_place.ensures.table) ∙ mapped w.pointer_place.result ∙ sym w.is_some.ensures ∙ w.if-is_some.false in
+          which_record kept i k b table c.requires.table ∙ ap₂ (λ s t. s || not t) none nowhere
+      | else-is_none-via-else-is_none w ↦
+          let some : is_some table ≡ true = c.is_none.ensures ∙ ap not w.if-is_none.false in
+          which_record kept i k b table c.requires.table ∙ ap (λ s. s || not (is_some (table_of kept.geometry k))) some
+    ] in
+    on_ok_weaker c.push.result
+    (λ sets. in_record kept.geometry i ((frozen_view kept).inode i) k b c.args.size c.args.plan.now c.link.new.plan c.push.new.self (holder_at kept i k b table) c.in_ok-linked.linked.record given c.record-owner.result
+    (map cell c.in_ok-linked.linked.after.items) of_record same c.in_ok-linked.ensures.links sized_so sets)
+    c.push.ensures

@@ -8,7 +8,7 @@ use Rattle.live_states.specs.Drafts.{Draft, GoesOn}
 use Rattle.live_writes.specs.Aimed.{IsPlaced}
 use Rattle.live_writes.specs.Written.{updates_at}
 use Rattle.live_writes.specs.declared.aiming.Place.TheVariants.{InPlace}
-use Rattle.live_writes.proofs.Facts.{placed_seen}
+use Rattle.live_writes.proofs.Facts.{link_behind, link_over, placed_seen}
 use Rattle.live_writes.proofs.Pointing.{all_one, goes_behind, goes_elsewhere, goes_in_place}
 use Rattle.live_writes.proofs.writing.updates.Goals.{in-InPlace+in_ok-replace-in-InPlace+in_ok-after-in-InPlace+in_ok-enlarge-in-InPlace, in-Behind+in_ok-fill-in-Behind+in_ok-repoint-in-Behind, in-Elsewhere+in_ok-fill-in-Elsewhere+in_ok-repoint-in-Elsewhere}
 use Rattle.live_writes.proofs.writing.updates.Goals as goal
@@ -32,6 +32,23 @@ enlarge-requires-clause-after c =
     all_one c.replace.new.plan.geometry (map cell c.in_ok-after-in-InPlace.after.items) a (ap (map cell) c.in_ok-after-in-InPlace.ensures.items)
     (subst (λ (g : Geometry). IsTrue (is_data_address g a))
     (sym (c.in_ok-replace-in-InPlace.ensures.geometry ∙ ap (λ (d : Draft). d.geometry) c.new-plan.ensures ∙ c.geometry.ensures.geometry ∙ ap (λ (f : Kept). f.geometry) c.frozen.ensures.same)) address)
+
+pub repoint-requires-clause-table : goal.repoint-requires-clause-table
+repoint-requires-clause-table c =
+    let kept = c.args.metadata.now in
+    let target = c.args.target.now in
+    let fits = c.requires.fits.1 in
+    let b = c.in-Behind.block in
+    let is = subst (IsPlaced kept c.requires.fits.0 target.file target.index) c.in-Behind.is fits.placed in
+    link_behind kept target.file target.index c.requires.pointers fits.room b c.in-Behind.table is.0 is.2
+
+pub repoint-requires-in-Elsewhere-clause-table : goal.repoint-requires-in-Elsewhere-clause-table
+repoint-requires-in-Elsewhere-clause-table c =
+    let kept = c.args.metadata.now in
+    let target = c.args.target.now in
+    let fits = c.requires.fits.1 in
+    let is = subst (IsPlaced kept c.requires.fits.0 target.file target.index) c.in-Elsewhere.is fits.placed in
+    link_over kept target.file target.index c.requires.pointers fits.room is.0
 
 pub returns : goal.returns
 returns c =

@@ -1,13 +1,14 @@
 -- The updates are those of the piece over what is seen, and of a longer piece over anything.
-use Rattle.std.proofs.Common.{◌≡◌, ◌<◌, ◌+◌, ◌*◌, [], length, refl, sym, ap, ◌∙◌, subst}
+use Rattle.std.proofs.Common.{◌≡◌, ◌<◌, ◌+◌, ◌*◌, [], length, refl, sym, ap, ◌∙◌, subst, arith}
 use Rattle.std.specs.Arc.{arc_value}
 use Rattle.std.specs.List.{All}
 use Rattle.model.specs.Layout.{block_count}
 use Rattle.model.specs.View.{Inode}
+use Rattle.model.proofs.Shape.{numbers}
 use Rattle.frozen.specs.Kept.{Kept, frozen_view}
 use Rattle.live_states.specs.Drafts.{GoesOn}
+use Rattle.live_plans.proofs.GrowLemmas.{volume_claims}
 use Rattle.live_writes.specs.Written.{grown_size, updates_at}
-use Rattle.live_writes.proofs.Facts.{has_indirect}
 use Rattle.live_writes.proofs.Sights.{held_below, planned, planned_anyhow, size_from, size_stays}
 use Rattle.live_writes.proofs.writing.write.Goals.{then-end-size, else-end-size}
 use Rattle.live_writes.proofs.writing.write.Goals as goal
@@ -49,4 +50,10 @@ returns-clause-holds c =
 
 pub updates-requires-clause-pointers : goal.updates-requires-clause-pointers
 updates-requires-clause-pointers c =
-    has_indirect c.args.metadata.now c.requires.volume.volume c.args.target.now.file c.requires.aimed.2.fits.sound
+    volume_claims c.args.metadata.now c.frozen.ensures.metadata c.requires.volume.volume c.args.target.now.file c.requires.aimed.2.fits.sound
+
+pub overflow_add-end : goal.overflow_add-end
+overflow_add-end c =
+    let aimed = c.requires.aimed.2 in
+    let num = (numbers c.args.metadata.now.geometry).1 in
+    omega (arith, aimed.few, aimed.fits.room, num.most, num.few)

@@ -1,6 +1,6 @@
 use Rattle.std.proofs.Common.{sym, subst}
 use Rattle.model.specs.Cells.{updated}
-use Rattle.free_space.specs.Free.{IsFreeOf}
+use Rattle.metadata.specs.Free.{IsFreeOf}
 use Rattle.metadata.specs.Staged.{IsBitOf, bit}
 use Rattle.metadata.proofs.metadata.note.Goals as goal
 

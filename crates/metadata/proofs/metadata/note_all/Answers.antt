@@ -1,7 +1,7 @@
 use Rattle.std.proofs.Common.{map, sym, subst}
 use Rattle.std.proofs.lemmas.List.{take_all}
 use Rattle.model.specs.Cells.{updated_all}
-use Rattle.free_space.specs.Free.{IsFreeOf}
+use Rattle.metadata.specs.Free.{IsFreeOf}
 use Rattle.metadata.specs.Staged.{bit}
 use Rattle.metadata.proofs.Steps.{bits_more}
 use Rattle.metadata.proofs.metadata.note_all.Goals as goal

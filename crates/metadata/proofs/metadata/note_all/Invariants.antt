@@ -2,7 +2,7 @@ use Rattle.std.proofs.Common.{All, map, take}
 use Rattle.model.specs.Layout.{Geometry}
 use Rattle.model.specs.View.{View}
 use Rattle.model.specs.Cells.{updated_all}
-use Rattle.free_space.specs.Free.{IsFreeOf}
+use Rattle.metadata.specs.Free.{IsFreeOf}
 use Rattle.metadata.specs.Staged.{AreBitsOf, IsBitOf, bit}
 use Rattle.metadata.proofs.metadata.note_all.Given as goal
 

@@ -3,8 +3,8 @@ use Rattle.std.specs.List.{flat_map}
 use Rattle.frozen.specs.Kept.{frozen_view}
 use Rattle.model.specs.Layout.{Geometry, IsGeometry, header_blocks}
 use Rattle.findings.specs.Findings.{is_of_blocks}
-use Rattle.by_group.specs.Groups.{AreFoundIn}
-use Rattle.by_group.proofs.JoinLemmas.{stands_at}
+use Rattle.findings.specs.Groups.{AreFoundIn}
+use Rattle.findings.proofs.JoinLemmas.{stands_at}
 use Rattle.phase_blocks.specs.Owners.{Holds, HoldsOf}
 use Rattle.phase_blocks.proofs.OwnerLemmas.{are_owners, are_found, all_sorted}
 use Rattle.phase_blocks.proofs.owning.owners.Goals as goal

@@ -1,5 +1,5 @@
 -- A sound inode is no finding, and one that is not sound uses nothing.
-use Rattle.std.proofs.Common.{◌≡◌, ◌≢◌, IsTrue, IsFalse, sym, ap, ◌∙◌, arith}
+use Rattle.std.proofs.Common.{◌≡◌, ◌≢◌, IsTrue, IsFalse, sym, ap, ap₂, ◌∙◌, arith}
 use Rattle.std.proofs.lemmas.Bool.{true≢false}
 use Rattle.std.proofs.lemmas.Result.{on_ok_weaker}
 use Rattle.model.specs.View.{Inode}
@@ -13,14 +13,14 @@ pub returns-then-is_sound-clause-looked : goal.returns-then-is_sound-clause-look
 returns-then-is_sound-clause-looked c = on_ok_weaker c.look_at_uses.result (λ told inodes uses h.
     let geo = c.args.frozen.now.geometry in
     let view = frozen_view c.args.frozen.now in
-    let sound : IsTrue (is_sound (view.inode c.args.number)) = ap is_sound (sym c.record-record.ensures) ∙ sym c.is_sound.ensures ∙ c.if-is_sound.true in
+    let sound : IsTrue (is_sound geo (view.inode c.args.number)) = sym (ap₂ is_sound c.geometry.ensures.geometry c.record-record.ensures) ∙ sym c.is_sound.ensures ∙ c.if-is_sound.true in
     good_record geo view inodes (with_uses uses c.args.number) c.args.number c.look_at_uses.new.part (λ b. true≢false (sym sound ∙ b.2)) (told inodes uses h)) c.look_at_uses.ensures.looked
 
 pub returns-then-record-ne-FREE-clause-looked : goal.returns-then-record-ne-FREE-clause-looked
 returns-then-record-ne-FREE-clause-looked c = on_ok_weaker c.add_finding.result (λ told inodes uses h.
     let geo = c.args.frozen.now.geometry in
     let view = frozen_view c.args.frozen.now in
-    let unsound : IsFalse (is_sound (view.inode c.args.number)) = ap is_sound (sym c.record-record.ensures) ∙ sym c.is_sound.ensures ∙ c.if-is_sound.false in
+    let unsound : IsFalse (is_sound geo (view.inode c.args.number)) = sym (ap₂ is_sound c.geometry.ensures.geometry c.record-record.ensures) ∙ sym c.is_sound.ensures ∙ c.if-is_sound.false in
     let mode : (view.inode c.args.number).mode ≡ c.record.inside.mode = ap (λ (n : Inode). n.mode) (sym c.record-record.ensures ∙ sym c.record.view_is) in
     let in_use : (view.inode c.args.number).mode ≢ 0 = λ free. omega (arith, c.if-record-ne-FREE.true, mode, free) in
     no_uses geo view _ uses c.args.number c.add_finding.new.self unsound
@@ -30,7 +30,7 @@ pub returns-else-record-ne-FREE-clause-looked : goal.returns-else-record-ne-FREE
 returns-else-record-ne-FREE-clause-looked c = λ inodes uses h.
     let geo = c.args.frozen.now.geometry in
     let view = frozen_view c.args.frozen.now in
-    let unsound : IsFalse (is_sound (view.inode c.args.number)) = ap is_sound (sym c.record-record.ensures) ∙ sym c.is_sound.ensures ∙ c.if-is_sound.false in
+    let unsound : IsFalse (is_sound geo (view.inode c.args.number)) = sym (ap₂ is_sound c.geometry.ensures.geometry c.record-record.ensures) ∙ sym c.is_sound.ensures ∙ c.if-is_sound.false in
     let mode : (view.inode c.args.number).mode ≡ c.record.inside.mode = ap (λ (n : Inode). n.mode) (sym c.record-record.ensures ∙ sym c.record.view_is) in
     let free : (view.inode c.args.number).mode ≡ 0 = omega (arith, c.if-record-ne-FREE.false, mode) in
     no_uses geo view _ uses c.args.number c.args.part.now unsound (good_record geo view inodes uses c.args.number c.args.part.now (λ b. b.1 free) h)

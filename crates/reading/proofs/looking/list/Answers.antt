@@ -30,5 +30,5 @@ returns-clause-listed c = λ image is.
     let leads = c.in_ok-directory.ensures.found image is in
     let directory = sym (same_directory kept.geometry (frozen_view kept) view is.metadata i) ∙ sym c.is_directory_at.ensures ∙ c.if-not-is_directory_at.false in (
       (list_accepted kept.geometry view c.args.path.now i leads directory, tt),
-      (c.in_ok-names.ensures view is.metadata ∙ ap (λ n. names_below kept.geometry view n slot_count) (sym (number_of kept.geometry view c.args.path.now i leads)), refl),
+      (c.in_ok-names.ensures view is.metadata ∙ ap (λ n. names_below kept.geometry view n (slot_count kept.geometry)) (sym (number_of kept.geometry view c.args.path.now i leads)), refl),
     )

@@ -2,7 +2,7 @@ use Rattle.std.proofs.Common.{◌∙◌, sym, ap}
 use Rattle.model.specs.Uses.{record_use}
 use Rattle.model.proofs.UseLemmas.{use_of_record, no_number_no_use}
 use Rattle.frozen.specs.Kept.{frozen_view}
-use Rattle.frozen.proofs.ClaimLemmas.{free_no_use}
+use Rattle.frozen.proofs.PointerLemmas.{free_no_use}
 use Rattle.frozen.proofs.held.Held.use_at.Goals as goal
 
 pub returns-then-not-is_number : goal.returns-then-not-is_number

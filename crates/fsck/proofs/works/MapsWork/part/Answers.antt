@@ -1,6 +1,6 @@
 use Rattle.std.proofs.Common.{◌<◌, ℕ, refl, sym, subst}
 use Rattle.std.proofs.lemmas.Result.{IfOk-weaker}
-use Rattle.by_group.proofs.JoinLemmas.{stands_at}
+use Rattle.findings.proofs.JoinLemmas.{stands_at}
 use Rattle.fsck.proofs.works.MapsWork.part.Goals as goal
 
 pub returns-clause-part : goal.returns-clause-part

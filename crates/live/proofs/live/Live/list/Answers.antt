@@ -77,9 +77,9 @@ returns-clause-listed g c = λ h beside.
     let is = sym leads ∙ c.in_ok-directory.was in
     let directory = sym (same_directory kept.geometry (frozen_view kept) (users_view disk q) c.in_ok-directory.directory (volume.shows.inode c.in_ok-directory.directory))
     ∙ sym (c.is_directory_at.ensures ∙ ap (λ (k : Kept). is_directory_at k.geometry (frozen_view k) c.in_ok-directory.directory) c.frozen-frozen.ensures.same) ∙ c.if-not-is_directory_at.false in
-    let names = subst (λ (k : Kept). (view : View) → IsShownBy k view → map name_of c.in_ok-names.field-0.items ≡ names_below k.geometry view c.in_ok-directory.directory slot_count)
+    let names = subst (λ (k : Kept). (view : View) → IsShownBy k view → map name_of c.in_ok-names.field-0.items ≡ names_below k.geometry view c.in_ok-directory.directory (slot_count k.geometry))
     c.frozen-frozen.ensures.same c.in_ok-names.ensures (users_view disk q) seen in
     subst (λ (l : Alive _). Step l.kept.geometry (state_of (g.D.Device.image l.device) l beside) (ListNames c.args.path.now) (Ok (Listed (map name_of c.in_ok-names.field-0.items))) (state_of (g.D.Device.image l.device) l beside)) c.self.view_is (
       (list_accepts kept.geometry (state_over disk q c.self.inside.holdings beside) c.args.path.now c.in_ok-path.path c.in_ok-path.ensures c.in_ok-directory.directory is directory, tt),
-      (names ∙ ap (λ i. names_below kept.geometry (users_view disk q) i slot_count) (sym (number_there kept.geometry (state_over disk q c.self.inside.holdings beside) c.args.path.now c.in_ok-path.path c.in_ok-path.ensures c.in_ok-directory.directory is)), refl),
+      (names ∙ ap (λ i. names_below kept.geometry (users_view disk q) i (slot_count kept.geometry)) (sym (number_there kept.geometry (state_over disk q c.self.inside.holdings beside) c.args.path.now c.in_ok-path.path c.in_ok-path.ensures c.in_ok-directory.directory is)), refl),
     )

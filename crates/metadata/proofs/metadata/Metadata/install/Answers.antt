@@ -1,7 +1,7 @@
 use Rattle.std.proofs.Common.{All, map, sym, subst}
 use Rattle.frozen.specs.Kept.{Kept, KeepsMetadata, frozen_view}
 use Rattle.frozen.specs.Installed.{FitsIn}
-use Rattle.free_space.specs.Free.{IsFreeOf}
+use Rattle.metadata.specs.Free.{IsFreeOf}
 use Rattle.model.specs.Cells.{updated_all}
 use Rattle.metadata.specs.Shown.{IsMetadata}
 use Rattle.metadata.specs.Staged.{IsStaged, IsBitOf, after, bit}

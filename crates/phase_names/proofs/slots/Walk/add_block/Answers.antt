@@ -3,8 +3,16 @@ use Rattle.std.proofs.Common.{◌≡◌, ◌+◌, ◌*◌, ◌/◌, ap, sym, ◌
 use Rattle.frozen.specs.Kept.{frozen_view}
 use Rattle.model.specs.Layout.{Geometry, inode_count}
 use Rattle.model.specs.Slots.{slot_of}
+use Rattle.model.proofs.Shape.{numbers}
 use Rattle.phase_names.specs.Walks.{IsWalked}
 use Rattle.phase_names.proofs.slots.Walk.add_block.Goals as goal
+
+-- a position is a small number
+pub overflow_mul-first : goal.overflow_mul-first
+overflow_mul-first c = let small = (numbers c.args.frozen.now.geometry).1 in omega (arith, small.most, small.few, c.requires.position)
+
+pub overflow_add-slot-end : goal.overflow_add-slot-end
+overflow_add-slot-end c = let small = (numbers c.args.frozen.now.geometry).1 in omega (arith, small.most, small.few, c.requires.position)
 
 pub add_slot-requires : goal.add_slot-requires
 add_slot-requires c =

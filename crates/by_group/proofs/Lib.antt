@@ -1,2 +1,0 @@
-pub mod JoinLemmas
-pub mod PlaceLemmas

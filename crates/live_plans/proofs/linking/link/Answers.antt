@@ -1,0 +1,61 @@
+-- The pointer goes where there is a place for it, or into a new table, which goes there.
+use Rattle.std.proofs.Common.{◌≡◌, ◌∷◌, [], ◌++◌, ℕ, List, Some, None, Option, sym, ap, ◌∙◌, subst, map, IfOk}
+use Rattle.std.proofs.lemmas.List.{map-append}
+use Rattle.std.proofs.lemmas.Option.{same_Some}
+use Rattle.model.specs.Layout.{Geometry}
+use Rattle.model.specs.Shape.{table_of}
+use Rattle.frozen.specs.Kept.{Kept, frozen_view}
+use Rattle.ordering.specs.Cuts.{Block, Cell}
+use Rattle.plans_data.specs.Plans.{holder_of}
+use Rattle.updates.specs.declared.cell.Cell.TheVariants as variants
+use Rattle.updates.specs.Values.{cell}
+use Rattle.live_places.specs.Chosen.{listed}
+use Rattle.live_plans.specs.declared.linking.Linked.{Linked}
+use Rattle.live_plans.specs.Linked.{CanLink, IsLinked}
+use Rattle.live_plans.proofs.LinkLemmas.{links_new}
+use Rattle.live_plans.proofs.linking.link.Goals as goal
+
+pub link_there-requires-clause-tables : goal.link_there-requires-clause-tables
+link_there-requires-clause-tables c =
+    subst (λ (kept : Kept). CanLink kept c.args.number c.args.position []) (sym c.frozen.ensures.same)
+    (subst (λ (t : Option ℕ). CanLink c.args.metadata.now c.args.number c.args.position (listed t)) c.in_default.is c.requires.tables)
+
+-- the new table is one of the position, and its own table is claimed
+pub link_there-requires-2-clause-tables : goal.link_there-requires-2-clause-tables
+link_there-requires-2-clause-tables c =
+    let kept = c.args.metadata.now in
+    let m = c.in-Some-pointer_place.place.table in
+    let one : table_of kept.geometry c.args.position ≡ Some m =
+    sym (ap (λ (g : Geometry). table_of g c.args.position) (c.geometry.ensures.geometry ∙ ap (λ (held : Kept). held.geometry) c.frozen-2.ensures.same)) ∙ sym c.in-Some-pointer_place.ensures.table in
+    let can : CanLink kept c.args.number c.args.position (c.in-Some.table ∷ []) = subst (λ (t : Option ℕ). CanLink kept c.args.number c.args.position (listed t)) c.in-Some.is c.requires.tables in
+    subst (λ (held : Kept). CanLink held c.args.number m []) (sym c.frozen-3.ensures.same)
+    (subst (λ (l : ℕ). CanLink kept c.args.number l []) (same_Some can.0 m (sym can.1 ∙ one)) can.3)
+
+pub returns-in_default-clause-links : goal.returns-in_default-clause-links
+returns-in_default-clause-links c =
+    let kept = c.args.metadata.now in
+    let n = c.args.number in
+    let k = c.args.position in
+    let b = c.args.block in
+    subst (λ (t : Option ℕ). IfOk c.link_there.result (λ (l : Linked). IsLinked kept.geometry n c.args.owner.now k b (holder_of kept.geometry (frozen_view kept) n k b (listed t)) c.args.plan.now c.link_there.new.plan l.record (map cell l.after.items)))
+    (sym c.in_default.is)
+    (subst (λ (held : Kept). IfOk c.link_there.result (λ (l : Linked). IsLinked held.geometry n c.args.owner.now k b (holder_of held.geometry (frozen_view held) n k b []) c.args.plan.now c.link_there.new.plan l.record (map cell l.after.items)))
+    c.frozen.ensures.same c.link_there.ensures.links)
+
+pub returns-clause-links : goal.returns-clause-links
+returns-clause-links c =
+    let kept = c.args.metadata.now in
+    let n = c.args.number in
+    let k = c.args.position in
+    let b = c.args.block in
+    let x = c.in-Some.table in
+    let m = c.in-Some-pointer_place.place.table in
+    let given = c.in_ok-linked.linked.record in
+    let cells = map cell c.in_ok-linked.linked.after.items in
+    let one : table_of kept.geometry k ≡ Some m =
+    sym (ap (λ (g : Geometry). table_of g k) (c.geometry.ensures.geometry ∙ ap (λ (held : Kept). held.geometry) c.frozen-2.ensures.same)) ∙ sym c.in-Some-pointer_place.ensures.table in
+    let items : map cell c.push.new.self.items ≡ cells ++ Block b ∷ [] = ap (map cell) c.in_ok-push.ensures.items ∙ map-append cell c.in_ok-linked.linked.after.items (variants.Block b ∷ []) in
+    let up = subst (λ (held : Kept). IsLinked held.geometry n c.args.owner.now m x (holder_of held.geometry (frozen_view held) n m x []) c.start_table.new.plan c.link_there-2.new.plan given cells) c.frozen-3.ensures.same c.in_ok-linked.ensures.links in
+    subst (λ (t : Option ℕ). IsLinked kept.geometry n c.args.owner.now k b (holder_of kept.geometry (frozen_view kept) n k b (listed t)) c.args.plan.now c.link_there-2.new.plan given (map cell c.push.new.self.items)) (sym c.in-Some.is)
+    (subst (λ (cs : List Cell). IsLinked kept.geometry n c.args.owner.now k b (holder_of kept.geometry (frozen_view kept) n k b (x ∷ [])) c.args.plan.now c.link_there-2.new.plan given cs) (sym items)
+    (links_new kept.geometry (frozen_view kept) n c.args.owner.now k b m x [] c.args.plan.now c.start_table.new.plan c.link_there-2.new.plan given cells one c.requires.block c.in_ok-start_table.ensures up))

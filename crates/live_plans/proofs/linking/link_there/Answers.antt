@@ -1,0 +1,57 @@
+-- The table that holds the pointer is claimed, and gets it.
+use Rattle.std.proofs.Common.{◌≡◌, ◌∷◌, ℕ, Some, sym, ap, ◌∙◌, subst, map, IsTrue}
+use Rattle.std.proofs.lemmas.Bool.{le-leb}
+use Rattle.std.proofs.lemmas.Option.{none-some}
+use Rattle.model.specs.Layout.{Geometry, is_data_address}
+use Rattle.model.specs.Cells.{SetBytes}
+use Rattle.model.specs.Shape.{most_blocks, place_in_table, table_of}
+use Rattle.model.proofs.Shape.{table_is_table}
+use Rattle.model.proofs.UseLemmas.{claim_from, claim_parts}
+use Rattle.machine.specs.Cells.{with_pointer}
+use Rattle.frozen.specs.Kept.{frozen_view}
+use Rattle.plans_data.specs.Append.{pointer_after}
+use Rattle.updates.specs.Values.{cell}
+use Rattle.live_places.specs.Chosen.{listed}
+use Rattle.live_states.specs.Drafts.{GoesOn}
+use Rattle.live_plans.proofs.LinkLemmas.{links_table}
+use Rattle.live_plans.proofs.linking.link_there.Goals as goal
+
+pub unreachable-requires : goal.unreachable-requires
+unreachable-requires c =
+    let kept = c.args.frozen.now in
+    let one = sym (ap (λ (g : Geometry). table_of g c.args.position) c.geometry-geometry.ensures.geometry) ∙ sym c.in-Some.ensures.table in
+    let claim = c.requires.tables c.in-Some.place.table one in
+    none-some claim.0 (sym c.in_default-claim_at.is ∙ c.claim_at.ensures ∙ claim_from kept.geometry (frozen_view kept) c.args.number c.in-Some.place.table claim.0 claim.1)
+
+pub pointers_of-pointers-requires-clause-table : goal.pointers_of-pointers-requires-clause-table
+pointers_of-pointers-requires-clause-table c =
+    let kept = c.args.frozen.now in
+    let one = sym (ap (λ (g : Geometry). table_of g c.args.position) c.geometry-geometry.ensures.geometry) ∙ sym c.in-Some.ensures.table in
+    le-leb (most_blocks kept.geometry) c.in-Some.place.table (table_is_table kept.geometry c.args.position c.in-Some.place.table one)
+
+pub pointers_of-pointers-requires-clause-claim : goal.pointers_of-pointers-requires-clause-claim
+pointers_of-pointers-requires-clause-claim c =
+    let kept = c.args.frozen.now in
+    claim_parts kept.geometry (frozen_view kept) c.args.number c.in-Some.place.table c.in-Some-claim_at.table (sym c.claim_at.ensures ∙ c.in-Some-claim_at.is)
+
+pub put_at-requires-clause-table : goal.put_at-requires-clause-table
+put_at-requires-clause-table c =
+    let kept = c.args.frozen.now in
+    subst (λ (g : Geometry). IsTrue (is_data_address g c.in-Some-claim_at.table)) (sym c.requires.geometry)
+    (claim_parts kept.geometry (frozen_view kept) c.args.number c.in-Some.place.table c.in-Some-claim_at.table (sym c.claim_at.ensures ∙ c.in-Some-claim_at.is)).1
+
+pub returns-clause-links : goal.returns-clause-links
+returns-clause-links c =
+    let kept = c.args.frozen.now in
+    let k = c.args.position in
+    let b = c.args.block in
+    let x = c.in-Some-claim_at.table in
+    let over = c.table_over-over.result in
+    let pointers = c.pointers_of-pointers.result.now in
+    let one = sym (ap (λ (g : Geometry). table_of g k) c.geometry-geometry.ensures.geometry) ∙ sym c.in-Some.ensures.table in
+    let place : c.in-Some.place.place ≡ place_in_table kept.geometry k = c.in-Some.ensures.place ∙ ap (λ (g : Geometry). place_in_table g k) c.geometry-geometry.ensures.geometry in
+    links_table kept.geometry (frozen_view kept) c.args.number c.args.owner.now k b c.in-Some.place.table x pointers over c.args.plan.now c.put_at.new.plan (map cell c.in_ok-after.after.items) one
+    (claim_parts kept.geometry (frozen_view kept) c.args.number c.in-Some.place.table x (sym c.claim_at.ensures ∙ c.in-Some-claim_at.is))
+    c.pointers_of-pointers.ensures c.table_over-over.ensures.over c.table_over-over.ensures.address c.requires.block
+    (subst (λ (p : ℕ). GoesOn c.args.plan.now c.put_at.new.plan (λ q. record { change = SetBytes x (with_pointer pointers p b); after = pointer_after c.args.number p b pointers (listed over) } ∷ q)) place c.in_ok-put_at.ensures)
+    c.in_ok-after.ensures

@@ -1,0 +1,289 @@
+ghost use Rattle.std.specs.Prelude.{◌≡◌, ◌<◌, ◌∷◌, ◌++◌, [], ℕ, Some, None, IfOk, IfSome, IsTrue, OnOk, map, replicate, true};
+ghost use Rattle.std.specs.Arc.{arc_value};
+ghost use Rattle.std.specs.List.{All};
+ghost use Rattle.frozen.specs.Kept.{KeepsMetadata, frozen_view};
+ghost use Rattle.model.specs.Cells.{SetBlock, SetBytes};
+ghost use Rattle.model.specs.Layout.{is_data_address, is_number};
+ghost use Rattle.model.specs.Shape.{above, is_table, position_count, table_of};
+ghost use Rattle.model.specs.Uses.{IsClaim};
+ghost use Rattle.machine.specs.Cells.{block_of, with_pointer};
+ghost use Rattle.ordering.specs.Cuts.{Block as BlockCell, BlockBit, Record as RecordCell};
+ghost use Rattle.plans_data.specs.Append.{pointer_after};
+ghost use Rattle.plans_data.specs.Plans.{holder_of};
+ghost use Rattle.updates.specs.Places.{IsCell};
+ghost use Rattle.updates.specs.Values.{cell};
+ghost use Rattle.live_places.specs.Chosen.{listed};
+ghost use Rattle.live_states.specs.Drafts.{GoesOn};
+ghost use Rattle.live_plans.specs.Linked.{CanLink, IsLinked};
+
+use crate::Plan;
+use frozen::Frozen;
+use inode::Record;
+use layout::{BLOCK_BYTES, Block, Geometry, u32_at};
+use metadata::Metadata;
+use spares::Spares;
+use std::alloc::{AllocError, Global};
+use std::sync::Arc;
+use updates::{Cell, Change};
+
+/// How many bytes a pointer has.
+const POINTER_BYTES: usize = 4;
+
+/// The record of an inode once one of its positions points to a new block, and the cells that it comes after.
+#[derive(Drop)]
+pub struct Linked {
+    pub record: Record,
+    pub after: Vec<Cell>,
+}
+
+/// Adds the updates by which a position of an inode with this record points to a new block. The pointer goes into the
+/// record, into a table that is there, or, where one is given, into a new table, to which the inode then points likewise.
+/// Spare blocks serve for the copy of a table, where there are some.
+pub fn link(
+    alloc: Global,
+    metadata: &Metadata,
+    plan: &mut Plan,
+    spares: &mut Spares,
+    number: u32,
+    owner: &Record,
+    position: u32,
+    block: u32,
+    table: Option<u32>,
+) -> Result<Linked, AllocError>
+    requires geometry { plan.old.geometry ≡ metadata.now.geometry }
+    requires number { IsTrue (is_number metadata.now.geometry number) }
+    requires position { position < position_count metadata.now.geometry }
+    requires block { IsTrue (is_data_address metadata.now.geometry block) }
+    requires tables { CanLink metadata.now number position (listed table) }
+    ensures geometry { OnOk result (plan.new.geometry ≡ plan.old.geometry) }
+    ensures links { IfOk result (λ linked. IsLinked metadata.now.geometry number owner.now position block
+        (holder_of metadata.now.geometry (frozen_view metadata.now) number position block (listed table)) plan.old plan.new linked.record (map cell linked.after.items)) }
+{
+    let Some(table) = table else {
+        return link_there(
+            alloc,
+            metadata.frozen(),
+            plan,
+            spares,
+            number,
+            owner,
+            position,
+            block,
+        );
+    };
+    let Some(place) = metadata.frozen().geometry().pointer_place(position) else {
+        unreachable!()
+    };
+    start_table(alloc, plan, number, block, table)?;
+    let mut linked = link_there(
+        alloc,
+        metadata.frozen(),
+        plan,
+        spares,
+        number,
+        owner,
+        place.table,
+        table,
+    )?;
+    linked.after.push(Cell::Block(block))?;
+    Ok(linked)
+}
+
+/// The same, where the table that holds the pointer is there.
+fn link_there(
+    alloc: Global,
+    frozen: &Frozen,
+    plan: &mut Plan,
+    spares: &mut Spares,
+    number: u32,
+    owner: &Record,
+    position: u32,
+    block: u32,
+) -> Result<Linked, AllocError>
+    requires metadata { KeepsMetadata frozen.now }
+    requires geometry { plan.old.geometry ≡ frozen.now.geometry }
+    requires number { IsTrue (is_number frozen.now.geometry number) }
+    requires position { position < position_count frozen.now.geometry }
+    requires block { IsTrue (is_data_address frozen.now.geometry block) }
+    requires tables { CanLink frozen.now number position [] }
+    ensures geometry { OnOk result (plan.new.geometry ≡ plan.old.geometry) }
+    ensures links { IfOk result (λ linked. IsLinked frozen.now.geometry number owner.now position block
+        (holder_of frozen.now.geometry (frozen_view frozen.now) number position block []) plan.old plan.new linked.record (map cell linked.after.items)) }
+{
+    let geometry = frozen.geometry();
+    let Some(place) = geometry.pointer_place(position) else {
+        let mut after = Vec::new(alloc);
+        after.push(Cell::Block(block))?;
+        let record = owner.with_field(&geometry, position, block);
+        return Ok(Linked { record, after });
+    };
+    let Some(table) = frozen.claim_at(number, place.table) else {
+        unreachable!()
+    };
+    let pointers = pointers_of(frozen, number, place.table, table);
+    let over = table_over(frozen, number, place.table);
+    put_at(
+        alloc,
+        plan,
+        spares,
+        number,
+        place.place,
+        block,
+        table,
+        pointers,
+        over,
+    )?;
+    let after = cells_of(alloc, over, table, block)?;
+    Ok(Linked {
+        record: *owner,
+        after,
+    })
+}
+
+/// The pointers of a table of an inode.
+fn pointers_of(frozen: &Frozen, number: u32, position: u32, block: u32) -> &Block
+    requires metadata { KeepsMetadata frozen.now }
+    requires table { IsTrue (is_table frozen.now.geometry position) }
+    requires claim { IsClaim frozen.now.geometry (frozen_view frozen.now) number position block }
+    ensures { result.now ≡ (frozen_view frozen.now).bytes block }
+{
+    match frozen.block(block) {
+        Some(bytes) => bytes,
+        None => unreachable!(),
+    }
+}
+
+/// The table over a table of an inode, where there is one.
+fn table_over(frozen: &Frozen, number: u32, table: u32) -> Option<u32>
+    requires inside { table < position_count frozen.now.geometry }
+    requires table { (k : ℕ) × (table_of frozen.now.geometry k ≡ Some table) }
+    requires claimed { (x : ℕ) × IsClaim frozen.now.geometry (frozen_view frozen.now) number table x }
+    ensures over { listed result ≡ map (block_of frozen.now.geometry (frozen_view frozen.now) number) (above frozen.now.geometry table) }
+    ensures address { IfSome result (λ a. IsTrue (is_data_address frozen.now.geometry a)) }
+{
+    let place = frozen.geometry().pointer_place(table)?;
+    frozen.claim_at(number, place.table)
+}
+
+/// Adds the update that puts the pointer to a new block into a table of an inode, which has these pointers and this table
+/// over it, at this place.
+fn put_at(
+    alloc: Global,
+    plan: &mut Plan,
+    spares: &mut Spares,
+    number: u32,
+    place: usize,
+    block: u32,
+    table: u32,
+    pointers: &Block,
+    over: Option<u32>,
+) -> Result<(), AllocError>
+    requires place { place < 256 }
+    requires number { IsTrue (is_number plan.old.geometry number) }
+    requires block { IsTrue (is_data_address plan.old.geometry block) }
+    requires table { IsTrue (is_data_address plan.old.geometry table) }
+    requires over { IfSome over (λ a. IsTrue (is_data_address plan.old.geometry a)) }
+    ensures { OnOk result (GoesOn plan.old plan.new (λ q. record {
+      change = SetBytes table (with_pointer pointers.now place block);
+      after = pointer_after number place block pointers.now (listed over);
+    } ∷ q)) }
+{
+    let mut copy = spares.share(alloc, pointers)?;
+    let after = pointer_after(alloc, number, place, block, pointers, over)?;
+    put_into(&mut copy, place, block)?;
+    plan.push(Change::SetBytes(table, copy), after)
+}
+
+/// What a pointer to a block comes after that is put into this place of a table of an inode: the block, and where another
+/// pointer stood there the inode's record and the table over it too, since an older record may have it in use.
+pub(crate) fn pointer_after(
+    alloc: Global,
+    number: u32,
+    place: usize,
+    block: u32,
+    pointers: &Block,
+    over: Option<u32>,
+) -> Result<Vec<Cell>, AllocError>
+    requires { place < 256 }
+    ensures { IfOk result (λ after. map cell after.items ≡ pointer_after number place block pointers.now (listed over)) }
+{
+    if u32_at(pointers, POINTER_BYTES * place) == 0 {
+        return Ok(vec![in alloc; Cell::Block(block)]?);
+    }
+    match over {
+        None => Ok(vec![in alloc; Cell::Block(block), Cell::Record(number)]?),
+        Some(over) => Ok(vec![in alloc;
+            Cell::Block(block),
+            Cell::Record(number),
+            Cell::Block(over),
+        ]?),
+    }
+}
+
+/// The tables on the way and the block itself, which a record comes after.
+fn cells_of(
+    alloc: Global,
+    over: Option<u32>,
+    table: u32,
+    block: u32,
+) -> Result<Vec<Cell>, AllocError>
+    ensures { IfOk result (λ after. map cell after.items ≡ map BlockCell (listed over) ++ BlockCell table ∷ BlockCell block ∷ []) }
+{
+    match over {
+        None => Ok(vec![in alloc; Cell::Block(table), Cell::Block(block)]?),
+        Some(over) => Ok(vec![in alloc;
+            Cell::Block(over),
+            Cell::Block(table),
+            Cell::Block(block),
+        ]?),
+    }
+}
+
+/// Adds the updates that mark a new table of an inode, and put the pointer to a new block into it.
+fn start_table(
+    alloc: Global,
+    plan: &mut Plan,
+    number: u32,
+    block: u32,
+    table: u32,
+) -> Result<(), AllocError>
+    requires number { IsTrue (is_number plan.old.geometry number) }
+    requires block { IsTrue (is_data_address plan.old.geometry block) }
+    requires table { IsTrue (is_data_address plan.old.geometry table) }
+    ensures { OnOk result (GoesOn plan.old plan.new (λ q. record {
+      change = SetBytes table (with_pointer (replicate 1024 0) 0 block);
+      after = BlockBit table ∷ BlockCell block ∷ RecordCell number ∷ [];
+    }
+        ∷ record { change = SetBlock table true; after = [] } ∷ q)) }
+{
+    plan.push(Change::SetBlock(table, true), Vec::new(alloc))?;
+    let mut pointers = [0; BLOCK_BYTES];
+    put_pointer(&mut pointers, 0, block);
+    let bytes = Arc::new(alloc, pointers)?;
+    let after = vec![in alloc;
+        Cell::BlockBit(table),
+        Cell::Block(block),
+        Cell::Record(number),
+    ]?;
+    plan.push(Change::SetBytes(table, bytes), after)
+}
+
+/// Puts a pointer into a shared table, at this place among the pointers. The block is copied first, if it has other
+/// owners.
+fn put_into(pointers: &mut Arc<Block>, place: usize, block: u32) -> Result<(), AllocError>
+    requires { place < 256 }
+    ensures { OnOk result (arc_value pointers.new ≡ with_pointer (arc_value pointers.old) place block) }
+{
+    let bytes = Arc::make_mut(pointers)?;
+    put_pointer(bytes, place, block);
+    Ok(())
+}
+
+/// Puts a pointer into a table, at this place among the pointers.
+fn put_pointer(pointers: &mut Block, place: usize, block: u32)
+    requires { place < 256 }
+    ensures { pointers.new ≡ with_pointer pointers.old place block }
+{
+    let start = POINTER_BYTES * place;
+    pointers[start..start + POINTER_BYTES].copy_from_slice(&block.to_le_bytes());
+}
