@@ -1,10 +1,10 @@
 //! The updates of a command, which are tested once and then issued.
 ghost use Rattle.std.specs.Prelude.{◌≡◌, true, map, All};
-ghost use Rattle.updates.specs.Values.{cell};
-ghost use Rattle.updates.specs.Places.{IsCell, IsUpdate};
+ghost use Rattle.updates.specs.Values.{cell, change as value_of};
+ghost use Rattle.updates.specs.Places.{FitsVolume, IsCell, IsUpdate};
 
-use layout::{Geometry, ROOT, Refusal};
-use softdep::{Cell, Queue, Update};
+use layout::{DOUBLE, Geometry, ROOT, Refusal};
+use softdep::{Cell, Change, Queue, Update};
 use std::marker::Model;
 
 /// The updates that carry out a command on a volume, the first first.
@@ -73,7 +73,19 @@ fn are_updates(geometry: &Geometry, updates: &[Update]) -> bool
 fn is_update(geometry: &Geometry, update: &Update) -> bool
     ensures { result ≡ true → IsUpdate geometry.now update.now }
 {
-    is_cell(geometry, update.change.cell()) && are_cells(geometry, update.after.as_slice())
+    is_cell(geometry, update.change.cell())
+        && fits(geometry, &update.change)
+        && are_cells(geometry, update.after.as_slice())
+}
+
+/// Whether what a change writes fits the volume: no record of version 1 has a double indirect pointer.
+fn fits(geometry: &Geometry, change: &Change) -> bool
+    ensures { result ≡ true → FitsVolume geometry.now (value_of change.now) }
+{
+    match change {
+        Change::SetInode(_, record) => geometry.version() == DOUBLE || record.double == 0,
+        _ => true,
+    }
 }
 
 /// Whether these are cells of the volume.

@@ -150,5 +150,6 @@ fn empty_record(mode: u16, size: u32) -> Record {
         size,
         direct: [0; DIRECT_POINTERS],
         indirect: 0,
+        double: 0,
     }
 }

@@ -74,7 +74,7 @@ pub fn take_census(frozen: &Frozen) -> Census
 }
 
 impl Census {
-    /// Writes a line for each number behind a text: its name, a blank and the number.
+    /// Writes a line for each number behind a text, its name, a blank and the number: first the version of the layout.
     pub fn write(&self, text: &mut String) -> Result<(), AllocError> {
         let Census {
             geometry,
@@ -87,6 +87,7 @@ impl Census {
             longest_free_run,
         } = *self;
         let lines = [
+            ("format", geometry.version()),
             ("groups", geometry.groups()),
             ("blocks-a-group", geometry.blocks_a_group()),
             ("inodes-a-group", geometry.inodes_a_group()),

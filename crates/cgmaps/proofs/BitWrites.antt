@@ -41,7 +41,7 @@ module _ (geo : Geometry) (ok : IsGeometry geo) (block : ℕ → List ℕ) (g : 
       → ((a : ℕ) → after_view.bytes a ≡ (view_of geo block).bytes a)
       → view_of geo after ≡ after_view
   views_agree after_view inodes numbers blocks contents = λ i. record {
-    inode = fun_ext (λ n. ap (λ b. cond (is_number geo n) (inode_at b (inode_byte n)) free_inode) (put_there block (group_block geo g) (inode_block geo n) bytes (λ e. inodes_are_no_maps geo ok n g (sym e))) ∙ sym (inodes n)) i;
+    inode = fun_ext (λ n. ap (λ b. cond (is_number geo n) (inode_at geo.version b (inode_byte n)) free_inode) (put_there block (group_block geo g) (inode_block geo n) bytes (λ e. inodes_are_no_maps geo ok n g (sym e))) ∙ sym (inodes n)) i;
     number_marked = fun_ext numbers i;
     block_marked = fun_ext blocks i;
     bytes = fun_ext (λ a. same_cond (is_data_address geo a) (after a) (block a) [] (λ t. put_there block (group_block geo g) a bytes (λ e. maps_are_no_data geo ok g a t (sym e))) ∙ sym (contents a)) i;

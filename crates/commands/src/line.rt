@@ -5,6 +5,7 @@ use host_lines::put::PutLine;
 use image_lines::bits::BitsLine;
 use image_lines::check::CheckLine;
 use image_lines::repair::RepairLine;
+use image_lines::upgrade::UpgradeLine;
 use script_lines::demo::DemoLine;
 use script_lines::run::RunLine;
 use script_lines::stops::StopsLine;
@@ -21,6 +22,7 @@ pub enum Line<'a> {
     Mkfs(MkfsLine<'a>),
     Check(CheckLine<'a>),
     Repair(RepairLine<'a>),
+    Upgrade(UpgradeLine<'a>),
     Run(RunLine<'a>),
     Stops(StopsLine<'a>),
     Bits(BitsLine<'a>),

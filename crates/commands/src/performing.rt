@@ -5,7 +5,7 @@ use crate::line::Line;
 use crate::words::parse;
 use command_line::{Answer, Failure, GAVE_OUT, Screen};
 use host_lines::{get, mkfs, put};
-use image_lines::{bits, check, repair, sample};
+use image_lines::{bits, check, repair, sample, upgrade};
 use progress::Watcher;
 use script_lines::{demo, run, stops};
 use std::convert::AsStr;
@@ -81,6 +81,7 @@ where
         Line::Mkfs(line) => mkfs::answer(rt, line, watcher),
         Line::Check(line) => check::answer(rt, line, watcher),
         Line::Repair(line) => repair::answer(rt, line, watcher),
+        Line::Upgrade(line) => upgrade::answer(rt, line),
         Line::Run(line) => run::answer(rt, line),
         Line::Stops(line) => stops::answer(rt, line),
         Line::Bits(line) => bits::answer(rt, line),

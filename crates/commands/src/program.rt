@@ -1,7 +1,7 @@
 //! The program's `clap` command: a subcommand for each line, in groups, and its help.
 use clap::Command;
 use host_lines::{get, mkfs, put};
-use image_lines::{bits, check, repair};
+use image_lines::{bits, check, repair, upgrade};
 use script_lines::{demo, run, stops};
 use std::alloc::{AllocError, Global};
 use tool_lines::{cat, change, info, ls, map, stat};
@@ -15,7 +15,7 @@ Groups:
   make and move   mkfs, put, get
   look            ls, stat, cat, info, map
   change          mkdir, rm, rmdir, mv, ln
-  check and mend  check, repair, bits, run
+  check and mend  check, repair, upgrade, bits, run
   experiments     stops, demo
 
 Status:
@@ -79,10 +79,11 @@ fn that_change<'a>(alloc: Global, program: Command<'a>) -> Result<Command<'a>, A
     with_line(program, change::ln(alloc))
 }
 
-/// With the lines that check an image and mend it.
+/// With the lines that check an image, mend it and upgrade it.
 fn that_check<'a>(alloc: Global, program: Command<'a>) -> Result<Command<'a>, AllocError> {
     let program = with_line(program, check::command(alloc))?;
     let program = with_line(program, repair::command(alloc))?;
+    let program = with_line(program, upgrade::command(alloc))?;
     let program = with_line(program, bits::command(alloc))?;
     with_line(program, run::command(alloc))
 }

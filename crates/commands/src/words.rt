@@ -7,7 +7,7 @@ use clap::error::ErrorKind;
 use clap::{ArgMatches, Command};
 use command_line::{Failure, misread};
 use host_lines::{get, mkfs, put};
-use image_lines::{bits, check, repair};
+use image_lines::{bits, check, repair, upgrade};
 use layout::Refusal;
 use script_lines::{demo, run, stops};
 use std::alloc::{AllocError, Global};
@@ -109,7 +109,7 @@ fn line_of_parts<'a>(name: &str, options: &ArgMatches<'a>) -> Option<Line<'a>>
     }
 }
 
-/// What the matches of a line ask for that looks into an image, or of one that checks, mends or tries something.
+/// What the matches of a line ask for that looks into an image, or of one that checks, mends, upgrades or tries something.
 fn line_that_looks<'a>(name: &str, options: &ArgMatches<'a>) -> Option<Line<'a>>
     ensures { IfSome result (λ line. line ≢ Line.Sample) }
 {
@@ -123,13 +123,14 @@ fn line_that_looks<'a>(name: &str, options: &ArgMatches<'a>) -> Option<Line<'a>>
     }
 }
 
-/// What the matches of a line ask for that checks an image or mends it, or of one that shows what the program does.
+/// What the matches of a line ask for that checks an image, mends it or upgrades it, or of one that shows what the program does.
 fn line_that_checks<'a>(name: &str, options: &ArgMatches<'a>) -> Option<Line<'a>>
     ensures { IfSome result (λ line. line ≢ Line.Sample) }
 {
     match name {
         "check" => Some(Line::Check(check::line_of(options)?)),
         "repair" => Some(Line::Repair(repair::line_of(options)?)),
+        "upgrade" => Some(Line::Upgrade(upgrade::line_of(options)?)),
         "bits" => Some(Line::Bits(bits::line_of(options)?)),
         "run" => Some(Line::Run(run::line_of(options)?)),
         _ => line_that_tries(name, options),

@@ -2,3 +2,4 @@ pub mod WriteLemmas
 pub mod MemoryLemmas
 pub mod FormatLemmas
 pub mod ReadingLemmas
+pub mod ByteLemmas

@@ -1,9 +1,9 @@
 //! Images with single bytes changed, as tests want them.
-ghost use Rattle.std.specs.Prelude.{◌≡◌, ◌⊎◌, ◌≤◌, length, IfErr, IfOk, OnOk};
+ghost use Rattle.std.specs.Prelude.{◌≡◌, ◌⊎◌, All, length, IfErr, IfOk, IsErrOf, OnOk};
 ghost use Rattle.layout.specs.declared.refusal.Refusal.TheVariants.{BadIndex, Device as DeviceRefusal, NoMemory};
 ghost use Rattle.layout.specs.Fresh.{fresh_image};
-ghost use Rattle.device.specs.Bytes.{with_byte, with_bytes};
-ghost use Rattle.device.specs.Writes.{image_after};
+ghost use Rattle.device.specs.Bytes.{IsByteOf, with_byte, with_bytes};
+ghost use Rattle.device.specs.Writes.{HasFailed, image_after};
 
 use crate::{Before, Device, MemDevice, format};
 use layout::{BLOCK_BYTES, Geometry, Refusal};
@@ -15,7 +15,9 @@ pub type Byte = (u32, usize, u8);
 /// Puts one byte into a block of a device. `BadIndex` where there is no such byte, and `Device` where the device failed.
 pub fn set_byte<D: Device>(device: &mut D, byte: Byte) -> Result<(), Refusal>
     ensures put { OnOk result (D.honest device.new → D.image device.new ≡ with_byte (D.image device.old) byte) }
-    ensures error { IfErr result (λ r. (r ≡ BadIndex) ⊎ (r ≡ DeviceRefusal)) }
+    ensures error { IfErr result (λ r. (r ≡ DeviceRefusal) ⊎ ((r ≡ BadIndex) × (IsByteOf (D.image device.old) byte → ⊥))) }
+    ensures cause { IsErrOf result Refusal.Device → HasFailed (D.failures device.old) (D.failures device.new) }
+    ensures quiet { OnOk result (D.failures device.new ≡ D.failures device.old) }
     ensures count { length (D.image device.new) ≡ length (D.image device.old) }
     ensures honest { D.honest device.new → D.honest device.old }
 {
@@ -30,10 +32,13 @@ pub fn set_byte<D: Device>(device: &mut D, byte: Byte) -> Result<(), Refusal>
     Ok(())
 }
 
-/// Puts bytes into a device, the first first.
+/// Puts bytes into a device, the first first. `BadIndex` where there is none of them, and `Device` where the device failed;
+/// those before are put then.
 pub fn set_bytes<D: Device>(device: &mut D, bytes: &[Byte]) -> Result<(), Refusal>
     ensures put { OnOk result (D.honest device.new → D.image device.new ≡ with_bytes (D.image device.old) bytes.now) }
-    ensures error { IfErr result (λ r. (r ≡ BadIndex) ⊎ (r ≡ DeviceRefusal)) }
+    ensures error { IfErr result (λ r. (r ≡ DeviceRefusal)
+        ⊎ ((r ≡ BadIndex) × (All (IsByteOf (D.image device.old)) bytes.now → ⊥))) }
+    ensures cause { IsErrOf result Refusal.Device → HasFailed (D.failures device.old) (D.failures device.new) }
     ensures count { length (D.image device.new) ≡ length (D.image device.old) }
     ensures honest { D.honest device.new → D.honest device.old }
 {
@@ -52,7 +57,8 @@ impl MemDevice {
         bytes: &[Byte],
     ) -> Result<MemDevice, Refusal>
         ensures image { IfOk result (λ device. image_after device.first device.writes ≡ with_bytes (fresh_image geometry.now) bytes.now) }
-        ensures error { IfErr result (λ r. (r ≡ NoMemory) ⊎ ((r ≡ BadIndex) ⊎ (r ≡ DeviceRefusal))) }
+        ensures error { IfErr result (λ r. (r ≡ NoMemory) ⊎ ((r ≡ DeviceRefusal)
+            ⊎ ((r ≡ BadIndex) × (All (IsByteOf (fresh_image geometry.now)) bytes.now → ⊥)))) }
     {
         let zeroes = vec![in alloc; 0; geometry.blocks() as usize * BLOCK_BYTES]?;
         let mut device = MemDevice::from_bytes(alloc, zeroes.as_slice())?;

@@ -33,9 +33,9 @@ pub enum Finding {
     /// This inode is sound, and no path reaches it.
     LostInode(u32),
     /// An inode has more links than entries name it: the inode, its links, and the entries.
-    CountHigh(u32, u32, u32),
+    CountHigh(u32, u16, u64),
     /// An inode has fewer links than entries name it: the inode, its links, and the entries.
-    CountLow(u32, u32, u32),
+    CountLow(u32, u16, u64),
     /// This block is marked, and no inode claims it.
     LostBlock(u32),
     /// An inode claims this block, and it is not marked.

@@ -27,7 +27,8 @@ impl Repair {
         match *finding {
             Finding::LostInode(inode) => Some(Repair::DropInode(inode)),
             Finding::CountHigh(inode, links, entries) => {
-                Some(Repair::LowerCount(inode, links.saturating_sub(entries)))
+                let more = u64::from(links).saturating_sub(entries);
+                Some(Repair::LowerCount(inode, more as u32))
             }
             Finding::LostBlock(block) => Some(Repair::FreeBlock(block)),
             Finding::LostNumber(number) => Some(Repair::FreeNumber(number)),

@@ -44,8 +44,8 @@ module _ (geo : Geometry) (old new : List (Option (List ℕ))) (frame : KeepsFra
 
   same_record : (n : ℕ) → before.inode n ≡ after.inode n
   same_record n =
-      same_cond (is_number geo n) (inode_at (kept_bytes old (inode_block geo n)) (inode_byte n)) (inode_at (kept_bytes new (inode_block geo n)) (inode_byte n)) free_inode
-      (λ t. ap (λ b. inode_at b (inode_byte n)) (same_bytes (inode_block geo n) (frame.frame (inode_block geo n) (records_are_frame (record { geometry = geo; blocks = old }) frame n (number_in_group geo frame.geometry n t)))))
+      same_cond (is_number geo n) (inode_at geo.version (kept_bytes old (inode_block geo n)) (inode_byte n)) (inode_at geo.version (kept_bytes new (inode_block geo n)) (inode_byte n)) free_inode
+      (λ t. ap (λ b. inode_at geo.version b (inode_byte n)) (same_bytes (inode_block geo n) (frame.frame (inode_block geo n) (records_are_frame (record { geometry = geo; blocks = old }) frame n (number_in_group geo frame.geometry n t)))))
 
   -- a pointer to a data block was read in a table that is kept
   same_pointer : (t place a : ℕ) → a ≡ pointer_in (before.bytes t) place → IsTrue (is_data_address geo a) → a ≡ pointer_in (after.bytes t) place

@@ -44,8 +44,8 @@ module _ (kept : Kept) (frame : KeepsFrame kept) where
 
     same_inode : (n : ℕ) → (frozen_view kept).inode n ≡ (image_view kept.geometry image).inode n
     same_inode n =
-        same_cond (is_number kept.geometry n) (inode_at (kept_bytes kept.blocks (inode_block kept.geometry n)) (inode_byte n)) (inode_at (block_at image (inode_block kept.geometry n)) (inode_byte n)) free_inode
-        (λ t. ap (λ b. inode_at b (inode_byte n)) (same_block (inode_block kept.geometry n) (records_are_frame n (number_in_group kept.geometry frame.geometry n t))))
+        same_cond (is_number kept.geometry n) (inode_at kept.geometry.version (kept_bytes kept.blocks (inode_block kept.geometry n)) (inode_byte n)) (inode_at kept.geometry.version (block_at image (inode_block kept.geometry n)) (inode_byte n)) free_inode
+        (λ t. ap (λ b. inode_at kept.geometry.version b (inode_byte n)) (same_block (inode_block kept.geometry n) (records_are_frame n (number_in_group kept.geometry frame.geometry n t))))
 
     -- with the bytes of the claimed tables and of the directories' blocks, they have its metadata
     pub kept_of : length image ≡ block_count kept.geometry → All IsBlock image

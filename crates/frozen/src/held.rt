@@ -100,7 +100,7 @@ impl Held {
         requires { IsTrue (is_number self.now.geometry number) }
         ensures { result ≡ (frozen_view self.now).inode number }
     {
-        Record::read(self.record_bytes(number))
+        Record::read(self.geometry().version(), self.record_bytes(number))
     }
 
     /// The mode of an inode, of whose record nothing else is read.
@@ -114,7 +114,7 @@ impl Held {
     /// The bytes of the record of an inode.
     fn record_bytes(&self, number: u32) -> &[u8; RECORD_BYTES]
         requires { IsTrue (is_number self.now.geometry number) }
-        ensures { inode_at result.now 0 ≡ (frozen_view self.now).inode number }
+        ensures { inode_at self.now.geometry.version result.now 0 ≡ (frozen_view self.now).inode number }
     {
         a_record_is_read_from_its_bytes();
         let (records, _) = self.records_of(number).as_chunks::<RECORD_BYTES>();

@@ -1,12 +1,22 @@
 //! The geometry that the numbers of a line ask for.
+ghost use Rattle.std.specs.Prelude.{◌≡◌, IfOk};
+
 use command_line::Failure;
 use failures::Reason;
 use layout::{Geometry, INODES_PER_BLOCK};
 
-/// The geometry of these numbers. If there is none, it is refused with `BadGeometry` and the limit that is broken.
-pub(crate) fn geometry_of(groups: u32, blocks: u32, inodes: u32) -> Result<Geometry, Failure> {
+/// The geometry of these numbers in this version of the layout. If there is none, it is refused with `BadGeometry` and the limit
+/// that is broken, and with `BadSuper` if there is no such version.
+pub(crate) fn geometry_of(
+    groups: u32,
+    blocks: u32,
+    inodes: u32,
+    version: u32,
+) -> Result<Geometry, Failure>
+    ensures { IfOk result (λ geometry. geometry ≡ record { groups = groups; blocks = blocks; inodes = inodes; version = version }) }
+{
     match Geometry::new(groups, blocks, inodes) {
-        Ok(geometry) => Ok(geometry),
+        Ok(geometry) => Ok(geometry.with_version(version)?),
         Err(cause) => Err(Failure::from(cause).because(limit_broken(groups, blocks, inodes))),
     }
 }

@@ -1,10 +1,12 @@
 //! The line `mkfs`: a fresh image, and what a folder of the host holds in it.
 ghost use Rattle.std.specs.Prelude.{◌≡◌, [], IfOk};
+ghost use Rattle.file_device.specs.Calls.{image_now};
+ghost use Rattle.layout.specs.Fresh.{fresh_image, zero_block};
 
 use crate::ends::silent;
 use crate::geometry::geometry_of;
 use crate::input::{ARCHIVE, archive_given};
-use clap::{Arg, ArgMatches, Command};
+use clap::{Arg, ArgMatches, Command, value_parser};
 use command_line::{Answer, Failure, arguments, words};
 use device::Before;
 use file_device::FileDevice;
@@ -17,13 +19,16 @@ use std::marker::Brand;
 use std::os::unix::fs::FileExt;
 use std::rt::Files;
 
-/// What the line asks for: a fresh image of this geometry, with what a folder of the host holds, if one is named.
+/// What the line asks for: a fresh image of this geometry, in this version of the layout, with what a folder of the host holds, if
+/// one is named.
 #[derive(Clone, Copy)]
 pub struct MkfsLine<'a> {
     pub image: &'a str,
     pub groups: u32,
     pub blocks: u32,
     pub inodes: u32,
+    /// The version of the layout.
+    pub format: u32,
     pub from: Option<&'a str>,
     pub progress: bool,
 }
@@ -31,6 +36,7 @@ pub struct MkfsLine<'a> {
 /// The words of the line.
 pub fn command<'a>(alloc: Global) -> Result<Command<'a>, AllocError> {
     with_geometry(alloc)?
+        .arg(version(alloc))?
         .arg(from(alloc))?
         .arg(arguments::progress(alloc))
 }
@@ -41,6 +47,16 @@ fn with_geometry<'a>(alloc: Global) -> Result<Command<'a>, AllocError> {
         .arg(arguments::number(alloc, "groups").help("How many cylinder groups"))?
         .arg(arguments::number(alloc, "blocks").help("How many blocks a group"))?
         .arg(arguments::number(alloc, "inodes").help("How many inodes a group"))
+}
+
+/// The version of the layout: the first, unless another one is asked for.
+fn version<'a>(alloc: Global) -> Arg<'a> {
+    Arg::new(alloc, "format")
+        .long("format")
+        .value_name("NUMBER")
+        .default_value("1")
+        .value_parser(value_parser!(u32).range(1..=2))
+        .help("The version of the layout: 1, or 2 for files of more than 268 KiB")
 }
 
 /// The folder of which an image is made.
@@ -57,6 +73,7 @@ pub fn line_of<'a>(options: &ArgMatches<'a>) -> Option<MkfsLine<'a>> {
         groups: options.get_one("groups")?,
         blocks: options.get_one("blocks")?,
         inodes: options.get_one("inodes")?,
+        format: options.get_one("format")?,
         from: options.get_str("from"),
         progress: options.get_flag("progress"),
     })
@@ -74,7 +91,7 @@ where
     ensures status { IfOk result (λ answer. answer.status ≡ 0) }
     ensures silent { IfOk result (λ answer. answer.text.items ≡ []) }
 {
-    let geometry = geometry_of(line.groups, line.blocks, line.inodes)?;
+    let geometry = geometry_of(line.groups, line.blocks, line.inodes, line.format)?;
     match line.from {
         Some(folder) => make_from_folder(rt, line.image, &geometry, folder, watcher),
         None => make_empty(rt, line.image, &geometry),
@@ -104,6 +121,7 @@ fn make_image<R: Files + AllocGlobal>(
 ) -> Result<FileDevice<R::File, Brand>, Failure>
 where
     R::File: FileExt,
+    ensures { IfOk result (λ device. image_now (λ _. zero_block) device ≡ fresh_image geometry.now) }
 {
     make_file(rt, image, geometry).map_err(|failure| failure.on_image(rt, image))
 }
@@ -116,6 +134,7 @@ fn make_file<R: Files + AllocGlobal>(
 ) -> Result<FileDevice<R::File, Brand>, Failure>
 where
     R::File: FileExt,
+    ensures { IfOk result (λ device. image_now (λ _. zero_block) device ≡ fresh_image geometry.now) }
 {
     let mut device: FileDevice<R::File, Brand> = FileDevice::create(rt, image, geometry.blocks())?;
     match make(&mut device, geometry, Before::Zeroes) {
@@ -137,7 +156,7 @@ where
     ensures status { IfOk result (λ answer. answer.status ≡ 0) }
     ensures silent { IfOk result (λ answer. answer.text.items ≡ []) }
 {
-    let items = items_of(rt, folder)?;
+    let items = items_of(rt, folder, geometry)?;
     make_of_items(rt, image, geometry, items.as_slice(), watcher)
 }
 
@@ -158,19 +177,23 @@ where
     silent(rt.alloc(), put_items(rt, image, device, items, watcher))
 }
 
-/// The items of a folder of the host, or of an archive on standard input.
+/// The items of a folder of the host, or of an archive on standard input, for an image of this geometry.
 fn items_of<R: Files + AllocGlobal + Clone + Drop>(
     rt: &R,
     folder: &str,
-) -> Result<Vec<Item>, Failure> {
+    geometry: &Geometry,
+) -> Result<Vec<Item>, Failure>
+where
+    R::File: FileExt,
+{
     if folder == ARCHIVE {
-        return items_given(rt);
+        return items_given(rt, geometry);
     }
-    items_of_folder(rt, folder)
+    items_of_folder(rt, folder, geometry)
 }
 
-/// The items of the archive on standard input.
-fn items_given<R: Files + AllocGlobal>(rt: &R) -> Result<Vec<Item>, Failure> {
+/// The items of the archive on standard input, for an image of this geometry.
+fn items_given<R: Files + AllocGlobal>(rt: &R, geometry: &Geometry) -> Result<Vec<Item>, Failure> {
     let archive = archive_given(rt)?;
-    items_of_archive(rt.alloc(), archive.as_slice())
+    items_of_archive(rt.alloc(), archive.as_slice(), geometry)
 }

@@ -31,7 +31,8 @@ one_geometry g h image a b =
     let groups : g.groups ≡ h.groups = sym a.first.groups ∙ b.first.groups in
     let blocks : g.blocks ≡ h.blocks = sym a.first.blocks ∙ b.first.blocks in
     let inodes : g.inodes ≡ h.inodes = sym a.first.inodes ∙ b.first.inodes in
-    λ i. record { groups = groups i; blocks = blocks i; inodes = inodes i }
+    let version : g.version ≡ h.version = sym a.first.version ∙ b.first.version in
+    λ i. record { groups = groups i; blocks = blocks i; inodes = inodes i; version = version i }
 
 pub none_on_clean : (kinds : Finding → Bool) (geo : Geometry) (image : List (List ℕ)) (fs : List Finding) → IsImage geo image → AreFindings geo (image_view geo image) []
     → ((other : Geometry) × IsImage other image × AreFindingsOf kinds other (image_view other image) fs) → fs ≡ []

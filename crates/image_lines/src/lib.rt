@@ -1,4 +1,4 @@
-//! The lines of `fsvol` that check an image or mend it, and what they do on any device.
+//! The lines of `fsvol` that check an image, mend it or upgrade it, and what they do on any device.
 #![tactic(auto)]
 
 pub mod bits;
@@ -7,3 +7,4 @@ pub mod make;
 pub mod mounting;
 pub mod repair;
 pub mod sample;
+pub mod upgrade;

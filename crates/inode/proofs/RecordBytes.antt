@@ -1,12 +1,12 @@
 -- What the bytes of a record say at another place, and what stands where numbers were written over them.
-use Rattle.std.proofs.Common.{◌≡◌, ◌<◌, ◌≤◌, ◌+◌, ◌-◌, ◌*◌, ◌^◌, ℕ, zero, suc, List, [], ◌∷◌, ◌++◌, length, take, drop, slice_index, get_or, ◌⊎◌, inl, inr, refl, sym, ap, ap₂, ◌∙◌, arith}
+use Rattle.std.proofs.Common.{◌≡◌, ◌<◌, ◌≤◌, ◌+◌, ◌-◌, ◌*◌, ◌^◌, ℕ, zero, suc, cond, eqb, List, [], ◌∷◌, ◌++◌, length, take, drop, slice_index, get_or, ◌⊎◌, inl, inr, refl, sym, ap, ap₂, ◌∙◌, arith}
 use Rattle.std.proofs.lemmas.List.{append-nil, append_assoc, drop-drop, drop_all, drop_at, ext_get_or, get_or-drop, get_or-take, length-append, length-drop, length-take, length-take-le}
 use Rattle.std.proofs.lemmas.Bool.{cases_lt}
 use Rattle.std.specs.List.{flat_map}
 use Rattle.std.specs.Simd.{first_chunks}
 use Rattle.byteorder.specs.Endian.{little_number, little_bytes}
 use Rattle.byteorder.specs.Numbers.{little_number-reads_back}
-use Rattle.model.specs.View.{inode_at, u32_at, u32s_at}
+use Rattle.model.specs.View.{Inode, inode_at, u32_at, u32s_at}
 use Rattle.layout.specs.Fresh.{put, put_u16, put_u32}
 use Rattle.layout.proofs.PutLemmas.{length-put, put_inside, put_apart, number_here, number_apart, same_number, same_inode}
 use borrow.Rule.Slice.PartMut.{put_mid, mid_of}
@@ -35,14 +35,15 @@ numbers_moved (suc n) i j xs ys h =
     ap₂ (λ a b. a ∷ b) (number_moved 4 i j xs ys (front_moved 4 (4 * suc n) i j xs ys (omega arith) h))
     (numbers_moved n (i + 4) (j + 4) xs ys (part_moved 4 (4 * n) (4 * suc n) i j xs ys (omega arith) h))
 
-pub inode_moved : (i j : ℕ) (xs ys : List ℕ) → IsMoved 60 i j xs ys → inode_at xs i ≡ inode_at ys j
-inode_moved i j xs ys h =
+pub inode_moved : (version i j : ℕ) (xs ys : List ℕ) → IsMoved 64 i j xs ys → inode_at version xs i ≡ inode_at version ys j
+inode_moved version i j xs ys h =
     same_inode
-    (number_moved 2 i j xs ys (front_moved 2 60 i j xs ys (omega arith) h))
-    (number_moved 2 (i + 2) (j + 2) xs ys (part_moved 2 2 60 i j xs ys (omega arith) h))
-    (number_moved 4 (i + 4) (j + 4) xs ys (part_moved 4 4 60 i j xs ys (omega arith) h))
-    (numbers_moved 12 (i + 8) (j + 8) xs ys (part_moved 8 48 60 i j xs ys (omega arith) h))
-    (number_moved 4 (i + 56) (j + 56) xs ys (part_moved 56 4 60 i j xs ys (omega arith) h))
+    (number_moved 2 i j xs ys (front_moved 2 64 i j xs ys (omega arith) h))
+    (number_moved 2 (i + 2) (j + 2) xs ys (part_moved 2 2 64 i j xs ys (omega arith) h))
+    (number_moved 4 (i + 4) (j + 4) xs ys (part_moved 4 4 64 i j xs ys (omega arith) h))
+    (numbers_moved 12 (i + 8) (j + 8) xs ys (part_moved 8 48 64 i j xs ys (omega arith) h))
+    (number_moved 4 (i + 56) (j + 56) xs ys (part_moved 56 4 64 i j xs ys (omega arith) h))
+    (ap (λ n. cond (eqb version 2) n 0) (number_moved 4 (i + 60) (j + 60) xs ys (part_moved 60 4 64 i j xs ys (omega arith) h)))
 
 -- ---- a record's bytes in their block
 
@@ -51,8 +52,8 @@ cut_moved n at byte length block fits = record {
   at = λ k b. get_or-take length (drop byte block) (at + k) 0 (omega arith) ∙ get_or-drop byte block (at + k) 0 ∙ ap (slice_index block) (omega arith);
 }
 
-pub record_alone : (block : List ℕ) (byte : ℕ) → inode_at (take 128 (drop byte block)) 0 ≡ inode_at block byte
-record_alone block byte = inode_moved 0 byte (take 128 (drop byte block)) block (record {
+pub record_alone : (version : ℕ) (block : List ℕ) (byte : ℕ) → inode_at version (take 128 (drop byte block)) 0 ≡ inode_at version block byte
+record_alone version block byte = inode_moved version 0 byte (take 128 (drop byte block)) block (record {
   at = λ k b. get_or-take 128 (drop byte block) (0 + k) 0 (omega arith) ∙ get_or-drop byte block (0 + k) 0 ∙ ap (slice_index block) (omega arith);
 })
 
@@ -62,39 +63,40 @@ chunk_at (suc count) zero block d b = refl
 chunk_at (suc count) (suc j) block d b =
     chunk_at count j (drop 128 block) d (omega arith) ∙ ap (take 128) (drop-drop (128 * j) 128 block ∙ ap (λ n. drop n block) (omega arith))
 
-pub record_chunk : (block : List ℕ) (count j : ℕ) (d : List ℕ) → j < count → inode_at (get_or (first_chunks 128 count block) j d) 0 ≡ inode_at block (128 * j)
-record_chunk block count j d b = ap (λ bytes. inode_at bytes 0) (chunk_at count j block d b) ∙ record_alone block (128 * j)
+pub record_chunk : (version : ℕ) (block : List ℕ) (count j : ℕ) (d : List ℕ) → j < count → inode_at version (get_or (first_chunks 128 count block) j d) 0 ≡ inode_at version block (128 * j)
+record_chunk version block count j d b = ap (λ bytes. inode_at version bytes 0) (chunk_at count j block d b) ∙ record_alone version block (128 * j)
 
 module _ (block bytes : List ℕ) (byte : ℕ) (long : length bytes ≡ 128) (fits : byte + 128 ≤ length block) where
   whole : byte + length bytes ≤ length block
   whole = omega (arith, long, fits)
 
-  pub record_here : inode_at (put byte bytes block) byte ≡ inode_at bytes 0
-  record_here = inode_moved byte 0 (put byte bytes block) bytes (record {
+  pub record_here : (version : ℕ) → inode_at version (put byte bytes block) byte ≡ inode_at version bytes 0
+  record_here version = inode_moved version byte 0 (put byte bytes block) bytes (record {
     at = λ k b. put_inside byte bytes block whole (byte + k) (omega arith) (omega (arith, long)) ∙ ap (slice_index bytes) (omega arith);
   })
 
-  pub rest_stays : drop 60 bytes ≡ drop 60 (take 128 (drop byte block)) → (k : ℕ) → (k < byte) ⊎ (byte + 60 ≤ k) → slice_index (put byte bytes block) k ≡ slice_index block k
-  rest_stays e k (inl low) = put_apart byte bytes block whole k (inl low)
-  rest_stays e k (inr high) = elim (cases_lt k (byte + 128)) [
+  pub rest_stays : (from : ℕ) → drop from bytes ≡ drop from (take 128 (drop byte block)) → (k : ℕ) → (k < byte) ⊎ (byte + from ≤ k) → slice_index (put byte bytes block) k ≡ slice_index block k
+  rest_stays from e k (inl low) = put_apart byte bytes block whole k (inl low)
+  rest_stays from e k (inr high) = elim (cases_lt k (byte + 128)) [
     | inl inside ↦
         put_inside byte bytes block whole k (omega arith) (omega (arith, long))
         ∙ ap (slice_index bytes) (omega arith)
-        ∙ sym (get_or-drop 60 bytes (k - byte - 60) 0)
-        ∙ ap (λ xs. slice_index xs (k - byte - 60)) e
-        ∙ get_or-drop 60 (take 128 (drop byte block)) (k - byte - 60) 0
-        ∙ get_or-take 128 (drop byte block) (60 + (k - byte - 60)) 0 (omega arith)
-        ∙ get_or-drop byte block (60 + (k - byte - 60)) 0
+        ∙ sym (get_or-drop from bytes (k - byte - from) 0)
+        ∙ ap (λ xs. slice_index xs (k - byte - from)) e
+        ∙ get_or-drop from (take 128 (drop byte block)) (k - byte - from) 0
+        ∙ get_or-take 128 (drop byte block) (from + (k - byte - from)) 0 (omega arith)
+        ∙ get_or-drop byte block (from + (k - byte - from)) 0
         ∙ ap (slice_index block) (omega arith)
     | inr past ↦ put_apart byte bytes block whole k (inr (omega (arith, long)))
   ]
 
-pub record_there : (block bytes : List ℕ) (j k : ℕ) → length bytes ≡ 128 → 128 * j + 128 ≤ length block → (j ≡ k → ⊥) → inode_at (put (128 * j) bytes block) (128 * k) ≡ inode_at block (128 * k)
-record_there block bytes j k long fits differ = inode_moved (128 * k) (128 * k) (put (128 * j) bytes block) block (record {
+pub record_there : (version : ℕ) (block bytes : List ℕ) (j k : ℕ) → length bytes ≡ 128 → 128 * j + 128 ≤ length block → (j ≡ k → ⊥)
+    → inode_at version (put (128 * j) bytes block) (128 * k) ≡ inode_at version block (128 * k)
+record_there version block bytes j k long fits differ = inode_moved version (128 * k) (128 * k) (put (128 * j) bytes block) block (record {
   at = λ m b. put_apart (128 * j) bytes block (omega (arith, long)) (128 * k + m) (side m b);
 })
   where
-    side : (m : ℕ) → m < 60 → (128 * k + m < 128 * j) ⊎ (128 * j + length bytes ≤ 128 * k + m)
+    side : (m : ℕ) → m < 64 → (128 * k + m < 128 * j) ⊎ (128 * j + length bytes ≤ 128 * k + m)
     side m b = elim (cases_lt k j) [
       | inl low ↦ inl (omega arith)
       | inr high ↦ inr (omega (arith, long, differ))
@@ -228,7 +230,7 @@ module _ (mode links size : ℕ) (bytes : List ℕ) (long : length bytes ≡ 128
     }) ∙ pointers
 
     pub written_record : mode < 2 ^ 16 → links < 2 ^ 16 → size < 2 ^ 32 → indirect < 2 ^ 32
-        → inode_at (put_u32 56 indirect with_direct) 0 ≡ record { mode = mode; links = links; size = size; direct = direct; indirect = indirect }
+        → inode_at 1 (put_u32 56 indirect with_direct) 0 ≡ record { mode = mode; links = links; size = size; direct = direct; indirect = indirect; double = 0 }
     written_record m l s i =
         same_inode
         (written_front 2 0 (omega arith) ∙ mode_is m)
@@ -236,6 +238,7 @@ module _ (mode links size : ℕ) (bytes : List ℕ) (long : length bytes ≡ 128
         (written_front 4 4 (omega arith) ∙ size_is s)
         written_direct
         (number_here 4 indirect 56 with_direct (omega (arith, direct_long)) i)
+        refl
 
     pub written_rest : drop 60 (put_u32 56 indirect with_direct) ≡ drop 60 bytes
     written_rest =
@@ -244,3 +247,28 @@ module _ (mode links size : ℕ) (bytes : List ℕ) (long : length bytes ≡ 128
         (λ k high.
         put_apart 56 (little_bytes 4 indirect) with_direct (omega (arith, direct_long)) k (inr (omega arith))
         ∙ apart k (inr (omega arith)) ∙ rest_before k high)
+
+-- ---- the double indirect pointer, written behind a record of version 1
+module _ (bytes : List ℕ) (long : length bytes ≡ 128) where
+  before_double : (double n at : ℕ) → at + n ≤ 60 → little_number n (drop at (put_u32 60 double bytes)) ≡ little_number n (drop at bytes)
+  before_double double n at b = number_apart n at 60 (little_bytes 4 double) bytes (omega (arith, long)) (inl b)
+
+  pub with_double : (r : Inode) (double : ℕ) → double < 2 ^ 32 → inode_at 1 bytes 0 ≡ record r { double = 0 } → inode_at 2 (put_u32 60 double bytes) 0 ≡ record r { double = double }
+  with_double r double small e =
+      same_inode
+      (before_double double 2 0 (omega arith) ∙ ap (λ (x : Inode). x.mode) e)
+      (before_double double 2 2 (omega arith) ∙ ap (λ (x : Inode). x.links) e)
+      (before_double double 4 4 (omega arith) ∙ ap (λ (x : Inode). x.size) e)
+      (numbers_moved 12 8 8 (put_u32 60 double bytes) bytes (record { at = λ k b. put_apart 60 (little_bytes 4 double) bytes (omega (arith, long)) (8 + k) (inl (omega arith)) }) ∙ ap (λ (x : Inode). x.direct) e)
+      (before_double double 4 56 (omega arith) ∙ ap (λ (x : Inode). x.indirect) e)
+      (number_here 4 double 60 bytes (omega (arith, long)) small)
+
+  pub behind_double : (double : ℕ) → drop 64 (put_u32 60 double bytes) ≡ drop 64 bytes
+  behind_double double =
+      same_rest 64 (put_u32 60 double bytes) bytes (length-put 60 (little_bytes 4 double) bytes (omega (arith, long)))
+      (λ k high. put_apart 60 (little_bytes 4 double) bytes (omega (arith, long)) k (inr (omega arith)))
+
+-- what is the same from a byte on is so from a later one on
+pub later_rest : (m n : ℕ) (xs ys : List ℕ) → m ≤ n → drop m xs ≡ drop m ys → drop n xs ≡ drop n ys
+later_rest m n xs ys fits e =
+    ap (λ k. drop k xs) (omega arith) ∙ sym (drop-drop (n - m) m xs) ∙ ap (drop (n - m)) e ∙ drop-drop (n - m) m ys ∙ ap (λ k. drop k ys) (omega arith)

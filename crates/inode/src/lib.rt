@@ -1,18 +1,18 @@
 //! The record of an inode: its mode, links, size and block pointers, as they stand in its 128 bytes of a block of
 //! inodes. Numbers stand the least byte first: the mode in bytes 0 and 1, the links in 2 and 3, the size in 4 to 7, the
-//! twelve direct pointers in 8 to 55 and the indirect pointer in 56 to 59. Bytes 60 to 127 are neither looked at nor
-//! changed. No call takes memory.
+//! twelve direct pointers in 8 to 55, the indirect pointer in 56 to 59 and, in version 2 of the layout, the double
+//! indirect pointer in 60 to 63. The bytes behind are neither looked at nor changed. No call takes memory.
 #![tactic(auto)]
 
 ghost use Rattle.std.specs.Prelude.{◌≡◌, ◌≢◌, ℕ, ◌+◌, ◌*◌, ◌≤◌, ◌<◌, ◌⊎◌, List, None, length, take, drop, slice_index, slice_index_or};
 ghost use Rattle.std.specs.Simd.{first_chunks};
 ghost use Rattle.layout.specs.Fresh.{put};
 ghost use Rattle.model.specs.Shape.{field_at, position_count, table_of, with_field};
-ghost use Rattle.model.specs.View.{inode_at, u32s_at};
+ghost use Rattle.model.specs.View.{Fits, Inode, inode_at, looked_at, u32s_at};
 ghost use Rattle.model.specs.Uses as uses;
 
 use byteorder::{ByteOrder, LittleEndian};
-use layout::Geometry;
+use layout::{DOUBLE, Geometry};
 use std::marker::Model;
 
 #[cfg(test)]
@@ -49,6 +49,8 @@ pub struct Record {
     pub direct: [u32; DIRECT_POINTERS],
     /// The address of the block that holds the addresses of the blocks after those.
     pub indirect: u32,
+    /// The address of the block that holds those of further such blocks; 0 in version 1 of the layout.
+    pub double: u32,
 }
 
 impl Model for Record {
@@ -56,15 +58,15 @@ impl Model for Record {
 
     ghost Value = { Inode };
 
-    ghost view = { λ r. record { mode = r.mode; links = r.links; size = r.size; direct = r.direct; indirect = r.indirect } };
+    ghost view = { λ r. record { mode = r.mode; links = r.links; size = r.size; direct = r.direct; indirect = r.indirect; double = r.double } };
 
-    ghost inverse = { λ n. record { mode = n.mode; links = n.links; size = n.size; direct = n.direct; indirect = n.indirect } };
+    ghost inverse = { λ n. record { mode = n.mode; links = n.links; size = n.size; direct = n.direct; indirect = n.indirect; double = n.double } };
 }
 
 impl Record {
-    /// Reads a record from its bytes.
-    pub fn read(bytes: &[u8; RECORD_BYTES]) -> Record
-        ensures { result ≡ inode_at bytes.now 0 }
+    /// Reads a record from its bytes, as this version of the layout has it.
+    pub fn read(version: u32, bytes: &[u8; RECORD_BYTES]) -> Record
+        ensures { result ≡ inode_at version bytes.now 0 }
     {
         let mut direct = [0; DIRECT_POINTERS];
         LittleEndian::read_u32_into(&bytes[8..56], &mut direct);
@@ -74,12 +76,25 @@ impl Record {
             size: LittleEndian::read_u32(&bytes[4..]),
             direct,
             indirect: LittleEndian::read_u32(&bytes[56..]),
+            double: double_of(version, bytes),
         }
     }
 
-    /// Writes the record over bytes 0 to 59; the others stay as they were.
-    pub fn write(&self, bytes: &mut [u8; RECORD_BYTES])
-        ensures read { inode_at bytes.new 0 ≡ self.now }
+    /// Writes the record over its bytes, as this version of the layout has it: over bytes 0 to 59 in version 1, and 0 to
+    /// 63 in version 2. The others stay as they were.
+    pub fn write(&self, version: u32, bytes: &mut [u8; RECORD_BYTES])
+        ensures read { Fits version self.now → inode_at version bytes.new 0 ≡ self.now }
+        ensures rest { drop (looked_at version) bytes.new ≡ drop (looked_at version) bytes.old }
+    {
+        self.write_single(bytes);
+        if version == DOUBLE {
+            write_double(self.double, bytes);
+        }
+    }
+
+    /// Writes the record over bytes 0 to 59, but for its double indirect pointer.
+    fn write_single(&self, bytes: &mut [u8; RECORD_BYTES])
+        ensures read { inode_at 1 bytes.new 0 ≡ record self.now { double = 0 } }
         ensures rest { drop 60 bytes.new ≡ drop 60 bytes.old }
     {
         let Record {
@@ -88,6 +103,7 @@ impl Record {
             size,
             direct,
             indirect,
+            ..
         } = *self;
         LittleEndian::write_u16(&mut bytes[0..2], mode);
         LittleEndian::write_u16(&mut bytes[2..4], links);
@@ -114,7 +130,8 @@ impl Record {
     {
         match self.direct.get(position as usize) {
             Some(pointer) => *pointer,
-            None => self.indirect,
+            None if position == geometry.most_blocks() => self.indirect,
+            None => self.double,
         }
     }
 
@@ -128,8 +145,10 @@ impl Record {
         let place = position as usize;
         if place < DIRECT_POINTERS {
             record.direct[place] = address;
-        } else {
+        } else if position == geometry.most_blocks() {
             record.indirect = address;
+        } else {
+            record.double = address;
         }
         record
     }
@@ -151,9 +170,20 @@ impl Record {
 
 /// The mode of a record, of which nothing else is read.
 pub fn mode_of(bytes: &[u8; RECORD_BYTES]) -> u16
-    ensures { result ≡ (inode_at bytes.now 0).mode }
+    ensures { (version : ℕ) → result ≡ (inode_at version bytes.now 0).mode }
 {
     LittleEndian::read_u16(&bytes[0..])
+}
+
+/// The double indirect pointer; 0 in version 1 of the layout, whose records have none.
+fn double_of(version: u32, bytes: &[u8; RECORD_BYTES]) -> u32
+    ensures { result ≡ (inode_at version bytes.now 0).double }
+{
+    if version == DOUBLE {
+        LittleEndian::read_u32(&bytes[60..])
+    } else {
+        0
+    }
 }
 
 /// How many blocks a size in bytes takes: it is rounded up.
@@ -171,20 +201,31 @@ fn write_direct(pointers: &[u32; DIRECT_POINTERS], bytes: &mut [u8; RECORD_BYTES
     LittleEndian::write_u32_into(pointers, &mut bytes[8..56]);
 }
 
+/// Writes the double indirect pointer over bytes 60 to 63, where the rest of the record is written.
+fn write_double(pointer: u32, bytes: &mut [u8; RECORD_BYTES])
+    ensures read { (inode : Inode) → inode_at 1 bytes.old 0 ≡ record inode { double = 0 } → inode_at 2 bytes.new 0 ≡ record inode { double = pointer } }
+    ensures rest { drop 64 bytes.new ≡ drop 64 bytes.old }
+{
+    LittleEndian::write_u32(&mut bytes[60..64], pointer);
+}
+
 /// A record's bytes say the same in their block as alone, also where the block is seen as its chunks.
 pub fn a_record_is_read_from_its_bytes()
-    ensures bytes { (block : List ℕ) (byte : ℕ) → byte + 128 ≤ length block → inode_at (take 128 (drop byte block)) 0 ≡ inode_at block byte }
-    ensures chunks { (block : List ℕ) (count j : ℕ) (d : List ℕ) → j < count
-        → inode_at (slice_index_or (first_chunks 128 count block) j d) 0 ≡ inode_at block (128 * j) }
+    ensures bytes { (version : ℕ) (block : List ℕ) (byte : ℕ) → byte + 128 ≤ length block
+        → inode_at version (take 128 (drop byte block)) 0 ≡ inode_at version block byte }
+    ensures chunks { (version : ℕ) (block : List ℕ) (count j : ℕ) (d : List ℕ) → j < count
+        → inode_at version (slice_index_or (first_chunks 128 count block) j d) 0 ≡ inode_at version block (128 * j) }
 {}
 
 /// A record's bytes that are put into its block say there what they say alone, and no other record and no other byte
-/// changes. Where the bytes that are not looked at are those that stood there, they stay too.
+/// changes. Where the bytes from some one on are those that stood there, they stay too.
 pub fn a_record_is_written_into_its_block()
     ensures length { (block bytes : List ℕ) (byte : ℕ) → length bytes ≡ 128 → byte + 128 ≤ length block → length (put byte bytes block) ≡ length block }
-    ensures written { (block bytes : List ℕ) (byte : ℕ) → length bytes ≡ 128 → byte + 128 ≤ length block → inode_at (put byte bytes block) byte ≡ inode_at bytes 0 }
-    ensures others { (block bytes : List ℕ) (j k : ℕ) → length bytes ≡ 128 → 128 * j + 128 ≤ length block → j ≢ k
-        → inode_at (put (128 * j) bytes block) (128 * k) ≡ inode_at block (128 * k) }
-    ensures rest { (block bytes : List ℕ) (byte : ℕ) → length bytes ≡ 128 → byte + 128 ≤ length block → drop 60 bytes ≡ drop 60 (take 128 (drop byte block))
-        → (k : ℕ) → (k < byte) ⊎ (byte + 60 ≤ k) → slice_index (put byte bytes block) k ≡ slice_index block k }
+    ensures written { (version : ℕ) (block bytes : List ℕ) (byte : ℕ) → length bytes ≡ 128 → byte + 128 ≤ length block
+        → inode_at version (put byte bytes block) byte ≡ inode_at version bytes 0 }
+    ensures others { (version : ℕ) (block bytes : List ℕ) (j k : ℕ) → length bytes ≡ 128 → 128 * j + 128 ≤ length block → j ≢ k
+        → inode_at version (put (128 * j) bytes block) (128 * k) ≡ inode_at version block (128 * k) }
+    ensures rest { (from : ℕ) (block bytes : List ℕ) (byte : ℕ) → length bytes ≡ 128 → byte + 128 ≤ length block
+        → drop from bytes ≡ drop from (take 128 (drop byte block))
+        → (k : ℕ) → (k < byte) ⊎ (byte + from ≤ k) → slice_index (put byte bytes block) k ≡ slice_index block k }
 {}

@@ -1,5 +1,5 @@
 use crate::{DIRECT_POINTERS, DIRECTORY, FILE, FREE, RECORD_BYTES, Record, blocks_of_size};
-use layout::Geometry;
+use layout::{DOUBLE, Geometry, SINGLE};
 
 /// A free record.
 const ZERO: Record = Record {
@@ -8,6 +8,7 @@ const ZERO: Record = Record {
     size: 0,
     direct: [0; DIRECT_POINTERS],
     indirect: 0,
+    double: 0,
 };
 
 #[test]
@@ -18,9 +19,10 @@ fn a_written_record_has_its_bytes_and_is_read_back(rt: HostRuntime) {
         size: 0x0304_0506,
         direct: [0x1112_1314, 2, 3, 4, 5, 6, 7, 8, 9, 10, 11, 0x2122_2324],
         indirect: 0x3132_3334,
+        double: 0,
     };
     let mut bytes = [0xaa; RECORD_BYTES];
-    record.write(&mut bytes);
+    record.write(SINGLE, &mut bytes);
 
     let mut wanted = [0xaa; RECORD_BYTES];
     wanted[..60].copy_from_slice(&[0; 60]);
@@ -30,7 +32,26 @@ fn a_written_record_has_its_bytes_and_is_read_back(rt: HostRuntime) {
     }
     wanted[52..60].copy_from_slice(&[0x24, 0x23, 0x22, 0x21, 0x34, 0x33, 0x32, 0x31]);
     assert!(rt; bytes == wanted, "the record's bytes");
-    assert_eq!(rt; Record::read(&bytes), record);
+    assert_eq!(rt; Record::read(SINGLE, &bytes), record);
+
+    let record = Record {
+        double: 0x4142_4344,
+        ..record
+    };
+    record.write(DOUBLE, &mut bytes);
+    wanted[60..64].copy_from_slice(&[0x44, 0x43, 0x42, 0x41]);
+    assert!(rt;
+        bytes == wanted,
+        "its bytes with the double indirect pointer"
+    );
+    assert_eq!(rt; Record::read(DOUBLE, &bytes), record);
+    assert_eq!(rt;
+        Record::read(SINGLE, &bytes),
+        Record {
+            double: 0,
+            ..record
+        }
+    );
 }
 
 #[test]
@@ -53,27 +74,37 @@ fn sizes_take_whole_blocks(rt: HostRuntime) {
 #[test]
 fn sound_records_are_told_apart(rt: HostRuntime) {
     let table = [
-        (FREE, 0, false),
-        (FILE, 0, true),
-        (FILE, 1, true),
-        (FILE, 274_432, true),
-        (FILE, 274_433, false),
-        (FILE, u32::MAX, false),
-        (DIRECTORY, 0, false),
-        (DIRECTORY, 1023, false),
-        (DIRECTORY, 1024, true),
-        (DIRECTORY, 274_432, true),
-        (DIRECTORY, 275_456, false),
-        (3, 1024, false),
-        (0x0101, 1024, false),
+        (FREE, 0, false, false),
+        (FILE, 0, true, true),
+        (FILE, 1, true, true),
+        (FILE, 274_432, true, true),
+        (FILE, 274_433, false, true),
+        (FILE, 67_383_296, false, true),
+        (FILE, 67_383_297, false, false),
+        (FILE, u32::MAX, false, false),
+        (DIRECTORY, 0, false, false),
+        (DIRECTORY, 1023, false, false),
+        (DIRECTORY, 1024, true, true),
+        (DIRECTORY, 274_432, true, true),
+        (DIRECTORY, 275_456, false, true),
+        (DIRECTORY, 67_383_296, false, true),
+        (DIRECTORY, 67_384_320, false, false),
+        (3, 1024, false, false),
+        (0x0101, 1024, false, false),
     ];
-    let geometry = Geometry::new(1, 16, 16).expect(&rt, "a geometry");
-    for (mode, size, is_sound) in table {
+    let single = Geometry::new(1, 16, 16).expect(&rt, "a geometry");
+    let double = single.with_version(DOUBLE).expect(&rt, "version 2");
+    for (mode, size, in_single, in_double) in table {
         let record = Record { mode, size, ..ZERO };
         assert_eq!(rt;
-            record.is_sound(&geometry),
-            is_sound,
+            record.is_sound(&single),
+            in_single,
             "mode {mode} size {size}"
+        );
+        assert_eq!(rt;
+            record.is_sound(&double),
+            in_double,
+            "mode {mode} size {size}, version 2"
         );
         assert_eq!(rt; record.is_directory(), mode == DIRECTORY, "mode {mode}");
     }

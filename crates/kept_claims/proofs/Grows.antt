@@ -1,18 +1,18 @@
 -- A block is linked to an inode: what the inode claims then is what it claimed, the block, and its new tables.
-use Rattle.std.proofs.Common.{◌≡◌, ◌<◌, ◌≤◌, ℕ, Bool, true, false, cond, ltb, List, [], ◌∷◌, ◌⊎◌, inl, inr, refl, sym, ap, ◌∙◌, subst, IsTrue, IsFalse, Some, arith, slice_set, Contains}
+use Rattle.std.proofs.Common.{◌≡◌, ◌<◌, ◌≤◌, ℕ, true, List, [], ◌∷◌, ◌⊎◌, inl, inr, refl, sym, ap, ◌∙◌, subst, IsTrue, IsFalse, Some, arith, Contains}
 use Rattle.std.proofs.lemmas.Bool.{and_parts, both_ways, le-leb, leb-true}
 use Rattle.model.specs.Layout.{Geometry, is_number, is_data_address}
 use Rattle.model.specs.View.{View, Inode}
 use Rattle.model.specs.Cells.{SetBlock, SetBytes, updated_all}
 use Rattle.model.specs.Image.{IsBlock}
-use Rattle.model.specs.Shape.{direct_positions, most_blocks, position_count, is_table, place_in_table, field_at, pointer_in, reaches}
+use Rattle.model.specs.Shape.{most_blocks, position_count, is_table, place_in_table, field_at, pointer_in, reaches}
 use Rattle.model.specs.Uses.{blocks_of, is_sound, is_sound_at, is_directory, has_position, record_use, IsClaim}
 use Rattle.model.specs.Rules.{ObeysRules}
 use Rattle.model.proofs.Places.{put_there}
 use Rattle.model.proofs.Shape.{table_is_table, table_inside, place_inside, reach_parts, more_reach, some_table}
 use Rattle.model.proofs.Steps.{use_sound}
 use Rattle.model.proofs.Uses.{number_use, others_by_place}
-use Rattle.model.proofs.Fields.{as_before}
+use Rattle.model.proofs.Fields.{as_before, fields_with}
 use Rattle.ordering.specs.Cuts.{Record, BlockBit, Block, Pending, users_view}
 use Rattle.machine.specs.Cells.{with_pointer}
 use Rattle.machine.specs.Effects.{with_links}
@@ -58,17 +58,12 @@ not_grown new (KeptInNew m x table up) c q apart other t = not_grown (Or new (Is
 -- ---- the record with other links
 -- it keeps its pointers where the record itself does
 links_fields : (geo : Geometry) (x : Inode) (l k b : ℕ) (h : Holder) (q : ℕ) → field_at geo (pointed geo (with_links x l) k b h) q ≡ field_at geo (pointed geo x k b h) q
-links_fields geo x l k b KeptInRecord q = go (ltb k direct_positions)
-  where
-    go : (c : Bool) → field_at geo (cond c (record (with_links x l) { direct = slice_set x.direct k b }) (record (with_links x l) { indirect = b })) q
-        ≡ field_at geo (cond c (record x { direct = slice_set x.direct k b }) (record x { indirect = b })) q
-    go true = refl
-    go false = refl
+links_fields geo x l k b KeptInRecord q = fields_with geo (with_links x l) x k b refl refl refl q
 links_fields geo x l k b (KeptInTable m y table over) q = refl
 links_fields geo x l k b (KeptInNew m y table up) q = links_fields geo x l m y up q
 
 links_mode : (geo : Geometry) (x : Inode) (l k b : ℕ) (h : Holder) → (pointed geo (with_links x l) k b h).mode ≡ x.mode
-links_mode geo x l k b KeptInRecord = as_before geo (with_links x l) k b (λ y. y.mode) (λ d. refl) refl
+links_mode geo x l k b KeptInRecord = as_before geo (with_links x l) k b (λ y. y.mode) (λ d. refl) refl refl
 links_mode geo x l k b (KeptInTable m y table over) = refl
 links_mode geo x l k b (KeptInNew m y table up) = links_mode geo x l m y up
 

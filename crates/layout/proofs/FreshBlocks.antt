@@ -26,7 +26,7 @@ module _ (geo : Geometry) (ok : IsGeometry geo) (block : List ℕ) (whole : IsWh
   with_magic = put_u32 0 0x53555631 block
 
   with_version : List ℕ
-  with_version = put_u32 4 1 with_magic
+  with_version = put_u32 4 geo.version with_magic
 
   with_groups : List ℕ
   with_groups = put_u32 8 geo.groups with_version
@@ -43,7 +43,7 @@ module _ (geo : Geometry) (ok : IsGeometry geo) (block : List ℕ) (whole : IsWh
 
   version_whole : IsWhole with_version
   unfolding with_version
-  version_whole = whole_u32 4 1 with_magic (omega arith) magic_whole
+  version_whole = whole_u32 4 geo.version with_magic (omega arith) magic_whole
 
   groups_whole : IsWhole with_groups
   unfolding with_groups
@@ -71,13 +71,16 @@ module _ (geo : Geometry) (ok : IsGeometry geo) (block : List ℕ) (whole : IsWh
 
   before_version : (at : ℕ) → at + 4 ≤ 4 → u32_at with_inodes at ≡ u32_at with_magic at
   unfolding with_version
-  before_version at b = before_groups at (omega arith) ∙ u32_apart at 4 1 with_magic magic_whole (omega arith) (inl b)
+  before_version at b = before_groups at (omega arith) ∙ u32_apart at 4 geo.version with_magic magic_whole (omega arith) (inl b)
+
+  small_version : geo.version < 2 ^ 32
+  small_version = elim ok.known_version [ inl one ↦ omega (arith, one) | inr two ↦ omega (arith, two) ]
 
   super_over : IsSuper geo with_inodes
   unfolding with_inodes with_blocks with_groups with_version with_magic
   super_over = record {
     magic = before_version 0 (omega arith) ∙ u32_here 0 0x53555631 block whole (omega arith) (omega arith);
-    version = before_groups 4 (omega arith) ∙ u32_here 4 1 with_magic magic_whole (omega arith) (omega arith);
+    version = before_groups 4 (omega arith) ∙ u32_here 4 geo.version with_magic magic_whole (omega arith) small_version;
     groups = before_blocks 8 (omega arith) ∙ u32_here 8 geo.groups with_version version_whole (omega arith) (omega (arith, ok.few_groups));
     blocks = before_inodes 12 (omega arith) ∙ u32_here 12 geo.blocks with_groups groups_whole (omega arith) (omega (arith, ok.few_blocks));
     inodes = u32_here 16 geo.inodes with_blocks blocks_whole (omega arith) (omega (arith, ok.few_inodes));

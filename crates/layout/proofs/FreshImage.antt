@@ -156,30 +156,30 @@ module _ (geo : Geometry) (ok : IsGeometry geo) where
       ]
 
   -- the record of a number
-  other_record : (n : ℕ) → 2 ≤ n → (n ≡ 2 → ⊥) → n < 8 → inode_at (root_record_bytes geo) (inode_byte n) ≡ free_inode
+  other_record : (n : ℕ) → 2 ≤ n → (n ≡ 2 → ⊥) → n < 8 → inode_at geo.version (root_record_bytes geo) (inode_byte n) ≡ free_inode
   other_record n low differs high =
-      zero_inode (inode_byte n) (root_record_bytes geo)
-      (zero_within (root_record_bytes geo) 268 1024 (inode_byte n) (inode_byte n + 60) (omega arith) (omega arith) (root_record_rest geo ok))
+      zero_inode geo.version (inode_byte n) (root_record_bytes geo)
+      (zero_within (root_record_bytes geo) 268 1024 (inode_byte n) (inode_byte n + 64) (omega arith) (omega arith) (root_record_rest geo ok))
 
   record_is : (n : ℕ) → IsTrue (is_number geo n)
-      → inode_at (cond (eqb (inode_block geo n) (inode_block geo root)) (root_record_bytes geo) zero_block) (inode_byte n) ≡ cond (eqb n 2) (root_inode geo) free_inode
+      → inode_at geo.version (cond (eqb (inode_block geo n) (inode_block geo root)) (root_record_bytes geo) zero_block) (inode_byte n) ≡ cond (eqb n 2) (root_inode geo) free_inode
   record_is n t = elim (cases_eq (inode_block geo n) (inode_block geo root)) [
     | inl e ↦
         let group : n / geo.inodes ≡ 0 = sym (inode_group geo ok n) ∙ ap (group_of_address geo) e ∙ inode_group geo ok 2 ∙ root_group in
         let place : 1 + n % geo.inodes / 8 ≡ 1 + 2 % geo.inodes / 8 = sym (place_of_inode geo ok n) ∙ ap (place_in_group geo) e ∙ place_of_inode geo ok 2 in
         let of_root : 2 % geo.inodes ≡ 2 = all_remains 2 geo.inodes root_group in
         let all : n % geo.inodes ≡ n = all_remains n geo.inodes group in
-        ap (λ b. inode_at b (inode_byte n)) (cond-true (eqb (inode_block geo n) (inode_block geo root)) (root_record_bytes geo) zero_block (eq-eqb (inode_block geo n) (inode_block geo root) e))
+        ap (λ b. inode_at geo.version b (inode_byte n)) (cond-true (eqb (inode_block geo n) (inode_block geo root)) (root_record_bytes geo) zero_block (eq-eqb (inode_block geo n) (inode_block geo root) e))
         ∙ here n (number_from_root n t) (omega arith)
     | inr differs ↦
-        ap (λ b. inode_at b (inode_byte n)) (cond-false (eqb (inode_block geo n) (inode_block geo root)) (root_record_bytes geo) zero_block (ne_eqb (inode_block geo n) (inode_block geo root) differs))
-        ∙ zero_inode (inode_byte n) zero_block (zeroes_zero 1024 (inode_byte n) (inode_byte n + 60))
+        ap (λ b. inode_at geo.version b (inode_byte n)) (cond-false (eqb (inode_block geo n) (inode_block geo root)) (root_record_bytes geo) zero_block (ne_eqb (inode_block geo n) (inode_block geo root) differs))
+        ∙ zero_inode geo.version (inode_byte n) zero_block (zeroes_zero 1024 (inode_byte n) (inode_byte n + 64))
         ∙ sym (cond-false (eqb n 2) (root_inode geo) free_inode (ne_eqb n 2 (λ e. differs (ap (inode_block geo) e))))
   ]
     where
-      here : (n : ℕ) → 2 ≤ n → n < 8 → inode_at (root_record_bytes geo) (inode_byte n) ≡ cond (eqb n 2) (root_inode geo) free_inode
+      here : (n : ℕ) → 2 ≤ n → n < 8 → inode_at geo.version (root_record_bytes geo) (inode_byte n) ≡ cond (eqb n 2) (root_inode geo) free_inode
       here n low high = elim (cases_eq n 2) [
-        | inl e ↦ ap (λ k. inode_at (root_record_bytes geo) (inode_byte k)) e ∙ root_record_is geo ok ∙ sym (cond-true (eqb n 2) (root_inode geo) free_inode (eq-eqb n 2 e))
+        | inl e ↦ ap (λ k. inode_at geo.version (root_record_bytes geo) (inode_byte k)) e ∙ root_record_is geo ok ∙ sym (cond-true (eqb n 2) (root_inode geo) free_inode (eq-eqb n 2 e))
         | inr differs ↦ other_record n low differs high ∙ sym (cond-false (eqb n 2) (root_inode geo) free_inode (ne_eqb n 2 differs))
       ]
 
@@ -189,12 +189,12 @@ module _ (geo : Geometry) (ok : IsGeometry geo) where
   no_first : (a : ℕ) → is_data_address geo a ≡ false → eqb a (first_data geo) ≡ false
   no_first a f = ne_eqb a (first_data geo) (λ e. both_ways (is_data_address geo a) f (subst (λ k. IsTrue (is_data_address geo k)) (sym e) (first_is_data geo ok)))
 
-  view_inode : (n : ℕ) → cond (is_number geo n) (inode_at (block_at (fresh_image geo) (inode_block geo n)) (inode_byte n)) free_inode ≡ cond (eqb n 2) (root_inode geo) free_inode
+  view_inode : (n : ℕ) → cond (is_number geo n) (inode_at geo.version (block_at (fresh_image geo) (inode_block geo n)) (inode_byte n)) free_inode ≡ cond (eqb n 2) (root_inode geo) free_inode
   view_inode n = elim (cases_Bool (is_number geo n)) [
-    | inl t ↦ cond-true (is_number geo n) (inode_at (block_at (fresh_image geo) (inode_block geo n)) (inode_byte n)) free_inode t
-        ∙ ap (λ b. inode_at b (inode_byte n)) (at_image (inode_block geo n) (inode_below geo ok n (number_in_group geo ok n t)) ∙ at_inode n)
+    | inl t ↦ cond-true (is_number geo n) (inode_at geo.version (block_at (fresh_image geo) (inode_block geo n)) (inode_byte n)) free_inode t
+        ∙ ap (λ b. inode_at geo.version b (inode_byte n)) (at_image (inode_block geo n) (inode_below geo ok n (number_in_group geo ok n t)) ∙ at_inode n)
         ∙ record_is n t
-    | inr f ↦ cond-false (is_number geo n) (inode_at (block_at (fresh_image geo) (inode_block geo n)) (inode_byte n)) free_inode f
+    | inr f ↦ cond-false (is_number geo n) (inode_at geo.version (block_at (fresh_image geo) (inode_block geo n)) (inode_byte n)) free_inode f
         ∙ sym (cond-false (eqb n 2) (root_inode geo) free_inode (no_root n f))
   ]
 

@@ -1,7 +1,7 @@
 -- What stands on the block of the root's record and on the root's block of the fresh image.
-use Rattle.std.proofs.Common.{◌≡◌, ◌<◌, ◌≤◌, ◌+◌, ◌-◌, ◌*◌, ◌^◌, ℕ, List, ◌∷◌, ◌++◌, true, length, drop, replicate, slice_index, ltb, inl, inr, refl, ap₂, ◌∙◌, arith}
+use Rattle.std.proofs.Common.{◌≡◌, ◌<◌, ◌≤◌, ◌+◌, ◌-◌, ◌*◌, ◌^◌, ℕ, List, ◌∷◌, ◌++◌, true, length, drop, replicate, slice_index, eqb, ltb, inl, inr, refl, ap₂, ◌∙◌, arith}
 use Rattle.std.proofs.lemmas.List.{get_or_past, get_or_append_left, get_or-append_right}
-use Rattle.std.proofs.lemmas.Bool.{cases_lt, agree_below, agree_below_at, ltb-true}
+use Rattle.std.proofs.lemmas.Bool.{cases_lt, agree_below, agree_below_at, ltb-true, cond_both}
 use Rattle.byteorder.specs.Endian.{little_bytes, little_number}
 use Rattle.model.specs.Layout.{Geometry, IsGeometry}
 use Rattle.model.specs.View.{inode_at, u16_at, u32_at}
@@ -78,11 +78,13 @@ module _ (a : ℕ) (small : a < 2 ^ 32) (block : List ℕ) (whole : IsWhole bloc
   unfolding with_first
   first_is = number_here 4 a 264 with_size (omega (arith, size_whole.size)) small
 
-  record_over : inode_at with_first 256 ≡ record { mode = 2; links = 2; size = 1024; direct = a ∷ replicate 11 0; indirect = 0 }
-  record_over =
+  record_over : (version : ℕ) → inode_at version with_first 256 ≡ record { mode = 2; links = 2; size = 1024; direct = a ∷ replicate 11 0; indirect = 0; double = 0 }
+  record_over version =
       same_inode mode_is links_is size_is
       (ap₂ (λ x xs. x ∷ xs) first_is (zero_numbers 11 268 with_first (zero_within with_first 268 1024 268 (268 + 4 * 11) (omega arith) (omega arith) record_rest)))
       (zero_number 4 312 with_first (zero_within with_first 268 1024 312 (312 + 4) (omega arith) (omega arith) record_rest))
+      (cond_both (eqb version 2) (u32_at with_first 316) 0 (λ n. n ≡ 0)
+      (λ two. zero_number 4 316 with_first (zero_within with_first 268 1024 316 (316 + 4) (omega arith) (omega arith) record_rest)) (λ one. refl))
 
 first_small : (geo : Geometry) → IsGeometry geo → first_data geo < 2 ^ 32
 first_small geo ok = omega (arith, ok.few_inodes)
@@ -91,9 +93,9 @@ pub root_record_whole : (geo : Geometry) → IsGeometry geo → IsWhole (root_re
 unfolding root_record_bytes with_mode with_links with_size with_first
 root_record_whole geo ok = record_whole (first_data geo) (first_small geo ok) zero_block zero_whole (zeroes_zero 1024 0 1024)
 
-pub root_record_is : (geo : Geometry) → IsGeometry geo → inode_at (root_record_bytes geo) 256 ≡ root_inode geo
+pub root_record_is : (geo : Geometry) → IsGeometry geo → inode_at geo.version (root_record_bytes geo) 256 ≡ root_inode geo
 unfolding root_record_bytes with_mode with_links with_size with_first
-root_record_is geo ok = record_over (first_data geo) (first_small geo ok) zero_block zero_whole (zeroes_zero 1024 0 1024)
+root_record_is geo ok = record_over (first_data geo) (first_small geo ok) zero_block zero_whole (zeroes_zero 1024 0 1024) geo.version
 
 pub root_record_rest : (geo : Geometry) → IsGeometry geo → IsZero (root_record_bytes geo) 268 1024
 unfolding root_record_bytes with_mode with_links with_size with_first

@@ -19,9 +19,9 @@ put_u32 byte number block = put byte (little_bytes 4 number) block
 abbrev pub put_u16 : ℕ → ℕ → List ℕ → List ℕ
 put_u16 byte number block = put byte (little_bytes 2 number) block
 
--- the superblock: the magic, version 1 and the geometry
+-- the superblock: the magic, the version and the geometry
 unfoldable pub super_bytes : Geometry → List ℕ
-super_bytes geo = put_u32 16 geo.inodes (put_u32 12 geo.blocks (put_u32 8 geo.groups (put_u32 4 1 (put_u32 0 0x53555631 zero_block))))
+super_bytes geo = put_u32 16 geo.inodes (put_u32 12 geo.blocks (put_u32 8 geo.groups (put_u32 4 geo.version (put_u32 0 0x53555631 zero_block))))
 
 -- a group's block of maps: the magic and the group's number, and no bit set
 unfoldable pub group_bytes : ℕ → List ℕ

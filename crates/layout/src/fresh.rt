@@ -5,7 +5,7 @@ ghost use Rattle.model.specs.Fresh.{fresh_view, root_bytes};
 ghost use Rattle.model.specs.Rules.{ObeysRules};
 ghost use Rattle.layout.specs.Fresh as fresh;
 
-use crate::geometry::{ROOT, SUPER_MAGIC, VERSION};
+use crate::geometry::{ROOT, SUPER_MAGIC};
 use crate::{BLOCK_BYTES, Block, Geometry};
 use byteorder::{ByteOrder, LittleEndian};
 
@@ -57,7 +57,7 @@ fn write_super(geometry: &Geometry, block: &mut Block)
     ensures { block.new ≡ fresh.super_bytes geometry.now }
 {
     put_u32(block, 0, SUPER_MAGIC);
-    put_u32(block, 4, VERSION);
+    put_u32(block, 4, geometry.version());
     put_u32(block, 8, geometry.groups());
     put_u32(block, 12, geometry.blocks_a_group());
     put_u32(block, 16, geometry.inodes_a_group());

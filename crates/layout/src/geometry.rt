@@ -1,8 +1,8 @@
-ghost use Rattle.std.specs.Prelude.{◌≡◌, ◌≢◌, ℕ, ◌<◌, ◌≤◌, ◌+◌, ◌/◌, is_some, IsOkUnless, MatchResult, IsTrue, IfSome};
+ghost use Rattle.std.specs.Prelude.{◌≡◌, ◌≢◌, ℕ, ◌<◌, ◌≤◌, ◌+◌, ◌/◌, is_some, IsOkUnless, MatchResult, IsTrue, IfSome, ◌⊎◌};
 ghost use Rattle.std.specs.Option.{option_map};
 ghost use Rattle.std.specs.Result.{OkIff};
 ghost use Rattle.model.specs.Layout.{Geometry as Numbers, IsGeometry, block_count, inode_count, header_blocks, group_block, data_address, is_data_address, data_bit, group_of_address, inode_block, inode_byte};
-ghost use Rattle.model.specs.Shape.{most_blocks, place_in_table, position_count, reaches, table_of, tables};
+ghost use Rattle.model.specs.Shape.{first_block, most_blocks, place_in_table, position_count, reaches, table_of, tables};
 ghost use Rattle.model.specs.Image.{IsSuper};
 ghost use Rattle.model.specs.Units.{AreNumbers};
 
@@ -13,8 +13,11 @@ use std::ops::Range;
 /// The first four bytes of a superblock, as a number.
 pub const SUPER_MAGIC: u32 = 0x5355_5631;
 
-/// The version of the layout.
-pub const VERSION: u32 = 1;
+/// The version of the layout in which records have no double indirect pointer.
+pub const SINGLE: u32 = 1;
+
+/// The version of the layout in which records have one.
+pub const DOUBLE: u32 = 2;
 
 /// The number of the root, the least inode number that is given out.
 pub const ROOT: u32 = 2;
@@ -28,16 +31,23 @@ pub const INODE_BYTES: u32 = 128;
 /// How many pointers to blocks stand in a record; the others stand in blocks of pointers, which are a file's tables.
 pub const DIRECT_POINTERS: usize = 12;
 
+/// How many pointers a table holds.
+const TABLE_POINTERS: u32 = 256;
+
+/// How many blocks have their pointers in the record or in its first table, the indirect block.
+const SINGLE_BLOCKS: u32 = 268;
+
 /// How many blocks a file may have, whatever volume it is in: no volume allows more. The positions of its tables come behind
 /// those of its blocks.
-pub const MOST_BLOCKS: u32 = 268;
+pub const MOST_BLOCKS: u32 = 65_804;
 
-/// How many cylinder groups a volume has, how many blocks a group and how many inodes a group.
+/// How many cylinder groups a volume has, how many blocks a group and how many inodes a group, and the version of its layout.
 #[derive(Clone, Copy, Debug, PartialEq, Eq)]
 pub struct Geometry {
     groups: u32,
     blocks: u32,
     inodes: u32,
+    version: u32,
 }
 
 impl Model for Geometry {
@@ -45,11 +55,11 @@ impl Model for Geometry {
 
     ghost Value = { Numbers };
 
-    ghost view = { λ g. record { groups = g.groups; blocks = g.blocks; inodes = g.inodes } };
+    ghost view = { λ g. record { groups = g.groups; blocks = g.blocks; inodes = g.inodes; version = g.version } };
 
-    ghost invariant = { λ g. IsGeometry (record { groups = g.groups; blocks = g.blocks; inodes = g.inodes }) };
+    ghost invariant = { λ g. IsGeometry (record { groups = g.groups; blocks = g.blocks; inodes = g.inodes; version = g.version }) };
 
-    ghost inverse = { λ n. record { groups = n.groups; blocks = n.blocks; inodes = n.inodes } };
+    ghost inverse = { λ n. record { groups = n.groups; blocks = n.blocks; inodes = n.inodes; version = n.version } };
 }
 
 /// Where a data block stands: its group, and its bit in the group's map of data blocks.
@@ -75,11 +85,11 @@ pub struct TablePlace {
 }
 
 impl Geometry {
-    /// The geometry of these numbers: 1 to 64 groups, 8 to 4,096 blocks a group, and 8 to 1,024 inodes a group, a
-    /// multiple of 8, whose blocks and the block of maps leave a data block in each group.
+    /// The geometry of these numbers, in version 1: 1 to 64 groups, 8 to 4,096 blocks a group, and 8 to 1,024 inodes a
+    /// group, a multiple of 8, whose blocks and the block of maps leave a data block in each group.
     pub fn new(groups: u32, blocks: u32, inodes: u32) -> Result<Geometry, Refusal>
-        ensures ok { OkIff result (IsGeometry (record { groups = groups; blocks = blocks; inodes = inodes }))
-            (record { groups = groups; blocks = blocks; inodes = inodes }) }
+        ensures ok { OkIff result (IsGeometry (record { groups = groups; blocks = blocks; inodes = inodes; version = 1 }))
+            (record { groups = groups; blocks = blocks; inodes = inodes; version = 1 }) }
         ensures error { IsOkUnless result Refusal.BadGeometry }
     {
         let few_groups = 1 <= groups && groups <= 64;
@@ -95,7 +105,27 @@ impl Geometry {
             groups,
             blocks,
             inodes,
+            version: SINGLE,
         })
+    }
+
+    /// The same numbers in this version of the layout, 1 or 2.
+    pub fn with_version(&self, version: u32) -> Result<Geometry, Refusal>
+        ensures ok { OkIff result ((version ≡ 1) ⊎ (version ≡ 2)) (record self.now { version = version }) }
+        ensures error { IsOkUnless result Refusal.BadSuper }
+    {
+        if version != SINGLE && version != DOUBLE {
+            return Err(Refusal::BadSuper);
+        }
+        Ok(Geometry { version, ..*self })
+    }
+
+    /// The version of the layout: 1 or 2.
+    pub fn version(&self) -> u32
+        ensures version { result ≡ self.now.version }
+        ensures known { (result ≡ 1) ⊎ (result ≡ 2) }
+    {
+        self.version
     }
 
     /// How many cylinder groups there are.
@@ -204,18 +234,45 @@ impl Geometry {
         ensures count { result ≡ most_blocks self.now }
         ensures few { result ≤ 65_804 }
     {
-        MOST_BLOCKS
+        if self.version == DOUBLE {
+            MOST_BLOCKS
+        } else {
+            SINGLE_BLOCKS
+        }
+    }
+
+    /// How many positions there are.
+    fn position_count(&self) -> u32
+        ensures count { result ≡ position_count self.now }
+        ensures few { result ≤ 66_062 }
+    {
+        if self.version == DOUBLE {
+            MOST_BLOCKS + 2 + TABLE_POINTERS
+        } else {
+            SINGLE_BLOCKS + 1
+        }
+    }
+
+    /// The block with which a file begins to have a position.
+    fn first_block(&self, position: u32) -> u32
+        requires { position < position_count self.now }
+        ensures { result ≡ first_block self.now position }
+    {
+        let most = self.most_blocks();
+        if position < most {
+            return position;
+        }
+        if position == most {
+            return DIRECT_POINTERS as u32;
+        }
+        SINGLE_BLOCKS + TABLE_POINTERS * position.saturating_sub(most + 2)
     }
 
     /// Whether a file of so many blocks has a position: that of one of its blocks, or of a table that they need.
     pub fn reaches(&self, blocks: u32, position: u32) -> bool
         ensures { result ≡ reaches self.now blocks position }
     {
-        if position < MOST_BLOCKS {
-            position < blocks
-        } else {
-            position == MOST_BLOCKS && blocks > DIRECT_POINTERS as u32
-        }
+        position < self.position_count() && self.first_block(position) < blocks
     }
 
     /// The position behind that of the last table of a file of so many blocks: its tables stand at those from
@@ -226,11 +283,7 @@ impl Geometry {
         ensures inside { result ≤ position_count self.now }
         ensures few { result ≤ 66_062 }
     {
-        if blocks > DIRECT_POINTERS as u32 {
-            MOST_BLOCKS + 1
-        } else {
-            MOST_BLOCKS
-        }
+        self.most_blocks() + tables(blocks)
     }
 
     /// Where the pointer of a position stands if a table holds it; `None` where the record holds it.
@@ -240,13 +293,25 @@ impl Geometry {
         ensures place { IfSome result (λ place. place.place ≡ place_in_table self.now position) }
         ensures inside { IfSome result (λ place. (place.table < position_count self.now) × (place.place < 256)) }
     {
-        if position < DIRECT_POINTERS as u32 || position >= MOST_BLOCKS {
-            return None;
+        let most = self.most_blocks();
+        if position < DIRECT_POINTERS as u32 {
+            None
+        } else if position < SINGLE_BLOCKS {
+            let place = position as usize - DIRECT_POINTERS;
+            Some(TablePlace { table: most, place })
+        } else if position < most {
+            let behind = position - SINGLE_BLOCKS;
+            Some(TablePlace {
+                table: most + 2 + behind / TABLE_POINTERS,
+                place: (behind % TABLE_POINTERS) as usize,
+            })
+        } else if position < most + 2 {
+            None
+        } else {
+            let place = (position - (most + 2)) as usize;
+            let table = most + 1;
+            Some(TablePlace { table, place })
         }
-        Some(TablePlace {
-            table: MOST_BLOCKS,
-            place: position as usize - DIRECT_POINTERS,
-        })
     }
 
     /// Where the record of an inode stands.
@@ -284,16 +349,29 @@ impl Geometry {
     }
 }
 
+/// How many tables a file of so many blocks has.
+fn tables(blocks: u32) -> u32
+    ensures { result ≡ tables blocks }
+{
+    if blocks <= DIRECT_POINTERS as u32 {
+        0
+    } else if blocks <= SINGLE_BLOCKS {
+        1
+    } else {
+        2 + (blocks - SINGLE_BLOCKS).div_ceil(TABLE_POINTERS)
+    }
+}
+
 /// The geometry that a superblock tells.
 pub fn read_super(block: &Block) -> Result<Geometry, Refusal>
     ensures ok { MatchResult result (λ geo. IsGeometry geo × IsSuper geo block.now) (λ _. (geo : Numbers) → IsGeometry geo → IsSuper geo block.now → ⊥) }
     ensures error { IsOkUnless result Refusal.BadSuper }
 {
-    if u32_at(block, 0) != SUPER_MAGIC || u32_at(block, 4) != VERSION {
+    if u32_at(block, 0) != SUPER_MAGIC {
         return Err(Refusal::BadSuper);
     }
     match Geometry::new(u32_at(block, 8), u32_at(block, 12), u32_at(block, 16)) {
-        Ok(geometry) => Ok(geometry),
+        Ok(geometry) => geometry.with_version(u32_at(block, 4)),
         Err(_) => Err(Refusal::BadSuper),
     }
 }

@@ -13,8 +13,8 @@ mod refusal;
 
 pub use fresh::{GROUP_MAGIC, fresh_block, fresh_blocks_are_the_fresh_image, next_fresh_block};
 pub use geometry::{
-    DIRECT_POINTERS, DataPlace, Geometry, INODES_PER_BLOCK, InodePlace, MOST_BLOCKS, ROOT,
-    TablePlace, places_are_one_to_one, read_super,
+    DIRECT_POINTERS, DOUBLE, DataPlace, Geometry, INODES_PER_BLOCK, InodePlace, MOST_BLOCKS, ROOT,
+    SINGLE, TablePlace, places_are_one_to_one, read_super,
 };
 pub use refusal::Refusal;
 

@@ -14,7 +14,8 @@ told_once g h block a b =
     let groups : g.groups ≡ h.groups = sym a.groups ∙ b.groups in
     let blocks : g.blocks ≡ h.blocks = sym a.blocks ∙ b.blocks in
     let inodes : g.inodes ≡ h.inodes = sym a.inodes ∙ b.inodes in
-    λ i. record { groups = groups i; blocks = blocks i; inodes = inodes i }
+    let version : g.version ≡ h.version = sym a.version ∙ b.version in
+    λ i. record { groups = groups i; blocks = blocks i; inodes = inodes i; version = version i }
 
 abbrev pub GivesOut : Refusal → Type 0
 GivesOut r = (r ≡ refusal.NoMemory) ⊎ (r ≡ refusal.Device)

@@ -1,5 +1,5 @@
 -- A new entry in a directory is one of the path's, and the updates of a command carry it out.
-use Rattle.std.proofs.Common.{◌≡◌, ◌+◌, ◌/◌, ℕ, Bool, true, List, [], ◌∷◌, sym, ap, ap₂, ◌∙◌, subst, All, IsTrue, IsFalse, Option, Some, Ok}
+use Rattle.std.proofs.Common.{◌≡◌, ◌+◌, ◌/◌, ℕ, Bool, true, List, [], ◌∷◌, sym, ap, ap₂, ◌∙◌, subst, All, IsTrue, IsFalse, Some, Ok}
 use Rattle.std.specs.Prelude.{IfSome, unwrap_or}
 use Rattle.std.specs.Result.{result_unwrap_or}
 use Rattle.model.specs.Layout.{Geometry, is_number, root}
@@ -64,13 +64,13 @@ module _ (geo : Geometry) (view : View) (path : List ℕ) (ps : List (List ℕ))
       only = subst (λ h. All (IsBeforeEntry geo view h n) x.after) (sym to) x.only;
     }
 
-  pub in_new_block : (inode : Inode) (block : ℕ) (table : Option ℕ) → IsNewBlock geo view d block table → (x : EntersNewBlock geo view d inode n (last_part ps) block table old new)
+  pub in_new_block : (inode : Inode) (block : ℕ) (tables : List ℕ) → IsNewBlock geo view d block tables → (x : EntersNewBlock geo view d inode n (last_part ps) block tables old new)
       → InNewBlock geo view path n block x.kept x.slot x.entry x.after
-  in_new_block inode block table is x = record {
+  in_new_block inode block tables is x = record {
     full = subst (λ h. IsFalse (has_room geo view h)) (sym to) is.none;
-    free = is.free;
+    free = is.choice.free;
     keeps = subst (λ h. IsKeptIn geo view h (blocks_of (view.inode h).size) block x.kept) (sym to) x.keeps;
-    apart = are_apart geo view d block table x.kept x.tables is.table;
+    apart = are_apart geo view (blocks_of (view.inode d).size) block tables x.kept x.tables is.choice;
     stands = subst (λ h. x.slot / 16 ≡ blocks_of (view.inode h).size) (sym to) x.stands;
     says = says_it x.entry x.says;
     record_first = x.record_first;
@@ -104,18 +104,18 @@ module _ (geo : Geometry) (disk : View) (q : List Pending) (old : State) (safe :
       done_as geo disk q old safe (Create path) Number n draft.file (create_plan geo view path n s x.entry x.after q) (over q draft.updates) file
       (x.goes_on.pending q ∙ ap₂ (λ b l. slot_written b (view.bytes b) s x.entry x.after ∷ l) (at geo view path ps e d way n named draft s block is) names)
       (CreatesInSlot path n s x.entry x.after free (in_slot geo view path ps e d way n named draft s block is x))
-  create_done (NewBlock block table) is x =
+  create_done (NewBlock block tables) is x =
       done_as geo disk q old safe (Create path) Number n draft.file (create_plan_grown geo view path n block x.kept x.slot x.entry x.after q) (over q draft.updates) file
       (x.goes_on.pending q ∙ ap₂ (λ h l. slot_written block empty_block x.slot x.entry x.after ∷ grown geo h (view.inode h) block x.kept l) (sym (to geo view path ps e d way n named draft)) names)
-      (CreatesInNewBlock path n block x.kept x.slot x.entry x.after free (in_new_block geo view path ps e d way n named draft (view.inode d) block table is x))
+      (CreatesInNewBlock path n block x.kept x.slot x.entry x.after free (in_new_block geo view path ps e d way n named draft (view.inode d) block tables is x))
 
 pub entered_geometry : (geo : Geometry) (v : View) (d : ℕ) (inode : Inode) (n : ℕ) (name : List ℕ) (place : Place) (old new : Draft) → EntersAt geo v d inode n name place old new → new.geometry ≡ old.geometry
 entered_geometry geo v d inode n name (Slot s block) old new enters = enters.goes_on.geometry
-entered_geometry geo v d inode n name (NewBlock block table) old new enters = enters.goes_on.geometry
+entered_geometry geo v d inode n name (NewBlock block tables) old new enters = enters.goes_on.geometry
 
 pub entered_file : (geo : Geometry) (v : View) (d : ℕ) (inode : Inode) (n : ℕ) (name : List ℕ) (place : Place) (old new : Draft) → EntersAt geo v d inode n name place old new → new.file ≡ old.file
 entered_file geo v d inode n name (Slot s block) old new enters = enters.goes_on.file
-entered_file geo v d inode n name (NewBlock block table) old new enters = enters.goes_on.file
+entered_file geo v d inode n name (NewBlock block tables) old new enters = enters.goes_on.file
 
 module _ (geo : Geometry) (view : View) (new : NewEntry) (first : List Pending → List Pending) (draft : Draft) (makes : Makes geo view new first draft) where
   pub made_geometry : draft.geometry ≡ geo
@@ -169,13 +169,13 @@ module _ (geo : Geometry) (disk : View) (q : List Pending) (old : State) (safe :
       (x.goes_on.pending q ∙ ap₂ (λ b l. slot_written b (users.bytes b) s x.entry x.after ∷ l) (at geo users other qs e d way n named draft s block is)
       (names ∙ ap (λ k. raised k (users.inode k) q) (sym number_is)))
       (LinksInSlot path other s x.entry x.after (subst (λ k. InSlot geo users other k s x.entry x.after) (sym number_is) (in_slot geo users other qs e d way n named draft s block is x)))
-  linked_done (NewBlock block table) is x =
+  linked_done (NewBlock block tables) is x =
       let m = number_at geo users path in
       done_as geo disk q old safe (Link path other) (λ k. Done) m draft.file (link_plan_grown geo users path other block x.kept x.slot x.entry x.after q) (over q draft.updates) (file ∙ sym number_is)
       (x.goes_on.pending q ∙ ap₂ (λ h l. slot_written block empty_block x.slot x.entry x.after ∷ grown geo h (users.inode h) block x.kept l) (sym (to geo users other qs e d way n named draft))
       (names ∙ ap (λ k. raised k (users.inode k) q) (sym number_is)))
       (LinksInNewBlock path other block x.kept x.slot x.entry x.after
-      (subst (λ k. InNewBlock geo users other k block x.kept x.slot x.entry x.after) (sym number_is) (in_new_block geo users other qs e d way n named draft (users.inode d) block table is x)))
+      (subst (λ k. InNewBlock geo users other k block x.kept x.slot x.entry x.after) (sym number_is) (in_new_block geo users other qs e d way n named draft (users.inode d) block tables is x)))
 
 pub link_planned : (kept : Kept) (path other : List ℕ) (ps qs : List (List ℕ)) (new : NewEntry) (draft : Draft) → KeepsMetadata kept → IsOfVolume kept → parts_of path ≡ Some ps → parts_of other ≡ Some qs
     → new.name.now ≡ last_part qs → new.parent ≡ (frozen_view kept).inode new.directory
@@ -240,12 +240,12 @@ module _ (geo : Geometry) (disk : View) (q : List Pending) (old : State) (safe :
       done_as geo disk q old safe (Mkdir path) Number n draft.file (make_plan geo seen_by path n own dots s x.entry x.after q) (over q draft.updates) file
       (x.goes_on.pending q ∙ ap₂ (λ b l. slot_written b (seen_by.bytes b) s x.entry x.after ∷ l) (at geo seen_by path ps e d way n named draft s block has.fits) names_there)
       (MakesInSlot path n own dots s x.entry x.after free has.free dots_there (in_slot geo seen_by path ps e d way n named draft s block has.fits x))
-  mkdir_done (NewBlock block table) has x =
+  mkdir_done (NewBlock block tables) has x =
       done_as geo disk q old safe (Mkdir path) Number n draft.file (make_plan_grown geo seen_by path n own dots block x.kept x.slot x.entry x.after q) (over q draft.updates) file
       (x.goes_on.pending q
       ∙ ap₂ (λ h l. slot_written block empty_block x.slot x.entry x.after ∷ grown geo h (with_links (seen_by.inode h) ((seen_by.inode h).links + 1)) block x.kept l) (sym is_to) names_there)
-      (MakesInNewBlock path n own dots block x.kept x.slot x.entry x.after free has.free dots_there (others own block table x.kept x.tables has.apart)
-      (in_new_block geo seen_by path ps e d way n named draft (with_links (seen_by.inode d) ((seen_by.inode d).links + 1)) block table has.fits x))
+      (MakesInNewBlock path n own dots block x.kept x.slot x.entry x.after free has.free dots_there (others own block tables x.kept x.tables has.apart)
+      (in_new_block geo seen_by path ps e d way n named draft (with_links (seen_by.inode d) ((seen_by.inode d).links + 1)) block tables has.fits x))
 
 pub mkdir_planned : (kept : Kept) (path : List ℕ) (ps : List (List ℕ)) (new : NewEntry) (own : ℕ) (draft : Draft) → KeepsMetadata kept → IsOfVolume kept → parts_of path ≡ Some ps
     → new.name.now ≡ last_part ps → new.parent ≡ with_links ((frozen_view kept).inode new.directory) (((frozen_view kept).inode new.directory).links + 1)

@@ -57,6 +57,7 @@ fn created(alloc: Global, metadata: &Metadata, new: &NewEntry) -> Result<Plan, A
         size: 0,
         direct: [0; DIRECT_POINTERS],
         indirect: 0,
+        double: 0,
     };
     let after = vec![in alloc; Cell::NumberBit(new.number)]?;
     plan.push(Change::SetInode(new.number, file), after)?;

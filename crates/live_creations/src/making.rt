@@ -101,5 +101,6 @@ pub(crate) fn new_directory(block: u32) -> Record
         size: BLOCK_BYTES as u32,
         direct,
         indirect: 0,
+        double: 0,
     }
 }

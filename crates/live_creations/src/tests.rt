@@ -109,6 +109,7 @@ fn a_new_directory_has_one_block(rt: HostRuntime) {
         size: 1024,
         direct,
         indirect: 0,
+        double: 0,
     };
     assert!(rt; new_directory(7) == wanted);
 }

@@ -1,4 +1,5 @@
 mod ChoiceLemmas
 pub mod FreeCounts
+pub mod NextBlocks
 pub mod RoomLemmas
 pub mod ShownLemmas

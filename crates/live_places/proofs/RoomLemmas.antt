@@ -1,39 +1,18 @@
 -- What the room of a directory takes, and whether the directory is full.
-use Rattle.std.proofs.Common.{◌≡◌, ◌<◌, ◌≤◌, ◌+◌, ◌/◌, ℕ, not, ◌&&◌, leb, inl, inr, refl, sym, ap, ◌∙◌, arith, length, IsTrue, IsFalse, None}
-use Rattle.std.proofs.lemmas.Bool.{cases_lt, cond-true, cond-false, and_parts, and_from, false_from_ne_true, leb-true, le-leb}
+use Rattle.std.proofs.Common.{◌≡◌, ◌<◌, ◌≤◌, ◌+◌, ◌/◌, ℕ, not, ◌&&◌, leb, sym, ap, ◌∙◌, arith, IsTrue, IsFalse, None}
+use Rattle.std.proofs.lemmas.Bool.{cond-true, cond-false, and_parts, and_from, false_from_ne_true, leb-true, le-leb}
 use Rattle.std.proofs.lemmas.Option.{none-some}
 use Rattle.model.specs.Layout.{Geometry}
 use Rattle.model.specs.View.{View}
-use Rattle.model.specs.Shape.{most_blocks, new_tables, position_count, tables}
+use Rattle.model.specs.Shape.{most_blocks}
 use Rattle.model.specs.Uses.{blocks_of, claim_at}
 use Rattle.model.specs.Slots.{Absent, Empty, slot}
-use Rattle.model.proofs.Shape.{reach_parts, tables_grow, tables_range}
+use Rattle.model.proofs.Shape.{new_few}
 use Rattle.model.proofs.SlotLemmas.{slot_content}
 use Rattle.machine.specs.Room.{has_room, is_full, blocks_to_append, blocks_to_enter}
 use Rattle.live_places.specs.declared.rooms.Room.{Room}
-use Rattle.live_places.specs.declared.rooms.Room.TheVariants.{Slot, Pointer, Table}
-use Rattle.live_places.specs.Rooms.{HasPosition, IsRoomOf, blocks_for}
-
--- ---- the tables that come with block n: as many as there are more, and not more than the one that a place has room for
--- there is one position of a table alone in version 1
-one_table_alone : (geo : Geometry) → position_count geo ≡ most_blocks geo + 1
-unfolding position_count most_blocks
-one_table_alone geo = refl
-
-module _ (geo : Geometry) (n : ℕ) (low : n < most_blocks geo) where
-  few_tables : tables (n + 1) ≤ 1
-  few_tables = elim (cases_lt 1 (tables (n + 1))) [
-    | inl many ↦ absurd (
-        let second = (tables_range geo (n + 1) (most_blocks geo + 1) (omega (arith, low)) (omega arith)).1 (omega (arith, many)) in
-        omega (arith, (reach_parts geo (n + 1) (most_blocks geo + 1) second).0, one_table_alone geo))
-    | inr few ↦ few
-  ]
-
-  pub tables_stay : tables (n + 1) ≤ tables n → length (new_tables geo n) ≡ 0
-  tables_stay few = omega (arith, few, tables_grow geo n low)
-
-  pub one_more_table : tables n < tables (n + 1) → length (new_tables geo n) ≡ 1
-  one_more_table more = omega (arith, more, few_tables, tables_grow geo n low)
+use Rattle.live_places.specs.declared.rooms.Room.TheVariants.{Slot, NewBlock}
+use Rattle.live_places.specs.Rooms.{IsRoomOf, blocks_for}
 
 module _ (geo : Geometry) (view : View) (d : ℕ) where
   -- an empty slot stands in a block that the directory claims
@@ -54,14 +33,14 @@ module _ (geo : Geometry) (view : View) (d : ℕ) where
 
   pub room_not_full : (room : Room) → IsRoomOf geo view d room → IsFalse (is_full geo view d)
   room_not_full (Slot s block) is = ap (λ r. not r && leb (most_blocks geo) (blocks_of (view.inode d).size)) is.room
-  room_not_full Pointer is = not_full is.left
-  room_not_full Table is = not_full is.left
+  room_not_full (NewBlock tables) is = not_full is.left
+
+  -- two tables at most come with a block
+  pub room_few : (room : Room) → IsRoomOf geo view d room → blocks_for room ≤ 3
+  room_few (Slot s block) is = omega arith
+  room_few (NewBlock tables) is = omega (arith, is.tables, new_few geo (blocks_of (view.inode d).size) is.left)
 
   -- how many blocks an entry takes
-  append : (count : ℕ) → HasPosition geo view d count → blocks_to_enter geo view d ≡ 1 + count
-  append count is = cond-false (has_room geo view d) 0 (blocks_to_append geo (view.inode d)) is.none ∙ ap (λ n. 1 + n) is.tables
-
   pub room_takes : (room : Room) → IsRoomOf geo view d room → blocks_to_enter geo view d ≡ blocks_for room
   room_takes (Slot s block) is = cond-true (has_room geo view d) 0 (blocks_to_append geo (view.inode d)) is.room
-  room_takes Pointer is = append 0 is
-  room_takes Table is = append 1 is
+  room_takes (NewBlock tables) is = cond-false (has_room geo view d) 0 (blocks_to_append geo (view.inode d)) is.none ∙ ap (λ n. 1 + n) is.tables

@@ -1,10 +1,10 @@
 -- What is chosen on the kept blocks holds in each view of which they hold the metadata.
-use Rattle.std.proofs.Common.{◌≡◌, ◌+◌, ◌/◌, ℕ, Bool, not, ◌&&◌, cond, leb, refl, sym, ap, ap₂, ◌∙◌, arith, length, IsTrue, IsFalse, Option, Some, None}
+use Rattle.std.proofs.Common.{◌≡◌, ◌+◌, ◌/◌, ℕ, Bool, not, ◌&&◌, cond, leb, refl, sym, ap, ap₂, ◌∙◌, subst, arith, List, [], ◌∷◌, IsTrue, IsFalse, Option, Some, None}
 use Rattle.std.specs.Bool.{then_some}
 use Rattle.std.specs.Option.{option_and_then, IfSome}
 use Rattle.model.specs.Layout.{Geometry, is_data_address, block_count}
 use Rattle.model.specs.View.{View, Inode}
-use Rattle.model.specs.Shape.{most_blocks, new_tables}
+use Rattle.model.specs.Shape.{most_blocks}
 use Rattle.model.specs.Uses.{blocks_of, claim_at, is_directory_at}
 use Rattle.model.specs.Slots.{slot}
 use Rattle.model.specs.Reach.{slot_count}
@@ -13,13 +13,15 @@ use Rattle.model.proofs.Same.{SameFacts, same_facts}
 use Rattle.model.proofs.Sums.{sum-same}
 use Rattle.frozen.specs.Kept.{Kept, frozen_view}
 use Rattle.metadata.specs.Free.{IsNextBlock}
+use Rattle.plans_data.specs.Plans.{AllFree, IsChoice}
 use Rattle.machine.specs.Room.{IsFreeBlock, has_room, is_empty, is_full, unmarked_blocks, blocks_to_append}
 use Rattle.machine.proofs.Decisions.{any_same, directory_is_sound, sound_parts}
 use Rattle.live_paths.specs.Shown.{IsShownBy}
 use Rattle.live_places.specs.declared.choosing.Place.{Place}
 use Rattle.live_places.specs.declared.choosing.Place.TheVariants.{Slot, NewBlock}
 use Rattle.live_places.specs.declared.choosing.Places.{Places}
-use Rattle.live_places.specs.Chosen.{AreChosen, AreLeastFrom, IsOwn, IsOther, IsPlace, IsTableOf, behind, blocks_needed}
+use Rattle.live_places.specs.Chosen.{AreChosen, AreLeastFrom, AreNextBlocks, IsOwn, IsOther, IsPlace, behind, blocks_needed}
+use Rattle.live_places.proofs.NextBlocks.{next_others}
 
 -- what is kept is shown by itself
 pub self_shown : (kept : Kept) → IsShownBy kept (frozen_view kept)
@@ -38,8 +40,7 @@ module _ (geo : Geometry) (view : View) (d : ℕ) where
 
   others : (a : ℕ) (place : Place) → AreLeastFrom geo view (a + 1) place → IsOther place a
   others a (Slot s block) least = tt
-  others a (NewBlock block None) least = ((λ e. omega (arith, least.0.above, e)), tt)
-  others a (NewBlock block (Some x)) least = ((λ e. omega (arith, least.0.above, e)), (λ e. omega (arith, least.0.above, least.1.above, e)))
+  others a (NewBlock block tables) least = next_others geo view (a + 1) a (block ∷ tables) (omega arith) least
 
   pub chosen_both : (own : Bool) (a : ℕ) (place : Place) → IsTrue own → IsNextBlock geo view 0 a → IsPlace geo view d place → AreLeastFrom geo view (a + 1) place
       → AreChosen geo view d own (record { own = Some a; place = place })
@@ -59,6 +60,17 @@ module _ (kept : Kept) (view : View) (shown : IsShownBy kept view) where
   next_there : (from a : ℕ) → IsNextBlock kept.geometry (frozen_view kept) from a → IsNextBlock kept.geometry view from a
   next_there from a next = record { above = next.above; free = free_there a next.free; least = λ b low free. next.least b low (free_back b free) }
 
+  all_next_there : (from : ℕ) (xs : List ℕ) → AreNextBlocks kept.geometry (frozen_view kept) from xs → AreNextBlocks kept.geometry view from xs
+  all_next_there from [] next = tt
+  all_next_there from (x ∷ xs) next = (next_there from x next.0, all_next_there (x + 1) xs next.1)
+
+  all_free_there : (xs : List ℕ) → AllFree kept.geometry (frozen_view kept) xs → AllFree kept.geometry view xs
+  all_free_there [] free = tt
+  all_free_there (x ∷ xs) free = (free_there x free.0, all_free_there xs free.1)
+
+  choice_there : (k b : ℕ) (tables : List ℕ) → IsChoice kept.geometry (frozen_view kept) k b tables → IsChoice kept.geometry view k b tables
+  choice_there k b tables is = record { free = free_there b is.free; many = is.many; tables = all_free_there tables is.tables; apart = is.apart }
+
   pub unmarked_there : unmarked_blocks kept.geometry (frozen_view kept) ≡ unmarked_blocks kept.geometry view
   unmarked_there =
       sum-same (block_count kept.geometry) (λ a. cond (is_data_address kept.geometry a && not ((frozen_view kept).block_marked a)) 1 0) (λ a. cond (is_data_address kept.geometry a && not (view.block_marked a)) 1 0)
@@ -75,8 +87,7 @@ module _ (kept : Kept) (view : View) (shown : IsShownBy kept view) where
 
   least_there : (from : ℕ) (place : Place) → AreLeastFrom kept.geometry (frozen_view kept) from place → AreLeastFrom kept.geometry view from place
   least_there from (Slot s block) least = tt
-  least_there from (NewBlock block None) least = (next_there from block least.0, tt)
-  least_there from (NewBlock block (Some x)) least = (next_there from block least.0, next_there (block + 1) x least.1)
+  least_there from (NewBlock block tables) least = all_next_there from (block ∷ tables) least
 
   own_there : (own : Bool) (block : Option ℕ) → IsOwn kept.geometry (frozen_view kept) own block → IsOwn kept.geometry view own block
   own_there own None is = is
@@ -100,13 +111,6 @@ module _ (kept : Kept) (view : View) (shown : IsShownBy kept view) where
     pub needed_there : (own : Bool) → blocks_needed kept.geometry (frozen_view kept) d own ≡ blocks_needed kept.geometry view d own
     needed_there own = ap₂ (λ r n. cond own 1 0 + cond r 0 (blocks_to_append kept.geometry n)) (room_there d) inode_there
 
-    same_tables : length (new_tables kept.geometry (blocks_of ((frozen_view kept).inode d).size)) ≡ length (new_tables kept.geometry (blocks_of (view.inode d).size))
-    same_tables = ap (λ n. length (new_tables kept.geometry n)) size_there
-
-    table_there : (block : ℕ) (table : Option ℕ) → IsTableOf kept.geometry (frozen_view kept) d block table → IsTableOf kept.geometry view d block table
-    table_there block None is = (is.0 ∙ same_tables, tt)
-    table_there block (Some x) is = (is.0 ∙ same_tables, (free_there x is.1.0, is.1.1))
-
     place_there : (place : Place) → IsPlace kept.geometry (frozen_view kept) d place → IsPlace kept.geometry view d place
     place_there (Slot s block) is = record {
       empty = sym (same.slots d s) ∙ is.empty;
@@ -114,10 +118,9 @@ module _ (kept : Kept) (view : View) (shown : IsShownBy kept view) where
       stands = sym (claim_there d (s / 16)) ∙ is.stands;
       room = sym (room_there d) ∙ is.room;
     }
-    place_there (NewBlock block table) is = record {
+    place_there (NewBlock block tables) is = record {
       none = sym (room_there d) ∙ is.none;
-      free = free_there block is.free;
-      table = table_there block table is.table;
+      choice = subst (λ n. IsChoice kept.geometry view n block tables) size_there (choice_there (blocks_of ((frozen_view kept).inode d).size) block tables is.choice);
     }
 
     pub chosen_there : (own : Bool) (places : Places) → AreChosen kept.geometry (frozen_view kept) d own places → AreChosen kept.geometry view d own places

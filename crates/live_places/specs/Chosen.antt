@@ -1,12 +1,13 @@
 -- What a command chose that enters a name into a directory.
-use Rattle.std.specs.Prelude.{◌≡◌, ◌≢◌, ℕ, ◌<◌, ◌+◌, ◌/◌, Bool, if◌then◌else◌, List, [], ◌∷◌, length, Option, Some, None, MatchOption, IfSome, IsTrue, IsFalse}
+use Rattle.std.specs.Prelude.{◌≡◌, ◌≢◌, ℕ, ◌<◌, ◌+◌, ◌/◌, Bool, if◌then◌else◌, List, [], ◌∷◌, Option, Some, MatchOption, IfSome, IsTrue, IsFalse}
 use Rattle.std.specs.Option.{option_map_or}
 use Rattle.model.specs.Layout.{Geometry}
 use Rattle.model.specs.View.{View}
-use Rattle.model.specs.Shape.{new_tables}
 use Rattle.model.specs.Uses.{blocks_of, claim_at}
 use Rattle.model.specs.Slots.{Empty, slot}
 use Rattle.machine.specs.Room.{IsFreeBlock, has_room, blocks_to_enter}
+use Rattle.plans_data.specs.Append.{IsNoneOf}
+use Rattle.plans_data.specs.Plans.{IsChoice}
 use Rattle.metadata.specs.Free.{IsNextBlock}
 use Rattle.live_places.specs.declared.choosing.Place.{Place}
 use Rattle.live_places.specs.declared.choosing.Place.TheVariants.{Slot, NewBlock}
@@ -27,40 +28,34 @@ pub record IsEmptySlot (geo : Geometry) (view : View) (d s block : ℕ) : Type 0
   pub stands : claim_at geo view d (s / 16) ≡ Some block
   pub room : IsTrue (has_room geo view d)
 
--- the blocks that were chosen for new tables
-abbrev pub listed : Option ℕ → List ℕ
-listed None = []
-listed (Some x) = x ∷ []
-
--- as many blocks for new tables as come with the next block of directory d, each of them free and another one than that block
-abbrev pub IsTableOf : Geometry → View → ℕ → ℕ → Option ℕ → Type 0
-IsTableOf geo view d block table =
-    (length (listed table) ≡ length (new_tables geo (blocks_of (view.inode d).size))) × IfSome table (λ x. IsFreeBlock geo view x × (x ≢ block))
-
--- Directory d has no empty slot, and these blocks may be given out.
-pub record IsNewBlock (geo : Geometry) (view : View) (d block : ℕ) (pointers : Option ℕ) : Type 0 where
+-- Directory d has no empty slot, and these blocks may be given out: one for the entry, and as many for tables as come with it.
+pub record IsNewBlock (geo : Geometry) (view : View) (d block : ℕ) (tables : List ℕ) : Type 0 where
   pub none : IsFalse (has_room geo view d)
-  pub free : IsFreeBlock geo view block
-  pub table : IsTableOf geo view d block pointers
+  pub choice : IsChoice geo view (blocks_of (view.inode d).size) block tables
 
 -- a new entry of directory d may go there
 abbrev pub IsPlace : Geometry → View → ℕ → Place → Type 0
 IsPlace geo view d (Slot s block) = IsEmptySlot geo view d s block
-IsPlace geo view d (NewBlock block table) = IsNewBlock geo view d block table
+IsPlace geo view d (NewBlock block tables) = IsNewBlock geo view d block tables
 
 -- the new blocks of the directory are others than this one
 abbrev pub IsOther : Place → ℕ → Type 0
 IsOther (Slot s block) a = Unit {0}
-IsOther (NewBlock block table) a = (block ≢ a) × IfSome table (λ x. x ≢ a)
+IsOther (NewBlock block tables) a = IsNoneOf a (block ∷ tables)
 
 -- the first address behind a block, and 0 behind none
 abbrev pub behind : Option ℕ → ℕ
 behind block = option_map_or (λ a. a + 1) block 0
 
+-- each of these is the least one that may be given out, from an address on and then behind the one before
+abbrev pub AreNextBlocks : Geometry → View → ℕ → List ℕ → Type 0
+AreNextBlocks geo view from [] = Unit {0}
+AreNextBlocks geo view from (x ∷ xs) = IsNextBlock geo view from x × AreNextBlocks geo view (x + 1) xs
+
 -- new blocks are the least ones from an address on that may be given out
 abbrev pub AreLeastFrom : Geometry → View → ℕ → Place → Type 0
 AreLeastFrom geo view from (Slot s block) = Unit {0}
-AreLeastFrom geo view from (NewBlock block table) = IsNextBlock geo view from block × IfSome table (IsNextBlock geo view (block + 1))
+AreLeastFrom geo view from (NewBlock block tables) = AreNextBlocks geo view from (block ∷ tables)
 
 -- A place for a new entry of directory d, and a block for a new directory itself where one is asked for.
 pub record AreChosen (geo : Geometry) (view : View) (d : ℕ) (asked : Bool) (places : Places) : Type 0 where

@@ -9,8 +9,9 @@ ghost use Rattle.live_places.specs.Chosen.{AreChosen, AreLeastFrom, IsPlace, blo
 ghost use Rattle.live_places.specs.Rooms.{IsRoomOf, blocks_for};
 ghost use Rattle.live_places.specs.Taken.{free_below};
 
+use crate::Tables;
 use crate::rooms::{Room, room_in};
-use crate::taking::take;
+use crate::taking::{take, take_tables};
 use layout::Refusal;
 use metadata::Metadata;
 
@@ -19,9 +20,9 @@ use metadata::Metadata;
 pub enum Place {
     /// Into an empty slot, in this block of the directory.
     Slot { slot: u32, block: u32 },
-    /// Into a new block of the directory, whose pointer stands in the record or in a table; with a new table where one
-    /// comes with this block.
-    NewBlock { block: u32, table: Option<u32> },
+    /// Into a new block of the directory, whose pointer stands in the record or in a table, with the new tables that come
+    /// with it.
+    NewBlock { block: u32, tables: Tables },
 }
 
 /// What a command chose that enters a name into a directory.
@@ -60,6 +61,7 @@ pub fn choose(metadata: &Metadata, directory: u32, own: bool) -> Result<Places, 
 
 /// Where an entry goes for which there is this room, with the least free blocks from an address on.
 fn place_in(metadata: &Metadata, room: Room, from: u32) -> Result<Place, Refusal>
+    requires { blocks_for room ≤ 3 }
     ensures placed { (d : ℕ) → IsRoomOf metadata.now.geometry (frozen_view metadata.now) d room
         → IfOk result (λ place. IsPlace metadata.now.geometry (frozen_view metadata.now) d place
         × AreLeastFrom metadata.now.geometry (frozen_view metadata.now) from place) }
@@ -69,17 +71,10 @@ fn place_in(metadata: &Metadata, room: Room, from: u32) -> Result<Place, Refusal
 {
     match room {
         Room::Slot { slot, block } => Ok(Place::Slot { slot, block }),
-        Room::Pointer => {
+        Room::NewBlock { tables } => {
             let block = take(metadata, from)?;
-            Ok(Place::NewBlock { block, table: None })
-        }
-        Room::Table => {
-            let block = take(metadata, from)?;
-            let table = take(metadata, block + 1)?;
-            Ok(Place::NewBlock {
-                block,
-                table: Some(table),
-            })
+            let tables = take_tables(metadata, block + 1, tables)?;
+            Ok(Place::NewBlock { block, tables })
         }
     }
 }

@@ -1,13 +1,14 @@
-ghost use Rattle.std.specs.Prelude.{◌≡◌, IfErr, IfOk, IsTrue};
+ghost use Rattle.std.specs.Prelude.{◌≡◌, ◌<◌, ◌≤◌, IfErr, IfOk, IsTrue, length};
 ghost use Rattle.frozen.specs.Kept.{frozen_view};
 ghost use Rattle.layout.specs.declared.refusal.Refusal.TheVariants.{TooBig};
 ghost use Rattle.machine.specs.Room.{is_full};
+ghost use Rattle.model.specs.Shape.{most_blocks, new_tables};
 ghost use Rattle.model.specs.Uses.{is_directory_at};
 ghost use Rattle.live_places.specs.Rooms.{IsRoomOf};
 
 use dirent::SLOTS;
 use frozen::Frozen;
-use layout::Refusal;
+use layout::{Geometry, Refusal};
 use live_paths::empty_slot;
 
 /// Where a directory has room for one more entry.
@@ -15,10 +16,8 @@ use live_paths::empty_slot;
 pub(crate) enum Room {
     /// In this slot, in this block of the directory.
     Slot { slot: u32, block: u32 },
-    /// In a new block, for whose pointer there is a place.
-    Pointer,
-    /// In a new block, with which a new table comes for its pointer.
-    Table,
+    /// In a new block, with which so many new tables come.
+    NewBlock { tables: u32 },
 }
 
 /// Where a directory has room for one more entry; `TooBig` where it has none.
@@ -36,10 +35,17 @@ pub(crate) fn room_in(frozen: &Frozen, directory: u32) -> Result<Room, Refusal>
     let geometry = frozen.geometry();
     let blocks = frozen.record(directory).blocks();
     if blocks >= geometry.most_blocks() {
-        Err(Refusal::TooBig)
-    } else if geometry.tables_end(blocks + 1) > geometry.tables_end(blocks) {
-        Ok(Room::Table)
-    } else {
-        Ok(Room::Pointer)
+        return Err(Refusal::TooBig);
     }
+    let tables = new_tables(&geometry, blocks);
+    Ok(Room::NewBlock { tables })
+}
+
+/// How many new tables come with the block of a file that has so many before it.
+pub fn new_tables(geometry: &Geometry, before: u32) -> u32
+    requires { before < most_blocks geometry.now }
+    ensures count { result ≡ length (new_tables geometry.now before) }
+    ensures few { result ≤ 2 }
+{
+    geometry.tables_end(before + 1) - geometry.tables_end(before)
 }

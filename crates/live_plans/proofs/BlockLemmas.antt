@@ -1,12 +1,12 @@
 -- The blocks of a directory, as they are kept and as users see them.
-use Rattle.std.proofs.Common.{◌≡◌, ◌<◌, ◌≤◌, ◌+◌, ◌⊎◌, ℕ, List, [], ◌∷◌, ◌++◌, inl, inr, refl, sym, ap, ◌∙◌, subst, arith, IsTrue, All, Contains, Some, None, leb, map}
-use Rattle.std.proofs.lemmas.Bool.{and_parts, cases_lt, leb-true}
+use Rattle.std.proofs.Common.{◌≡◌, ◌<◌, ◌≤◌, ◌+◌, ◌⊎◌, ℕ, List, [], ◌∷◌, ◌++◌, inl, inr, refl, sym, ap, ◌∙◌, subst, arith, IsTrue, All, Contains, Some, None, map}
+use Rattle.std.proofs.lemmas.Bool.{cases_lt}
 use Rattle.std.proofs.lemmas.Option.{none-some, same_Some}
 use Rattle.std.proofs.lemmas.List.Elements.{All-contains_itself, All-push, All-weaker, Contains-append_left, Contains-push}
 use Rattle.model.specs.Layout.{Geometry}
-use Rattle.model.specs.View.{Inode, View}
+use Rattle.model.specs.View.{View}
 use Rattle.model.specs.Shape.{most_blocks}
-use Rattle.model.specs.Uses.{IsClaim, blocks_of, claim_at, is_sound, is_sound_at}
+use Rattle.model.specs.Uses.{IsClaim, blocks_of, claim_at, is_sound_at}
 use Rattle.model.proofs.Same.{same_facts}
 use Rattle.model.proofs.UseLemmas.{claim_from, claim_parts}
 use Rattle.model.proofs.Uses.{has_below, use_parts, used_has}

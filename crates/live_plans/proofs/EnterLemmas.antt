@@ -1,5 +1,5 @@
 -- A name is entered into a directory by what is added to the updates in the making.
-use Rattle.std.proofs.Common.{◌≡◌, ◌/◌, ◌⊎◌, ℕ, List, [], ◌∷◌, inl, inr, refl, sym, ap, subst, All, Contains, Option, IsTrue}
+use Rattle.std.proofs.Common.{◌≡◌, ◌/◌, ◌⊎◌, ℕ, List, [], ◌∷◌, inl, inr, refl, sym, ap, subst, All, Contains, IsTrue}
 use Rattle.std.proofs.lemmas.List.Elements.{All-cons, All-contains, All-nil, All-weaker, Contains-push}
 use Rattle.model.specs.Layout.{Geometry, is_number}
 use Rattle.model.specs.View.{View, Inode}
@@ -29,10 +29,10 @@ module _ (geo : Geometry) (view : View) (d number : ℕ) (name entry : List ℕ)
     goes_on = goes_as old new _ (λ q. slot_written block (view.bytes block) s entry after ∷ q) (λ q. ap (λ bs. slot_written block bs s entry after ∷ q) (sym same)) goes;
   }
 
-  pub enters_new_block : (inode : Inode) (block : ℕ) (table : Option ℕ) (slot : ℕ) (old between new : Draft) → slot / 16 ≡ blocks_of (view.inode d).size → Grows geo view d inode block table old between
+  pub enters_new_block : (inode : Inode) (block : ℕ) (tables : List ℕ) (slot : ℕ) (old between new : Draft) → slot / 16 ≡ blocks_of (view.inode d).size → Grows geo view d inode block tables old between
       → GoesOn between new (λ q. slot_written block empty_block slot entry after ∷ q)
-      → EntersNewBlock geo view d inode number name block table old new
-  enters_new_block inode block table slot old between new stands grows goes = record {
+      → EntersNewBlock geo view d inode number name block tables old new
+  enters_new_block inode block tables slot old between new stands grows goes = record {
     kept = grows.kept;
     keeps = grows.keeps;
     tables = grows.tables;

@@ -1,12 +1,12 @@
 -- What a new block of a directory, and the pointer to it, add to the updates in the making.
-use Rattle.std.proofs.Common.{◌≡◌, ◌<◌, ◌+◌, ℕ, Bool, true, false, not, ◌&&◌, leb, List, [], ◌∷◌, length, refl, sym, ap, ap₂, ◌∙◌, subst, arith, IsTrue, IsFalse, Option, Some, None}
+use Rattle.std.proofs.Common.{◌≡◌, ◌<◌, ◌+◌, ℕ, Bool, true, false, not, ◌&&◌, leb, List, [], ◌∷◌, length, refl, sym, ap, ap₂, ◌∙◌, subst, arith, IsTrue, IsFalse, Some}
 use Rattle.std.proofs.lemmas.Bool.{and_from, both_ways, le-leb, leb-false}
 use Rattle.std.proofs.lemmas.Option.{none-some}
 use Rattle.model.specs.Layout.{Geometry, IsGeometry, is_number}
 use Rattle.model.specs.View.{View, Inode}
 use Rattle.model.specs.Cells.{SetBlock, SetBytes, SetInode}
 use Rattle.model.specs.Shape.{Next, first_block, is_table, most_blocks, new_tables, position_count, table_of}
-use Rattle.model.specs.Uses.{IsClaim, blocks_of, has_position, is_directory_at, is_sound, is_sound_at}
+use Rattle.model.specs.Uses.{IsClaim, blocks_of, has_position, is_sound, is_sound_at}
 use Rattle.model.proofs.Same.{same_facts}
 use Rattle.model.proofs.Shape.{New, NoNew, OneNew, TwoNew, new, numbers, reach_from, shallow, some_table, table_inside, table_is_table}
 use Rattle.machine.specs.Cells.{block_of}
@@ -16,12 +16,12 @@ use Rattle.ordering.specs.Cuts.{Cell}
 use Rattle.frozen.specs.Kept.{Kept, KeepsMetadata, frozen_view}
 use Rattle.metadata.specs.Shown.{Shows}
 use Rattle.metadata.proofs.ShownLemmas.{shows_metadata}
-use Rattle.plans_data.specs.Append.{Holder, filled, known, linked, pointed, sized}
+use Rattle.plans_data.specs.Append.{Holder, filled, linked, sized}
 use Rattle.plans_data.specs.Plans.{AllFree, IsChoice, holder_of}
 use Rattle.plans_data.proofs.Blocks.{block_is, position_claimed}
 use Rattle.plans_data.proofs.Tables.{Keeps, kept_next}
 use Rattle.plans_naming.specs.Grow.{empty_block, grown}
-use Rattle.live_places.specs.Chosen.{IsNewBlock, IsTableOf, listed}
+use Rattle.live_places.specs.Chosen.{IsNewBlock}
 use Rattle.live_states.specs.Drafts.{Draft, GoesOn}
 use Rattle.live_states.specs.Planned.{IsOfVolume}
 use Rattle.live_plans.specs.Grown.{Grows}
@@ -94,37 +94,31 @@ module _ (kept : Kept) (n k : ℕ) (claims : HasPointers kept n) (next : k ≡ b
   pub can_link : (news : List ℕ) → length news ≡ length (new_tables geo k) → AllFree geo (frozen_view kept) news → CanLink kept n k news
   can_link news many free = can_by news many free (new geo k room)
 
--- ---- what was chosen
-pub all_free : (geo : Geometry) (view : View) (d b : ℕ) (table : Option ℕ) → IsTableOf geo view d b table → AllFree geo view (listed table)
-all_free geo view d b None is = tt
-all_free geo view d b (Some x) is = ((is.1).0, tt)
+-- ---- what was chosen by what is kept may be chosen by what users see
+all_there : (kept : Kept) (view : View) → Shows kept view → (xs : List ℕ) → AllFree kept.geometry (frozen_view kept) xs → AllFree kept.geometry view xs
+all_there kept view shows [] free = tt
+all_there kept view shows (x ∷ xs) free = (free_there kept view shows x free.0, all_there kept view shows xs free.1)
 
-pub chosen : (geo : Geometry) (view : View) (d b : ℕ) (table : Option ℕ) → IsFreeBlock geo view b → IsTableOf geo view d b table → IsChoice geo view (blocks_of (view.inode d).size) b (listed table)
-chosen geo view d b None free is = record { free = free; many = is.0; tables = tt; apart = (tt, tt) }
-chosen geo view d b (Some x) free is = record { free = free; many = is.0; tables = ((is.1).0, tt); apart = (((is.1).1, tt), (tt, tt)) }
+pub choice_there : (kept : Kept) (view : View) → Shows kept view → (k b : ℕ) (tables : List ℕ) → IsChoice kept.geometry (frozen_view kept) k b tables → IsChoice kept.geometry view k b tables
+choice_there kept view shows k b tables is = record { free = free_there kept view shows b is.free; many = is.many; tables = all_there kept view shows tables is.tables; apart = is.apart }
 
-pub table_there : (kept : Kept) (view : View) → Shows kept view → (d b : ℕ) (table : Option ℕ) → IsTableOf kept.geometry (frozen_view kept) d b table → IsTableOf kept.geometry view d b table
-table_there kept view shows d b None is = (is.0 ∙ ap (λ (n : Inode). length (new_tables kept.geometry (blocks_of n.size))) (shows.inode d), tt)
-table_there kept view shows d b (Some x) is =
-    (is.0 ∙ ap (λ (n : Inode). length (new_tables kept.geometry (blocks_of n.size))) (shows.inode d), (free_there kept view shows x (is.1).0, (is.1).1))
-
-pub can_grow : (kept : Kept) (d b : ℕ) (inode : Inode) (links : ℕ) (table : Option ℕ) → HasPointers kept d → inode ≡ with_links ((frozen_view kept).inode d) links → IsNewBlock kept.geometry (frozen_view kept) d b table
-    → IsFalse (is_full kept.geometry (frozen_view kept) d) → CanLink kept d (blocks_of inode.size) (listed table)
-can_grow kept d b inode links table claims is place left =
+pub can_grow : (kept : Kept) (d b : ℕ) (inode : Inode) (links : ℕ) (tables : List ℕ) → HasPointers kept d → inode ≡ with_links ((frozen_view kept).inode d) links → IsNewBlock kept.geometry (frozen_view kept) d b tables
+    → IsFalse (is_full kept.geometry (frozen_view kept) d) → CanLink kept d (blocks_of inode.size) tables
+can_grow kept d b inode links tables claims is place left =
     let size = size_is inode ((frozen_view kept).inode d) links is in
-    subst (λ k. CanLink kept d k (listed table)) (sym size)
-    (can_link kept d (blocks_of ((frozen_view kept).inode d).size) claims refl (position_left kept.geometry (frozen_view kept) d place.none left) (listed table) place.table.0 (all_free kept.geometry (frozen_view kept) d b table place.table))
+    subst (λ k. CanLink kept d k tables) (sym size)
+    (can_link kept d (blocks_of ((frozen_view kept).inode d).size) claims refl (position_left kept.geometry (frozen_view kept) d place.none left) tables place.choice.many place.choice.tables)
 
 module _ (kept : Kept) (view : View) (shows : Shows kept view) (d b : ℕ) (inode : Inode) (links : ℕ) (is : inode ≡ with_links ((frozen_view kept).inode d) links) where
   pub same_size : blocks_of inode.size ≡ blocks_of (view.inode d).size
   same_size = size_is inode ((frozen_view kept).inode d) links is ∙ ap (λ (n : Inode). blocks_of n.size) (shows.inode d)
 
-  module _ (keeps : KeepsMetadata kept) (ok : IsGeometry kept.geometry) (claims : HasPointers kept d) (table : Option ℕ) (place : IsNewBlock kept.geometry (frozen_view kept) d b table) (left : IsFalse (is_full kept.geometry (frozen_view kept) d)) where
+  module _ (keeps : KeepsMetadata kept) (ok : IsGeometry kept.geometry) (claims : HasPointers kept d) (tables : List ℕ) (place : IsNewBlock kept.geometry (frozen_view kept) d b tables) (left : IsFalse (is_full kept.geometry (frozen_view kept) d)) where
     k : ℕ
     k = blocks_of (view.inode d).size
 
     holder : Holder
-    holder = holder_of kept.geometry view d (blocks_of (view.inode d).size) b (listed table)
+    holder = holder_of kept.geometry view d (blocks_of (view.inode d).size) b tables
 
     claims_there : (m : ℕ) → IsTrue (is_table kept.geometry m) → IsTrue (has_position kept.geometry (view.inode d) m) → IsClaim kept.geometry view d m (block_of kept.geometry view d m)
     claims_there m table has =
@@ -136,22 +130,22 @@ module _ (kept : Kept) (view : View) (shows : Shows kept view) (d b : ℕ) (inod
     room : blocks_of (view.inode d).size < most_blocks kept.geometry
     room = let low = position_left kept.geometry (frozen_view kept) d place.none left in let e = ap (λ (n : Inode). blocks_of n.size) (shows.inode d) in omega (arith, low, e)
 
-    holds : Keeps kept.geometry view d (blocks_of (view.inode d).size) b holder (listed table)
+    holds : Keeps kept.geometry view d (blocks_of (view.inode d).size) b holder tables
     unfolding holder
-    holds = kept_next kept.geometry view d ok claims_there (blocks_of (view.inode d).size) b refl room (listed table)
-        (chosen kept.geometry view d b table (free_there kept view shows b place.free) (table_there kept view shows d b table place.table))
+    holds = kept_next kept.geometry view d ok claims_there (blocks_of (view.inode d).size) b refl room tables
+        (subst (λ j. IsChoice kept.geometry view j b tables) (ap (λ (n : Inode). blocks_of n.size) (shows.inode d)) (choice_there kept view shows (blocks_of ((frozen_view kept).inode d).size) b tables place.choice))
 
-    same_holder : holder_of kept.geometry (frozen_view kept) d (blocks_of inode.size) b (listed table) ≡ holder
+    same_holder : holder_of kept.geometry (frozen_view kept) d (blocks_of inode.size) b tables ≡ holder
     unfolding holder
     same_holder =
-        holder_there kept view (shows_metadata kept view keeps shows) d (blocks_of inode.size) b (listed table) (can_grow kept d b inode links table claims is place left)
-        ∙ ap (λ j. holder_of kept.geometry view d j b (listed table)) same_size
+        holder_there kept view (shows_metadata kept view keeps shows) d (blocks_of inode.size) b tables (can_grow kept d b inode links tables claims is place left)
+        ∙ ap (λ j. holder_of kept.geometry view d j b tables) same_size
 
     -- the record comes behind the pointer
     pub grows : (old filled_in linked_in new : Draft) (given pointing : Inode) (cells : List Cell) → GoesOn old filled_in (filled b empty_block)
-        → IsLinked kept.geometry d inode (blocks_of inode.size) b (holder_of kept.geometry (frozen_view kept) d (blocks_of inode.size) b (listed table)) filled_in linked_in pointing cells
+        → IsLinked kept.geometry d inode (blocks_of inode.size) b (holder_of kept.geometry (frozen_view kept) d (blocks_of inode.size) b tables) filled_in linked_in pointing cells
         → given ≡ sized pointing (inode.size + 1024) → GoesOn linked_in new (λ q. record { change = SetInode d given; after = cells } ∷ q)
-        → Grows kept.geometry view d inode b table old new
+        → Grows kept.geometry view d inode b tables old new
     grows old filled_in linked_in new given pointing cells fills links' e sets =
         let links = subst (λ h. IsLinked kept.geometry d inode (blocks_of inode.size) b h filled_in linked_in pointing cells) same_holder links' in
         record {

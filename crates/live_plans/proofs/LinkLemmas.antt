@@ -1,18 +1,19 @@
 -- The updates by which a position of an inode points to a new block, as they are made and as the plan has them.
-use Rattle.std.proofs.Common.{◌≡◌, ℕ, true, List, [], ◌∷◌, ◌++◌, map, replicate, inl, inr, refl, sym, ap, ◌∙◌, subst, Option, Some, None, IsTrue, All}
+use Rattle.std.proofs.Common.{◌≡◌, ◌<◌, ℕ, true, List, [], ◌∷◌, ◌++◌, map, replicate, inl, inr, refl, sym, ap, ◌∙◌, subst, Option, Some, None, IsTrue, All}
 use Rattle.std.specs.Option.{IfSome, option_map_or}
 use Rattle.std.proofs.lemmas.List.Elements.{All-cons, All-nil, All-push}
 use Rattle.model.specs.Layout.{Geometry, is_data_address}
-use Rattle.model.specs.View.{Inode, View}
+use Rattle.model.specs.View.{Fits, Inode, View}
 use Rattle.model.specs.Cells.{SetBlock, SetBytes}
 use Rattle.model.specs.Metadata.{SameMetadata}
-use Rattle.model.specs.Shape.{above, place_in_table, table_of, with_field}
+use Rattle.model.specs.Shape.{above, place_in_table, position_count, table_of, with_field}
 use Rattle.model.specs.Uses.{IsClaim, claim_at}
+use Rattle.model.proofs.Fields.{still_fits}
 use Rattle.model.proofs.Shape.{Alone, One, Two, way, shallow, table_cases, table_is_table}
 use Rattle.model.proofs.UseLemmas.{claim_from}
 use Rattle.model.proofs.Uses.{table_claimed}
 use Rattle.std.proofs.lemmas.Option.{none-some, same_Some}
-use Rattle.std.specs.Prelude.{unwrap_or}
+use Rattle.std.specs.Prelude.{option_to_list, unwrap_or}
 use Rattle.std.proofs.lemmas.Bool.{le-leb}
 use Rattle.model.specs.Shape.{most_blocks}
 use Rattle.machine.specs.Cells.{block_of, with_pointer}
@@ -22,7 +23,6 @@ use Rattle.frozen.specs.Kept.{Kept, frozen_view}
 use Rattle.plans_data.specs.Append.{Holder, KeptInRecord, KeptInTable, KeptInNew, linked, pointer_after}
 use Rattle.plans_data.specs.Plans.{holder_of}
 use Rattle.plans_data.proofs.Blocks.{block_is}
-use Rattle.live_places.specs.Chosen.{listed}
 use Rattle.live_states.specs.Drafts.{Draft, GoesOn}
 use Rattle.live_plans.specs.Linked.{CanLink, IsLinked}
 use Rattle.live_plans.proofs.DraftLemmas.{goes_then}
@@ -62,11 +62,11 @@ module _ (geo : Geometry) (v : View) (n : ℕ) where
 
   -- and where the table is claimed the one over it is
   pub over_there : (k m t x : ℕ) (found : Option ℕ) → table_of geo k ≡ Some m → table_of geo m ≡ Some t → IsClaim geo v n m x → found ≡ claim_at geo v n t
-      → (listed found ≡ over_table m) × IfSome found (λ a. IsTrue (is_data_address geo a))
+      → (option_to_list found ≡ over_table m) × IfSome found (λ a. IsTrue (is_data_address geo a))
   over_there k m t x found one two claim is =
       let c = table_claimed geo v n m x t two claim.0 in
       let some = is ∙ claim_from geo v n t c.0 c.1 in (
-        ap listed some ∙ ap (λ y. y ∷ []) (sym (block_is geo v n t c.0 c.1)) ∙ sym (one_over k m t one two),
+        ap option_to_list some ∙ ap (λ y. y ∷ []) (sym (block_is geo v n t c.0 c.1)) ∙ sym (one_over k m t one two),
         subst (λ o. IfSome o (λ a. IsTrue (is_data_address geo a))) (sym some) c.1.1,
       )
 
@@ -102,25 +102,26 @@ module _ (kept : Kept) (view : View) (same : SameMetadata kept.geometry (frozen_
 
 -- ---- the updates
 module _ (geo : Geometry) (v : View) (n : ℕ) (inode : Inode) where
-  pub links_record : (k b : ℕ) (old : Draft) (given : Inode) (cells : List Cell) → table_of geo k ≡ None → IsTrue (is_data_address geo b) → given ≡ with_field geo inode k b → cells ≡ Block b ∷ []
+  pub links_record : (k b : ℕ) (old : Draft) (given : Inode) (cells : List Cell) → k < position_count geo → table_of geo k ≡ None → IsTrue (is_data_address geo b) → given ≡ with_field geo inode k b → cells ≡ Block b ∷ []
       → IsLinked geo n inode k b (holder_of geo v n k b []) old old given cells
-  links_record k b old given cells none address e f = subst (λ h. IsLinked geo n inode k b h old old given cells) (sym (holder_none geo v n k b none)) (record {
+  links_record k b old given cells inside none address e f = subst (λ h. IsLinked geo n inode k b h old old given cells) (sym (holder_none geo v n k b none)) (record {
     goes_on = record { geometry = refl; file = refl; pending = λ q. refl };
     record_points = e;
+    record_fits = λ fits. subst (Fits geo.version) (sym e) (still_fits geo inode k b inside none fits);
     record_after = f;
     cells = subst (All (IsCell geo)) (sym f) (All-cons (IsCell geo) (Block b) [] address (All-nil (IsCell geo)));
   })
 
-  all_of : (o : Option ℕ) (x b : ℕ) → IfSome o (λ a. IsTrue (is_data_address geo a)) → IsTrue (is_data_address geo x) → IsTrue (is_data_address geo b) → All (IsCell geo) (map Block (listed o) ++ Block x ∷ Block b ∷ [])
+  all_of : (o : Option ℕ) (x b : ℕ) → IfSome o (λ a. IsTrue (is_data_address geo a)) → IsTrue (is_data_address geo x) → IsTrue (is_data_address geo b) → All (IsCell geo) (map Block (option_to_list o) ++ Block x ∷ Block b ∷ [])
   all_of None x b over table block = All-cons (IsCell geo) (Block x) (Block b ∷ []) table (All-cons (IsCell geo) (Block b) [] block (All-nil (IsCell geo)))
   all_of (Some a) x b over table block =
       All-cons (IsCell geo) (Block a) (Block x ∷ Block b ∷ []) over
       (All-cons (IsCell geo) (Block x) (Block b ∷ []) table (All-cons (IsCell geo) (Block b) [] block (All-nil (IsCell geo))))
 
   pub links_table : (k b m x : ℕ) (pointers : List ℕ) (over : Option ℕ) (old new : Draft) (cells : List Cell) → table_of geo k ≡ Some m → IsClaim geo v n m x → pointers ≡ v.bytes x
-      → listed over ≡ over_table geo v n m → IfSome over (λ a. IsTrue (is_data_address geo a)) → IsTrue (is_data_address geo b)
-      → GoesOn old new (λ q. record { change = SetBytes x (with_pointer pointers (place_in_table geo k) b); after = pointer_after n (place_in_table geo k) b pointers (listed over) } ∷ q)
-      → cells ≡ map Block (listed over) ++ Block x ∷ Block b ∷ []
+      → option_to_list over ≡ over_table geo v n m → IfSome over (λ a. IsTrue (is_data_address geo a)) → IsTrue (is_data_address geo b)
+      → GoesOn old new (λ q. record { change = SetBytes x (with_pointer pointers (place_in_table geo k) b); after = pointer_after n (place_in_table geo k) b pointers (option_to_list over) } ∷ q)
+      → cells ≡ map Block (option_to_list over) ++ Block x ∷ Block b ∷ []
       → IsLinked geo n inode k b (holder_of geo v n k b []) old new inode cells
   links_table k b m x pointers over old new cells one claim bytes o address block goes f =
       let is = block_is geo v n m x claim in
@@ -132,6 +133,7 @@ module _ (geo : Geometry) (v : View) (n : ℕ) (inode : Inode) where
       subst (λ h. IsLinked geo n inode k b h old new inode cells) (sym kept) (record {
         goes_on = goes;
         record_points = refl;
+        record_fits = λ fits. fits;
         record_after = f;
         cells = subst (All (IsCell geo)) (sym f) (all_of over x b address claim.1 block);
       })
@@ -145,6 +147,7 @@ module _ (geo : Geometry) (v : View) (n : ℕ) (inode : Inode) where
       subst (λ h. IsLinked geo n inode k b h old new given (cells ++ Block b ∷ [])) (sym (holder_new geo v n k b m x xs one)) (record {
         goes_on = goes_then old mid new _ (linked geo n m x (holder_of geo v n m x xs)) starts up.goes_on;
         record_points = up.record_points;
+        record_fits = up.record_fits;
         record_after = ap (λ cs. cs ++ Block b ∷ []) up.record_after;
         cells = All-push (IsCell geo) cells (Block b) up.cells address;
       })

@@ -1,5 +1,5 @@
 -- The updates by which a name is entered into a directory.
-use Rattle.std.specs.Prelude.{◌≡◌, ℕ, ◌/◌, List, ◌∷◌, Option}
+use Rattle.std.specs.Prelude.{◌≡◌, ℕ, ◌/◌, List, ◌∷◌}
 use Rattle.std.specs.List.{All, Contains}
 use Rattle.model.specs.Layout.{Geometry}
 use Rattle.model.specs.View.{View, Inode}
@@ -12,7 +12,6 @@ use Rattle.plans_naming.specs.Grow.{empty_block, grown}
 use Rattle.courses.specs.After.{IsBeforeEntry}
 use Rattle.live_places.specs.declared.choosing.Place.{Place}
 use Rattle.live_places.specs.declared.choosing.Place.TheVariants.{Slot, NewBlock}
-use Rattle.live_places.specs.Chosen.{listed}
 use Rattle.live_states.specs.Drafts.{Draft, GoesOn}
 
 -- Into slot s of directory d, which stands in this block of it, goes the entry that gives a number its name.
@@ -26,12 +25,11 @@ pub record EntersSlot (geo : Geometry) (view : View) (d number : ℕ) (name : Li
   pub only : All (IsBeforeEntry geo view d number) after
   pub goes_on : GoesOn old new (λ q. slot_written block (view.bytes block) s entry after ∷ q)
 
--- It goes into a new block, with a new table where there is one; before the directory grows its record is this.
-pub record EntersNewBlock (geo : Geometry) (view : View) (d : ℕ) (inode : Inode) (number : ℕ) (name : List ℕ) (block : ℕ) (table : Option ℕ) (old new : Draft) : Type 0 where
+-- It goes into a new block, with these new tables; before the directory grows its record is this.
+pub record EntersNewBlock (geo : Geometry) (view : View) (d : ℕ) (inode : Inode) (number : ℕ) (name : List ℕ) (block : ℕ) (chosen : List ℕ) (old new : Draft) : Type 0 where
   pub kept : Holder
   pub keeps : IsKeptIn geo view d (blocks_of (view.inode d).size) block kept
-  -- its new tables are these
-  pub tables : new_blocks kept ≡ listed table
+  pub tables : new_blocks kept ≡ chosen
   pub slot : ℕ
   pub stands : slot / 16 ≡ blocks_of (view.inode d).size
   pub entry : List ℕ
@@ -46,4 +44,4 @@ pub record EntersNewBlock (geo : Geometry) (view : View) (d : ℕ) (inode : Inod
 -- and so at this place
 abbrev pub EntersAt : Geometry → View → ℕ → Inode → ℕ → List ℕ → Place → Draft → Draft → Type 0
 EntersAt geo view d inode number name (Slot s block) old new = EntersSlot geo view d number name s block old new
-EntersAt geo view d inode number name (NewBlock block table) old new = EntersNewBlock geo view d inode number name block table old new
+EntersAt geo view d inode number name (NewBlock block tables) old new = EntersNewBlock geo view d inode number name block tables old new

@@ -2,7 +2,7 @@
 use Rattle.std.specs.Prelude.{◌≡◌, ℕ, List, [], ◌∷◌, Some, IsTrue}
 use Rattle.std.specs.List.{All}
 use Rattle.model.specs.Layout.{Geometry, is_data_address}
-use Rattle.model.specs.View.{Inode}
+use Rattle.model.specs.View.{Fits, Inode}
 use Rattle.model.specs.Shape.{is_table, table_of}
 use Rattle.model.specs.Uses.{IsClaim, has_position}
 use Rattle.frozen.specs.Kept.{Kept, frozen_view}
@@ -25,5 +25,7 @@ CanLink kept n k (x ∷ xs) = (m : ℕ) × (table_of kept.geometry k ≡ Some m)
 pub record IsLinked (geo : Geometry) (n : ℕ) (inode : Inode) (k b : ℕ) (holder : Holder) (old new : Draft) (given : Inode) (after : List Cell) : Type 0 where
   pub goes_on : GoesOn old new (linked geo n k b holder)
   pub record_points : given ≡ pointed geo inode k b holder
+  -- which fits the version of the layout as the one before did
+  pub record_fits : Fits geo.version inode → Fits geo.version given
   pub record_after : after ≡ known b holder
   pub cells : All (IsCell geo) after

@@ -86,7 +86,7 @@ pub(crate) fn enter_at(
             let bytes = bytes_of(metadata, new.directory, slot / SLOTS as u32, block);
             put_slot(alloc, plan, block, bytes, slot, &entry, after)
         }
-        Place::NewBlock { block, table } => {
+        Place::NewBlock { block, tables } => {
             let slot = SLOTS as u32 * new.parent.blocks();
             grow(
                 alloc,
@@ -95,7 +95,7 @@ pub(crate) fn enter_at(
                 new.directory,
                 &new.parent,
                 block,
-                table,
+                tables,
             )?;
             put_slot(alloc, plan, block, &[0; BLOCK_BYTES], slot, &entry, after)
         }

@@ -16,6 +16,7 @@ ghost use Rattle.live_plans.specs.Linked.{HasPointers};
 use crate::{Plan, link};
 use inode::Record;
 use layout::{BLOCK_BYTES, Block};
+use live_places::Tables;
 use metadata::Metadata;
 use spares::Spares;
 use std::alloc::{AllocError, Global};
@@ -30,16 +31,16 @@ pub(crate) fn grow(
     directory: u32,
     parent: &Record,
     block: u32,
-    table: Option<u32>,
+    tables: Tables,
 ) -> Result<(), AllocError>
     requires geometry { plan.old.geometry ≡ metadata.now.geometry }
     requires pointers { HasPointers metadata.now directory }
     requires directory { IsTrue (is_directory_at metadata.now.geometry (frozen_view metadata.now) directory) }
     requires parent { (links : ℕ) × (parent.now ≡ with_links ((frozen_view metadata.now).inode directory) links) }
-    requires place { IsNewBlock metadata.now.geometry (frozen_view metadata.now) directory block table }
+    requires place { IsNewBlock metadata.now.geometry (frozen_view metadata.now) directory block tables }
     requires room { IsFalse (is_full metadata.now.geometry (frozen_view metadata.now) directory) }
     ensures geometry { OnOk result (plan.new.geometry ≡ plan.old.geometry) }
-    ensures grows { OnOk result ((view : View) → Shows metadata.now view → Grows metadata.now.geometry view directory parent.now block table plan.old plan.new) }
+    ensures grows { OnOk result ((view : View) → Shows metadata.now view → Grows metadata.now.geometry view directory parent.now block tables plan.old plan.new) }
 {
     // What is kept is all metadata.
     metadata.frozen();
@@ -56,7 +57,7 @@ pub(crate) fn grow(
         parent,
         parent.blocks(),
         block,
-        table,
+        tables,
     )?;
     let mut grown = linked.record;
     grown.size = size;

@@ -1,4 +1,4 @@
-ghost use Rattle.std.specs.Prelude.{◌≡◌, ◌<◌, ◌∷◌, ◌++◌, [], ℕ, Some, None, IfOk, IfSome, IsTrue, OnOk, map, replicate, true};
+ghost use Rattle.std.specs.Prelude.{◌≡◌, ◌<◌, ◌∷◌, ◌++◌, [], ℕ, Some, None, IfOk, IfSome, IsTrue, OnOk, map, option_to_list, replicate, true};
 ghost use Rattle.std.specs.Arc.{arc_value};
 ghost use Rattle.std.specs.List.{All};
 ghost use Rattle.frozen.specs.Kept.{KeepsMetadata, frozen_view};
@@ -12,7 +12,6 @@ ghost use Rattle.plans_data.specs.Append.{pointer_after};
 ghost use Rattle.plans_data.specs.Plans.{holder_of};
 ghost use Rattle.updates.specs.Places.{IsCell};
 ghost use Rattle.updates.specs.Values.{cell};
-ghost use Rattle.live_places.specs.Chosen.{listed};
 ghost use Rattle.live_states.specs.Drafts.{GoesOn};
 ghost use Rattle.live_plans.specs.Linked.{CanLink, IsLinked};
 
@@ -20,6 +19,7 @@ use crate::Plan;
 use frozen::Frozen;
 use inode::Record;
 use layout::{BLOCK_BYTES, Block, Geometry, u32_at};
+use live_places::Tables;
 use metadata::Metadata;
 use spares::Spares;
 use std::alloc::{AllocError, Global};
@@ -37,8 +37,8 @@ pub struct Linked {
 }
 
 /// Adds the updates by which a position of an inode with this record points to a new block. The pointer goes into the
-/// record, into a table that is there, or, where one is given, into a new table, to which the inode then points likewise.
-/// Spare blocks serve for the copy of a table, where there are some.
+/// record, into a table that is there, or, where new ones are given, into the nearest of them, to which the inode then
+/// points likewise. Spare blocks serve for the copy of a table, where there are some.
 pub fn link(
     alloc: Global,
     metadata: &Metadata,
@@ -48,18 +48,18 @@ pub fn link(
     owner: &Record,
     position: u32,
     block: u32,
-    table: Option<u32>,
+    tables: Tables,
 ) -> Result<Linked, AllocError>
     requires geometry { plan.old.geometry ≡ metadata.now.geometry }
     requires number { IsTrue (is_number metadata.now.geometry number) }
     requires position { position < position_count metadata.now.geometry }
     requires block { IsTrue (is_data_address metadata.now.geometry block) }
-    requires tables { CanLink metadata.now number position (listed table) }
+    requires tables { CanLink metadata.now number position tables }
     ensures geometry { OnOk result (plan.new.geometry ≡ plan.old.geometry) }
     ensures links { IfOk result (λ linked. IsLinked metadata.now.geometry number owner.now position block
-        (holder_of metadata.now.geometry (frozen_view metadata.now) number position block (listed table)) plan.old plan.new linked.record (map cell linked.after.items)) }
+        (holder_of metadata.now.geometry (frozen_view metadata.now) number position block tables) plan.old plan.new linked.record (map cell linked.after.items)) }
 {
-    let Some(table) = table else {
+    let Some(table) = tables.first() else {
         return link_there(
             alloc,
             metadata.frozen(),
@@ -75,15 +75,16 @@ pub fn link(
         unreachable!()
     };
     start_table(alloc, plan, number, block, table)?;
-    let mut linked = link_there(
+    let mut linked = link(
         alloc,
-        metadata.frozen(),
+        metadata,
         plan,
         spares,
         number,
         owner,
         place.table,
         table,
+        tables.rest(),
     )?;
     linked.after.push(Cell::Block(block))?;
     Ok(linked)
@@ -158,7 +159,7 @@ fn table_over(frozen: &Frozen, number: u32, table: u32) -> Option<u32>
     requires inside { table < position_count frozen.now.geometry }
     requires table { (k : ℕ) × (table_of frozen.now.geometry k ≡ Some table) }
     requires claimed { (x : ℕ) × IsClaim frozen.now.geometry (frozen_view frozen.now) number table x }
-    ensures over { listed result ≡ map (block_of frozen.now.geometry (frozen_view frozen.now) number) (above frozen.now.geometry table) }
+    ensures over { option_to_list result ≡ map (block_of frozen.now.geometry (frozen_view frozen.now) number) (above frozen.now.geometry table) }
     ensures address { IfSome result (λ a. IsTrue (is_data_address frozen.now.geometry a)) }
 {
     let place = frozen.geometry().pointer_place(table)?;
@@ -185,7 +186,7 @@ fn put_at(
     requires over { IfSome over (λ a. IsTrue (is_data_address plan.old.geometry a)) }
     ensures { OnOk result (GoesOn plan.old plan.new (λ q. record {
       change = SetBytes table (with_pointer pointers.now place block);
-      after = pointer_after number place block pointers.now (listed over);
+      after = pointer_after number place block pointers.now (option_to_list over);
     } ∷ q)) }
 {
     let mut copy = spares.share(alloc, pointers)?;
@@ -205,7 +206,7 @@ pub(crate) fn pointer_after(
     over: Option<u32>,
 ) -> Result<Vec<Cell>, AllocError>
     requires { place < 256 }
-    ensures { IfOk result (λ after. map cell after.items ≡ pointer_after number place block pointers.now (listed over)) }
+    ensures { IfOk result (λ after. map cell after.items ≡ pointer_after number place block pointers.now (option_to_list over)) }
 {
     if u32_at(pointers, POINTER_BYTES * place) == 0 {
         return Ok(vec![in alloc; Cell::Block(block)]?);
@@ -227,7 +228,7 @@ fn cells_of(
     table: u32,
     block: u32,
 ) -> Result<Vec<Cell>, AllocError>
-    ensures { IfOk result (λ after. map cell after.items ≡ map BlockCell (listed over) ++ BlockCell table ∷ BlockCell block ∷ []) }
+    ensures { IfOk result (λ after. map cell after.items ≡ map BlockCell (option_to_list over) ++ BlockCell table ∷ BlockCell block ∷ []) }
 {
     match over {
         None => Ok(vec![in alloc; Cell::Block(table), Cell::Block(block)]?),

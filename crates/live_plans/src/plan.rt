@@ -1,7 +1,7 @@
 ghost use Rattle.std.specs.Prelude.{◌≡◌, ◌∷◌, [], OnOk, map};
 ghost use Rattle.std.specs.List.{All};
 ghost use Rattle.ordering.specs.Cuts.{cell_of};
-ghost use Rattle.updates.specs.Places.{IsCell};
+ghost use Rattle.updates.specs.Places.{FitsVolume, IsCell};
 ghost use Rattle.updates.specs.Values.{cell, change as change_of};
 ghost use Rattle.live_states.specs.Drafts.{AreOf, GoesOn};
 
@@ -50,6 +50,7 @@ impl Plan {
     /// Adds one more update, which has to reach the device after the last updates of these cells.
     pub fn push(&mut self, change: Change, after: Vec<Cell>) -> Result<(), AllocError>
         requires changed { IsCell self.old.geometry (cell_of (change_of change)) }
+        requires fits { FitsVolume self.old.geometry (change_of change) }
         requires after { All (IsCell self.old.geometry) (map cell after.items) }
         ensures { OnOk result (GoesOn self.old self.new (λ q. record { change = change_of change; after = map cell after.items } ∷ q)) }
     {

@@ -178,6 +178,7 @@ fn directory(blocks: usize, then: u32, size: u32, indirect: u32) -> Record {
         size,
         direct,
         indirect,
+        double: 0,
     }
 }
 

@@ -124,6 +124,7 @@ pub fn free(
         size: 0,
         direct: [0; DIRECT_POINTERS],
         indirect: 0,
+        double: 0,
     };
     plan.push(Change::SetInode(number, free), after)?;
     plan.push(

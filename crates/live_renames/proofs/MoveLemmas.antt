@@ -52,11 +52,11 @@ left_goes_on old middle new n block s inode record' bytes there after last same 
 -- a name is entered on the same volume, in the name of the same file
 pub entered_geometry : (geo : Geometry) (v : View) (d : ℕ) (inode : Inode) (n : ℕ) (name : List ℕ) (place : Place) (old new : Draft) → EntersAt geo v d inode n name place old new → new.geometry ≡ old.geometry
 entered_geometry geo v d inode n name (Slot s block) old new enters = enters.goes_on.geometry
-entered_geometry geo v d inode n name (NewBlock block table) old new enters = enters.goes_on.geometry
+entered_geometry geo v d inode n name (NewBlock block tables) old new enters = enters.goes_on.geometry
 
 pub entered_file : (geo : Geometry) (v : View) (d : ℕ) (inode : Inode) (n : ℕ) (name : List ℕ) (place : Place) (old new : Draft) → EntersAt geo v d inode n name place old new → new.file ≡ old.file
 entered_file geo v d inode n name (Slot s block) old new enters = enters.goes_on.file
-entered_file geo v d inode n name (NewBlock block table) old new enters = enters.goes_on.file
+entered_file geo v d inode n name (NewBlock block tables) old new enters = enters.goes_on.file
 
 -- an entry gets another name, after the directory's blocks
 pub renamed_with : (kept : Kept) (found : Found) (name entry : List ℕ) (after : List Cell) (geo : Geometry) (bytes : List ℕ) (first last : Draft)

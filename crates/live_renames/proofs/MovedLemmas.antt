@@ -1,6 +1,6 @@
 -- A file's name goes to another directory by its updates.
-use Rattle.std.proofs.Common.{◌≡◌, ◌/◌, ◌⊎◌, ℕ, Bool, List, [], ◌∷◌, inl, inr, refl, sym, ap, ap₂, ◌∙◌, subst, le-leb, IsFalse, IsTrue, Option, Some, None, Ok, All, Contains}
-use Rattle.std.specs.Prelude.{unwrap_or, IfSome}
+use Rattle.std.proofs.Common.{◌≡◌, ◌/◌, ◌⊎◌, ℕ, Bool, List, [], ◌∷◌, inl, inr, refl, sym, ap, ap₂, ◌∙◌, subst, le-leb, IsFalse, IsTrue, Some, Ok, All, Contains, map}
+use Rattle.std.specs.Prelude.{unwrap_or}
 use Rattle.std.proofs.lemmas.List.Elements.{All-cons, All-nil}
 use Rattle.model.proofs.Shape.{table_is_table}
 use Rattle.model.proofs.Uses.{above_table}
@@ -19,15 +19,15 @@ use Rattle.machine.specs.Room.{has_room}
 use Rattle.machine.specs.State.{State}
 use Rattle.metadata.specs.Shown.{Shows}
 use Rattle.plans_data.specs.Append.{Holder, KeptInRecord, KeptInTable, KeptInNew, IsKeptIn, blocks_on_way, new_blocks}
-use Rattle.plans_data.proofs.Holders.{first_of, later_of, nothing_in, one_of_both, over_claimed}
+use Rattle.plans_data.proofs.Holders.{first_of, later_of, one_of_both, over_claimed}
 use Rattle.plans_data.specs.Now.{now}
 use Rattle.plans_naming.specs.Entries.{HasBlocks, HasOtherBlocks, slot_written}
 use Rattle.plans_naming.specs.Grow.{empty_block, grown}
-use Rattle.plans_naming.specs.Move.{HasGrounds, left, moving, moving_grown}
+use Rattle.plans_naming.specs.Move.{left, moving, moving_grown}
 use Rattle.plans_naming.specs.Plans.{entry_block, slot_block, move_plan, move_plan_grown}
 use Rattle.courses.specs.After.{AreGroundsWith, IsBeforeEntry, IsNewCell}
 use Rattle.courses.specs.Done.{IsDoneBy, InSlot, InNewBlock, MovesToSlot, MovesToNewBlock}
-use Rattle.live_places.specs.Chosen.{IsPlace, IsEmptySlot, IsNewBlock, listed}
+use Rattle.live_places.specs.Chosen.{IsPlace, IsEmptySlot, IsNewBlock}
 use Rattle.live_places.specs.declared.choosing.Place.{Place}
 use Rattle.live_places.specs.declared.choosing.Place.TheVariants.{Slot, NewBlock}
 use Rattle.live_states.specs.Drafts.{Draft, over}
@@ -56,16 +56,13 @@ module _ (view : View) (i n d h block b entered at s t : ℕ) where
       ∙ ap₂ (λ x y. moving_grown geo n (view.inode n) h (view.inode h) new kept s' entry after' x (view.bytes x) y after q) from slot
 
 -- The cells of a new block are that block and the new tables.
-are_new_cells : (b : ℕ) (kept : Holder) (table : Option ℕ) → new_blocks kept ≡ listed table → All (IsNewCell b kept) (cells_of (NewBlock b table))
-are_new_cells b kept None is = All-cons (IsNewCell b kept) (Block b) [] (inl refl) (All-nil (IsNewCell b kept))
-are_new_cells b kept (Some x) is =
-    All-cons (IsNewCell b kept) (Block b) (Block x ∷ []) (inl refl)
-    (All-cons (IsNewCell b kept) (Block x) [] (inr (x, subst (λ xs. Contains xs x) (sym is) (first_of x []), refl)) (All-nil (IsNewCell b kept)))
+are_tables : (b : ℕ) (kept : Holder) (xs : List ℕ) → ((x : ℕ) → Contains xs x → Contains (new_blocks kept) x) → All (IsNewCell b kept) (map Block xs)
+are_tables b kept [] among = All-nil (IsNewCell b kept)
+are_tables b kept (x ∷ xs) among =
+    All-cons (IsNewCell b kept) (Block x) (map Block xs) (inr (x, among x (first_of x xs), refl)) (are_tables b kept xs (λ y c. among y (later_of x xs y c)))
 
--- the tables that were chosen are among cells that have the block of each
-chosen_in : (table : Option ℕ) (after : List Cell) → IfSome table (λ x. Contains after (Block x)) → (x : ℕ) → Contains (listed table) x → Contains after (Block x)
-chosen_in None after first x c = absurd (nothing_in x c)
-chosen_in (Some y) after first x c = elim (one_of_both y [] x c) [ inl e ↦ subst (λ z. Contains after (Block z)) e first | inr d ↦ absurd (nothing_in x d) ]
+are_new_cells : (b : ℕ) (kept : Holder) (tables : List ℕ) → new_blocks kept ≡ tables → All (IsNewCell b kept) (cells_of (NewBlock b tables))
+are_new_cells b kept tables is = All-cons (IsNewCell b kept) (Block b) (map Block tables) (inl refl) (are_tables b kept tables (λ x c. subst (λ xs. Contains xs x) (sym is) c))
 
 -- each table on the way to the record is new, or the directory claims it
 on_way : (geo : Geometry) (view : View) (d k b : ℕ) (h : Holder) → IsKeptIn geo view d k b h → (x : ℕ) → Contains (blocks_on_way h) x
@@ -148,28 +145,28 @@ module _ (kept : Kept) (keeps : KeepsMetadata kept) (p q : List ℕ) (ps qs : Li
         (subst (λ b. Contains is.after (Block b)) at is.first.place_first) (grounds (Slot s block) is.after is.first IsEntry (All-cons IsEntry (Block block) [] (ap Block at) (All-nil IsEntry))))
 
   -- ---- into a new block
-  module _ (block : ℕ) (table : Option ℕ) (new : IsNewBlock geo view ends.directory block table) (is : IsMoved kept ends qs (NewBlock block table) draft) where
-    enters_new : EntersNewBlock geo view ends.directory (view.inode ends.directory) ends.found.number (last_part qs) block table is.with_link is.entered
+  module _ (block : ℕ) (tables : List ℕ) (new : IsNewBlock geo view ends.directory block tables) (is : IsMoved kept ends qs (NewBlock block tables) draft) where
+    enters_new : EntersNewBlock geo view ends.directory (view.inode ends.directory) ends.found.number (last_part qs) block tables is.with_link is.entered
     enters_new = is.enters view shows
 
     abbrev IsNew : Cell → Type 0
     IsNew = IsNewCell block enters_new.kept
 
-    new_cells : All IsNew (cells_of (NewBlock block table))
-    new_cells = are_new_cells block enters_new.kept table enters_new.tables
+    new_cells : All IsNew (cells_of (NewBlock block tables))
+    new_cells = are_new_cells block enters_new.kept tables enters_new.tables
 
     tables_first : (x : ℕ) → Contains (blocks_on_way enters_new.kept) x → IsKnown is.after (entry_block geo view p) (Block x)
     tables_first x c = elim (on_way geo view ends.directory (blocks_of (view.inode ends.directory).size) block enters_new.kept enters_new.keeps x c) [
-      | inl fresh ↦ inl (chosen_in table is.after is.first.place_first.1 x (subst (λ xs. Contains xs x) enters_new.tables fresh))
-      | inr was ↦ pointers_of geo view is.after (entry_block geo view p) ends.directory (grounds_there (NewBlock block table) is.after is.first IsNew new_cells).needs was.0 x was.1 was.2
+      | inl fresh ↦ inl (is.first.place_first.1 x (subst (λ xs. Contains xs x) enters_new.tables fresh))
+      | inr was ↦ pointers_of geo view is.after (entry_block geo view p) ends.directory (grounds_there (NewBlock block tables) is.after is.first IsNew new_cells).needs was.0 x was.1 was.2
     ]
 
     in_new_block : InNewBlock geo view q (number_at geo view p) block enters_new.kept enters_new.slot enters_new.entry enters_new.after
     in_new_block = record {
       full = subst (λ d. IsFalse (has_room geo view d)) (sym to) new.none;
-      free = new.free;
+      free = new.choice.free;
       keeps = subst (λ d. IsKeptIn geo view d (blocks_of (view.inode d).size) block enters_new.kept) (sym to) enters_new.keeps;
-      apart = are_apart geo view ends.directory block table enters_new.kept enters_new.tables new.table;
+      apart = are_apart geo view (blocks_of (view.inode ends.directory).size) block tables enters_new.kept enters_new.tables new.choice;
       stands = subst (λ d. enters_new.slot / 16 ≡ blocks_of (view.inode d).size) (sym to) enters_new.stands;
       says = says_it geo p q ps qs e f ends view are enters_new.entry enters_new.says;
       record_first = subst (λ n. Contains enters_new.after (Record n)) (sym number) enters_new.record_first;
@@ -191,9 +188,9 @@ module _ (kept : Kept) (keeps : KeepsMetadata kept) (p q : List ℕ) (ps qs : Li
     moved_to_new_block =
         done_with (number_at geo view p) (move_plan_grown geo view p q block enters_new.kept enters_new.slot enters_new.entry enters_new.after is.after pending) (is.file ∙ sym number) over_grown
         (MovesToNewBlock p q block enters_new.kept enters_new.slot enters_new.entry enters_new.after is.after (apart_there geo p q ps qs e f ends view are apart) in_new_block
-        is.first.place_first.0 (grounds (NewBlock block table) is.after is.first IsNew new_cells) tables_first)
+        is.first.place_first.0 (grounds (NewBlock block tables) is.after is.first IsNew new_cells) tables_first)
 
   -- ---- either
   pub moved_done : (place : Place) → IsPlace geo view ends.directory place → IsMoved kept ends qs place draft → IsDone draft.file (over pending draft.updates)
   moved_done (Slot s block) at is = moved_to_slot s block at is
-  moved_done (NewBlock block table) at is = moved_to_new_block block table at is
+  moved_done (NewBlock block tables) at is = moved_to_new_block block tables at is

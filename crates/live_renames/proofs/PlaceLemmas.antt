@@ -1,12 +1,16 @@
 -- The blocks of a new entry, as they are gathered.
-use Rattle.std.proofs.Common.{◌≡◌, ◌/◌, ◌∙◌, ℕ, List, [], ◌∷◌, ◌++◌, Some, None, Contains, ap, map, subst, sym}
+use Rattle.std.proofs.Common.{◌≡◌, ◌/◌, ◌∙◌, ℕ, List, [], ◌∷◌, ◌++◌, All, Contains, ap, map, subst, sym}
+use Rattle.std.proofs.lemmas.List.Elements.{All-append, All-cons, All-nil, Contains-append_left, Contains-append_right}
 use Rattle.model.specs.Layout.{Geometry}
 use Rattle.model.specs.View.{View}
 use Rattle.model.proofs.UseLemmas.{claim_parts}
 use Rattle.ordering.specs.Cuts as ordering
 use Rattle.updates.specs.declared.cell.Cell.{Cell}
 use Rattle.updates.specs.declared.cell.Cell.TheVariants.{Block}
+use Rattle.updates.specs.Places.{IsCell}
 use Rattle.updates.specs.Values.{cell}
+use Rattle.plans_data.specs.Plans.{AllFree}
+use Rattle.plans_data.proofs.Holders.{mapped}
 use Rattle.live_places.specs.Chosen.{IsEmptySlot, IsNewBlock, IsPlace}
 use Rattle.live_places.specs.declared.choosing.Place.{Place}
 use Rattle.live_places.specs.declared.choosing.Place.TheVariants.{Slot, NewBlock}
@@ -21,8 +25,19 @@ Placed geo place old new = Gathers geo (map cell old) (map cell new) × IsPlaceI
 -- they stay where no cell is taken away
 pub place_more : (place : Place) (old new : List ordering.Cell) → ((c : ordering.Cell) → Contains old c → Contains new c) → IsPlaceIn place old → IsPlaceIn place new
 place_more (Slot s block) old new kept first = kept (ordering.Block block) first
-place_more (NewBlock block None) old new kept first = (kept (ordering.Block block) first.0, tt)
-place_more (NewBlock block (Some x)) old new kept first = (kept (ordering.Block block) first.0, kept (ordering.Block x) first.1)
+place_more (NewBlock block tables) old new kept first = (kept (ordering.Block block) first.0, (λ x c. kept (ordering.Block x) (first.1 x c)))
+
+-- the blocks of new tables are cells of the volume, which come behind others
+module _ (geo : Geometry) (view : View) where
+  table_cells : (tables : List ℕ) → AllFree geo view tables → All (IsCell geo) (map ordering.Block tables)
+  table_cells [] free = All-nil (IsCell geo)
+  table_cells (x ∷ xs) free = All-cons (IsCell geo) (ordering.Block x) (map ordering.Block xs) (free.0).address (table_cells xs free.1)
+
+  tables_more : (tables : List ℕ) → AllFree geo view tables → (old new : List ordering.Cell) → new ≡ old ++ map ordering.Block tables → Gathers geo old new
+  tables_more tables free old new is = record {
+    kept = λ c k. subst (λ zs. Contains zs c) (sym is) (Contains-append_left old (map ordering.Block tables) c k);
+    cells = λ all. subst (All (IsCell geo)) (sym is) (All-append (IsCell geo) old (map ordering.Block tables) all (table_cells tables free));
+  }
 
 module _ (geo : Geometry) (view : View) (d : ℕ) (place : Place) (at : IsPlace geo view d place) (old : List Cell) where
   pub slot_placed : (s block : ℕ) (new : List Cell) → place ≡ Slot s block → new ≡ old ++ Block block ∷ [] → Placed geo place old new
@@ -33,20 +48,15 @@ module _ (geo : Geometry) (view : View) (d : ℕ) (place : Place) (at : IsPlace 
         (λ none. ap (map cell) (more ∙ ap (λ xs. xs ++ Block block ∷ []) none) ∙ ap cells_of (sym is)),
       )
 
-  pub block_placed : (block : ℕ) (new : List Cell) → place ≡ NewBlock block None → new ≡ old ++ Block block ∷ [] → Placed geo place old new
-  block_placed block new is more =
-      let there : IsNewBlock geo view d block None = subst (IsPlace geo view d) is at in (
-        pushed geo old new (Block block) more there.free.address,
-        subst (λ p. IsPlaceIn p (map cell new)) (sym is) (holds_pushed geo old new (Block block) more, tt),
-        (λ none. ap (map cell) (more ∙ ap (λ xs. xs ++ Block block ∷ []) none) ∙ ap cells_of (sym is)),
-      )
-
-  pub blocks_placed : (block table : ℕ) (middle new : List Cell) → place ≡ NewBlock block (Some table) → middle ≡ old ++ Block block ∷ [] → new ≡ middle ++ Block table ∷ [] → Placed geo place old new
-  blocks_placed block table middle new is first second =
-      let there : IsNewBlock geo view d block (Some table) = subst (IsPlace geo view d) is at in
-      let last = pushed geo middle new (Block table) second there.table.1.0.address in (
-        gathers_both geo (map cell old) (map cell middle) (map cell new) (pushed geo old middle (Block block) first there.free.address) last,
-        subst (λ p. IsPlaceIn p (map cell new)) (sym is)
-            (last.kept (cell (Block block)) (holds_pushed geo old middle (Block block) first), holds_pushed geo middle new (Block table) second),
-        (λ none. ap (map cell) (second ∙ ap (λ xs. xs ++ Block table ∷ []) (first ∙ ap (λ xs. xs ++ Block block ∷ []) none)) ∙ ap cells_of (sym is)),
+  pub blocks_placed : (block : ℕ) (tables : List ℕ) (middle new : List Cell) → place ≡ NewBlock block tables → middle ≡ old ++ Block block ∷ [] → map cell new ≡ map cell middle ++ map ordering.Block tables
+      → Placed geo place old new
+  blocks_placed block tables middle new is first second =
+      let there : IsNewBlock geo view d block tables = subst (IsPlace geo view d) is at in
+      let more = tables_more geo view tables there.choice.tables (map cell middle) (map cell new) second in (
+        gathers_both geo (map cell old) (map cell middle) (map cell new) (pushed geo old middle (Block block) first there.choice.free.address) more,
+        subst (λ p. IsPlaceIn p (map cell new)) (sym is) (
+          more.kept (cell (Block block)) (holds_pushed geo old middle (Block block) first),
+          (λ x c. subst (λ zs. Contains zs (ordering.Block x)) (sym second) (Contains-append_right (map cell middle) (map ordering.Block tables) (ordering.Block x) (mapped ordering.Block tables x c))),
+        ),
+        (λ none. second ∙ ap (λ xs. map cell xs ++ map ordering.Block tables) (first ∙ ap (λ xs. xs ++ Block block ∷ []) none) ∙ ap cells_of (sym is)),
       )

@@ -1,5 +1,5 @@
 -- The updates by which a file gets a name in another directory in place of the one that it has.
-use Rattle.std.specs.Prelude.{◌≡◌, ℕ, ◌<◌, List, [], ◌∷◌, Some, None, Ok, IfSome, IsFalse, IsTrue}
+use Rattle.std.specs.Prelude.{◌≡◌, ℕ, ◌<◌, List, [], ◌∷◌, Ok, IsFalse, IsTrue, map}
 use Rattle.std.specs.List.{Contains}
 use Rattle.model.specs.Layout.{Geometry, root}
 use Rattle.model.specs.View.{View}
@@ -27,16 +27,15 @@ pub record MayEnter (kept : Kept) (number d : ℕ) (place : Place) : Type 0 wher
   pub fits : (view : View) → IsShownBy kept view → IsPlace kept.geometry view d place
   pub room : IsFalse (is_full kept.geometry (frozen_view kept) d)
 
--- the block of an entry in this place, and the new table with it, are among these cells
+-- the block of an entry in this place, and the new tables with it, are among these cells
 abbrev pub IsPlaceIn : Place → List Cell → Type 0
 IsPlaceIn (Slot s block) after = Contains after (Block block)
-IsPlaceIn (NewBlock block table) after = Contains after (Block block) × IfSome table (λ x. Contains after (Block x))
+IsPlaceIn (NewBlock block tables) after = Contains after (Block block) × ((x : ℕ) → Contains tables x → Contains after (Block x))
 
 -- and these are all of them
 abbrev pub cells_of : Place → List Cell
 cells_of (Slot s block) = Block block ∷ []
-cells_of (NewBlock block None) = Block block ∷ []
-cells_of (NewBlock block (Some x)) = Block block ∷ Block x ∷ []
+cells_of (NewBlock block tables) = Block block ∷ map Block tables
 
 -- the cells that come before the old name goes: those of the place, the grounds of its directory, and no others
 pub record AreFirst (geo : Geometry) (view : View) (qs : List (List ℕ)) (place : Place) (after : List Cell) : Type 0 where

@@ -1,4 +1,4 @@
-ghost use Rattle.std.specs.Prelude.{◌≡◌, ◌<◌, ◌≤◌, ℕ, IfErr, IfOk, IsFalse, IsTrue, List, None, Ok, OnOk, Some, length, map, true};
+ghost use Rattle.std.specs.Prelude.{◌≡◌, ◌<◌, ◌≤◌, ◌++◌, ℕ, IfErr, IfOk, IsFalse, IsTrue, List, None, Ok, OnOk, Some, length, map, true};
 ghost use Rattle.std.specs.List.{All};
 ghost use Rattle.std.specs.Result.{result_err};
 ghost use Rattle.frozen.specs.Kept.{frozen_view};
@@ -7,6 +7,7 @@ ghost use Rattle.model.specs.View.{View};
 ghost use Rattle.machine.specs.Below.{first_of};
 ghost use Rattle.machine.specs.Paths.{last_part, walk as machine_walk};
 ghost use Rattle.metadata.specs.Shown.{Shows};
+ghost use Rattle.ordering.specs.Cuts.{Block as BlockCell};
 ghost use Rattle.plans_naming.specs.Link.{raised};
 ghost use Rattle.plans_naming.specs.Move.{left};
 ghost use Rattle.updates.specs.Places.{IsCell};
@@ -25,7 +26,7 @@ use dirent::{SLOT_BYTES, SLOTS};
 use frozen::Frozen;
 use layout::Refusal;
 use live_paths::{Path, find};
-use live_places::{Place, choose};
+use live_places::{Place, Tables, choose};
 use live_plans::{Found, NewEntry, Plan, bytes_of, enter, put_slot};
 use metadata::Metadata;
 use std::alloc::{AllocError, Global};
@@ -98,7 +99,7 @@ pub(crate) fn move_to(
         place,
     };
     enter(alloc, metadata, &mut plan, &new)?;
-    let after = first_cells(alloc, frozen, to, place)?;
+    let after = first_cells(alloc, frozen, to, &new.place)?;
     leave(alloc, metadata, &mut plan, &ends.found, after)?;
     Ok(plan)
 }
@@ -116,30 +117,39 @@ fn raise(alloc: Global, metadata: &Metadata, plan: &mut Plan, number: u32) -> Re
 }
 
 /// The cells that come before an old name goes: the block of the new entry in this place, and the grounds of its
-/// directory, with the new table that it is to get where there is one.
+/// directory, with the new tables that it is to get.
 fn first_cells(
     alloc: Global,
     frozen: &Frozen,
     to: &Path,
-    place: Place,
+    place: &Place,
 ) -> Result<Vec<Cell>, AllocError>
     requires walk { (d : ℕ) × (machine_walk frozen.now.geometry (frozen_view frozen.now) root to.now ≡ Ok d) }
-    requires place { (d : ℕ) × IsPlace frozen.now.geometry (frozen_view frozen.now) d place }
+    requires place { (d : ℕ) × IsPlace frozen.now.geometry (frozen_view frozen.now) d place.now }
     ensures cells { IfOk result (λ cells. All (IsCell frozen.now.geometry) (map cell cells.items)) }
-    ensures first { IfOk result (λ cells. AreFirst frozen.now.geometry (frozen_view frozen.now) to.now place (map cell cells.items)) }
+    ensures first { IfOk result (λ cells. AreFirst frozen.now.geometry (frozen_view frozen.now) to.now place.now (map cell cells.items)) }
 {
     let mut cells = Vec::new(alloc);
-    match place {
+    match *place {
         Place::Slot { block, .. } => cells.push(Cell::Block(block))?,
-        Place::NewBlock { block, table } => {
+        Place::NewBlock { block, tables } => {
             cells.push(Cell::Block(block))?;
-            if let Some(table) = table {
-                cells.push(Cell::Block(table))?;
-            }
+            add_tables(tables, &mut cells)?;
         }
     }
     add_grounds(frozen, to, &mut cells)?;
     Ok(cells)
+}
+
+/// Adds the block of each of these tables, behind these cells.
+fn add_tables(tables: Tables, cells: &mut Vec<Cell>) -> Result<(), AllocError>
+    ensures { OnOk result (map cell cells.new.items ≡ map cell cells.old.items ++ map BlockCell tables) }
+{
+    let Some(table) = tables.first() else {
+        return Ok(());
+    };
+    cells.push(Cell::Block(table))?;
+    add_tables(tables.rest(), cells)
 }
 
 /// Adds the updates by which a file loses the name that was found, after these cells: the slot is emptied, and then the

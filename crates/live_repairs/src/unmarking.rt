@@ -2,7 +2,7 @@ ghost use Rattle.std.specs.Prelude.{◌≡◌, IfOk, IsTrue, false};
 ghost use Rattle.model.specs.Cells.{SetBlock, SetNumber};
 ghost use Rattle.model.specs.Layout.{is_data_address, is_number};
 ghost use Rattle.ordering.specs.Cuts.{cell_of};
-ghost use Rattle.updates.specs.Places.{IsCell};
+ghost use Rattle.updates.specs.Places.{FitsVolume, IsCell};
 ghost use Rattle.updates.specs.Values.{change as change_of};
 ghost use Rattle.live_repairs.specs.Repaired.{Unmarks};
 
@@ -34,7 +34,8 @@ fn unmark(
     file: u32,
     change: Change,
 ) -> Result<Planned, AllocError>
-    requires { IsCell metadata.now.geometry (cell_of (change_of change)) }
+    requires cell { IsCell metadata.now.geometry (cell_of (change_of change)) }
+    requires fits { FitsVolume metadata.now.geometry (change_of change) }
     ensures { IfOk result (λ planned. Unmarks metadata.now.geometry file (change_of change) planned.plan planned.holds.items) }
 {
     let mut plan = Plan::new(alloc, metadata.frozen().geometry(), file);

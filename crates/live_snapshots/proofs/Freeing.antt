@@ -68,7 +68,7 @@ module _ (geo : Geometry) (ns bs : ℕ → Bool) (old : List program.Update) (is
   -- a block's bit more
   pub block_more : (b : ℕ) (new : List program.Update) → IsTrue (is_data_address geo b) → Adds (SetBlock b false) old new → Frees geo ns (λ a. bs a || eqb a b) new
   block_more b new address more = record {
-    cells = more.each geo address is.cells;
+    cells = more.each geo address tt is.cells;
     inode = λ view i. ap (λ (v : View). v.inode i) (view_then (SetBlock b false) new more view) ∙ is.inode view i;
     number_marked = λ view i. ap (λ (v : View). v.number_marked i) (view_then (SetBlock b false) new more view) ∙ is.number_marked view i;
     block_marked = λ view a.
@@ -80,7 +80,7 @@ module _ (geo : Geometry) (ns bs : ℕ → Bool) (old : List program.Update) (is
   -- a number's record and bit more
   pub number_more : (n : ℕ) (mid new : List program.Update) → IsTrue (is_number geo n) → Adds (SetInode n free_inode) old mid → Adds (SetNumber n false) mid new → Frees geo (λ i. ns i || eqb i n) bs new
   number_more n mid new number first second = record {
-    cells = second.each geo number (first.each geo number is.cells);
+    cells = second.each geo number tt (first.each geo number (λ one. refl) is.cells);
     inode = λ view i.
         ap (λ (v : View). v.inode i) (view_of_both view) ∙ ap (λ t. cond (eqb i n) free_inode t) (is.inode view i)
         ∙ one_more (ns i) (eqb i n) free_inode (view.inode i);

@@ -12,7 +12,7 @@ use Rattle.machine.specs.Cells.{claims}
 use Rattle.machine.specs.Snapshot.{without}
 use Rattle.ordering.specs.Cuts.{cell_of}
 use Rattle.updates.specs.declared.change.Update as program
-use Rattle.updates.specs.Places.{IsCell, IsUpdate}
+use Rattle.updates.specs.Places.{FitsVolume, IsCell, IsUpdate}
 use Rattle.frozen.specs.Kept.{Kept, frozen_view}
 use Rattle.metadata.specs.Shown.{Shows}
 use Rattle.metadata.specs.Staged.{changes}
@@ -53,7 +53,7 @@ is_claimed_below geo view n end a = any_below end (λ k. is_claimed_at geo view 
 -- There is one more update, which makes this change, after nothing.
 pub record Adds (change : Update) (old new : List program.Update) : Type 0 where
   pub list : changes new ≡ changes old ++ change ∷ []
-  pub each : (geo : Geometry) → IsCell geo (cell_of change) → All (IsUpdate geo) old → All (IsUpdate geo) new
+  pub each : (geo : Geometry) → IsCell geo (cell_of change) → FitsVolume geo change → All (IsUpdate geo) old → All (IsUpdate geo) new
 
 -- These updates free these numbers, each with its record, and these blocks, and leave all else as it is.
 pub record Frees (geo : Geometry) (numbers blocks : ℕ → Bool) (us : List program.Update) : Type 0 where

@@ -124,6 +124,7 @@ fn free_record() -> Record
         size: 0,
         direct: [0; DIRECT_POINTERS],
         indirect: 0,
+        double: 0,
     }
 }
 

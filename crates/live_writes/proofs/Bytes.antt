@@ -63,7 +63,7 @@ over_short n bytes before whole short =
 -- a piece as long as a block leaves nothing of what was there
 under_short : (place : Place) (before : List ℕ) → length before ≤ 1024 → length (bytes_under place before) ≤ 1024
 under_short (InPlace a) before short = short
-under_short (Behind b table) before short = omega (arith, length-replicate {A = ℕ} 1024 0)
+under_short (Behind b tables) before short = omega (arith, length-replicate {A = ℕ} 1024 0)
 under_short (Elsewhere a b) before short = short
 
 pub over_all : (place : Place) (before piece : List ℕ) → length before ≤ 1024 → length piece ≡ 1024 → piece ≡ bytes_after place before piece

@@ -1,5 +1,5 @@
 -- What is known of the file that a handle is open on, where its volume stands so.
-use Rattle.std.proofs.Common.{◌≡◌, ◌<◌, ◌≤◌, ◌/◌, ◌&&◌, ℕ, Bool, true, false, eqb, ltb, cond, [], Option, Some, None, sym, ap, ◌∙◌, subst, arith, IsTrue}
+use Rattle.std.proofs.Common.{◌≡◌, ◌<◌, ◌≤◌, ◌/◌, ◌&&◌, ℕ, Bool, true, false, eqb, ltb, cond, List, [], Option, Some, None, sym, ap, ◌∙◌, subst, arith, IsTrue}
 use Rattle.std.proofs.lemmas.Bool.{le-leb}
 use Rattle.std.proofs.lemmas.Bool.Decides.{nat_tests}
 use Rattle.std.specs.Prelude.{IfSome, unwrap_or}
@@ -10,7 +10,6 @@ use Rattle.model.specs.Uses.{blocks_of, claim_at, is_sound, is_sound_at}
 use Rattle.model.proofs.Shape.{earlier, own_first, reach_from, some_table, table_inside, table_is_table}
 use Rattle.model.proofs.UseLemmas.{claim_from, claim_parts}
 use Rattle.machine.specs.Cells.{block_of}
-use Rattle.machine.specs.Room.{IsFreeBlock}
 use Rattle.machine.specs.State.{State, open_at}
 use Rattle.machine.proofs.Decisions.{sound_parts}
 use Rattle.plans_data.specs.Plans.{IsChoice}
@@ -21,11 +20,10 @@ use Rattle.metadata.proofs.ShownLemmas.{shows_metadata}
 use Rattle.live_states.specs.Holdings.{Has, Holdings, is_kept_by}
 use Rattle.live_states.specs.Planned.{IsOfVolume, IsOfVolumeWith}
 use Rattle.live_holdings.specs.Handles.{handle_at}
-use Rattle.live_places.specs.Chosen.{listed}
 use Rattle.live_plans.specs.Linked.{CanLink, HasPointers}
 use Rattle.live_plans.proofs.FoundLemmas.{same_claim}
-use Rattle.live_plans.proofs.GrowLemmas.{all_free, can_link, chosen as chosen_next, free_there, table_there}
-use Rattle.live_writes.specs.Aimed.{IsPlaced, IsTableFor, block_count_of, blocks_behind, blocks_needed, seen_at}
+use Rattle.live_plans.proofs.GrowLemmas.{can_link}
+use Rattle.live_writes.specs.Aimed.{IsPlaced, block_count_of, blocks_behind, blocks_needed, seen_at}
 use Rattle.live_writes.specs.declared.aiming.Place.{Place}
 use Rattle.live_writes.specs.declared.aiming.Place.TheVariants.{InPlace, Behind, Elsewhere}
 
@@ -75,20 +73,11 @@ behind_needed kept holdings i k e =
     let out : ltb k n ≡ false = grind (arith, nat_tests, e) in
     ap (λ (t : Bool). cond t (cond (is_kept_by holdings (block_of kept.geometry (frozen_view kept) i k)) 1 0) (blocks_behind kept.geometry n)) out ∙ ap (blocks_behind kept.geometry) (sym e)
 
--- ---- a new block, and the tables that come with it, are a choice by what users see
-pub chosen : (kept : Kept) (view : View) → Shows kept view → (i k b : ℕ) (table : Option ℕ) → k ≡ block_count_of kept i → IsFreeBlock kept.geometry (frozen_view kept) b
-    → IsTableFor kept.geometry (frozen_view kept) k b table → IsChoice kept.geometry view k b (listed table)
-chosen kept view shows i k b table next free is =
-    subst (λ j. IsChoice kept.geometry view j b (listed table)) (sym (next ∙ ap (λ (n : Inode). blocks_of n.size) (shows.inode i)))
-    (chosen_next kept.geometry view i b table (free_there kept view shows b free)
-    (table_there kept view shows i b table (subst (λ j. IsTableFor kept.geometry (frozen_view kept) j b table) next is)))
-
 -- ---- the pointer to a new block can be put
 module _ (kept : Kept) (i k : ℕ) (claims : HasPointers kept i) (room : k < most_blocks kept.geometry) where
   -- behind the last one
-  pub link_behind : (b : ℕ) (table : Option ℕ) → k ≡ block_count_of kept i → IsTableFor kept.geometry (frozen_view kept) k b table → CanLink kept i k (listed table)
-  link_behind b table next is =
-      can_link kept i k claims next room (listed table) is.0 (all_free kept.geometry (frozen_view kept) i b table (subst (λ j. IsTableFor kept.geometry (frozen_view kept) j b table) next is))
+  pub link_behind : (b : ℕ) (tables : List ℕ) → k ≡ block_count_of kept i → IsChoice kept.geometry (frozen_view kept) k b tables → CanLink kept i k tables
+  link_behind b tables next is = can_link kept i k claims next room tables is.many is.tables
 
   -- and in the place of another one
   pub link_over : k < block_count_of kept i → CanLink kept i k []
@@ -104,7 +93,7 @@ next_is size k near past = omega (arith, near, past)
 -- what is seen is a data block
 pub placed_seen : (kept : Kept) (holdings : Holdings) (i k : ℕ) (place : Place) → IsPlaced kept holdings i k place → IfSome (seen_at place) (λ a. IsTrue (is_data_address kept.geometry a))
 placed_seen kept holdings i k (InPlace a) is = (claim_parts kept.geometry (frozen_view kept) i k a is.1).1
-placed_seen kept holdings i k (Behind b table) is = tt
+placed_seen kept holdings i k (Behind b tables) is = tt
 placed_seen kept holdings i k (Elsewhere a b) is = (claim_parts kept.geometry (frozen_view kept) i k a is.1).1
 
 -- ---- a length that a test found to be none, or not

@@ -1,5 +1,5 @@
 -- The updates of a write carry it out.
-use Rattle.std.proofs.Common.{◌≡◌, ◌<◌, ◌≤◌, ◌+◌, ◌*◌, ◌||◌, ℕ, Bool, true, false, eqb, List, [], ◌∷◌, ◌++◌, length, drop, max, replicate, inl, inr, refl, sym, ap, ap₂, ◌∙◌, subst, arith, Option, Some, None, IsTrue, IsFalse, slice_index_or, slice_set, get_or-set_same, get_or-set_other, eq-eqb}
+use Rattle.std.proofs.Common.{◌≡◌, ◌<◌, ◌≤◌, ◌+◌, ◌*◌, ◌||◌, ℕ, Bool, true, false, eqb, List, [], ◌∷◌, ◌++◌, length, drop, max, replicate, inl, inr, refl, sym, ap, ap₂, ◌∙◌, subst, arith, Option, Some, IsTrue, IsFalse, slice_index_or, slice_set, get_or-set_same, get_or-set_other, eq-eqb}
 use Rattle.std.specs.Prelude.{unwrap_or}
 use Rattle.std.proofs.lemmas.Bool.{cases_eq}
 use Rattle.std.proofs.lemmas.Bool.Decides.{nat_tests}
@@ -14,7 +14,7 @@ use Rattle.machine.specs.Causes.{file_of}
 use Rattle.machine.specs.Cells.{block_of, seen}
 use Rattle.machine.specs.Command.{Done, Write}
 use Rattle.machine.specs.Effects.{IsOverwritten, size_after}
-use Rattle.machine.specs.Room.{IsFreeBlock, unmarked_blocks}
+use Rattle.machine.specs.Room.{unmarked_blocks}
 use Rattle.machine.specs.State.{Plan, State, is_kept}
 use Rattle.machine.specs.Whole.{HasWholeBlocks}
 use Rattle.ordering.specs.Cuts.{Pending, users_view}
@@ -27,20 +27,19 @@ use Rattle.courses.specs.Done.{IsDoneBy, LeavesTheRest, WritesBehind, WritesElse
 use Rattle.frozen.specs.Kept.{Kept, KeepsMetadata, frozen_view}
 use Rattle.metadata.specs.Shown.{Shows}
 use Rattle.metadata.proofs.ShownLemmas.{shows_metadata}
-use Rattle.live_places.specs.Chosen.{listed}
 use Rattle.live_states.specs.Drafts.{Draft, GoesOn, over}
 use Rattle.live_states.specs.Holdings.{Has, Holdings, going_on, held_by, opened_by, with_held}
 use Rattle.live_states.specs.Planned.{AreSeen, IsOfVolumeWith, IsPlannedToTheByte, IsPlannedWith, Seen}
 use Rattle.live_states.proofs.Standing.{kept_same}
 use Rattle.live_plans.specs.Linked.{CanLink, HasPointers}
-use Rattle.live_plans.proofs.GrowLemmas.{free_there, volume_claims}
+use Rattle.live_plans.proofs.GrowLemmas.{choice_there, free_there, volume_claims}
 use Rattle.live_plans.proofs.LinkLemmas.{holder_there}
-use Rattle.live_writes.specs.Aimed.{IsAimed, IsPlaced, IsTableFor, block_count_of, blocks_needed}
+use Rattle.live_writes.specs.Aimed.{IsAimed, IsPlaced, block_count_of, blocks_needed}
 use Rattle.live_writes.specs.Written.{grown_size, held_for, holder_at, updates_at, updates_by}
 use Rattle.live_writes.specs.declared.aiming.Place.{Place}
 use Rattle.live_writes.specs.declared.aiming.Place.TheVariants.{InPlace, Behind, Elsewhere}
 use Rattle.live_writes.specs.declared.aiming.Target.{Target}
-use Rattle.live_writes.proofs.Facts.{chosen, claim_there, link_behind, link_over, open_there}
+use Rattle.live_writes.proofs.Facts.{claim_there, link_behind, link_over, open_there}
 use Rattle.live_writes.proofs.Pointing.{appends}
 use Rattle.live_writes.proofs.Refusals.{good_if, write_accepted}
 
@@ -64,7 +63,7 @@ one_more held a low x = elim (cases_eq x a) [
 -- the piece over all that users see of the block, or over zeroes behind the last one
 abbrev pub IsOverAll : Kept → View → ℕ → ℕ → List ℕ → List ℕ → Place → Type 0
 IsOverAll kept view i k piece bytes (InPlace a) = bytes ≡ piece ++ drop (length piece) (view.bytes (block_of kept.geometry view i k))
-IsOverAll kept view i k piece bytes (Behind b table) = bytes ≡ piece ++ drop (length piece) (replicate 1024 0)
+IsOverAll kept view i k piece bytes (Behind b tables) = bytes ≡ piece ++ drop (length piece) (replicate 1024 0)
 IsOverAll kept view i k piece bytes (Elsewhere a b) = bytes ≡ piece ++ drop (length piece) (view.bytes (block_of kept.geometry view i k))
 
 module _ (kept : Kept) (holdings : Holdings) (keeps : KeepsMetadata kept) (volume : IsOfVolumeWith kept holdings) (all : block_count kept.geometry ≤ length holdings.held)
@@ -149,24 +148,24 @@ module _ (kept : Kept) (holdings : Holdings) (keeps : KeepsMetadata kept) (volum
           )
 
       -- the pointer is kept where users see it
-      same_holder : (b : ℕ) (table : Option ℕ) → CanLink kept i k (listed table) → holder_at kept i k b table ≡ holder_of kept.geometry view i k b (listed table)
-      same_holder b table can = holder_there kept view (shows_metadata kept view keeps sees) i k b (listed table) can
+      same_holder : (b : ℕ) (tables : List ℕ) → CanLink kept i k tables → holder_at kept i k b tables ≡ holder_of kept.geometry view i k b tables
+      same_holder b tables can = holder_there kept view (shows_metadata kept view keeps sees) i k b tables can
 
       -- the list by what users see
-      list_behind : (b : ℕ) (table : Option ℕ) → k ≡ block_count_of kept i → CanLink kept i k (listed table)
-          → updates_by kept i k bytes (grown_size kept i k piece) (Behind b table) q ≡ appended kept.geometry i (view.inode i) k b bytes (size_then i) (holder_of kept.geometry view i k b (listed table)) q
-      list_behind b table next can =
-          ap (λ (n : Inode). relocated kept.geometry i n k b bytes (grown_size kept i k piece) (holder_at kept i k b table) q) (sees.inode i)
-          ∙ ap₂ (λ s holder. relocated kept.geometry i (view.inode i) k b bytes s holder q) sized_so (same_holder b table can)
-          ∙ appends kept.geometry i (view.inode i) k b bytes (size_then i) (holder_of kept.geometry view i k b (listed table)) q (grows next)
+      list_behind : (b : ℕ) (tables : List ℕ) → k ≡ block_count_of kept i → CanLink kept i k tables
+          → updates_by kept i k bytes (grown_size kept i k piece) (Behind b tables) q ≡ appended kept.geometry i (view.inode i) k b bytes (size_then i) (holder_of kept.geometry view i k b tables) q
+      list_behind b tables next can =
+          ap (λ (n : Inode). relocated kept.geometry i n k b bytes (grown_size kept i k piece) (holder_at kept i k b tables) q) (sees.inode i)
+          ∙ ap₂ (λ s holder. relocated kept.geometry i (view.inode i) k b bytes s holder q) sized_so (same_holder b tables can)
+          ∙ appends kept.geometry i (view.inode i) k b bytes (size_then i) (holder_of kept.geometry view i k b tables) q (grows next)
 
-      done_behind : (b : ℕ) (table : Option ℕ) → k ≡ block_count_of kept i → IsFreeBlock kept.geometry (frozen_view kept) b → IsTableFor kept.geometry (frozen_view kept) k b table
-          → (r : List Pending) → r ≡ updates_by kept i k bytes (grown_size kept i k piece) (Behind b table) q
+      done_behind : (b : ℕ) (tables : List ℕ) → k ≡ block_count_of kept i → IsChoice kept.geometry (frozen_view kept) k b tables
+          → (r : List Pending) → r ≡ updates_by kept i k bytes (grown_size kept i k piece) (Behind b tables) q
           → Does OverZeroes i r (going_on old (with_held holdings []) (users_view disk r))
-      done_behind b table next free is r list =
-          finish OverZeroes [] old.held (appended kept.geometry i (view.inode i) k b bytes (size_then i) (holder_of kept.geometry view i k b (listed table)) q) r
-          (list ∙ list_behind b table next (link_behind kept i k claims room b table next is)) has.held
-          (behind_with b (listed table) next (chosen kept view sees i k b table next free is))
+      done_behind b tables next is r list =
+          finish OverZeroes [] old.held (appended kept.geometry i (view.inode i) k b bytes (size_then i) (holder_of kept.geometry view i k b tables) q) r
+          (list ∙ list_behind b tables next (link_behind kept i k claims room b tables next is)) has.held
+          (behind_with b tables next (choice_there kept view sees k b tables is))
 
       -- ---- elsewhere
       held_then : (a : ℕ) → claim_at kept.geometry (frozen_view kept) i k ≡ Some a → held_besides kept.geometry (now disk q old) i k ≡ held_by (with_held holdings (a ∷ []))
@@ -180,8 +179,8 @@ module _ (kept : Kept) (holdings : Holdings) (keeps : KeepsMetadata kept) (volum
           let e = block_so a is.1 in
           finish (OverBlock i) (a ∷ []) (held_besides kept.geometry (now disk q old) i k)
           (relocated kept.geometry i (view.inode i) k b bytes (size_then i) (holder_of kept.geometry view i k b []) q) r
-          (list ∙ ap (λ (n : Inode). relocated kept.geometry i n k b bytes (grown_size kept i k piece) (holder_at kept i k b None) q) (sees.inode i)
-          ∙ ap₂ (λ s holder. relocated kept.geometry i (view.inode i) k b bytes s holder q) sized_so (same_holder b None (link_over kept i k claims room is.0)))
+          (list ∙ ap (λ (n : Inode). relocated kept.geometry i n k b bytes (grown_size kept i k piece) (holder_at kept i k b []) q) (sees.inode i)
+          ∙ ap₂ (λ s holder. relocated kept.geometry i (view.inode i) k b bytes s holder q) sized_so (same_holder b [] (link_over kept i k claims room is.0)))
           (held_then a is.1)
           (subst (λ j. Does (OverBlock j) j (relocated kept.geometry j (view.inode j) k b bytes (size_then j) (holder_of kept.geometry view j k b []) q)
           (becomes disk (relocated kept.geometry j (view.inode j) k b bytes (size_then j) (holder_of kept.geometry view j k b []) q) (held_besides kept.geometry (now disk q old) j k) old)) at (
@@ -194,7 +193,7 @@ module _ (kept : Kept) (holdings : Holdings) (keeps : KeepsMetadata kept) (volum
       pub done_at : (place : Place) → IsPlaced kept holdings i k place → (r : List Pending) → r ≡ updates_by kept i k bytes (grown_size kept i k piece) place q
           → Does (IsOverAll kept view i k piece bytes place) i r (going_on old (with_held holdings (held_for place)) (users_view disk r))
       done_at (InPlace a) is r list = done_in_place a is r list
-      done_at (Behind b table) is r list = done_behind b table is.0 is.1 is.2 r list
+      done_at (Behind b tables) is r list = done_behind b tables is.0 is.1 r list
       done_at (Elsewhere a b) is r list = done_elsewhere a b is r list
 
 -- these bytes are the right ones, whatever users see

@@ -1,6 +1,7 @@
 -- The updates by which a file points to a new block, as they are made and as the plan has them.
-use Rattle.std.proofs.Common.{◌≡◌, ◌<◌, ◌||◌, ℕ, zero, suc, Bool, true, false, not, cond, List, [], ◌∷◌, inl, inr, refl, sym, ap, ap₂, ◌∙◌, subst, arith, Option, Some, None, is_some, IsTrue}
+use Rattle.std.proofs.Common.{◌≡◌, ◌<◌, ◌||◌, ℕ, zero, suc, Bool, true, false, not, cond, eqb, List, [], ◌∷◌, length, inl, inr, refl, sym, ap, ap₂, ◌∙◌, subst, arith, is_some, IsTrue}
 use Rattle.std.proofs.lemmas.Bool.{lt-ltb}
+use Rattle.std.proofs.lemmas.Bool.Decides.{nat_tests}
 use Rattle.std.specs.List.{All}
 use Rattle.model.specs.Layout.{Geometry, is_data_address}
 use Rattle.model.specs.View.{Inode}
@@ -11,7 +12,6 @@ use Rattle.ordering.specs.Cuts.{Block, Cell, Pending}
 use Rattle.plans_data.specs.Append.{Holder, KeptInRecord, KeptInTable, KeptInNew, appended, filled, known, linked, pointed, sized}
 use Rattle.plans_data.specs.Write.{enlarged, relocated}
 use Rattle.frozen.specs.Kept.{Kept, frozen_view}
-use Rattle.live_places.specs.Chosen.{listed}
 use Rattle.live_states.specs.Drafts.{Draft, GoesOn}
 use Rattle.live_plans.specs.Linked.{CanLink, IsLinked}
 use Rattle.live_plans.proofs.DraftLemmas.{goes_as, goes_then}
@@ -28,14 +28,16 @@ is_of_record KeptInRecord = true
 is_of_record (KeptInTable m x table over) = false
 is_of_record (KeptInNew m x table up) = true
 
--- which is so where a new table is given, and where no table holds the pointer
+-- which is so where new tables are given, and where no table holds the pointer
 module _ (kept : Kept) (i k b : ℕ) where
-  pub which_record : (table : Option ℕ) → CanLink kept i k (listed table) → is_of_record (holder_at kept i k b table) ≡ (is_some table || not (is_some (table_of kept.geometry k)))
-  which_record None can = elim (table_cases kept.geometry k) [
+  pub which_record : (tables : List ℕ) → CanLink kept i k tables → is_of_record (holder_at kept i k b tables) ≡ (not (eqb (length tables) 0) || not (is_some (table_of kept.geometry k)))
+  which_record [] can = elim (table_cases kept.geometry k) [
     | inl none ↦ ap is_of_record (holder_none kept.geometry (frozen_view kept) i k b none) ∙ sym (ap (λ o. not (is_some o)) none)
     | inr one ↦ ap is_of_record (holder_some kept.geometry (frozen_view kept) i k b one.0 one.1) ∙ sym (ap (λ o. not (is_some o)) one.1)
   ]
-  which_record (Some x) can = ap is_of_record (holder_new kept.geometry (frozen_view kept) i k b can.0 x [] can.1)
+  which_record (x ∷ xs) can =
+      let some : eqb (length (x ∷ xs)) 0 ≡ false = grind (arith, nat_tests) in
+      ap is_of_record (holder_new kept.geometry (frozen_view kept) i k b can.0 x xs can.1) ∙ sym (ap (λ t. not t || not (is_some (table_of kept.geometry k))) some)
 
 module _ (geo : Geometry) (n : ℕ) (inode : Inode) (k b size : ℕ) (old mid new : Draft) where
   stays : (holder : Holder) → is_of_record holder ≡ false → (q : List Pending) → enlarged n inode size (known b holder) (linked geo n k b holder q) ≡ repointed geo n inode k b size holder q
@@ -105,17 +107,19 @@ module _ (kept : Kept) (target : Target) (bytes : List ℕ) (size : ℕ) (start 
       (λ q. ap₂ (λ (n : Inode) (after : List Cell). enlarged target.file n size after (record { change = SetBytes a bytes; after = [] } ∷ q)) e f)
       (goes_then start mid end (λ q. record { change = SetBytes a bytes; after = [] } ∷ q) (enlarged target.file owner size cells) fills sets))
 
-  goes_relocated : (b : ℕ) (table : Option ℕ) → GoesOn start mid (filled b bytes) → GoesOn mid end (repointed kept.geometry target.file of_target target.index b size (holder_at kept target.file target.index b table))
-      → GoesOn start end (relocated kept.geometry target.file of_target target.index b bytes size (holder_at kept target.file target.index b table))
-  goes_relocated b table fills points =
-      let holder = holder_at kept target.file target.index b table in
+  goes_relocated : (b : ℕ) (tables : List ℕ) → GoesOn start mid (filled b bytes) → GoesOn mid end (repointed kept.geometry target.file of_target target.index b size (holder_at kept target.file target.index b tables))
+      → GoesOn start end (relocated kept.geometry target.file of_target target.index b bytes size (holder_at kept target.file target.index b tables))
+  goes_relocated b tables fills points =
+      let holder = holder_at kept target.file target.index b tables in
       goes_as start end _ (relocated kept.geometry target.file of_target target.index b bytes size holder) (λ q. relocates kept.geometry target.file of_target target.index b bytes size holder q)
       (goes_then start mid end (filled b bytes) (repointed kept.geometry target.file of_target target.index b size holder) fills points)
 
-  pub goes_behind : (b : ℕ) (table : Option ℕ) → target.place ≡ Behind b table
-      → GoesOn start mid (filled b bytes) → GoesOn mid end (repointed kept.geometry target.file of_target target.index b size (holder_at kept target.file target.index b table)) → GoesOn start end (updates_at kept target bytes size)
-  goes_behind b table is fills points = subst (λ p. GoesOn start end (updates_by kept target.file target.index bytes size p)) (sym is) (goes_relocated b table fills points)
+  pub goes_behind : (b : ℕ) (tables : List ℕ) → target.place ≡ Behind b tables
+      → GoesOn start mid (filled b bytes) → GoesOn mid end (repointed kept.geometry target.file of_target target.index b size (holder_at kept target.file target.index b tables)) → GoesOn start end (updates_at kept target bytes size)
+  goes_behind b tables is fills points = subst (λ p. GoesOn start end (updates_by kept target.file target.index bytes size p)) (sym is) (goes_relocated b tables fills points)
 
-  pub goes_elsewhere : (a b : ℕ) → target.place ≡ Elsewhere a b
-      → GoesOn start mid (filled b bytes) → GoesOn mid end (repointed kept.geometry target.file of_target target.index b size (holder_at kept target.file target.index b None)) → GoesOn start end (updates_at kept target bytes size)
-  goes_elsewhere a b is fills points = subst (λ p. GoesOn start end (updates_by kept target.file target.index bytes size p)) (sym is) (goes_relocated b None fills points)
+  pub goes_elsewhere : (a b : ℕ) (tables : List ℕ) → target.place ≡ Elsewhere a b → tables ≡ []
+      → GoesOn start mid (filled b bytes) → GoesOn mid end (repointed kept.geometry target.file of_target target.index b size (holder_at kept target.file target.index b tables)) → GoesOn start end (updates_at kept target bytes size)
+  goes_elsewhere a b tables is none fills points =
+      subst (λ p. GoesOn start end (updates_by kept target.file target.index bytes size p)) (sym is)
+      (goes_relocated b [] fills (subst (λ xs. GoesOn mid end (repointed kept.geometry target.file of_target target.index b size (holder_at kept target.file target.index b xs))) none points))

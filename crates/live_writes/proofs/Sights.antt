@@ -46,7 +46,7 @@ module _ (kept : Kept) (holdings : Holdings) (keeps : KeepsMetadata kept) (i k :
   pub over_seen : (place : Place) (before piece : List ℕ) → IsPlaced kept holdings i k place → IsBlock (bytes_after place before piece) → AreSeen (seen_so (seen_at place) before) view
       → IsOverwritten piece (seen kept.geometry view i k) (bytes_after place before piece)
   over_seen (InPlace a) before piece is whole sees = over_known a before piece is.1 (sees 0 (record { address = a; bytes = before }) (omega arith)) whole
-  over_seen (Behind b table) before piece is whole sees = over_none piece (replicate 1024 0) (seen kept.geometry view i k) (nothing is.0) whole
+  over_seen (Behind b tables) before piece is whole sees = over_none piece (replicate 1024 0) (seen kept.geometry view i k) (nothing is.0) whole
   over_seen (Elsewhere a b) before piece is whole sees = over_known a before piece is.1 (sees 0 (record { address = a; bytes = before }) (omega arith)) whole
 
   -- and they are the piece over the whole block
@@ -57,7 +57,7 @@ module _ (kept : Kept) (holdings : Holdings) (keeps : KeepsMetadata kept) (i k :
   pub over_all_seen : (place : Place) (before piece : List ℕ) → IsPlaced kept holdings i k place → AreSeen (seen_so (seen_at place) before) view
       → IsOverAll kept view i k piece (bytes_after place before piece) place
   over_all_seen (InPlace a) before piece is sees = over_whole a before piece is.1 (sees 0 (record { address = a; bytes = before }) (omega arith))
-  over_all_seen (Behind b table) before piece is sees = refl
+  over_all_seen (Behind b tables) before piece is sees = refl
   over_all_seen (Elsewhere a b) before piece is sees = over_whole a before piece is.1 (sees 0 (record { address = a; bytes = before }) (omega arith))
 
   -- no more is seen than stands in the block, and than the file has
@@ -70,7 +70,7 @@ module _ (kept : Kept) (holdings : Holdings) (keeps : KeepsMetadata kept) (i k :
 
   pub sight : (place : Place) → IsPlaced kept holdings i k place → HasWholeBlocks kept.geometry view → length (seen kept.geometry view i k) ≤ min 1024 (((frozen_view kept).inode i).size - 1024 * k)
   sight (InPlace a) is whole = sight_of a is.1 whole
-  sight (Behind b table) is whole = let none : length (seen kept.geometry view i k) ≡ 0 = ap length (nothing is.0) in omega (arith, none)
+  sight (Behind b tables) is whole = let none : length (seen kept.geometry view i k) ≡ 0 = ap length (nothing is.0) in omega (arith, none)
   sight (Elsewhere a b) is whole = sight_of a is.1 whole
 
 -- ---- the plan is that of another piece, which reaches to the new end
@@ -125,7 +125,7 @@ module _ (kept : Kept) (holdings : Holdings) (keeps : KeepsMetadata kept) (volum
 -- what is held is a block of the volume
 pub held_below : (kept : Kept) (holdings : Holdings) → IsOfVolume kept → (i k : ℕ) (place : Place) → IsPlaced kept holdings i k place → All (λ a. a < block_count kept.geometry) (held_for place)
 held_below kept holdings volume i k (InPlace a) is j d low = absurd (omega (arith, low))
-held_below kept holdings volume i k (Behind b table) is j d low = absurd (omega (arith, low))
+held_below kept holdings volume i k (Behind b tables) is j d low = absurd (omega (arith, low))
 held_below kept holdings volume i k (Elsewhere a b) is zero d low = (data_range kept.geometry volume.stands.geometry a (claim_parts kept.geometry (frozen_view kept) i k a is.1).1).1
 held_below kept holdings volume i k (Elsewhere a b) is (suc j) d low = absurd (omega (arith, low))
 

@@ -1,15 +1,14 @@
 -- Where a piece goes that is to be written.
-use Rattle.std.specs.Prelude.{◌≡◌, ◌≢◌, ℕ, ◌+◌, ◌<◌, ◌≤◌, ◌/◌, nat_lt, List, [], ◌∷◌, length, Option, Some, None, IfSome, if◌then◌else◌, IsTrue, IsFalse}
+use Rattle.std.specs.Prelude.{◌≡◌, ℕ, ◌+◌, ◌<◌, ◌≤◌, ◌/◌, nat_lt, List, [], ◌∷◌, length, Option, Some, None, if◌then◌else◌, IsTrue, IsFalse}
 use Rattle.model.specs.Layout.{Geometry}
-use Rattle.model.specs.View.{View}
 use Rattle.model.specs.Shape.{most_blocks, new_tables}
 use Rattle.model.specs.Uses.{blocks_of, claim_at, is_sound_at}
 use Rattle.machine.specs.Cells.{block_of}
 use Rattle.machine.specs.Room.{IsFreeBlock, unmarked_blocks}
+use Rattle.plans_data.specs.Plans.{IsChoice}
 use Rattle.frozen.specs.Kept.{Kept, frozen_view}
 use Rattle.live_states.specs.Holdings.{Holdings, is_kept_by}
 use Rattle.live_states.specs.Planned.{Seen}
-use Rattle.live_places.specs.Chosen.{listed}
 use Rattle.live_holdings.specs.Handles.{handle_at}
 use Rattle.live_writes.specs.declared.aiming.Place.{Place}
 use Rattle.live_writes.specs.declared.aiming.Place.TheVariants.{InPlace, Behind, Elsewhere}
@@ -19,16 +18,11 @@ use Rattle.live_writes.specs.declared.aiming.Target.{Target}
 abbrev pub block_count_of : Kept → ℕ → ℕ
 block_count_of kept i = blocks_of ((frozen_view kept).inode i).size
 
--- as many blocks for new tables as come with block k of a file, each of them free and another one than that block
-abbrev pub IsTableFor : Geometry → View → ℕ → ℕ → Option ℕ → Type 0
-IsTableFor geo view k block table = (length (listed table) ≡ length (new_tables geo k)) × IfSome table (λ x. IsFreeBlock geo view x × (x ≢ block))
-
 -- Block k of file i goes there.
 abbrev pub IsPlaced : Kept → Holdings → ℕ → ℕ → Place → Type 0
 IsPlaced kept holdings i k (InPlace a) =
     (k < block_count_of kept i) × (claim_at kept.geometry (frozen_view kept) i k ≡ Some a) × IsFalse (is_kept_by holdings a)
-IsPlaced kept holdings i k (Behind b table) =
-    (k ≡ block_count_of kept i) × IsFreeBlock kept.geometry (frozen_view kept) b × IsTableFor kept.geometry (frozen_view kept) k b table
+IsPlaced kept holdings i k (Behind b tables) = (k ≡ block_count_of kept i) × IsChoice kept.geometry (frozen_view kept) k b tables
 IsPlaced kept holdings i k (Elsewhere a b) =
     (k < block_count_of kept i) × (claim_at kept.geometry (frozen_view kept) i k ≡ Some a) × IsTrue (is_kept_by holdings a) × IsFreeBlock kept.geometry (frozen_view kept) b
 
@@ -61,7 +55,7 @@ pub record IsAimed (kept : Kept) (holdings : Holdings) (h k : ℕ) (piece : List
 -- the block whose bytes the piece is put over
 abbrev pub seen_at : Place → Option ℕ
 seen_at (InPlace a) = Some a
-seen_at (Behind b table) = None
+seen_at (Behind b tables) = None
 seen_at (Elsewhere a b) = Some a
 
 -- and that it has these

@@ -15,7 +15,7 @@ ghost use Rattle.live_writes.specs.Aimed.{IsAimed, IsPlaced, blocks_behind, bloc
 
 use layout::{BLOCK_BYTES, Refusal};
 use live_holdings::Holdings;
-use live_places::take;
+use live_places::{Tables, new_tables, take, take_tables};
 use metadata::Metadata;
 
 /// Where the block of a write goes.
@@ -23,8 +23,8 @@ use metadata::Metadata;
 pub enum Place {
     /// Into this block of the file, which no snapshot keeps.
     InPlace { block: u32 },
-    /// Into a new block behind the last one, with a new table where one comes with it.
-    Behind { block: u32, table: Option<u32> },
+    /// Into a new block behind the last one, with the new tables that come with it.
+    Behind { block: u32, tables: Tables },
     /// Into a new block in the place of this old one, which a snapshot keeps.
     Elsewhere { old: u32, block: u32 },
 }
@@ -118,8 +118,8 @@ fn place_over(
     Ok(Place::Elsewhere { old, block })
 }
 
-/// Where the bytes of a block go that a file does not have yet: into the least free block, with the next one for the
-/// new table where one comes with it. Refused with `NoBlock`.
+/// Where the bytes of a block go that a file does not have yet: into the least free block, with the next ones for the new
+/// tables that come with it. Refused with `NoBlock`.
 pub(crate) fn place_behind(metadata: &Metadata, index: u32) -> Result<Place, Refusal>
     requires { index < most_blocks metadata.now.geometry }
     ensures placed { IfOk result (λ place. (holdings : Held) (file : ℕ) → index ≡ blocks_of ((frozen_view metadata.now).inode file).size
@@ -129,13 +129,7 @@ pub(crate) fn place_behind(metadata: &Metadata, index: u32) -> Result<Place, Ref
         × (unmarked_blocks metadata.now.geometry (frozen_view metadata.now) < blocks_behind metadata.now.geometry index)) }
 {
     let block = take(metadata, 0)?;
-    let geometry = metadata.frozen().geometry();
-    if geometry.tables_end(index + 1) == geometry.tables_end(index) {
-        return Ok(Place::Behind { block, table: None });
-    }
-    let table = take(metadata, block + 1)?;
-    Ok(Place::Behind {
-        block,
-        table: Some(table),
-    })
+    let count = new_tables(&metadata.frozen().geometry(), index);
+    let tables = take_tables(metadata, block + 1, count)?;
+    Ok(Place::Behind { block, tables })
 }

@@ -4,8 +4,8 @@
 //!
 //! First it is settled where the block goes, which takes no memory. A block of the file that no snapshot keeps
 //! gets its bytes in place; one that it keeps is left alone, and held for it: the file gets a free block instead. Behind
-//! the last block the file gets a free one, too, and another one for a new table where one comes with it. Then the
-//! updates are made: a new block's bit, its bytes, the pointer to it, and the record last, where it changes.
+//! the last block the file gets a free one, too, and others for the new tables that come with it. Then the updates are
+//! made: a new block's bit, its bytes, the pointer to it, and the record last, where it changes.
 //!
 //! A plan is made on the metadata of the volume that is held in memory and on the bytes that the block has, and changes
 //! nothing.

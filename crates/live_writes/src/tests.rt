@@ -6,6 +6,7 @@ use crate::{Place, Target};
 use device::MemDevice;
 use frozen::load;
 use layout::{BLOCK_BYTES, Block, Geometry, Refusal};
+use live_places::Tables;
 use metadata::Metadata;
 use spares::Spares;
 use std::alloc::{AllocError, Global};
@@ -21,8 +22,8 @@ fn image(alloc: Global, marks: [u8; 2]) -> Result<Metadata, Refusal> {
 }
 
 /// A place behind the last block.
-fn behind(block: u32, table: Option<u32>) -> Place {
-    Place::Behind { block, table }
+fn behind(block: u32, tables: Tables) -> Place {
+    Place::Behind { block, tables }
 }
 
 /// Aborts unless this is the place behind so many blocks, where these blocks are marked.
@@ -42,19 +43,19 @@ fn expect_place(
 
 #[test]
 fn a_new_block_is_the_least_free_one(rt: HostRuntime) -> Result<(), Refusal> {
-    expect_place(&rt, [0b1011, 0], 0, Ok(behind(6, None)))?;
-    expect_place(&rt, [0b1011, 0], 11, Ok(behind(6, None)))?;
-    expect_place(&rt, [0b1011, 0], 13, Ok(behind(6, None)))
+    expect_place(&rt, [0b1011, 0], 0, Ok(behind(6, Tables::none())))?;
+    expect_place(&rt, [0b1011, 0], 11, Ok(behind(6, Tables::none())))?;
+    expect_place(&rt, [0b1011, 0], 13, Ok(behind(6, Tables::none())))
 }
 
 #[test]
 fn the_thirteenth_block_needs_another_one(rt: HostRuntime) -> Result<(), Refusal> {
-    expect_place(&rt, [0b1011, 0], 12, Ok(behind(6, Some(8))))
+    expect_place(&rt, [0b1011, 0], 12, Ok(behind(6, Tables::one(8))))
 }
 
 #[test]
 fn too_few_blocks_are_refused(rt: HostRuntime) -> Result<(), Refusal> {
-    expect_place(&rt, [0xff, 0x0f], 11, Ok(behind(16, None)))?;
+    expect_place(&rt, [0xff, 0x0f], 11, Ok(behind(16, Tables::none())))?;
     expect_place(&rt, [0xff, 0x0f], 12, Err(Refusal::NoBlock))?;
     expect_place(&rt, [0xff, 0x1f], 0, Err(Refusal::NoBlock))
 }
@@ -95,7 +96,7 @@ fn a_piece_leaves_what_is_behind_it(rt: HostRuntime) -> Result<(), Refusal> {
 
 #[test]
 fn a_new_block_has_zeroes_behind_the_piece(rt: HostRuntime) -> Result<(), Refusal> {
-    expect_bytes(&rt, &behind(7, None), b"ab", &ab_and(0))
+    expect_bytes(&rt, &behind(7, Tables::none()), b"ab", &ab_and(0))
 }
 
 #[test]
@@ -129,7 +130,7 @@ fn the_old_block_is_seen(rt: HostRuntime) {
         place,
     };
     assert_eq!(rt; target(Place::InPlace { block: 5 }).seen(), Some(5));
-    assert_eq!(rt; target(behind(7, None)).seen(), None);
+    assert_eq!(rt; target(behind(7, Tables::none())).seen(), None);
     assert_eq!(rt;
         target(Place::Elsewhere { old: 5, block: 7 }).seen(),
         Some(5)

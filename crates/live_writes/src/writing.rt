@@ -3,16 +3,15 @@ ghost use Rattle.std.specs.Arc.{arc_value};
 ghost use Rattle.std.specs.List.{All};
 ghost use Rattle.frozen.specs.Kept.{frozen_view};
 ghost use Rattle.machine.specs.Command.{Done, Write};
-ghost use Rattle.model.specs.Cells.{SetBytes};
+ghost use Rattle.model.specs.Cells.{SetBytes, SetInode};
 ghost use Rattle.model.specs.Image.{IsBlock};
 ghost use Rattle.model.specs.Layout.{block_count, is_data_address, is_number};
 ghost use Rattle.model.specs.Shape.{most_blocks};
 ghost use Rattle.model.specs.Uses.{is_sound_at};
 ghost use Rattle.plans_data.specs.Write.{enlarged};
-ghost use Rattle.updates.specs.Places.{IsCell};
+ghost use Rattle.updates.specs.Places.{FitsVolume, IsCell};
 ghost use Rattle.updates.specs.Values.{cell};
 ghost use Rattle.live_plans.specs.Linked.{CanLink, HasPointers};
-ghost use Rattle.live_places.specs.Chosen.{listed};
 ghost use Rattle.live_states.specs.Drafts.{GoesOn};
 ghost use Rattle.live_states.specs.Holdings.{Holdings as Held, with_held};
 ghost use Rattle.live_states.specs.Planned.{IsOfVolumeWith, IsPlannedToTheByte, IsPlannedWith};
@@ -23,6 +22,7 @@ use crate::{Place, Target};
 use inode::Record;
 use layout::{BLOCK_BYTES, Block};
 use live_holdings::Holdings;
+use live_places::Tables;
 use live_plans::{Plan, Planned, fill, link};
 use metadata::Metadata;
 use spares::Spares;
@@ -132,16 +132,23 @@ fn updates(
             let after = vec![in alloc; Cell::Block(block)]?;
             enlarge(&mut plan, target.file, &owner, size, after)?;
         }
-        Place::Behind { block, table } => {
+        Place::Behind { block, tables } => {
             fill(alloc, &mut plan, block, bytes)?;
             repoint(
-                alloc, metadata, &mut plan, target, block, table, size, spares,
+                alloc, metadata, &mut plan, target, block, tables, size, spares,
             )?;
         }
         Place::Elsewhere { block, .. } => {
             fill(alloc, &mut plan, block, bytes)?;
             repoint(
-                alloc, metadata, &mut plan, target, block, None, size, spares,
+                alloc,
+                metadata,
+                &mut plan,
+                target,
+                block,
+                Tables::none(),
+                size,
+                spares,
             )?;
         }
     }
@@ -165,6 +172,7 @@ fn enlarge(
     after: Vec<Cell>,
 ) -> Result<(), AllocError>
     requires number { IsTrue (is_number plan.old.geometry number) }
+    requires fits { FitsVolume plan.old.geometry (SetInode number owner.now) }
     requires after { All (IsCell plan.old.geometry) (map cell after.items) }
     ensures { OnOk result (GoesOn plan.old plan.new (enlarged number owner.now size (map cell after.items))) }
 {
@@ -177,14 +185,15 @@ fn enlarge(
 }
 
 /// Adds the updates by which a file points to a new block at the position that is written, and gets this size. The pointer
-/// goes into the record, into a table that is there, or into a new one; the record is written only where it changes.
+/// goes into the record, into a table that is there, or into the nearest of these new ones; the record is written only
+/// where it changes.
 fn repoint(
     alloc: Global,
     metadata: &Metadata,
     plan: &mut Plan,
     target: &Target,
     block: u32,
-    table: Option<u32>,
+    tables: Tables,
     size: u32,
     spares: &mut Spares,
 ) -> Result<(), AllocError>
@@ -192,10 +201,10 @@ fn repoint(
     requires sound { IsTrue (is_sound_at metadata.now.geometry (frozen_view metadata.now) target.now.file) }
     requires room { target.now.index < most_blocks metadata.now.geometry }
     requires block { IsTrue (is_data_address metadata.now.geometry block) }
-    requires table { CanLink metadata.now target.now.file target.now.index (listed table) }
+    requires tables { CanLink metadata.now target.now.file target.now.index tables }
     ensures { OnOk result (GoesOn plan.old plan.new
         (repointed metadata.now.geometry target.now.file ((frozen_view metadata.now).inode target.now.file) target.now.index block size
-        (holder_at metadata.now target.now.file target.now.index block table))) }
+        (holder_at metadata.now target.now.file target.now.index block tables))) }
 {
     let frozen = metadata.frozen();
     let owner = frozen.record(target.file);
@@ -208,9 +217,9 @@ fn repoint(
         &owner,
         target.index,
         block,
-        table,
+        tables,
     )?;
-    if table.is_none() && frozen.geometry().pointer_place(target.index).is_some() {
+    if tables.is_empty() && frozen.geometry().pointer_place(target.index).is_some() {
         return enlarge(plan, target.file, &owner, size, linked.after);
     }
     let mut changed = linked.record;

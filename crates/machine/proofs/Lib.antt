@@ -18,6 +18,7 @@ mod Steps
 mod PathLemmas
 mod RowSteps
 mod RowRun
+mod VersionRows
 mod Counts
 mod Trees
 mod Shapes

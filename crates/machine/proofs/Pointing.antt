@@ -74,9 +74,9 @@ pub record IsLike (old pointed : Inode) : Type 0 where
 module _ (geo : Geometry) (v : View) (old : Inode) where
   pub pointed_like : {k a : ℕ} {cells : List Update} {pointed : Inode} → Points geo v old k a cells pointed → IsLike old pointed
   pointed_like {k = k} {a = a} (InRecord none c p) = subst (IsLike old) (sym p) (record {
-    mode = as_before geo old k a (λ x. x.mode) (λ d. refl) refl;
-    links = as_before geo old k a (λ x. x.links) (λ d. refl) refl;
-    size = as_before geo old k a (λ x. x.size) (λ d. refl) refl;
+    mode = as_before geo old k a (λ x. x.mode) (λ d. refl) refl refl;
+    links = as_before geo old k a (λ x. x.links) (λ d. refl) refl refl;
+    size = as_before geo old k a (λ x. x.size) (λ d. refl) refl refl;
     direct = same_length geo old k a;
   })
   pointed_like (InTable m x one uses address c p) = subst (IsLike old) (sym p) (record { mode = refl; links = refl; size = refl; direct = refl })

@@ -1,5 +1,5 @@
 -- Records that use the same, and views with another record.
-use Rattle.std.proofs.Common.{◌≡◌, ◌<◌, ℕ, cond, List, inl, inr, refl, sym, ap, ap₂, ◌∙◌, arith, Option, Some, None, IsTrue}
+use Rattle.std.proofs.Common.{◌≡◌, ◌<◌, ℕ, cond, inl, inr, refl, sym, ap, ◌∙◌, arith, Option, Some, None, IsTrue}
 use Rattle.std.proofs.lemmas.Bool.{le-leb}
 use Rattle.std.proofs.lemmas.Option.{none-some, same_Some}
 use Rattle.model.specs.Layout.{Geometry, is_number}
@@ -9,6 +9,7 @@ use Rattle.model.specs.Shape.{most_blocks, first_block, reaches, top, field_at}
 use Rattle.model.specs.Uses.{blocks_of, is_sound, has_position, record_use, use_at}
 use Rattle.model.proofs.Shape.{many_blocks, direct_none, reach_parts, comes_with, IsAbove, Next, Further}
 use Rattle.model.proofs.Steps.{use_sound, use_at_is}
+use Rattle.model.proofs.Fields.{fields_agree}
 use Rattle.model.proofs.Uses.{use_has, same_field, record_uses_agree, first_of_one, only_of_one}
 use Rattle.machine.specs.Effects.{with_links, new_directory}
 
@@ -31,6 +32,7 @@ pub record SameBody (geo : Geometry) (x y : Inode) : Type 0 where
   pub blocks : blocks_of x.size ≡ blocks_of y.size
   pub direct : x.direct ≡ y.direct
   pub indirect : x.indirect ≡ y.indirect
+  pub double : x.double ≡ y.double
 
 -- two sound records with as many blocks and the same pointers use the same
 pub same_body_uses : (geo : Geometry) (v : View) (x y : Inode) → SameBody geo x y → (k : ℕ) → record_use geo v x k ≡ record_use geo v y k
@@ -42,7 +44,7 @@ same_body_uses geo v x y b k = same_option (record_use geo v x k) (record_use ge
     positions l = ap (λ n. reaches geo n l) b.blocks
 
     fields : (l : ℕ) → field_at geo x l ≡ field_at geo y l
-    fields l = ap₂ (λ (d : List ℕ) (i : ℕ). field_at geo (record x { direct = d; indirect = i }) l) b.direct b.indirect
+    fields = fields_agree geo x y b.direct b.indirect b.double
 
 -- the links do not matter
 pub links_uses : (geo : Geometry) (v : View) (x : Inode) (n k : ℕ) → record_use geo v (with_links x n) k ≡ record_use geo v x k

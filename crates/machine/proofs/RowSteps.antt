@@ -68,7 +68,7 @@ abbrev content : List ℕ
 content = codes "abc" ++ replicate 1021 0
 
 abbrev file_of_three : Inode
-file_of_three = record { mode = 1; links = 1; size = 3; direct = 5 ∷ replicate 11 0; indirect = 0 }
+file_of_three = record { mode = 1; links = 1; size = 3; direct = 5 ∷ replicate 11 0; indirect = 0; double = 0 }
 
 abbrev pub written : State
 written = record opened { view = updated_all opened.view (SetBlock 5 true ∷ SetBytes 5 content ∷ SetInode 3 file_of_three ∷ []) }

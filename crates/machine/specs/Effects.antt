@@ -44,7 +44,7 @@ emptied geo old d s = record old { view = with_entry geo old.view d s (replicate
 -- ---- new records
 
 abbrev pub new_directory : ℕ → Inode
-new_directory block = record { mode = 2; links = 2; size = 1024; direct = block ∷ replicate 11 0; indirect = 0 }
+new_directory block = record { mode = 2; links = 2; size = 1024; direct = block ∷ replicate 11 0; indirect = 0; double = 0 }
 
 -- a block with the dots of directory i, which stands in directory d, and zeroes
 pub record AreDots (i d : ℕ) (bytes : List ℕ) : Type 0 where

@@ -1,9 +1,11 @@
 -- Some first steps on the fresh image of one group of 16 blocks and 16 inodes.
-use Rattle.std.specs.Prelude.{◌≡◌, [], ◌∷◌, Some, None, Ok, replicate}
+use Rattle.std.specs.Prelude.{◌≡◌, ℕ, true, [], ◌∷◌, Some, None, Ok, replicate}
 use Rattle.std.proofs.Common.{refl, codes}
 use Rattle.model.specs.Layout.{Geometry}
 use Rattle.model.specs.Fresh.{fresh_view}
 use Rattle.model.specs.Slots.{Empty, Good, slot}
+use Rattle.model.specs.View.{new_file}
+use Rattle.model.specs.Cells.{SetInode, SetNumber, updated_all, put_at}
 use Rattle.model.specs.Shape.{most_blocks, position_count, table_of, place_in_table, first_block}
 use Rattle.model.specs.Uses.{record_use, use_at, claim_at}
 use Rattle.model.specs.Reach.{sum_below}
@@ -15,11 +17,19 @@ use Rattle.machine.specs.Paths.{parts_of, walk, target, lookup, slot_of}
 use Rattle.machine.specs.Causes.{causes, refusal_of}
 use Rattle.machine.specs.Snapshot.{frozen}
 
+-- it, with this version of the layout
+abbrev pub small_of : ℕ → Geometry
+small_of version = record { groups = 1; blocks = 16; inodes = 16; version = version }
+
 abbrev pub small : Geometry
-small = record { groups = 1; blocks = 16; inodes = 16 }
+small = small_of 1
 
 abbrev pub fresh : State
 fresh = mounted (fresh_view small)
+
+-- with an empty file, whose handle is 0
+abbrev pub with_empty_file : State
+with_empty_file = record fresh { view = updated_all fresh.view (SetNumber 3 true ∷ SetInode 3 new_file ∷ []); opened = put_at fresh.opened 0 (Some 3) }
 
 pub create_root : refusal_of small fresh (Create (codes "/")) ≡ Some IsRoot
 unfolding causes parts_of

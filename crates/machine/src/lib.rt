@@ -3,17 +3,19 @@
 
 ghost use Rattle.std.specs.Prelude.{slice_get, length, take, drop, ◌++◌, min, ◌-◌, ◌*◌, ◌<◌, ◌≤◌, suc, ◌≡◌, ◌⊎◌, ◌↔◌, ℕ, List, [], ◌∷◌, Some, None, Ok, Err, codes, IsTrue, IsFalse};
 ghost use Rattle.machine.specs.Paths.{IsPath, parts_of};
-ghost use Rattle.machine.specs.Rows.{small, fresh};
+ghost use Rattle.machine.specs.Rows.{small_of, small, fresh, with_empty_file};
 ghost use Rattle.machine.specs.Command.{Freeze, Release, Install, Image, RepairAt, SnapRead, Create, Open, Write, Truncate, Read, Unlink, Number, Done, Bytes};
 ghost use Rattle.model.specs.Layout.{Geometry, IsGeometry};
-ghost use Rattle.model.specs.View.{View};
+ghost use Rattle.model.specs.View.{View, new_file};
 ghost use Rattle.model.specs.Image.{IsImage, image_view};
 ghost use Rattle.model.specs.Rules.{ObeysRules};
 ghost use Rattle.layout.specs.declared.refusal.Refusal.{Refusal};
+ghost use Rattle.layout.specs.declared.refusal.Refusal.TheVariants.{TooBig, BadIndex};
 ghost use Rattle.machine.specs.Standing.{AreNumbered};
 ghost use Rattle.machine.specs.State.{Plan, State, mounted, open_at, snapshot_at, latest};
 ghost use Rattle.machine.specs.Command.{Check, Command, Reply};
-ghost use Rattle.machine.specs.Causes.{FirstRefusal, Accepts, Belongs, file_of};
+ghost use Rattle.machine.specs.Causes.{FirstRefusal, Accepts, Belongs, file_of, refusal_of};
+ghost use Rattle.machine.specs.Room.{blocks_to_append};
 ghost use Rattle.machine.specs.Step.{Step, Run};
 ghost use Rattle.machine.specs.Runs.{IsTaken};
 ghost use Rattle.machine.specs.Files.{IsFile, IsWritten, RunBeside, RunUnder};
@@ -234,4 +236,14 @@ pub fn first_commands_on_the_fresh_image()
     ensures { (new : State) × Run small fresh
         (Create (codes "/a") ∷ Open (codes "/a") ∷ Write 0 0 (codes "abc") ∷ Read 0 0 ∷ Unlink (codes "/a") ∷ [])
         (Ok (Number 3) ∷ Ok (Number 0) ∷ Ok Done ∷ Ok (Bytes (codes "abc")) ∷ Ok Done ∷ []) new }
+{}
+
+/// How far a file reaches is of the layout's version: index 268 of an empty file is too big in version 1, and past the end
+/// in version 2; index 65,804 is too big in each. In version 2 block 268 takes three blocks, of which two are tables.
+pub fn files_reach_as_far_as_their_version()
+    ensures first { (refusal_of (small_of 1) with_empty_file (Write 0 268 (codes "abc")) ≡ Some TooBig)
+        × (refusal_of (small_of 2) with_empty_file (Write 0 268 (codes "abc")) ≡ Some BadIndex) }
+    ensures last { (version : ℕ) → refusal_of (small_of version) with_empty_file (Write 0 65804 (codes "abc")) ≡ Some TooBig }
+    ensures tables { (blocks_to_append (small_of 2) (record new_file { size = 274432 }) ≡ 3)
+        × (blocks_to_append (small_of 2) (record new_file { size = 536576 }) ≡ 2) }
 {}

@@ -9,7 +9,7 @@ ghost use Rattle.ordering.specs.Cuts.{cell_of};
 ghost use Rattle.queue_model.specs.Blocks.{home_of};
 ghost use Rattle.updates.specs.Values.{change as change_of};
 ghost use Rattle.updates.specs.Alone.{IsPutInto};
-ghost use Rattle.updates.specs.Places.{IsCell, IsUpdate};
+ghost use Rattle.updates.specs.Places.{FitsVolume, IsCell, IsUpdate};
 ghost use Rattle.model.specs.View.{View};
 ghost use Rattle.model.specs.Metadata.{SameMetadata};
 ghost use Rattle.model.specs.Image.{IsBlock, image_view};
@@ -144,7 +144,8 @@ impl Metadata {
         change: &Change,
         spares: &mut Spares,
     ) -> Result<(), AllocError>
-        requires { IsCell self.now.geometry (cell_of (change_of change.now)) }
+        requires cell { IsCell self.now.geometry (cell_of (change_of change.now)) }
+        requires fits { FitsVolume self.now.geometry (change_of change.now) }
         ensures { OnOk result ((us : List Changed) → IsStaged self.now us staged.old → IsStaged self.now (us ++ change_of change.now ∷ []) staged.new) }
     {
         self.place(alloc, &mut staged.blocks, change, spares)?;
@@ -160,7 +161,8 @@ impl Metadata {
         change: &Change,
         spares: &mut Spares,
     ) -> Result<(), AllocError>
-        requires { IsCell self.now.geometry (cell_of (change_of change.now)) }
+        requires cell { IsCell self.now.geometry (cell_of (change_of change.now)) }
+        requires fits { FitsVolume self.now.geometry (change_of change.now) }
         ensures { OnOk result (HasChange self.now (change_of change.now) blocks.old.items blocks.new.items) }
     {
         let geometry = self.frozen.geometry();
@@ -181,6 +183,7 @@ impl Metadata {
         spares: &mut Spares,
     ) -> Result<(), AllocError>
         requires cell { IsCell self.now.geometry (cell_of (change_of change.now)) }
+        requires fits { FitsVolume self.now.geometry (change_of change.now) }
         requires address { address ≡ home_of self.now.geometry (cell_of (change_of change.now)) }
         requires low { address < length self.now.blocks }
         ensures { OnOk result ((placed : Placed) × (placed.address ≡ address) × IsBlock (arc_value placed.block)
@@ -201,6 +204,7 @@ impl Metadata {
         spares: &mut Spares,
     ) -> Result<Arc<Block>, AllocError>
         requires cell { IsCell self.now.geometry (cell_of (change_of change.now)) }
+        requires fits { FitsVolume self.now.geometry (change_of change.now) }
         requires address { address ≡ home_of self.now.geometry (cell_of (change_of change.now)) }
         requires low { address < length self.now.blocks }
         ensures changed { IfOk result (λ block. IsPutInto self.now.geometry (change_of change.now)
@@ -223,6 +227,7 @@ impl Metadata {
         spares: &mut Spares,
     ) -> Result<Arc<Block>, AllocError>
         requires cell { IsCell self.now.geometry (cell_of (change_of change.now)) }
+        requires fits { FitsVolume self.now.geometry (change_of change.now) }
         requires address { address ≡ home_of self.now.geometry (cell_of (change_of change.now)) }
         requires low { address < length self.now.blocks }
         ensures changed { IfOk result (λ block. IsPutInto self.now.geometry (change_of change.now)
@@ -278,7 +283,8 @@ fn last_at(blocks: &[Placed], address: u32) -> Option<usize>
 
 /// Puts a change into a shared block. It is copied first, if it has other owners.
 fn put_into(block: &mut Arc<Block>, geometry: &Geometry, change: &Change) -> Result<(), AllocError>
-    requires { IsCell geometry.now (cell_of (change_of change.now)) }
+    requires cell { IsCell geometry.now (cell_of (change_of change.now)) }
+    requires fits { FitsVolume geometry.now (change_of change.now) }
     ensures put { OnOk result (IsPutInto geometry.now (change_of change.now) (arc_value block.old) (arc_value block.new)) }
     ensures whole { OnOk result (IsBlock (arc_value block.new)) }
 {

@@ -4,11 +4,11 @@ use Rattle.std.proofs.lemmas.Bool.{cases_Bool, eqb-true, le-leb}
 use Rattle.std.proofs.lemmas.Nat.{mul-le}
 use Rattle.model.specs.Layout.{Geometry, IsGeometry, inode_count}
 use Rattle.model.specs.View.{View}
-use Rattle.model.specs.Shape.{most_blocks}
 use Rattle.model.specs.Slots.{Slot, Absent, Empty, Good, Bad, slot, number_in}
 use Rattle.model.specs.Reach.{sum_below, slot_count, names_once, entries_in, entries_of}
 use Rattle.model.specs.Named.{number_of, named_below, named_from, times}
 use Rattle.model.proofs.Sums.{sum-small}
+use Rattle.model.proofs.Shape.{numbers}
 
 pub times-append : (i : ℕ) (xs ys : List ℕ) → times i (xs ++ ys) ≡ times i xs + times i ys
 unfolding times
@@ -62,11 +62,12 @@ chosen_few : (b : Bool) (n m : ℕ) → n ≤ m → cond b n 0 ≤ m
 chosen_few true n m h = h
 chosen_few false n m h = omega arith
 
--- this hangs on the number of slots: 65,536 directories of 4,288
-pub entries_few : (geo : Geometry) → IsGeometry geo → (view : View) (set : ℕ → Bool) (i : ℕ) → entries_of geo view set i < 4294967295
-unfolding most_blocks
+-- 65,536 directories of at most 1,052,864 slots each: more than 32 bits can count
+pub entries_few : (geo : Geometry) → IsGeometry geo → (view : View) (set : ℕ → Bool) (i : ℕ) → entries_of geo view set i < 18446744073709551615
 entries_few geo ok view set i =
     let many : entries_of geo view set i ≤ inode_count geo * slot_count geo =
     sum_few (inode_count geo) (slot_count geo) (λ d. cond (set d) (entries_in geo view i d) 0) (λ d. chosen_few (set d) (entries_in geo view i d) (slot_count geo) (entries_in_few geo view i d)) in
     let inodes : geo.groups * geo.inodes ≤ 64 * 1024 = mul-le geo.groups geo.inodes 64 1024 ok.few_groups ok.few_inodes in
-    omega (arith, many, inodes)
+    let num = (numbers geo).1 in
+    let slots : slot_count geo ≤ 1052864 = omega (arith, num.most, num.few) in
+    omega (arith, many, mul-le (inode_count geo) (slot_count geo) 65536 1052864 (omega (arith, inodes)) slots)

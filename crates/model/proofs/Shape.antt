@@ -1,5 +1,5 @@
 -- The facts about positions. This file alone opens the words of Shape.
-use Rattle.std.proofs.Common.{◌≡◌, ◌<◌, ◌≤◌, ◌+◌, ◌-◌, ◌*◌, ◌/◌, ◌%◌, ℕ, zero, suc, Bool, true, cond, eqb, ltb, inl, inr, ◌⊎◌, ◌↔◌, refl, sym, ap, ◌∙◌, subst, arith, Option, Some, None, IsTrue, List, [], ◌∷◌, ◌++◌, length, filter, Contains, get_or}
+use Rattle.std.proofs.Common.{◌≡◌, ◌<◌, ◌≤◌, ◌+◌, ◌-◌, ◌*◌, ◌/◌, ◌%◌, ℕ, zero, suc, Bool, true, cond, eqb, ltb, inl, inr, ◌⊎◌, ◌↔◌, refl, sym, ap, ◌∙◌, subst, arith, Option, Some, None, IsTrue, IsFalse, List, [], ◌∷◌, ◌++◌, length, filter, Contains, get_or}
 use Rattle.std.proofs.lemmas.Bool.{cases_lt, cases_eq, cases_Bool, lt-ltb, le-ltb, ltb-true, le-leb, leb-true, lt-leb, eq-eqb, ne_eqb, eqb-true, and_parts, and_from, cond-true, cond-false}
 use Rattle.std.proofs.lemmas.Option.{none-some, same_Some}
 use Rattle.model.specs.Layout.{Geometry}
@@ -17,17 +17,35 @@ pub record Numbers (geo : Geometry) (n : ℕ) : Type 0 where
 
 pub numbers : (geo : Geometry) → (n : ℕ) × Numbers geo n
 unfolding most_blocks position_count
-numbers geo = (
-  0,
-  (record {
-    most = refl;
-    few = omega arith;
-    first = omega arith;
-    last = omega arith;
-    none = λ h. refl;
-    some = λ h. absurd (omega arith);
-  }),
-)
+numbers geo = elim (cases_Bool (eqb geo.version 2)) [
+  | inl two ↦ (
+    256,
+    (record {
+      most = rw two refl;
+      few = omega arith;
+      first = rw two (omega arith);
+      last = rw two (omega arith);
+      none = λ h. absurd (omega arith);
+      some = λ h. rw two refl;
+    }),
+  )
+  | inr one ↦ (
+    0,
+    (record {
+      most = rw one refl;
+      few = omega arith;
+      first = rw one (omega arith);
+      last = rw one (omega arith);
+      none = λ h. rw one refl;
+      some = λ h. absurd (omega arith);
+    }),
+  )
+]
+
+-- without a double indirect pointer there is one table alone
+pub single_positions : (geo : Geometry) → IsFalse (eqb geo.version 2) → position_count geo ≡ most_blocks geo + 1
+unfolding most_blocks position_count
+single_positions geo one = rw one refl
 
 -- ---- where a position stands, by cases
 pub data Standing (most : ℕ) (table : ℕ → Option ℕ) (place first : ℕ → ℕ) (k : ℕ) : Type 0 where

@@ -10,11 +10,11 @@ direct_positions = 12
 
 -- how many blocks a file may have, which is the position of its first table, the indirect block
 unfoldable pub most_blocks : Geometry → ℕ
-most_blocks geo = 268
+most_blocks geo = if geo.version == 2 then 65804 else 268
 
 -- how many positions there are
 unfoldable pub position_count : Geometry → ℕ
-position_count geo = 269
+position_count geo = if geo.version == 2 then 66062 else 269
 
 -- whether the block at a position is a table
 abbrev pub is_table : Geometry → ℕ → Bool
@@ -75,8 +75,11 @@ pointer_in table place = u32_at table (4 * place)
 
 -- the pointer that stands in the record for a position that no table holds, and the record with another one there
 abbrev pub field_at : Geometry → Inode → ℕ → ℕ
-field_at geo inode k = if nat_lt k direct_positions then slice_index inode.direct k else inode.indirect
+field_at geo inode k =
+    if nat_lt k direct_positions then slice_index inode.direct k
+    else (if k == most_blocks geo then inode.indirect else inode.double)
 
 abbrev pub with_field : Geometry → Inode → ℕ → ℕ → Inode
 with_field geo inode k a =
-    if nat_lt k direct_positions then record inode { direct = slice_set inode.direct k a } else record inode { indirect = a }
+    if nat_lt k direct_positions then record inode { direct = slice_set inode.direct k a }
+    else (if k == most_blocks geo then record inode { indirect = a } else record inode { double = a })

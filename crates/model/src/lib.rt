@@ -49,8 +49,9 @@ pub fn writes_are_updates_of_a_cell()
     ensures bytes { (geo : Geometry) → IsGeometry geo → (block : ℕ → List ℕ) (a : ℕ) (bytes : List ℕ) → is_data_address geo a ≡ true
         → view_of geo (put_at block a bytes) ≡ updated (view_of geo block) (SetBytes a bytes) }
     ensures inode { (geo : Geometry) → IsGeometry geo → (block : ℕ → List ℕ) (n : ℕ) (bytes : List ℕ) (inode : Inode)
-        → is_number geo n ≡ true → inode_at bytes (inode_byte n) ≡ inode
-        → ((m : ℕ) → (m ≡ n → ⊥) → inode_block geo m ≡ inode_block geo n → inode_at bytes (inode_byte m) ≡ inode_at (block (inode_block geo n)) (inode_byte m))
+        → is_number geo n ≡ true → inode_at geo.version bytes (inode_byte n) ≡ inode
+        → ((m : ℕ) → (m ≡ n → ⊥) → inode_block geo m ≡ inode_block geo n
+        → inode_at geo.version bytes (inode_byte m) ≡ inode_at geo.version (block (inode_block geo n)) (inode_byte m))
         → view_of geo (put_at block (inode_block geo n) bytes) ≡ updated (view_of geo block) (SetInode n inode) }
 {}
 

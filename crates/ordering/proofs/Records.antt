@@ -53,7 +53,7 @@ body_shape geo v n x b =
     uses : (m k : ℕ) → use_at geo v m k ≡ use_at geo w m k
     uses m k =
         use_at_is geo v m k
-        ∙ ap (λ o. cond (is_number geo m) o None) (put_same v.inode n x (λ j y. record_use geo v y k) (same_fields geo v (v.inode n) x b.sound b.still_sound b.blocks (fields_agree geo (v.inode n) x b.direct b.indirect) k) m
+        ∙ ap (λ o. cond (is_number geo m) o None) (put_same v.inode n x (λ j y. record_use geo v y k) (same_fields geo v (v.inode n) x b.sound b.still_sound b.blocks (fields_agree geo (v.inode n) x b.direct b.indirect b.double) k) m
         ∙ record_uses_agree geo v w (w.inode m) k (λ j t a u d. refl))
         ∙ sym (use_at_is geo w m k)
 

@@ -34,6 +34,7 @@ pub record SameBody (geo : Geometry) (x y : Inode) : Type 0 where
   pub blocks : blocks_of x.size ≡ blocks_of y.size
   pub direct : x.direct ≡ y.direct
   pub indirect : x.indirect ≡ y.indirect
+  pub double : x.double ≡ y.double
 
 -- a record with no fewer links
 pub record MayRaise (geo : Geometry) (users : View) (n : ℕ) (inode : Inode) : Type 0 where

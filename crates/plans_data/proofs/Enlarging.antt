@@ -44,6 +44,7 @@ enlarge geo disk q ghost p g n old size after was sound one blocks goes = elim (
           blocks = ap (λ (x : Inode). blocks_of x.size) was ∙ blocks;
           direct = ap (λ (x : Inode). x.direct) was;
           indirect = ap (λ (x : Inode). x.indirect) was;
+          double = ap (λ (x : Inode). x.double) was;
         };
         links = omega (arith, ap (λ (x : Inode). x.links) was);
       })))

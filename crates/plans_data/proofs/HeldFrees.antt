@@ -53,7 +53,7 @@ module _ (geo : Geometry) (disk : View) (q : List Pending) (old : State) (safe :
       by true e = freeing_right geo disk q old rules right n blocks [] (may.given_up e)
       by false e = same_right geo disk q old rules right (updated users (SetInode n (with_links (users.inode n) links)))
           (λ i k a. claim_back geo users (updated users (SetInode n (with_links (users.inode n) links)))
-          (body_shape geo users n (with_links (users.inode n) links) (let sound = (and_parts (is_number geo n) (is_sound geo (users.inode n)) may.sound).1 in record { sound = sound; still_sound = sound; mode = refl; blocks = refl; direct = refl; indirect = refl })) i k a) refl
+          (body_shape geo users n (with_links (users.inode n) links) (let sound = (and_parts (is_number geo n) (is_sound geo (users.inode n)) may.sound).1 in record { sound = sound; still_sound = sound; mode = refl; blocks = refl; direct = refl; indirect = refl; double = refl })) i k a) refl
 
   pub closed_right : (h n : ℕ) (blocks : List ℕ) → MayClose geo s h n blocks
       → HeldAreRight geo (becomes disk (closing n (users.inode n) (is_open (without_handle h old) n) blocks q) (held_if (goes_away (users.inode n).links (is_open (without_handle h old) n)) geo s n) (without_handle h old))

@@ -75,7 +75,7 @@ module _ (geo : Geometry) (disk : View) (q : List Pending) (old : State) (safe :
       same i j =
           bytes_leave_uses geo users (block_of geo users n k) bytes i (no_table i) j
           ∙ (body_shape geo (updated users (SetBytes (block_of geo users n k) bytes)) n (sized (users.inode n) (size_after users n k piece))
-          (record { sound = sound; still_sound = still_sound geo (users.inode n) (sized (users.inode n) (size_after users n k piece)) may.write.file may.write.file (sym blocks) sound; mode = refl; blocks = blocks; direct = refl; indirect = refl })).uses i j
+          (record { sound = sound; still_sound = still_sound geo (users.inode n) (sized (users.inode n) (size_after users n k piece)) may.write.file may.write.file (sym blocks) sound; mode = refl; blocks = blocks; direct = refl; indirect = refl; double = refl })).uses i j
 
   pub appended_right : (n k b : ℕ) (piece bytes : List ℕ) (holder : Holder) → MayWriteAppended geo (now disk q old) n k b piece bytes holder
       → HeldAreRight geo (becomes disk (appended geo n (users.inode n) k b bytes (size_after users n k piece) holder q) old.held old)

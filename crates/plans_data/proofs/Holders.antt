@@ -4,11 +4,11 @@ use Rattle.std.proofs.lemmas.Bool.{both_ways}
 use Rattle.std.proofs.lemmas.List.Elements.{Contains-append_left, Contains-append_right}
 use Rattle.std.proofs.lemmas.Option.{none-some, same_Some}
 use Rattle.model.specs.Layout.{Geometry}
-use Rattle.model.specs.View.{View, Inode}
+use Rattle.model.specs.View.{View, Inode, Fits}
 use Rattle.model.specs.Cells.{SetBytes, updated_all}
 use Rattle.model.specs.Shape.{position_count, table_of, place_in_table, reaches, above, top, field_at, IsAbove, Next, Further}
 use Rattle.model.specs.Uses.{blocks_of, has_position, IsClaim}
-use Rattle.model.proofs.Fields.{as_before, other_field}
+use Rattle.model.proofs.Fields.{as_before, still_fits, other_field}
 use Rattle.model.proofs.Shape.{by_way, table_cases, table_inside, reach_parts, reach_table, top_none, top_step, top_stands, top_inside, above_is, is_above}
 use Rattle.model.proofs.Uses.{use_number, table_claimed}
 use Rattle.machine.specs.Cells.{block_of, with_pointer, LeavesMark, Points, InRecord, InTable, InNewTable}
@@ -86,9 +86,15 @@ linked_inodes geo disk n k b (KeptInNew m x table up) q = linked_inodes geo disk
 
 -- with another pointer a record is of the same kind
 pub pointed_mode : (geo : Geometry) (inode : Inode) (k b : ℕ) (h : Holder) → (pointed geo inode k b h).mode ≡ inode.mode
-pointed_mode geo inode k b KeptInRecord = as_before geo inode k b (λ x. x.mode) (λ d. refl) refl
+pointed_mode geo inode k b KeptInRecord = as_before geo inode k b (λ x. x.mode) (λ d. refl) refl refl
 pointed_mode geo inode k b (KeptInTable m x table over) = refl
 pointed_mode geo inode k b (KeptInNew m x table up) = pointed_mode geo inode m x up
+
+-- and it fits the version
+pub pointed_fits : (geo : Geometry) (v : View) (n : ℕ) (inode : Inode) (k b : ℕ) (h : Holder) → k < position_count geo → IsKeptIn geo v n k b h → Fits geo.version inode → Fits geo.version (pointed geo inode k b h)
+pointed_fits geo v n inode k b KeptInRecord inside none fits = still_fits geo inode k b inside none fits
+pointed_fits geo v n inode k b (KeptInTable m x table over) inside kept fits = fits
+pointed_fits geo v n inode k b (KeptInNew m x table up) inside kept fits = pointed_fits geo v n inode m x up (table_inside geo k m inside kept.0) kept.3 fits
 
 -- who has a position has the one on its way that stands in the record
 has_top : (geo : Geometry) (count k : ℕ) → IsTrue (reaches geo count k) → IsTrue (reaches geo count (top geo k))

@@ -79,7 +79,7 @@ module _ (geo : Geometry) (disk : View) (q : List Pending) (old : State) (safe :
     stays : Issues geo disk q ghost q1 ghost
     stays = (step geo disk q ghost q ghost (record { change = SetInode n fewer; after = [] }) ghost (stand geo disk q ghost all)
         (Lowers [] n fewer (record {
-          body = let sound = (and_parts (is_number geo n) (is_sound geo (users.inode n)) may.sound).1 in record { sound = sound; still_sound = sound; mode = refl; blocks = refl; direct = refl; indirect = refl };
+          body = let sound = (and_parts (is_number geo n) (is_sound geo (users.inode n)) may.sound).1 in record { sound = sound; still_sound = sound; mode = refl; blocks = refl; direct = refl; indirect = refl; double = refl };
           witnesses = λ g h e. absurd (both_ways false refl h);
           links = may.enough;
         }))).issues

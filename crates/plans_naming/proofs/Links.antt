@@ -30,7 +30,7 @@ use Rattle.plans_naming.proofs.Puts.{enters_slot, new_name, may_enter}
 use Rattle.plans_naming.proofs.EntryEffects.{enters_in_slot}
 
 pub same_body : (geo : Geometry) (x : Inode) (n : ℕ) → IsTrue (is_sound geo x) → SameBody geo x (with_links x n)
-same_body geo x n h = record { sound = h; still_sound = h; mode = refl; blocks = refl; direct = refl; indirect = refl }
+same_body geo x n h = record { sound = h; still_sound = h; mode = refl; blocks = refl; direct = refl; indirect = refl; double = refl }
 
 pub reachable_parts : (geo : Geometry) (v : View) (i : ℕ) → IsReachable geo v i → IsTrue (is_number geo i) × IsTrue (is_sound geo (v.inode i))
 reachable_parts geo v i r = sound_parts geo v i (reachable_sound geo v i r)

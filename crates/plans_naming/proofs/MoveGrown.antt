@@ -172,5 +172,5 @@ module _ (geo : Geometry) (disk : View) (q : List Pending) (held safe : ℕ → 
   moving_grown_issues =
       joined geo disk q ghost q3 ghost (moving_grown geo i x d' parent b kept s' entry after' block (users.bytes block) s after q) ghost first
       (lower_leads geo disk q3 held safe after block zeroed d s i name safe goes file2 (λ f t. t) (λ t. other_name) (issues_agree geo disk q ghost q3 ghost first all)
-      x (subst (λ y. SameBody geo y x) (sym here) (record { sound = sound; still_sound = sound; mode = refl; blocks = refl; direct = refl; indirect = refl }))
+      x (subst (λ y. SameBody geo y x) (sym here) (record { sound = sound; still_sound = sound; mode = refl; blocks = refl; direct = refl; indirect = refl; double = refl }))
       (let links : (users2.inode i).links ≡ x.links + 1 = ap (λ (y : Inode). y.links) here in omega (arith, links)))

@@ -118,5 +118,5 @@ module _ (geo : Geometry) (disk : View) (q : List Pending) (held safe : ℕ → 
   moving_leads =
       joined geo disk q ghost q2 ghost (moving i x block' (users.bytes block') s' entry after' block (users.bytes block) s after q) ghost first
       (lower_leads geo disk q2 held safe after block zeroed d s i name safe goes file1 (λ f t. t) (λ t. other_name) (issues_agree geo disk q ghost q2 ghost first all)
-      x (subst (λ y. SameBody geo y x) (sym here) (record { sound = parts.1; still_sound = parts.1; mode = refl; blocks = refl; direct = refl; indirect = refl }))
+      x (subst (λ y. SameBody geo y x) (sym here) (record { sound = parts.1; still_sound = parts.1; mode = refl; blocks = refl; direct = refl; indirect = refl; double = refl }))
       (let links : (put_at users.inode i more i).links ≡ x.links + 1 = ap (λ (y : Inode). y.links) here in omega (arith, links)))

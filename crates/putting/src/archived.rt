@@ -1,9 +1,11 @@
 //! What stands in an archive, and where it goes in an image.
-ghost use Rattle.std.specs.Prelude.{◌≡◌, ◌++◌, IfOk, OnOk, map};
+ghost use Rattle.std.specs.Prelude.{◌≡◌, ◌++◌, IfOk, Ok, OnOk, map};
 ghost use Rattle.archives.specs.Entries.{view, views};
+ghost use Rattle.archives.specs.Reading.{entries_of};
 ghost use Rattle.putting.specs.Placing.{ArePlaced, first, placed, shown};
 
-use crate::items::{FILE_BYTES, Item, NAME_BYTES, PATH_BYTES, Source};
+use crate::items::{Item, NAME_BYTES, PATH_BYTES, Source};
+use crate::limits::allow_length;
 use archives::{Broken, Entry, Fault, Kind, orphan, read};
 use failures::Failure;
 use layout::Refusal;
@@ -11,19 +13,51 @@ use reading::joined;
 use std::alloc::Global;
 
 /// The items of an archive, in its order, below a directory of an image, and before them this directory, unless it is the root.
-/// Refused is an archive that cannot be read, by the byte where the header of the first such member begins, an entry of which
-/// the folder does not come before it, and a name, a path or a file that no image can have.
-pub fn items_in_archive(alloc: Global, archive: &[u8], path: &[u8]) -> Result<Vec<Item>, Failure>
+/// Refused is what `entries_in` and `items_of_entries` refuse.
+pub fn items_in_archive(
+    alloc: Global,
+    archive: &[u8],
+    path: &[u8],
+    most: u64,
+) -> Result<Vec<Item>, Failure>
     ensures { IfOk result (λ items. ArePlaced archive.now path.now items.items) }
+{
+    let entries = entries_in(alloc, archive)?;
+    items_of_entries(alloc, path, most, entries)
+}
+
+/// The entries of an archive. Refused is one that cannot be read, by the byte where the header of the first such member begins,
+/// and an entry of which the folder does not come before it.
+pub(crate) fn entries_in(alloc: Global, archive: &[u8]) -> Result<Vec<Entry>, Failure>
+    ensures { IfOk result (λ entries. entries_of archive.now ≡ Ok (views entries.items)) }
 {
     let entries = match read(alloc, archive) {
         Ok(entries) => entries,
         Err(broken) => return Err(refused(alloc, broken)),
     };
     allow_folders(alloc, entries.as_slice())?;
+    Ok(entries)
+}
+
+/// The items of entries, in their order, below a directory of an image, and before them this directory, unless it is the root.
+/// Refused is a name or a path that no image can have, and a file of more than so many bytes.
+pub(crate) fn items_of_entries(
+    alloc: Global,
+    path: &[u8],
+    most: u64,
+    entries: Vec<Entry>,
+) -> Result<Vec<Item>, Failure>
+    ensures { IfOk result (λ items. map shown items.items ≡ first path.now ++ map (placed path.now) (views entries.items)) }
+{
     let mut items = first_item(alloc, path)?;
-    add_entries(alloc, path, entries, &mut items)?;
+    add_entries(alloc, path, most, entries, &mut items)?;
     Ok(items)
+}
+
+/// How many bytes the longest of these entries has.
+pub(crate) fn longest(entries: &[Entry]) -> u64 {
+    let lengths = entries.iter().map(|entry| entry.bytes.len() as u64);
+    lengths.max().unwrap_or(0)
 }
 
 /// That an archive is not read.
@@ -78,19 +112,20 @@ fn first_item(alloc: Global, path: &[u8]) -> Result<Vec<Item>, Failure>
 fn add_entries(
     alloc: Global,
     path: &[u8],
+    most: u64,
     entries: Vec<Entry>,
     items: &mut Vec<Item>,
 ) -> Result<(), Failure>
     ensures { OnOk result (map shown items.new.items ≡ map shown items.old.items ++ map (placed path.now) (views entries.items)) }
 {
     for entry in entries {
-        items.push(item_of_entry(alloc, path, entry)?)?;
+        items.push(item_of_entry(alloc, path, most, entry)?)?;
     }
     Ok(())
 }
 
-/// The item of an entry.
-fn item_of_entry(alloc: Global, path: &[u8], entry: Entry) -> Result<Item, Failure>
+/// The item of an entry, where a file may have so many bytes.
+fn item_of_entry(alloc: Global, path: &[u8], most: u64, entry: Entry) -> Result<Item, Failure>
     ensures { IfOk result (λ item. shown item ≡ placed path.now (view entry)) }
 {
     let Entry {
@@ -103,8 +138,8 @@ fn item_of_entry(alloc: Global, path: &[u8], entry: Entry) -> Result<Item, Failu
         return Err(Failure::from(Refusal::BadName).in_image(alloc, path.as_slice()));
     }
     let length = bytes.len() as u64;
-    if length > FILE_BYTES {
-        return Err(Failure::from(Refusal::TooBig).in_image(alloc, path.as_slice()));
+    if let Err(cause) = allow_length(length, most) {
+        return Err(Failure::from(cause).in_image(alloc, path.as_slice()));
     }
     Ok(Item {
         source: Source::Held(bytes),

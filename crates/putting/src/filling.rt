@@ -9,7 +9,8 @@ ghost use Rattle.model.specs.Uses.{blocks_of};
 ghost use Rattle.putting.specs.Putting.{Adds, AddsItems, IsTrueReading, IsTrueTo, MakesFile, PutMounted, Read, TookIn, block_writes, item_of};
 ghost use Rattle.snapshot.specs.Asked.{asked};
 
-use crate::items::{FILE_BYTES, Item, Source};
+use crate::items::{Item, Source};
+use crate::limits::MOST_BYTES;
 use crate::writing::{flush_in_passes, write_rest, write_some};
 use archives::Kind;
 use changing::{mount, write_all};
@@ -196,7 +197,7 @@ fn read_file<R: Files + AllocGlobal>(
     room: Vec<u8>,
 ) -> io::Result<Vec<u8>> {
     let mut file = fs::open(rt, host)?;
-    read_all(&mut file, expected.min(FILE_BYTES) as usize, room)
+    read_all(&mut file, expected.min(MOST_BYTES) as usize, room)
 }
 
 /// What is left to read, up to its end, over whatever stood in its room. Two reads do where it is as long as expected.

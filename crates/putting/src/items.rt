@@ -3,14 +3,16 @@ ghost use Rattle.std.specs.Prelude.{OnOk};
 ghost use Rattle.std.specs.List.{All};
 ghost use Rattle.putting.specs.Placing.{IsNew};
 
+use crate::limits::{Destination, allow_length};
 use archives::Kind;
 use failures::Failure;
 use frozen::Frozen;
-use layout::{BLOCK_BYTES, MOST_BLOCKS, Refusal};
+use layout::Refusal;
 use reading::{joined, stat};
 use std::alloc::Global;
 use std::fs;
 use std::fs::Metadata;
+use std::os::unix::fs::FileExt;
 use std::rt::Files;
 
 /// How many bytes a name in an image may have.
@@ -18,9 +20,6 @@ pub(crate) const NAME_BYTES: usize = 56;
 
 /// How many bytes a path in an image may have.
 pub(crate) const PATH_BYTES: usize = 4_096;
-
-/// How many bytes a file in an image may have, whatever image it is.
-pub(crate) const FILE_BYTES: u64 = MOST_BLOCKS as u64 * BLOCK_BYTES as u64;
 
 /// Where the bytes of an item come from.
 #[derive(Debug, Drop)]
@@ -43,19 +42,23 @@ pub struct Item {
 
 /// What stands at a path of the host, and all below it, each folder before what it holds, and the names in a folder in the
 /// order of their bytes. The first one gets this path in the image, and is left out where that is `/`. Links are not
-/// followed, but for the first one. Refused is a name, a path or a file that no image can have, and what is neither file nor
-/// folder.
+/// followed, but for the first one. Refused is a name or a path that no image can have, a file that is too long for the image that
+/// they go to, and what is neither file nor folder.
 pub fn items_of<R: Files + AllocGlobal + Clone + Drop>(
     rt: &R,
     host: &str,
     path: &[u8],
-) -> Result<Vec<Item>, Failure> {
+    to: Destination<'_>,
+) -> Result<Vec<Item>, Failure>
+where
+    R::File: FileExt,
+{
     let alloc = rt.alloc();
     let metadata = match fs::metadata(rt, host) {
         Ok(metadata) => metadata,
         Err(error) => return Err(Failure::of_call(alloc, &error, host)),
     };
-    let kind = kind_of(alloc, &metadata, host)?;
+    let kind = kind_of(rt, &metadata, host, to)?;
     let first = Item {
         source: Source::Host(String::from_str(alloc, host)?),
         path: path.to_vec(alloc)?,
@@ -63,12 +66,12 @@ pub fn items_of<R: Files + AllocGlobal + Clone + Drop>(
         length: metadata.len(),
     };
     if path != b"/".as_slice() {
-        return with_all_below(rt, first);
+        return with_all_below(rt, first, to);
     }
     if kind == Kind::File {
         return Err(Failure::from(Refusal::IsRoot).in_image(alloc, path));
     }
-    let mut items = with_all_below(rt, first)?;
+    let mut items = with_all_below(rt, first, to)?;
     if !items.is_empty() {
         items.remove(0);
     }
@@ -79,7 +82,11 @@ pub fn items_of<R: Files + AllocGlobal + Clone + Drop>(
 fn with_all_below<R: Files + AllocGlobal + Clone + Drop>(
     rt: &R,
     first: Item,
-) -> Result<Vec<Item>, Failure> {
+    to: Destination<'_>,
+) -> Result<Vec<Item>, Failure>
+where
+    R::File: FileExt,
+{
     let mut waiting = Vec::new(rt.alloc());
     waiting.push(first)?;
     let mut items = Vec::new(rt.alloc());
@@ -88,7 +95,7 @@ fn with_all_below<R: Files + AllocGlobal + Clone + Drop>(
             break;
         };
         if item.kind == Kind::Folder {
-            add_below(rt, &item, &mut waiting)?;
+            add_below(rt, &item, to, &mut waiting)?;
         }
         items.push(item)?;
     }
@@ -99,15 +106,20 @@ fn with_all_below<R: Files + AllocGlobal + Clone + Drop>(
 fn add_below<R: Files + AllocGlobal + Clone + Drop>(
     rt: &R,
     folder: &Item,
+    to: Destination<'_>,
     waiting: &mut Vec<Item>,
-) -> Result<(), Failure> {
+) -> Result<(), Failure>
+where
+    R::File: FileExt,
+{
     let Source::Host(host) = &folder.source else {
         return Ok(());
     };
     let mut names = names_in(rt, host.as_str())?;
     names.sort()?;
+    let path = folder.path.as_slice();
     for name in names.iter().rev() {
-        waiting.push(item_in(rt, host.as_str(), folder.path.as_slice(), name.as_str())?)?;
+        waiting.push(item_in(rt, host.as_str(), path, name.as_str(), to)?)?;
     }
     Ok(())
 }
@@ -118,7 +130,11 @@ fn item_in<R: Files + AllocGlobal + Clone + Drop>(
     folder: &str,
     path: &[u8],
     name: &str,
-) -> Result<Item, Failure> {
+    to: Destination<'_>,
+) -> Result<Item, Failure>
+where
+    R::File: FileExt,
+{
     let alloc = rt.alloc();
     let host = format!(in alloc; "{folder}/{name}")?;
     let path = joined(alloc, path, name.as_bytes())?;
@@ -129,7 +145,7 @@ fn item_in<R: Files + AllocGlobal + Clone + Drop>(
         Ok(metadata) => metadata,
         Err(error) => return Err(Failure::of_call(alloc, &error, host.as_str())),
     };
-    let kind = kind_of(alloc, &metadata, host.as_str())?;
+    let kind = kind_of(rt, &metadata, host.as_str(), to)?;
     Ok(Item {
         source: Source::Host(host),
         path,
@@ -138,18 +154,27 @@ fn item_in<R: Files + AllocGlobal + Clone + Drop>(
     })
 }
 
-/// The kind of what stands at a path of the host.
-fn kind_of(alloc: Global, metadata: &Metadata, host: &str) -> Result<Kind, Failure> {
+/// The kind of what stands at a path of the host, and is to go there.
+fn kind_of<R: Files + AllocGlobal>(
+    rt: &R,
+    metadata: &Metadata,
+    host: &str,
+    to: Destination<'_>,
+) -> Result<Kind, Failure>
+where
+    R::File: FileExt,
+{
     if metadata.is_dir() {
         return Ok(Kind::Folder);
     }
     if !metadata.is_file() {
-        return Err(Failure::from(Refusal::BadName).at(alloc, host));
+        return Err(Failure::from(Refusal::BadName).at(rt.alloc(), host));
     }
-    if metadata.len() > FILE_BYTES {
-        return Err(Failure::from(Refusal::TooBig).at(alloc, host));
+    let length = metadata.len();
+    match allow_length(length, to.most_bytes(rt, length)?) {
+        Ok(()) => Ok(Kind::File),
+        Err(cause) => Err(Failure::from(cause).at(rt.alloc(), host)),
     }
-    Ok(Kind::File)
 }
 
 /// The names in a folder of the host. One that is no text is refused by the folder's path.

@@ -1,11 +1,13 @@
 //! How a file of the host, or a whole tree of them, or what stands in a tar archive goes into an image. All names are looked at
 //! before anything is written, since a name in an image has at most 56 bytes, and an image has files and directories alone: what
-//! it cannot have is refused by its path. What was there is not replaced.
+//! it cannot have is refused by its path, and so is a file that is longer than the version of its layout allows. What was there is not
+//! replaced.
 #![tactic(auto)]
 
 mod archived;
 mod filling;
 mod items;
+mod limits;
 mod lines;
 #[cfg(test)]
 mod tests;
@@ -14,6 +16,7 @@ mod writing;
 pub use archived::items_in_archive;
 pub use filling::{Filled, Holding, Readings, put, put_on_device};
 pub use items::{Item, Source, allow_items, items_of};
+pub use limits::{Destination, file_bytes};
 pub use lines::{
     items_of_archive, items_of_folder, put_archive_into_file, put_into_file, put_items,
 };

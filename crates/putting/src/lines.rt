@@ -1,12 +1,14 @@
 //! What the lines of `fsvol` do that put files of the host into an image in a file.
-use crate::archived::items_in_archive;
+use crate::archived::{entries_in, items_in_archive, items_of_entries, longest};
 use crate::filling::{Filled, put, put_on_device};
 use crate::items::{Item, allow_items, items_of};
+use crate::limits::{Destination, file_bytes};
 use changing::mount;
 use device::Device;
 use failures::{Failure, path_given};
 use file_device::FileDevice;
 use frozen::load;
+use layout::Geometry;
 use progress::Watcher;
 use snapshot::Volume;
 use std::alloc::Global;
@@ -26,7 +28,7 @@ pub fn put_into_file<R: Files + AllocGlobal + Clone + Drop>(
 where
     R::File: FileExt,
 {
-    let items = items_at(rt, path, host)?;
+    let items = items_at(rt, image, path, host)?;
     put_new_items(rt, image, items.as_slice(), watcher)
 }
 
@@ -41,37 +43,60 @@ pub fn put_archive_into_file<R: Files + AllocGlobal>(
 where
     R::File: FileExt,
 {
-    let items = entries_at(rt.alloc(), path, archive)?;
+    let items = entries_at(rt, image, path, archive)?;
     put_new_items(rt, image, items.as_slice(), watcher)
 }
 
 /// The items of a line that puts something into an image.
 fn items_at<R: Files + AllocGlobal + Clone + Drop>(
     rt: &R,
+    image: &str,
     path: &str,
     host: &str,
-) -> Result<Vec<Item>, Failure> {
+) -> Result<Vec<Item>, Failure>
+where
+    R::File: FileExt,
+{
     let path = path_given(rt.alloc(), path)?;
-    items_of(rt, host, path.as_slice())
+    items_of(rt, host, path.as_slice(), Destination::File(image))
 }
 
 /// The items of a line that puts an archive into an image.
-fn entries_at(alloc: Global, path: &str, archive: &[u8]) -> Result<Vec<Item>, Failure> {
+fn entries_at<R: Files + AllocGlobal>(
+    rt: &R,
+    image: &str,
+    path: &str,
+    archive: &[u8],
+) -> Result<Vec<Item>, Failure>
+where
+    R::File: FileExt,
+{
+    let alloc = rt.alloc();
     let path = path_given(alloc, path)?;
-    items_in_archive(alloc, archive, path.as_slice())
+    let entries = entries_in(alloc, archive)?;
+    let most = Destination::File(image).most_bytes(rt, longest(entries.as_slice()))?;
+    items_of_entries(alloc, path.as_slice(), most, entries)
 }
 
-/// The items of a line that puts an archive into the root of a fresh image.
-pub fn items_of_archive(alloc: Global, archive: &[u8]) -> Result<Vec<Item>, Failure> {
-    items_in_archive(alloc, archive, b"/")
+/// The items of a line that puts an archive into the root of a fresh image of this geometry.
+pub fn items_of_archive(
+    alloc: Global,
+    archive: &[u8],
+    geometry: &Geometry,
+) -> Result<Vec<Item>, Failure> {
+    items_in_archive(alloc, archive, b"/", file_bytes(geometry))
 }
 
-/// The items of a line that puts what a folder of the host holds into the root of a fresh image.
+/// The items of a line that puts what a folder of the host holds into the root of a fresh image of this geometry.
 pub fn items_of_folder<R: Files + AllocGlobal + Clone + Drop>(
     rt: &R,
     host: &str,
-) -> Result<Vec<Item>, Failure> {
-    items_of(rt, host, b"/")
+    geometry: &Geometry,
+) -> Result<Vec<Item>, Failure>
+where
+    R::File: FileExt,
+{
+    items_of(rt, host, b"/", Destination::Fresh(geometry))
 }
 
 /// Puts items into the volume of a device, which is the image of this file. Where one is refused, what went before it is written.

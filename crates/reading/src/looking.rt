@@ -71,6 +71,7 @@ pub fn record_of(frozen: &Frozen, number: u32) -> Record
             size: 0,
             direct: [0; DIRECT_POINTERS],
             indirect: 0,
+            double: 0,
         };
     }
     frozen.record(number)

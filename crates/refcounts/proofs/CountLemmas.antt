@@ -124,5 +124,5 @@ module _ (geo : Geometry) (ok : IsGeometry geo) (view : View) (reached : List �
           from_zero : (j : ℕ) → j ≡ 0 + j
           from_zero j = omega arith
 
-      room : (s t c : ℕ) → s ≡ t → t < 4294967295 → c ≡ min s most → c ≡ t
+      room : (s t c : ℕ) → s ≡ t → t < 18446744073709551615 → c ≡ min s most → c ≡ t
       room s t c e low f = grind arith

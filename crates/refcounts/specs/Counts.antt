@@ -7,7 +7,7 @@ use Rattle.model.specs.View.{View}
 
 -- the greatest count that there is room for
 abbrev pub most : ℕ
-most = 4294967295
+most = 18446744073709551615
 
 -- the count at a place, and none past the end
 abbrev pub count_at : List ℕ → ℕ → ℕ

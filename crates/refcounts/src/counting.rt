@@ -13,10 +13,10 @@ use std::alloc::{AllocError, Global};
 use std::marker::Model;
 
 /// How many entries of reachable directories name each inode of a cylinder group, the dots among them, by its place in
-/// the group.
+/// the group. They may be more than 32 bits count: directories that share their blocks name an inode as often as each.
 #[derive(Drop)]
 pub struct EntryCounts {
-    entries: Vec<u32>,
+    entries: Vec<u64>,
 }
 
 impl Model for EntryCounts {
@@ -41,7 +41,7 @@ impl EntryCounts {
     }
 
     /// How many entries name the inode at this place; none past the last place.
-    pub fn of(&self, place: u32) -> u32
+    pub fn of(&self, place: u32) -> u64
         ensures { result ≡ count_at self.now place }
     {
         match self.entries.get(place as usize) {

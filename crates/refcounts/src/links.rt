@@ -48,13 +48,13 @@ pub fn findings(
 fn add_links(
     frozen: &Frozen,
     inode: u32,
-    entries: u32,
+    entries: u64,
     found: &mut Vec<Finding>,
 ) -> Result<(), AllocError>
     requires { IsTrue (is_number frozen.now.geometry inode) }
     ensures { OnOk result (Adds (IsFoundOfLinks (frozen_view frozen.now) inode entries) found.old.items found.new.items) }
 {
-    let links = u32::from(frozen.record(inode).links);
+    let links = frozen.record(inode).links;
     if let Some(finding) = links_finding(inode, links, entries) {
         found.push(finding)?;
     }
@@ -62,12 +62,12 @@ fn add_links(
 }
 
 /// What is found of an inode with so many links and entries.
-fn links_finding(inode: u32, links: u32, entries: u32) -> Option<Finding>
+fn links_finding(inode: u32, links: u16, entries: u64) -> Option<Finding>
     ensures { result ≡ links_finding inode links entries }
 {
-    if links > entries {
+    if u64::from(links) > entries {
         Some(Finding::CountHigh(inode, links, entries))
-    } else if links < entries {
+    } else if u64::from(links) < entries {
         Some(Finding::CountLow(inode, links, entries))
     } else {
         None

@@ -1,5 +1,5 @@
 -- Views with the same metadata, and images that no view has.
-use Rattle.std.proofs.Common.{◌≡◌, true, ◌&&◌, eqb, length, IsTrue, inl, inr, ◌⊎◌, refl, sym, ap, ap₂, ◌∙◌, subst, arith}
+use Rattle.std.proofs.Common.{◌≡◌, true, ◌&&◌, eqb, length, IsTrue, inl, inr, ◌⊎◌, refl, sym, ap, ◌∙◌, subst, arith}
 use Rattle.std.proofs.lemmas.Bool.{and_from, and_parts, cases_Bool, cond-true, cond-false, eq-eqb, eqb-true}
 use Rattle.model.specs.Layout.{Geometry, IsGeometry, inode_block, inode_byte, is_number, root}
 use Rattle.model.specs.Metadata.{SameMetadata}
@@ -54,7 +54,7 @@ alike_through geo u v w one two = then_metadata geo u v w one two
 root_pointers : (geo : Geometry) (kept : Kept) → IsGeometry geo → kept.geometry ≡ geo → length (((frozen_view kept).inode root).direct) ≡ direct_positions
 root_pointers geo kept ok same =
     let number : IsTrue (is_number kept.geometry root) = subst (λ g. IsTrue (is_number g root)) (sym same) (root_number geo ok) in
-    ap (λ (x : Inode). length x.direct) (cond-true (is_number kept.geometry root) (inode_at (kept_bytes kept.blocks (inode_block kept.geometry root)) (inode_byte root)) free_inode number)
+    ap (λ (x : Inode). length x.direct) (cond-true (is_number kept.geometry root) (inode_at kept.geometry.version (kept_bytes kept.blocks (inode_block kept.geometry root)) (inode_byte root)) free_inode number)
 
 -- so no image of a volume is as that
 pub not_no_image : (geo : Geometry) (kept : Kept) (view : View) → IsGeometry geo → kept.geometry ≡ geo → SameMetadata geo (frozen_view kept) view → SameMetadata geo view no_image → ⊥
@@ -64,12 +64,14 @@ not_no_image geo kept view ok same shown none =
 
 geometry_parts : (g h : Geometry) → is_same_geometry g h ≡ true → g ≡ h
 geometry_parts g h t =
-    let two = and_parts (eqb g.groups h.groups && eqb g.blocks h.blocks) (eqb g.inodes h.inodes) t in
+    let three = and_parts (eqb g.groups h.groups && eqb g.blocks h.blocks && eqb g.inodes h.inodes) (eqb g.version h.version) t in
+    let two = and_parts (eqb g.groups h.groups && eqb g.blocks h.blocks) (eqb g.inodes h.inodes) three.0 in
     let one = and_parts (eqb g.groups h.groups) (eqb g.blocks h.blocks) two.0 in
     let a : g.groups ≡ h.groups = eqb-true g.groups h.groups one.0 in
     let b : g.blocks ≡ h.blocks = eqb-true g.blocks h.blocks one.1 in
     let c : g.inodes ≡ h.inodes = eqb-true g.inodes h.inodes two.1 in
-    ap₂ (λ x y. record { groups = x; blocks = y; inodes = g.inodes }) a b ∙ ap (λ z. record { groups = h.groups; blocks = h.blocks; inodes = z }) c
+    let d : g.version ≡ h.version = eqb-true g.version h.version three.1 in
+    λ i. record { groups = a i; blocks = b i; inodes = c i; version = d i }
 
 -- the image of a check is of the volume's geometry, or none
 pub image_of_check : (geo : Geometry) (checked : CheckedImage) → ((checked.frozen.geometry ≡ geo) × ((check_of geo checked).image ≡ frozen_view checked.frozen)) ⊎ ((check_of geo checked).image ≡ no_image)
@@ -82,4 +84,7 @@ pub image_where_same : (geo : Geometry) (checked : CheckedImage) → checked.fro
 image_where_same geo checked same = cond-true (is_same_geometry checked.frozen.geometry geo) (frozen_view checked.frozen) no_image (subst (λ g. is_same_geometry checked.frozen.geometry g ≡ true) same (itself checked.frozen.geometry))
   where
     itself : (g : Geometry) → is_same_geometry g g ≡ true
-    itself g = and_from (eqb g.groups g.groups && eqb g.blocks g.blocks) (eqb g.inodes g.inodes) (and_from (eqb g.groups g.groups) (eqb g.blocks g.blocks) (eq-eqb g.groups g.groups refl) (eq-eqb g.blocks g.blocks refl)) (eq-eqb g.inodes g.inodes refl)
+    itself g =
+        and_from (eqb g.groups g.groups && eqb g.blocks g.blocks && eqb g.inodes g.inodes) (eqb g.version g.version)
+        (and_from (eqb g.groups g.groups && eqb g.blocks g.blocks) (eqb g.inodes g.inodes) (and_from (eqb g.groups g.groups) (eqb g.blocks g.blocks) (eq-eqb g.groups g.groups refl) (eq-eqb g.blocks g.blocks refl)) (eq-eqb g.inodes g.inodes refl))
+        (eq-eqb g.version g.version refl)

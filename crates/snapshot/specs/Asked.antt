@@ -21,7 +21,7 @@ abbrev pub no_image : View
 no_image = record { inode = λ i. record free_inode { direct = [] }; number_marked = λ i. false; block_marked = λ a. false; bytes = λ a. [] }
 
 abbrev pub is_same_geometry : Geometry → Geometry → Bool
-is_same_geometry geo other = geo.groups == other.groups && geo.blocks == other.blocks && geo.inodes == other.inodes
+is_same_geometry geo other = geo.groups == other.groups && geo.blocks == other.blocks && geo.inodes == other.inodes && geo.version == other.version
 
 -- a check, by what it looked at and what it found; an image of another geometry is none of this volume's
 abbrev pub check_of : Geometry → CheckedImage → Check

@@ -4,7 +4,7 @@ use Rattle.std.specs.List.{All}
 use Rattle.std.proofs.lemmas.Bool.{cases_eq, cases_lt}
 use Rattle.std.proofs.lemmas.List.Elements.{All-contains}
 use Rattle.model.specs.Layout.{Geometry, IsGeometry, group_of_address, inode_block, inode_byte}
-use Rattle.model.specs.View.{free_inode}
+use Rattle.model.specs.View.{free_inode, looked_at}
 use Rattle.model.specs.Cells.{Update, SetInode, SetNumber, SetBlock, SetBytes}
 use Rattle.model.proofs.Addresses.{inode_places}
 use Rattle.model.proofs.Places.{inodes_are_no_data, inodes_are_no_maps}
@@ -17,7 +17,7 @@ use Rattle.updates.specs.Alone.{IsPutInto, IsPutAll}
 use Rattle.updates.specs.Places.{IsCell}
 use Rattle.softdep.specs.Writing.{WritesTaken}
 
-module _ (geo : Geometry) (ok : IsGeometry geo) (n k : ℕ) (high : 60 ≤ k) (low : k < 128) where
+module _ (geo : Geometry) (ok : IsGeometry geo) (n k : ℕ) (high : looked_at geo.version ≤ k) (low : k < 128) where
   abbrev at : ℕ
   at = inode_byte n + k
 

@@ -262,6 +262,7 @@ module _ (geo : Geometry) (t : Table) (queue : Queue) (q : List Pending) (holds 
             on_volume = n.on_volume;
             change = subst (λ x. Shows x e.change) (sym (ap (λ (x : Node). x.update) now ∙ behind.change e.id)) n.change;
             cell = n.cell;
+            fits = n.fits;
             waiting = ap (λ (x : Node). x.waiting) now ∙ behind.waiting e.id ∙ n.waiting ∙ sym (same_due b e m);
             few = n.few;
             chain = subst (λ (v : ChainLinks). IsChain v (node_at t''.nodes.items e.id).waiters) (sym added.chains) (subst (λ (x : Node). IsChain t'.chains x.waiters) (sym now) (behind.chain e.id n.chain));
@@ -279,6 +280,7 @@ module _ (geo : Geometry) (t : Table) (queue : Queue) (q : List Pending) (holds 
             on_volume = omega (arith, low, at);
             change = subst (λ (x : Node). Shows x.update u.change) (sym now) is_node.change;
             cell = cells.changed;
+            fits = cells.fits;
             waiting = ap (λ (x : Node). x.waiting) now ∙ is_node.waiting ∙ ap length waits_are ∙ sym new_due;
             few = omega (arith, few, count);
             chain = let none = ap (λ (x : Node). x.waiters) now ∙ is_node.waiters in omega (arith, none);

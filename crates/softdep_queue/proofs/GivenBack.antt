@@ -188,7 +188,7 @@ shows_ready geo t queue q due r count room shows = record {
   shown = shows.shown;
   cells = shows.cells;
   next = shows.next;
-  node = λ b e m. let n = shows.node b e m in record { home = n.home; on_volume = n.on_volume; change = n.change; cell = n.cell; waiting = n.waiting; few = n.few; chain = n.chain };
+  node = λ b e m. let n = shows.node b e m in record { home = n.home; on_volume = n.on_volume; change = n.change; cell = n.cell; fits = n.fits; waiting = n.waiting; few = n.few; chain = n.chain };
   waiters = shows.waiters;
   alive = shows.alive;
   latest = shows.latest;
@@ -446,7 +446,7 @@ module _ (geo : Geometry) (t₀ : Table) (queue : Queue) (q : List Pending) (a :
         shown = last.shows.shown;
         cells = last.shows.cells;
         next = last.shows.next;
-        node = λ b e m. let n = last.shows.node b e m in record { home = n.home; on_volume = n.on_volume; change = n.change; cell = n.cell; waiting = n.waiting ∙ due_last b e; few = n.few; chain = n.chain };
+        node = λ b e m. let n = last.shows.node b e m in record { home = n.home; on_volume = n.on_volume; change = n.change; cell = n.cell; fits = n.fits; waiting = n.waiting ∙ due_last b e; few = n.few; chain = n.chain };
         waiters = last.shows.waiters;
         alive = last.shows.alive;
         ready = ready;

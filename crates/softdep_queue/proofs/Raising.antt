@@ -27,7 +27,7 @@ shows_due geo t queue q due due' same shows = record {
   shown = shows.shown;
   cells = shows.cells;
   next = shows.next;
-  node = λ b e m. let n = shows.node b e m in record { home = n.home; on_volume = n.on_volume; change = n.change; cell = n.cell; waiting = n.waiting ∙ same b e m; few = n.few; chain = n.chain };
+  node = λ b e m. let n = shows.node b e m in record { home = n.home; on_volume = n.on_volume; change = n.change; cell = n.cell; fits = n.fits; waiting = n.waiting ∙ same b e m; few = n.few; chain = n.chain };
   waiters = shows.waiters;
   alive = shows.alive;
   latest = shows.latest;

@@ -164,6 +164,7 @@ module _ (geo : Geometry) (disk : View) (t0 t1 t2 : Table) (queue : Queue) (q : 
         on_volume = n.on_volume;
         change = subst (λ (x : Node). Shows x.update e.change) (sym (node_same e.id l.1)) n.change;
         cell = n.cell;
+        fits = n.fits;
         waiting = ap (λ (x : Node). x.waiting) (node_same e.id l.1) ∙ n.waiting ∙ due_same e;
         few = n.few;
         chain = subst (λ (x : Node). IsChain t2.chains x.waiters) (sym (node_same e.id l.1)) (subst (λ (c : ChainLinks). IsChain c (node_at t0.nodes.items e.id).waiters) (sym chains_same) n.chain);

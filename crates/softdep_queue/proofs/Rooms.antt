@@ -45,6 +45,7 @@ module _ (t t' : Table) (roomier : IsRoomier t t') where
         on_volume = node.on_volume;
         change = subst (λ (n : Node). Shows n.update e.change) (sym same) node.change;
         cell = node.cell;
+        fits = node.fits;
         waiting = ap (λ (n : Node). n.waiting) same ∙ node.waiting;
         few = node.few;
         chain = omega (arith, links, waiters, chain);

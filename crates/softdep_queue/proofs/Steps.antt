@@ -56,7 +56,7 @@ ties_due geo t queue q due due' same ties = record {
   shown = ties.shown;
   cells = ties.cells;
   next = ties.next;
-  node = λ b e m. let n = ties.node b e m in record { home = n.home; on_volume = n.on_volume; change = n.change; cell = n.cell; waiting = n.waiting ∙ same b e m; few = n.few; chain = n.chain };
+  node = λ b e m. let n = ties.node b e m in record { home = n.home; on_volume = n.on_volume; change = n.change; cell = n.cell; fits = n.fits; waiting = n.waiting ∙ same b e m; few = n.few; chain = n.chain };
   waiters = ties.waiters;
   alive = ties.alive;
   ready = λ b e m. let r = ties.ready b e m in ((λ s. sym (same b e m) ∙ r.0 s), (λ z. r.1 (same b e m ∙ z)));
@@ -131,6 +131,7 @@ module _ (t t' : Table) (b w n : ℕ) (step : IsStep t t' b w n) (low : w < leng
     on_volume = node.on_volume;
     change = subst (λ c. Shows c e.change) (sym (same_update e.id)) node.change;
     cell = node.cell;
+    fits = node.fits;
     waiting = waiting;
     few = node.few;
     chain = subst (λ c. IsChain t'.chains c) (sym (same_waiters e.id)) (subst (λ (c : ChainLinks). IsChain c (node_at t.nodes.items e.id).waiters) (sym step.chains) node.chain);

@@ -190,6 +190,7 @@ module _ (geo : Geometry) (t : Table) (queue : Queue) (q : List Pending) (a : �
           on_volume = n.on_volume;
           change = subst (λ c. Shows c e.change) (ap (λ v. (node_at v.items e.id).update) (sym moved.nodes)) n.change;
           cell = n.cell;
+          fits = n.fits;
           waiting = ap (λ v. (node_at v.items e.id).waiting) moved.nodes ∙ n.waiting;
           few = n.few;
           chain = subst2_chain t t1 moved.nodes moved.chains e.id n.chain;

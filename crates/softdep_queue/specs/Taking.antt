@@ -5,7 +5,7 @@ use Rattle.model.specs.Cells.{Update}
 use Rattle.ordering.specs.Cuts.{Pending, cell_of}
 use Rattle.queue_model.specs.Entries.{Entry, Queue, NoOtherMayGo}
 use Rattle.updates.specs.Alone.{IsPutInto, IsPutAll}
-use Rattle.updates.specs.Places.{IsCell}
+use Rattle.updates.specs.Places.{IsCell, FitsVolume}
 use Rattle.softdep_queue.specs.declared.table.Table.{Table}
 use Rattle.softdep_queue.specs.Ties.{Takes, Shows, node_at}
 
@@ -21,11 +21,12 @@ abbrev pub TakesOne : Geometry → Queue → List Pending → ℕ → List Entry
 TakesOne geo queue q a es t old new true = (e : Entry) × Takes geo t queue q a (e ∷ es) × IsPutInto geo e.change old new
 TakesOne geo queue q a es t old new false = Takes geo t queue q a es × NoOtherMayGo queue a es × (new ≡ old)
 
--- the node of an id shows a change of one of the volume's cells
+-- the node of an id shows a change of one of the volume's cells, whose value fits it
 pub record ShowsCell (geo : Geometry) (t : Table) (i : ℕ) : Type 0 where
   pub update : Update
   pub shows : Shows (node_at t.nodes.items i).update update
   pub cell : IsCell geo (cell_of update)
+  pub fits : FitsVolume geo update
   pub low : i < length t.nodes.items
 
 -- the changes of entries

@@ -9,7 +9,7 @@ use Rattle.queue_model.specs.Entries.{Entry, Queue, Represents, has_id, AreTaken
 use Rattle.model.specs.Cells.{Update}
 use Rattle.updates.specs.declared.change.Update.{Update as OwnUpdate}
 use Rattle.updates.specs.Values.{change, written}
-use Rattle.updates.specs.Places.{IsCell, AreCells, place_of, place_count}
+use Rattle.updates.specs.Places.{IsCell, FitsVolume, AreCells, place_of, place_count}
 use Rattle.chains.specs.Chains.{numbers, IsChain}
 use Rattle.stacks.specs.Stacks.{stack_at, count_of, room_of}
 use Rattle.softdep_queue.specs.declared.table.Node.{Node}
@@ -45,6 +45,7 @@ pub record IsNodeOf (geo : Geometry) (t : Table) (b : ℕ) (e : Entry) (due : �
   pub on_volume : b < block_count geo
   pub change : Shows (node_at t.nodes.items e.id).update e.change
   pub cell : IsCell geo (cell_of e.change)
+  pub fits : FitsVolume geo e.change
   pub waiting : (node_at t.nodes.items e.id).waiting ≡ due
   pub few : length e.waits < 2 ^ 64
   pub chain : IsChain t.chains (node_at t.nodes.items e.id).waiters

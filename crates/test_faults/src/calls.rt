@@ -8,7 +8,7 @@ use snapshot::{NotMounted, Volume};
 use std::alloc::Global;
 use std::io::Eprint;
 use std::thread::Threads;
-use test_trials::{Seen, Step, Told, Trial, carry_out};
+use test_trials::{Seen, Step, Told, carry_out};
 
 /// Which call of the device fails: the one behind so many, alone or with all that follow.
 #[derive(Clone, Copy, Debug)]
@@ -37,13 +37,13 @@ enum Wrong {
 /// Lets each call of the device fail that a trial makes, with all that follow and alone.
 pub fn break_calls<R: Threads + Eprint + Sync + AllocGlobal>(
     rt: &R,
-    trial: &Trial,
+    name: (&str, &str),
     plain: &Plain,
 ) -> Result<Tally> {
     let mut tally = Tally::new();
     for after in 0..plain.all_calls() {
-        break_call(rt, trial, plain, Failing { after, once: false }, &mut tally)?;
-        break_call(rt, trial, plain, Failing { after, once: true }, &mut tally)?;
+        break_call(rt, name, plain, Failing { after, once: false }, &mut tally)?;
+        break_call(rt, name, plain, Failing { after, once: true }, &mut tally)?;
     }
     Ok(tally)
 }
@@ -51,16 +51,16 @@ pub fn break_calls<R: Threads + Eprint + Sync + AllocGlobal>(
 /// Carries a trial out on a device that fails so.
 fn break_call<R: Threads + Eprint + Sync + AllocGlobal>(
     rt: &R,
-    trial: &Trial,
+    name: (&str, &str),
     plain: &Plain,
     failing: Failing,
     tally: &mut Tally,
 ) -> Result<()> {
-    let wrong = wrong_of(rt, rt.alloc(), trial, plain, failing)?;
+    let wrong = wrong_of(rt, rt.alloc(), plain, failing)?;
     tally.count(wrong.is_some());
     if let Some(wrong) = wrong {
-        let name = trial.name;
-        eprintln!(rt; "{name}: {failing:?}: {wrong:?}")?;
+        let (name, behind) = name;
+        eprintln!(rt; "{name}{behind}: {failing:?}: {wrong:?}")?;
     }
     Ok(())
 }
@@ -69,11 +69,10 @@ fn break_call<R: Threads + Eprint + Sync + AllocGlobal>(
 fn wrong_of(
     rt: &(impl Threads + Sync),
     alloc: Global,
-    trial: &Trial,
     plain: &Plain,
     failing: Failing,
 ) -> Result<Option<Wrong>, Refusal> {
-    let device = fused(alloc, trial, failing.after, failing.once)?;
+    let device = fused(alloc, &plain.image, failing.after, failing.once)?;
     match mount(alloc, device) {
         Ok(mut volume) => wrong_in_volume(rt, alloc, &mut volume, plain, failing),
         Err(refused) => wrong_after_mount(rt, alloc, refused, plain, failing),

@@ -1,4 +1,5 @@
-//! `test_faults NAME` breaks a trial at every place, and `test_faults` all but the largest, `full`, which takes long: it looks at what a stop
+//! `test_faults NAME` breaks a trial at every place with version 1 of the layout, `test_faults NAME 2` with version 2, and `test_faults`
+//! all with each version that they are for, but the two largest, which take long: it looks at what a stop
 //! leaves after each number of the writes that the trial's device gets, and carries the trial out once more for each call of the
 //! device, which fails alone, and with all that follow. It prints a line for each trial: how many stops and how many runs there
 //! were, and how much was wrong. What was wrong stands on standard error; the status is 1 where anything was. `bench/faults` runs
@@ -13,6 +14,7 @@ mod tally;
 
 use anyhow::Result;
 use calls::break_calls;
+use layout::{DOUBLE, SINGLE};
 use plain::plain_of;
 use std::env;
 use std::io::{Eprint, Print};
@@ -21,11 +23,12 @@ use std::thread::Threads;
 use stops::stop_each;
 use tally::Tally;
 use test_trials::{
-    COUNT_TOO_HIGH, FOUR_SNAPSHOTS, FULL, INTO_NEW_DIRECTORY, LOST_FILE, NUMBER_OF_ANOTHER,
-    SECOND_BLOCK, TWO_USERS, Trial, UNLINKED_AND_OPEN,
+    COUNT_TOO_HIGH, FOUR_SNAPSHOTS, FULL, FULL_OF_ONE_FILE, INTO_NEW_DIRECTORY, LOST_FILE,
+    NUMBER_OF_ANOTHER, PAST_268_BLOCKS, PAST_524_BLOCKS, SECOND_BLOCK, TWO_USERS, Trial,
+    UNDER_A_SNAPSHOT, UNLINKED_AND_OPEN, behind_name, is_asked,
 };
 
-/// All of them.
+/// Those that take less than a second.
 const TRIALS: &[Trial] = &[
     LOST_FILE,
     COUNT_TOO_HIGH,
@@ -36,15 +39,22 @@ const TRIALS: &[Trial] = &[
     TWO_USERS,
     FOUR_SNAPSHOTS,
     SOON_FULL,
-    FULL,
+    PAST_268_BLOCKS,
+    PAST_524_BLOCKS,
+    UNDER_A_SNAPSHOT,
 ];
+
+/// Those that take long, and are broken only if they are named.
+const LONG: &[Trial] = &[FULL, FULL_OF_ONE_FILE];
 
 /// A file of 15 blocks is cut while a snapshot holds them, and another one takes all that is left. There are 28 data blocks beside
 /// the root's.
 const SOON_FULL: Trial = Trial {
     name: "soon full",
+    versions: &[SINGLE, DOUBLE],
     numbers: [1, 32, 16],
     puts: &[],
+    before: &[],
     lines: &[
         ("create /a", "ok 3"),
         ("open /a", "ok 0"),
@@ -67,38 +77,48 @@ const SOON_FULL: Trial = Trial {
 
 fn main(rt: HostRuntime) -> Result<ExitCode> {
     let words: Vec<String> = env::args(&rt)?.collect(rt.alloc())?;
-    let mut wrong = 0u64;
-    for trial in TRIALS {
-        if is_asked(words.as_slice(), trial.name) {
-            wrong = wrong.saturating_add(break_trial(&rt, trial)?);
-        }
-    }
+    let wrong = break_all(&rt, TRIALS, words.as_slice())?;
+    let wrong = match words.len() {
+        0 | 1 => wrong,
+        _ => wrong.saturating_add(break_all(&rt, LONG, words.as_slice())?),
+    };
     Ok(ExitCode::from(if wrong == 0 { 0 } else { 1 }))
 }
 
-/// Whether the words of a line, the program's name first, ask for the trial of this name.
-fn is_asked(words: &[String], name: &str) -> bool {
-    match words.get(1) {
-        Some(asked) => asked.as_str() == name,
-        None => name != FULL.name,
+/// Breaks those of these trials that the words of a line ask for, and tells how much was wrong.
+fn break_all<R: Threads + Print + Eprint + Sync + AllocGlobal>(
+    rt: &R,
+    trials: &[Trial],
+    words: &[String],
+) -> Result<u64> {
+    let mut wrong = 0u64;
+    for trial in trials {
+        for version in trial.versions {
+            if is_asked(words, trial.name, *version) {
+                wrong = wrong.saturating_add(break_trial(rt, trial, *version)?);
+            }
+        }
     }
+    Ok(wrong)
 }
 
 /// Breaks a trial at every place, prints its line, and tells how much was wrong.
 fn break_trial<R: Threads + Print + Eprint + Sync + AllocGlobal>(
     rt: &R,
     trial: &Trial,
+    version: u32,
 ) -> Result<u64> {
     let name = trial.name;
-    let plain = plain_of(rt, rt.alloc(), trial)?;
-    let stops = stop_each(rt, trial, &plain)?;
-    let calls = break_calls(rt, trial, &plain)?;
+    let behind = behind_name(version);
+    let plain = plain_of(rt, rt.alloc(), trial, version)?;
+    let stops = stop_each(rt, (name, behind), &plain)?;
+    let calls = break_calls(rt, (name, behind), &plain)?;
     let wrong = plain
         .wrong
         .saturating_add(stops.wrong)
         .saturating_add(calls.wrong);
     let Tally { tried: stops, .. } = stops;
     let Tally { tried: runs, .. } = calls;
-    println!(rt; "{name}: stops {stops}, runs {runs}, wrong {wrong}")?;
+    println!(rt; "{name}{behind}: stops {stops}, runs {runs}, wrong {wrong}")?;
     Ok(wrong)
 }

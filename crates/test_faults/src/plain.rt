@@ -1,15 +1,18 @@
 //! A trial whose device does not fail.
 use crate::running::{Fused, fused, is_wanted, mount, writes_of};
+use device::MemDevice;
 use layout::Refusal;
 use recording::Written;
 use snapshot::Volume;
 use std::alloc::Global;
 use std::thread::Threads;
-use test_trials::{Step, Trial, carry_out, steps_of};
+use test_trials::{Step, Trial, beginning_of, carry_out, steps_of};
 
 /// How a trial goes whose device does not fail.
 #[derive(Drop)]
 pub struct Plain {
+    /// A device, which was never written, with the image with which it begins.
+    pub image: MemDevice,
     pub steps: Vec<Step>,
     /// How many calls of the device were made once each step was carried out.
     pub calls: Vec<u64>,
@@ -36,25 +39,29 @@ impl Plain {
     }
 }
 
-/// Carries a trial out.
+/// Carries a trial out with a version of the layout.
 pub fn plain_of(
     rt: &(impl Threads + Sync),
     alloc: Global,
     trial: &Trial,
+    version: u32,
 ) -> Result<Plain, Refusal> {
+    let image = beginning_of(rt, alloc, trial, version)?;
     let steps = steps_of(alloc, trial)?;
-    let mut volume = mounted(alloc, trial)?;
-    plain_of_volume(rt, alloc, &mut volume, steps)
+    let mut volume = mounted(alloc, &image)?;
+    plain_of_volume(rt, alloc, &mut volume, image, steps)
 }
 
-/// Carries steps out on a volume.
+/// Carries steps out on a volume of this image.
 fn plain_of_volume(
     rt: &(impl Threads + Sync),
     alloc: Global,
     volume: &mut Volume<Fused>,
+    image: MemDevice,
     steps: Vec<Step>,
 ) -> Result<Plain, Refusal> {
     let mut plain = Plain {
+        image,
         steps: Vec::new(alloc),
         calls: Vec::new(alloc),
         writes: Vec::new(alloc),
@@ -67,9 +74,9 @@ fn plain_of_volume(
     Ok(plain)
 }
 
-/// The volume of a trial, on a device that does not fail.
-fn mounted(alloc: Global, trial: &Trial) -> Result<Volume<Fused>, Refusal> {
-    match mount(alloc, fused(alloc, trial, u64::MAX, true)?) {
+/// The volume of an image, on a device that does not fail.
+fn mounted(alloc: Global, image: &MemDevice) -> Result<Volume<Fused>, Refusal> {
+    match mount(alloc, fused(alloc, image, u64::MAX, true)?) {
         Ok(volume) => Ok(volume),
         Err(refused) => Err(refused.cause),
     }

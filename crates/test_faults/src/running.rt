@@ -4,20 +4,14 @@ use layout::Refusal;
 use recording::{Recording, Written};
 use snapshot::{Live, NotMounted, Volume};
 use std::alloc::{AllocError, Global};
-use test_trials::{Step, Told, Trial, Watched, bytes_of, write_told};
+use test_trials::{Step, Told, Watched, write_told};
 
 /// A device in memory under a list of its writes, under a fuse, under a count of its calls.
 pub type Fused = Watched<Fuse<Recording<MemDevice>>>;
 
-/// The device of a trial.
-pub fn device_of(alloc: Global, trial: &Trial) -> Result<MemDevice, Refusal> {
-    let bytes = bytes_of(alloc, trial.numbers, trial.puts)?;
-    MemDevice::from_bytes(alloc, bytes.as_slice())
-}
-
-/// The device of a trial that lets so many calls through, and then fails once or from then on.
-pub fn fused(alloc: Global, trial: &Trial, calls: u64, once: bool) -> Result<Fused, Refusal> {
-    let recording = Recording::new(alloc, device_of(alloc, trial)?);
+/// A device with this image that lets so many calls through, and then fails once or from then on.
+pub fn fused(alloc: Global, image: &MemDevice, calls: u64, once: bool) -> Result<Fused, Refusal> {
+    let recording = Recording::new(alloc, image.image_after(alloc, 0)?);
     Ok(Watched::new(Fuse::new(recording, calls, once)))
 }
 

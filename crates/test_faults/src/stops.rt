@@ -1,26 +1,25 @@
 //! A stop after each number of the writes of a trial.
 use crate::plain::Plain;
-use crate::running::device_of;
 use crate::tally::Tally;
 use anyhow::Result;
 use device::MemDevice;
 use std::io::Eprint;
 use std::thread::Threads;
-use test_trials::{Trial, fault_of};
+use test_trials::fault_of;
 
 /// Looks at what a stop leaves after each number of writes, from none on: it has to be mounted, to obey the rules, not to be
 /// damaged, and to be clean once it is mended.
 pub fn stop_each<R: Threads + Eprint + Sync + AllocGlobal>(
     rt: &R,
-    trial: &Trial,
+    name: (&str, &str),
     plain: &Plain,
 ) -> Result<Tally> {
     let mut tally = Tally::new();
-    let mut held = device_of(rt.alloc(), trial)?;
-    look_at(rt, trial, &held, &mut tally)?;
+    let mut held = plain.image.image_after(rt.alloc(), 0)?;
+    look_at(rt, name, &held, &mut tally)?;
     for written in &plain.writes {
         written.repeat_on(&mut held)?;
-        look_at(rt, trial, &held, &mut tally)?;
+        look_at(rt, name, &held, &mut tally)?;
     }
     Ok(tally)
 }
@@ -28,7 +27,7 @@ pub fn stop_each<R: Threads + Eprint + Sync + AllocGlobal>(
 /// Looks at what a device holds.
 fn look_at<R: Threads + Eprint + Sync + AllocGlobal>(
     rt: &R,
-    trial: &Trial,
+    name: (&str, &str),
     held: &MemDevice,
     tally: &mut Tally,
 ) -> Result<()> {
@@ -36,8 +35,8 @@ fn look_at<R: Threads + Eprint + Sync + AllocGlobal>(
     let fault = fault_of(rt, rt.alloc(), held.image_after(rt.alloc(), writes)?)?;
     tally.count(fault.is_some());
     if let Some(fault) = fault {
-        let name = trial.name;
-        eprintln!(rt; "{name}: a stop after {writes} writes leaves {fault:?}")?;
+        let (name, behind) = name;
+        eprintln!(rt; "{name}{behind}: a stop after {writes} writes leaves {fault:?}")?;
     }
     Ok(())
 }

@@ -12,3 +12,5 @@ mod image;
 mod limits;
 #[cfg(test)]
 mod random;
+#[cfg(test)]
+mod tables;

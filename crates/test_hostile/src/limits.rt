@@ -8,19 +8,19 @@ use std::test::Fail;
 use std::thread::Threads;
 
 /// An example: what it shows, what the image has in place of a fresh one's bytes, and the lines of its findings.
-type Example = (&'static str, &'static [Put], &'static str);
+pub(crate) type Example = (&'static str, &'static [Put], &'static str);
 
 /// Number 5 is marked.
-const MARKED: Put = (1_056, b"\x24");
+pub(crate) const MARKED: Put = (1_056, b"\x24");
 
 /// The root has the name `a` for it.
-const NAMED: Put = (4_224, b"\x05\0\0\0\x01\0\0\0a");
+pub(crate) const NAMED: Put = (4_224, b"\x05\0\0\0\x01\0\0\0a");
 
 /// The file has no block.
 const EMPTY_FILE: Put = (2_688, b"\x01\0\x01\0");
 
 /// Expects an example's findings on an image of this geometry.
-fn expect_found<R: Threads + AllocGlobal + Abort + Sync>(
+pub(crate) fn expect_found<R: Threads + AllocGlobal + Abort + Sync>(
     rt: &R,
     geometry: &Geometry,
     example: &Example,
@@ -185,7 +185,7 @@ fn pointers_stay_within_the_groups(rt: HostRuntime) -> Result<(), Fail> {
 }
 
 /// The direct pointers name blocks 5 to 16, which are marked.
-const TWELVE: Put = (
+pub(crate) const TWELVE: Put = (
     2_696,
     b"\x05\0\0\0\x06\0\0\0\x07\0\0\0\x08\0\0\0\x09\0\0\0\x0a\0\0\0\x0b\0\0\0\x0c\0\0\0\x0d\0\0\0\x0e\0\0\0\x0f\0\0\0\x10\0\0\0",
 );

@@ -3,7 +3,7 @@ use crate::expect::holds;
 use crate::image::{checked_by, fresh_bytes, put};
 use findings::Verdict;
 use fsck::Checked;
-use layout::{Geometry, Refusal};
+use layout::{DOUBLE, Geometry, Refusal, SINGLE};
 use rules::obeys;
 use std::alloc::Global;
 use std::process::Abort;
@@ -20,10 +20,11 @@ const GEOMETRIES: &[[u32; 3]] = &[
     [4, 24, 32],
 ];
 
-/// One of the geometries.
+/// One of the geometries, in one of the versions.
 fn some_geometry(noise: &mut Noise) -> Result<Geometry, Refusal> {
     let [groups, blocks, inodes] = noise.one_of(GEOMETRIES, [1, 16, 16]);
-    Geometry::new(groups, blocks, inodes)
+    let version = noise.one_of(&[SINGLE, DOUBLE], SINGLE);
+    Geometry::new(groups, blocks, inodes)?.with_version(version)
 }
 
 /// Random bytes, but for the frame.
@@ -84,6 +85,15 @@ fn near(noise: &mut Noise, limit: u32) -> u32 {
     }
 }
 
+/// How many blocks an inode of this mode says that it has. The largest files are few, and no directory has as many: a check walks
+/// over each position of a file, and over each slot of a directory.
+fn some_blocks(noise: &mut Noise, mode: u16) -> u32 {
+    if mode == 1 && noise.below(32) == 0 {
+        return noise.one_of(&[65_804, 65_805], 65_804);
+    }
+    noise.one_of(&[0u32, 1, 1, 1, 2, 3, 12, 13, 14, 268, 269, 524, 525], 1)
+}
+
 /// Gives an inode a random record.
 fn put_record(bytes: &mut [u8], geometry: &Geometry, noise: &mut Noise) {
     let number = noise.below(geometry.inodes());
@@ -94,7 +104,7 @@ fn put_record(bytes: &mut [u8], geometry: &Geometry, noise: &mut Noise) {
     let at = byte_of(place.address).saturating_add(place.byte);
     let mode = noise.one_of(&[0u16, 1, 1, 1, 2, 2, 2, 2, 3], 1);
     let links = noise.one_of(&[0u16, 1, 1, 2, 2, 3, 32_767, 65_535], 1);
-    let blocks = noise.one_of(&[0u32, 1, 1, 1, 2, 3, 12, 13, 14, 268, 269], 1);
+    let blocks = some_blocks(noise, mode);
     let odd = noise.one_of(&[0u32, 0, 0, 1, 1_023], 0);
     put(bytes, at, &mode.to_le_bytes());
     put(bytes, at.saturating_add(2), &links.to_le_bytes());
@@ -106,7 +116,7 @@ fn put_record(bytes: &mut [u8], geometry: &Geometry, noise: &mut Noise) {
             .saturating_add(odd)
             .to_le_bytes(),
     );
-    for pointer in 0..13usize {
+    for pointer in 0..14usize {
         let address = near(noise, geometry.blocks());
         put(
             bytes,
@@ -259,29 +269,43 @@ fn damaged_of<R: Threads + AllocGlobal + Abort + Sync>(
 }
 
 #[test]
-fn the_first_70_random_images_are_checked_alike(rt: HostRuntime) -> Result<(), Fail> {
-    let damaged = damaged_of(&rt, Kind::Random, 0, 70)?;
+fn the_first_50_random_images_are_checked_alike(rt: HostRuntime) -> Result<(), Fail> {
+    let damaged = damaged_of(&rt, Kind::Random, 0, 50)?;
     holds(&rt, damaged, damaged > 0);
     Ok(())
 }
 
 #[test]
-fn the_next_70_random_images_are_checked_alike(rt: HostRuntime) -> Result<(), Fail> {
-    let damaged = damaged_of(&rt, Kind::Random, 70, 140)?;
+fn the_second_50_random_images_are_checked_alike(rt: HostRuntime) -> Result<(), Fail> {
+    let damaged = damaged_of(&rt, Kind::Random, 50, 100)?;
     holds(&rt, damaged, damaged > 0);
     Ok(())
 }
 
 #[test]
-fn the_last_60_random_images_are_checked_alike(rt: HostRuntime) -> Result<(), Fail> {
-    let damaged = damaged_of(&rt, Kind::Random, 140, 200)?;
+fn the_third_50_random_images_are_checked_alike(rt: HostRuntime) -> Result<(), Fail> {
+    let damaged = damaged_of(&rt, Kind::Random, 100, 150)?;
     holds(&rt, damaged, damaged > 0);
     Ok(())
 }
 
 #[test]
-fn images_near_to_good_ones_are_checked_alike(rt: HostRuntime) -> Result<(), Fail> {
-    let damaged = damaged_of(&rt, Kind::Near, 200, 270)?;
-    holds(&rt, damaged, damaged > 0 && damaged < 70);
+fn the_last_50_random_images_are_checked_alike(rt: HostRuntime) -> Result<(), Fail> {
+    let damaged = damaged_of(&rt, Kind::Random, 150, 200)?;
+    holds(&rt, damaged, damaged > 0);
+    Ok(())
+}
+
+#[test]
+fn the_first_35_images_near_to_good_ones_are_checked_alike(rt: HostRuntime) -> Result<(), Fail> {
+    let damaged = damaged_of(&rt, Kind::Near, 200, 235)?;
+    holds(&rt, damaged, damaged > 0 && damaged < 35);
+    Ok(())
+}
+
+#[test]
+fn the_last_35_images_near_to_good_ones_are_checked_alike(rt: HostRuntime) -> Result<(), Fail> {
+    let damaged = damaged_of(&rt, Kind::Near, 235, 270)?;
+    holds(&rt, damaged, damaged > 0 && damaged < 35);
     Ok(())
 }

@@ -70,6 +70,98 @@ fn geometries_are_told_apart(rt: HostRuntime) {
     }
 }
 
+/// Versions of the layout, and why there is none.
+const VERSIONS: &[(u32, Option<Refusal>)] = &[
+    (0, Some(Refusal::BadSuper)),
+    (1, None),
+    (2, None),
+    (3, Some(Refusal::BadSuper)),
+    (u32::MAX, Some(Refusal::BadSuper)),
+];
+
+#[test]
+fn versions_are_told_apart(rt: HostRuntime) -> Result<(), Fail> {
+    let geometry = Geometry::new(1, 16, 16)?;
+    same(&rt, "of a new geometry", geometry.version(), 1);
+    for (version, refused) in VERSIONS {
+        let made = geometry.with_version(*version);
+        same(&rt, *version, made.err(), *refused);
+    }
+    Ok(())
+}
+
+/// For each version, how many blocks a file has, and the position behind its last table.
+const TABLES: &[(u32, u32, u32)] = &[
+    (1, 0, 268),
+    (1, 12, 268),
+    (1, 13, 269),
+    (1, 268, 269),
+    (2, 0, 65_804),
+    (2, 12, 65_804),
+    (2, 13, 65_805),
+    (2, 268, 65_805),
+    (2, 269, 65_807),
+    (2, 524, 65_807),
+    (2, 525, 65_808),
+    (2, 65_804, 66_062),
+];
+
+#[test]
+fn files_have_so_many_tables(rt: HostRuntime) -> Result<(), Fail> {
+    for (version, blocks, end) in TABLES {
+        let geometry = Geometry::new(1, 16, 16)?.with_version(*version)?;
+        let most = geometry.most_blocks();
+        if *blocks <= most {
+            same(&rt, (*version, *blocks), geometry.tables_end(*blocks), *end);
+        }
+        holds(
+            &rt,
+            (*version, *blocks),
+            *end == most || geometry.reaches(*blocks, *end - 1),
+        );
+        holds(&rt, (*version, *blocks), !geometry.reaches(*blocks, *end));
+    }
+    Ok(())
+}
+
+/// For each version, a position, and the table and the place there that hold its pointer, if a table does.
+const POINTERS: &[(u32, u32, Option<(u32, usize)>)] = &[
+    (1, 11, None),
+    (1, 12, Some((268, 0))),
+    (1, 267, Some((268, 255))),
+    (1, 268, None),
+    (2, 11, None),
+    (2, 12, Some((65_804, 0))),
+    (2, 267, Some((65_804, 255))),
+    (2, 268, Some((65_806, 0))),
+    (2, 523, Some((65_806, 255))),
+    (2, 524, Some((65_807, 0))),
+    (2, 65_803, Some((66_061, 255))),
+    (2, 65_804, None),
+    (2, 65_805, None),
+    (2, 65_806, Some((65_805, 0))),
+    (2, 66_061, Some((65_805, 255))),
+];
+
+#[test]
+fn pointers_stand_in_tables(rt: HostRuntime) -> Result<(), Fail> {
+    for (version, position, wanted) in POINTERS {
+        let geometry = Geometry::new(1, 16, 16)?.with_version(*version)?;
+        if geometry.reaches(geometry.most_blocks(), *position) {
+            let found = geometry.pointer_place(*position);
+            same(
+                &rt,
+                (*version, *position),
+                found.map(|place| (place.table, place.place)),
+                *wanted,
+            );
+        } else {
+            holds(&rt, (*version, *position), false);
+        }
+    }
+    Ok(())
+}
+
 /// Numbers of a volume of 1 group, 16 blocks and 16 inodes.
 #[test]
 fn a_small_volume_has_its_numbers(rt: HostRuntime) -> Result<(), Fail> {
@@ -139,6 +231,18 @@ fn a_small_fresh_volume_has_its_frame(rt: HostRuntime) -> Result<(), Fail> {
         Geometry::new(1, 16, 16),
     );
     same(&rt, "magic", u32_at(&superblock, 0), 0x5355_5631);
+    superblock[4] = 2;
+    same(
+        &rt,
+        "read in version 2",
+        read_super(&superblock),
+        Geometry::new(1, 16, 16)?.with_version(2),
+    );
+    for version in [0, 3, 255] {
+        superblock[4] = version;
+        let refused = Err(Refusal::BadSuper);
+        same(&rt, version, read_super(&superblock), refused);
+    }
 
     let mut maps = [0; BLOCK_BYTES];
     maps[..4].copy_from_slice(&[0x47, 0x43, 0x55, 0x53]);

@@ -1,8 +1,9 @@
 //! What the words of the program ask for, and how it is done.
 use crate::lists::{Outcome, Show, carry_out_lists};
+use crate::pass::Pass;
 use crate::runs::carry_out_on;
 use anyhow::{Result, bail};
-use layout::Refusal;
+use layout::{DOUBLE, Refusal, SINGLE};
 use std::alloc::{AllocError, Global};
 use std::fs;
 use std::os::unix::fs::FileExt;
@@ -65,32 +66,59 @@ fn lists<R: Files + AllocGlobal + Threads + Sync>(
     show: Show,
 ) -> Result<Output> {
     let bytes = fs::read(rt, file)?;
-    Ok(output_of(rt, rt.alloc(), bytes.as_slice(), show)?)
+    let bytes = bytes.as_slice();
+    Ok(match show {
+        Show::Each => answers_of(rt, rt.alloc(), bytes),
+        Show::Wrong => wrong_of(rt, rt.alloc(), bytes),
+    }?)
 }
 
-/// What is printed of the lists of a file with these bytes, and the status.
-fn output_of(
+/// What is printed of the answers to the lists of a file with these bytes, and the status.
+fn answers_of(
     rt: &(impl Threads + Sync),
     alloc: Global,
     bytes: &[u8],
-    show: Show,
 ) -> Result<Output, AllocError> {
+    let Outcome { text, .. } = carry_out_lists(rt, alloc, bytes, Pass::All, Show::Each)?;
+    Ok(Output { text, status: 0 })
+}
+
+/// What is printed of the lists of a file with these bytes for each version of the layout, and the status.
+fn wrong_of(rt: &(impl Threads + Sync), alloc: Global, bytes: &[u8]) -> Result<Output, AllocError> {
+    let mut output = Output {
+        text: String::new(alloc),
+        status: 0,
+    };
+    for version in [SINGLE, DOUBLE] {
+        add_wrong(rt, alloc, bytes, version, &mut output)?;
+    }
+    Ok(output)
+}
+
+/// Adds what is printed of the lists of a file with these bytes for a version of the layout.
+fn add_wrong(
+    rt: &(impl Threads + Sync),
+    alloc: Global,
+    bytes: &[u8],
+    version: u32,
+    output: &mut Output,
+) -> Result<(), AllocError> {
     let Outcome {
-        mut text,
+        text,
         lists,
         lines,
         wrong,
         ..
-    } = carry_out_lists(rt, alloc, bytes, show)?;
-    if show == Show::Wrong {
-        writeln!(text, "lists {lists} lines {lines} wrong {wrong}")?;
+    } = carry_out_lists(rt, alloc, bytes, Pass::Of(version), Show::Wrong)?;
+    output.text.push_str(text.as_str())?;
+    writeln!(
+        output.text,
+        "version {version}: lists {lists} lines {lines} wrong {wrong}"
+    )?;
+    if wrong > 0 {
+        output.status = 1;
     }
-    let status = if show == Show::Wrong && wrong > 0 {
-        1
-    } else {
-        0
-    };
-    Ok(Output { text, status })
+    Ok(())
 }
 
 /// Carries out the commands of a file on an image.

@@ -1,6 +1,7 @@
 //! The lines of a file.
+use crate::many::many_of;
 use crate::request::Request;
-use command_text::{first_word, three_numbers};
+use command_text::{first_word, leading_numbers, number, three_numbers, two_numbers};
 use std::alloc::{AllocError, Global};
 
 /// What stands between a command and its answer.
@@ -9,11 +10,11 @@ const ARROW: &[u8] = b" -> ";
 /// What a line of a list asks for.
 #[derive(Drop)]
 pub enum Line {
-    /// `volume GROUPS BLOCKS INODES`: a list begins, on a fresh volume of so many groups, and blocks and inodes in each.
+    /// `volume GROUPS BLOCKS INODES`: a list begins, on a fresh volume of so many groups, and blocks and inodes in each. One
+    /// number more is the version of the layout that the list is for; without it the list is for both.
     Volume {
-        groups: u32,
-        blocks: u32,
-        inodes: u32,
+        numbers: [u32; 3],
+        version: Option<u32>,
     },
     /// `byte ADDRESS PLACE VALUE`: a byte of a block is set before the volume is mounted.
     Byte {
@@ -32,6 +33,8 @@ pub enum Line {
     Writes,
     /// A request to the mounted volume.
     Request(Request),
+    /// Many requests in a row.
+    Many(Vec<Request>),
     /// A line of another form.
     Other,
 }
@@ -41,6 +44,9 @@ impl Line {
     pub fn parse(alloc: Global, line: &[u8]) -> Result<Line, AllocError> {
         if let Some(line) = Line::of_the_list(line) {
             return Ok(line);
+        }
+        if let Some(requests) = many_of(alloc, line)? {
+            return Ok(Line::Many(requests));
         }
         Ok(match Request::parse(alloc, line)? {
             Some(request) => Line::Request(request),
@@ -59,23 +65,35 @@ impl Line {
         }
     }
 
-    /// What a line of a name and three numbers asks for.
+    /// What a line of a name and numbers asks for.
     fn of_numbers(line: &[u8]) -> Option<Line> {
         let (name, words) = first_word(line);
-        let (first, second, third) = three_numbers(words?)?;
         match name {
-            b"volume" => Some(Line::Volume {
-                groups: first,
-                blocks: second,
-                inodes: third,
-            }),
-            b"byte" => Some(Line::Byte {
-                address: first,
-                place: second,
-                value: u8::try_from(third).ok()?,
-            }),
+            b"volume" => Line::volume(words?),
+            b"byte" => Line::byte(words?),
             _ => None,
         }
+    }
+
+    /// The volume of these numbers.
+    fn volume(words: &[u8]) -> Option<Line> {
+        let (groups, blocks, behind) = leading_numbers(words)?;
+        let (inodes, version) = match two_numbers(behind) {
+            Some((inodes, version)) => (inodes, Some(version)),
+            None => (number(behind)?, None),
+        };
+        let numbers = [groups, blocks, inodes];
+        Some(Line::Volume { numbers, version })
+    }
+
+    /// The byte of these numbers.
+    fn byte(words: &[u8]) -> Option<Line> {
+        let (address, place, value) = three_numbers(words)?;
+        Some(Line::Byte {
+            address,
+            place,
+            value: u8::try_from(value).ok()?,
+        })
     }
 }
 

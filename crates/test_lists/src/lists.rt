@@ -1,6 +1,7 @@
 //! Lists of commands, carried out on volumes in memory.
 use crate::answer::Answer;
 use crate::line::{Line, is_skipped, parted};
+use crate::pass::Pass;
 use crate::session::Session;
 use std::alloc::{AllocError, Global};
 use std::thread::Threads;
@@ -63,15 +64,16 @@ impl Outcome {
     }
 }
 
-/// Carries out the lists of a file with these bytes.
+/// Carries out those lists of a file with these bytes that are for this pass.
 pub fn carry_out_lists(
     rt: &(impl Threads + Sync),
     alloc: Global,
     bytes: &[u8],
+    pass: Pass,
     show: Show,
 ) -> Result<Outcome, AllocError> {
     let mut outcome = Outcome::new(alloc, show);
-    let mut session = Session::new();
+    let mut session = Session::new(pass);
     let done = carry_out_all(rt, alloc, &mut session, &mut outcome, bytes);
     drop(session);
     done.and(Ok(outcome))
@@ -107,10 +109,12 @@ fn carry_out_line(
     }
     let (asked, wanted) = parted(line);
     let asked = Line::parse(alloc, asked)?;
-    if matches!(asked, Line::Volume { .. }) {
+    let begins = matches!(asked, Line::Volume { .. });
+    let answer = session.carry_out(rt, alloc, asked)?;
+    if begins && !session.skips() {
         outcome.lists = outcome.lists.saturating_add(1);
     }
-    match session.carry_out(rt, alloc, asked)? {
+    match answer {
         Some(answer) => outcome.add(alloc, number, &answer, wanted),
         None => Ok(()),
     }

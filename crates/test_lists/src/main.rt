@@ -1,8 +1,9 @@
 //! `test_lists MODE ARGS` carries out lists of commands on volumes.
 //!
-//! - `test_lists lists FILE` carries out the lists of a file on volumes in memory. It prints each line whose answer is another
-//!   one than the line says, and then how many lists and lines there were. The status is 1 where an answer is wrong.
-//! - `test_lists answers FILE` does the same, and prints each answer and nothing else.
+//! - `test_lists lists FILE` carries out the lists of a file on volumes in memory, those for version 1 of the layout and then those
+//!   for version 2; most are for both. It prints each line whose answer is another one than the line says, and then how many
+//!   lists and lines there were. The status is 1 where an answer is wrong.
+//! - `test_lists answers FILE` carries out each list once, and prints each answer and nothing else.
 //! - `test_lists run IMAGE FILE` carries out the commands of a file on the volume of an image, syncs it, and prints how many
 //!   lines there were and how many of them were refused.
 //!
@@ -17,6 +18,8 @@ mod history;
 mod job;
 mod line;
 mod lists;
+mod many;
+mod pass;
 mod recorded;
 mod request;
 mod runs;

@@ -56,6 +56,24 @@ impl Recorded {
         Ok(answer)
     }
 
+    /// Carries out requests in a row, and tells how many there were; where one is refused its answer is given, and those behind
+    /// it are not carried out.
+    pub fn carry_out_all(
+        &mut self,
+        rt: &(impl Threads + Sync),
+        alloc: Global,
+        requests: Vec<Request>,
+    ) -> Result<Answer, AllocError> {
+        let count = requests.len();
+        for request in requests {
+            let answer = self.carry_out(rt, alloc, request)?;
+            if answer.is_refusal() {
+                return Ok(answer);
+            }
+        }
+        Ok(Answer::Count(count))
+    }
+
     /// What a request is about to do to a file.
     fn event_of(&mut self, alloc: Global, request: &Request) -> Event {
         match request {

@@ -1,6 +1,7 @@
 //! A volume in memory, and what the lines of a list do to it.
 use crate::answer::Answer;
 use crate::line::Line;
+use crate::pass::Pass;
 use crate::recorded::{Recorded, copy_of};
 use device::{MemDevice, set_byte};
 use findings::Finding;
@@ -24,11 +25,14 @@ enum Stage {
     Mounted(Recorded),
     /// It could not be made or mounted.
     Refused(Refusal),
+    /// The list is for a version of the layout with which it is not carried out now.
+    Skipped,
 }
 
 /// The volume of a list.
 #[derive(Drop)]
 pub struct Session {
+    pass: Pass,
     volume: Stage,
     /// How many writes were made before the volume was mounted for the last time.
     earlier_writes: usize,
@@ -36,8 +40,9 @@ pub struct Session {
 
 impl Session {
     /// Before the first list.
-    pub fn new() -> Session {
+    pub fn new(pass: Pass) -> Session {
         Session {
+            pass,
             volume: Stage::Absent,
             earlier_writes: 0,
         }
@@ -51,12 +56,8 @@ impl Session {
         line: Line,
     ) -> Result<Option<Answer>, AllocError> {
         Ok(match line {
-            Line::Volume {
-                groups,
-                blocks,
-                inodes,
-            } => {
-                self.make(alloc, groups, blocks, inodes);
+            Line::Volume { numbers, version } => {
+                self.make(alloc, numbers, version);
                 None
             }
             Line::Byte {
@@ -64,18 +65,32 @@ impl Session {
                 place,
                 value,
             } => self.put_byte(address, place, value),
+            _ if self.skips() => None,
             Line::Other => Some(Answer::NoCommand),
-            Line::Check | Line::Stop | Line::Stops | Line::Writes | Line::Request(_) => {
+            Line::Check
+            | Line::Stop
+            | Line::Stops
+            | Line::Writes
+            | Line::Request(_)
+            | Line::Many(_) => {
                 self.mount(alloc);
                 Some(self.answer(rt, alloc, line)?)
             }
         })
     }
 
-    /// Makes a fresh volume of these numbers, in place of the one that was there.
-    fn make(&mut self, alloc: Global, groups: u32, blocks: u32, inodes: u32) {
+    /// Whether the list is not carried out.
+    pub fn skips(&self) -> bool {
+        matches!(&self.volume, Stage::Skipped)
+    }
+
+    /// Makes a fresh volume of these numbers for a list that names this version or none, in place of the one that was there.
+    fn make(&mut self, alloc: Global, numbers: [u32; 3], named: Option<u32>) {
         self.earlier_writes = 0;
-        self.put(made(alloc, groups, blocks, inodes));
+        self.put(match self.pass.version_for(named) {
+            Some(version) => made(alloc, numbers, version),
+            None => Stage::Skipped,
+        });
     }
 
     /// Puts a volume in place of the one that was there.
@@ -87,7 +102,7 @@ impl Session {
     fn put_byte(&mut self, address: u32, place: u32, value: u8) -> Option<Answer> {
         let done = match &mut self.volume {
             Stage::Made(device) => set_byte(device, (address, place as usize, value)),
-            Stage::Refused(_) => Ok(()),
+            Stage::Refused(_) | Stage::Skipped => Ok(()),
             Stage::Absent | Stage::Mounted(_) => return Some(Answer::NoCommand),
         };
         if let Err(refusal) = done {
@@ -100,7 +115,7 @@ impl Session {
     fn mount(&mut self, alloc: Global) {
         let mounted = match &self.volume {
             Stage::Made(device) => mounted_copy(alloc, device),
-            Stage::Absent | Stage::Mounted(_) | Stage::Refused(_) => return,
+            Stage::Absent | Stage::Mounted(_) | Stage::Refused(_) | Stage::Skipped => return,
         };
         self.put(mounted);
     }
@@ -113,10 +128,11 @@ impl Session {
         line: Line,
     ) -> Result<Answer, AllocError> {
         Ok(match &mut self.volume {
-            Stage::Absent | Stage::Made(_) => Answer::NoCommand,
+            Stage::Absent | Stage::Made(_) | Stage::Skipped => Answer::NoCommand,
             Stage::Refused(refusal) => Answer::Refused(*refusal),
             Stage::Mounted(recorded) => match line {
                 Line::Request(request) => recorded.carry_out(rt, alloc, request)?,
+                Line::Many(requests) => recorded.carry_out_all(rt, alloc, requests)?,
                 Line::Check => found(rt, alloc, recorded.device()),
                 Line::Writes => Answer::Count(
                     self.earlier_writes
@@ -140,22 +156,26 @@ impl Session {
         self.put(mounted);
         match &self.volume {
             Stage::Refused(refusal) => Answer::Refused(*refusal),
-            Stage::Absent | Stage::Made(_) | Stage::Mounted(_) => Answer::Given(VolumeAnswer::Done),
+            Stage::Absent | Stage::Made(_) | Stage::Mounted(_) | Stage::Skipped => Answer::Given(
+                VolumeAnswer::Done,
+            ),
         }
     }
 }
 
-/// A fresh volume of these numbers, or why there is none.
-fn made(alloc: Global, groups: u32, blocks: u32, inodes: u32) -> Stage {
-    match fresh_of(alloc, groups, blocks, inodes) {
+/// A fresh volume of these numbers and this version, or why there is none.
+fn made(alloc: Global, numbers: [u32; 3], version: u32) -> Stage {
+    match fresh_of(alloc, numbers, version) {
         Ok(device) => Stage::Made(device),
         Err(refusal) => Stage::Refused(refusal),
     }
 }
 
-/// A device in memory with a fresh volume of these numbers.
-fn fresh_of(alloc: Global, groups: u32, blocks: u32, inodes: u32) -> Result<MemDevice, Refusal> {
-    MemDevice::formatted(alloc, &Geometry::new(groups, blocks, inodes)?, &[])
+/// A device in memory with a fresh volume of these numbers and this version.
+fn fresh_of(alloc: Global, numbers: [u32; 3], version: u32) -> Result<MemDevice, Refusal> {
+    let [groups, blocks, inodes] = numbers;
+    let geometry = Geometry::new(groups, blocks, inodes)?.with_version(version)?;
+    MemDevice::formatted(alloc, &geometry, &[])
 }
 
 /// What a device holds, mounted on a device of its own that was never written.

@@ -5,4 +5,4 @@ mod asked;
 mod volumes;
 
 pub use asked::{Asked, Wanted, command_of, commands_of, is_as};
-pub use volumes::{found_on, mounted};
+pub use volumes::{VERSIONS, found_on, mounted, mounted_of};

@@ -4,20 +4,35 @@ use device::{Byte, MemDevice};
 use findings::Finding;
 use frozen::{Frozen, load};
 use fsck::check_one;
-use layout::{Geometry, Refusal};
+use layout::{DOUBLE, Geometry, Refusal, SINGLE};
 use snapshot::Volume;
 use std::alloc::Global;
 use std::sync::Arc;
 use std::thread::Threads;
 
-/// The mounted volume of the image of so many groups of 16 blocks and so many inodes each that is fresh but for these bytes.
+/// The versions of the layout.
+pub const VERSIONS: [u32; 2] = [SINGLE, DOUBLE];
+
+/// The mounted volume, of version 1 of the layout, of the image of so many groups of 16 blocks and so many inodes each that is
+/// fresh but for these bytes.
 pub fn mounted(
     alloc: Global,
     groups: u32,
     inodes: u32,
     bytes: &[Byte],
 ) -> Result<Volume<MemDevice>, Refusal> {
-    let geometry = Geometry::new(groups, 16, inodes)?;
+    mounted_of(alloc, SINGLE, groups, inodes, bytes)
+}
+
+/// The same of this version of the layout.
+pub fn mounted_of(
+    alloc: Global,
+    version: u32,
+    groups: u32,
+    inodes: u32,
+    bytes: &[Byte],
+) -> Result<Volume<MemDevice>, Refusal> {
+    let geometry = Geometry::new(groups, 16, inodes)?.with_version(version)?;
     mount(alloc, MemDevice::formatted(alloc, &geometry, bytes)?)
 }
 

@@ -23,7 +23,8 @@ fn write_record(
     let mut block = [0; BLOCK_BYTES];
     device.read(address, &mut block)?;
     let (records, _) = block.as_chunks_mut::<RECORD_BYTES>();
-    record.write(&mut records[(number % INODES_PER_BLOCK) as usize]);
+    let place = (number % INODES_PER_BLOCK) as usize;
+    record.write(geometry.version(), &mut records[place]);
     device.write(address, &block)?;
     Ok(())
 }
@@ -40,6 +41,7 @@ fn file(size: u32, pointers: [u32; 3], indirect: u32) -> Record {
         size,
         direct,
         indirect,
+        double: 0,
     }
 }
 

@@ -43,7 +43,7 @@ fn expect_counts<R: AllocGlobal + Abort>(
     rt: &R,
     frozen: &Frozen,
     unit: u32,
-    entries: &[(u32, u32)],
+    entries: &[(u32, u64)],
     wanted: &[Finding],
 ) -> Result<(), Refusal> {
     let reached = Members::new(rt.alloc(), vec![in rt.alloc(); 2, 5, 20]?)?;

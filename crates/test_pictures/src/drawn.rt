@@ -1,7 +1,7 @@
 use crate::expect::{holds, same};
 use device::{Device, MemDevice, set_byte};
 use inode::{DIRECT_POINTERS, FILE, RECORD_BYTES, Record};
-use layout::{BLOCK_BYTES, Geometry, INODES_PER_BLOCK, Refusal};
+use layout::{BLOCK_BYTES, DOUBLE, Geometry, INODES_PER_BLOCK, Refusal};
 use pictures::{Picture, Use, draw, look};
 use std::alloc::Global;
 use std::test::Fail;
@@ -55,6 +55,7 @@ fn record_of(size: u32, pointers: [u32; 3], indirect: u32) -> Record {
         size,
         direct,
         indirect,
+        double: 0,
     }
 }
 
@@ -75,7 +76,8 @@ fn write_file(
     let mut block = [0; BLOCK_BYTES];
     device.read(address, &mut block)?;
     let (records, _) = block.as_chunks_mut::<RECORD_BYTES>();
-    record.write(&mut records[(number % INODES_PER_BLOCK) as usize]);
+    let place = (number % INODES_PER_BLOCK) as usize;
+    record.write(geometry.version(), &mut records[place]);
     device.write(address, &block)?;
     Ok(())
 }
@@ -105,6 +107,48 @@ fn each_block_has_its_use(rt: HostRuntime) -> Result<(), Fail> {
     let picture = used(rt.alloc())?;
     same(&rt, "cells", picture.cells(), CELLS);
     same(&rt, "free", picture.count(Use::Free), 18);
+    Ok(())
+}
+
+/// What the blocks are used for where file 3 has the last of 269 blocks alone, block 5, by its double indirect block 6 and the
+/// second-level block 7.
+const BY_TABLES: &[Use] = &[
+    Use::Maps,
+    Use::Maps,
+    Use::Inodes,
+    Use::Inodes,
+    Use::Directory,
+    Use::File,
+    Use::Indirect,
+    Use::Indirect,
+    Use::Free,
+    Use::Free,
+    Use::Free,
+    Use::Free,
+    Use::Free,
+    Use::Free,
+    Use::Free,
+    Use::Free,
+    Use::Free,
+];
+
+/// The bytes of record 3 and of these tables, which a fresh image has not: mode, links, size, and a pointer each.
+const TABLES: &[(u32, usize, u8)] = &[
+    (2, 384, 1),
+    (2, 386, 1),
+    (2, 389, 52),
+    (2, 390, 4),
+    (2, 444, 6),
+    (6, 0, 7),
+    (7, 0, 5),
+];
+
+#[test]
+fn tables_of_version_2_have_their_use(rt: HostRuntime) -> Result<(), Fail> {
+    let geometry = Geometry::new(1, 16, 16)?.with_version(DOUBLE)?;
+    let mut device = MemDevice::formatted(rt.alloc(), &geometry, TABLES)?;
+    let picture = look(rt.alloc(), &mut device)?;
+    same(&rt, "cells", picture.cells(), BY_TABLES);
     Ok(())
 }
 

@@ -1,13 +1,13 @@
 //! The queue over a device in memory that fails on purpose, against cases that were worked out by hand.
 ghost use Rattle.std.specs.Prelude.{◌≡◌, true, All, map};
 ghost use Rattle.model.specs.Layout.{is_number};
-ghost use Rattle.updates.specs.Places.{IsCell, IsUpdate};
-ghost use Rattle.updates.specs.Values.{cell};
+ghost use Rattle.updates.specs.Places.{FitsVolume, IsCell, IsUpdate};
+ghost use Rattle.updates.specs.Values.{cell, change as value_of};
 
 use crate::expect::{holds, same};
 use device::{Device, Fuse, MemDevice};
 use inode::{DIRECT_POINTERS, FILE, FREE, Record};
-use layout::{BLOCK_BYTES, Block, Geometry, ROOT, Refusal};
+use layout::{BLOCK_BYTES, Block, DOUBLE, Geometry, ROOT, Refusal, SINGLE};
 use softdep::{Cell, Change, Queue, Update};
 use spares::Spares;
 use std::alloc::Global;
@@ -16,6 +16,7 @@ use std::sync::Arc;
 use std::test::Fail;
 
 mod cases;
+mod records;
 mod steady;
 
 use cases::{
@@ -65,7 +66,19 @@ fn are_cells(cells: &[Cell], geometry: &Geometry) -> bool
 fn is_update(update: &Update, geometry: &Geometry) -> bool
     ensures { result ≡ true → IsUpdate geometry.now update.now }
 {
-    is_cell(update.change.cell(), geometry) && are_cells(update.after.as_slice(), geometry)
+    is_cell(update.change.cell(), geometry)
+        && fits(&update.change, geometry)
+        && are_cells(update.after.as_slice(), geometry)
+}
+
+/// Whether what a change writes fits the volume: no record of version 1 has a double indirect pointer.
+fn fits(change: &Change, geometry: &Geometry) -> bool
+    ensures { result ≡ true → FitsVolume geometry.now (value_of change.now) }
+{
+    match change {
+        Change::SetInode(_, record) => geometry.version() == DOUBLE || record.double == 0,
+        _ => true,
+    }
 }
 
 /// Whether all these are updates of the volume.
@@ -96,6 +109,7 @@ fn record_of(links: u16) -> Record {
         size: 0,
         direct: [0; DIRECT_POINTERS],
         indirect: 0,
+        double: 0,
     }
 }
 
@@ -136,7 +150,7 @@ fn put_all(
 ) -> Result<(), Refusal> {
     for put in puts {
         let change = change_of(alloc, *put)?;
-        if !is_cell(change.cell(), geometry) {
+        if !is_cell(change.cell(), geometry) || !fits(&change, geometry) {
             return Err(Refusal::BadIndex);
         }
         change.put(geometry, block);
@@ -229,12 +243,19 @@ struct Bed {
 }
 
 impl Bed {
-    /// A queue with nothing issued, over a device where each byte of a block is the block's address.
+    /// A queue with nothing issued, over a device where each byte of a block is the block's address. The volume is of version 1
+    /// of the layout.
     fn new(alloc: Global, faults: Faults) -> Result<Bed, Refusal> {
+        Bed::of(alloc, SINGLE, faults)
+    }
+
+    /// The same for a volume of this version of the layout.
+    fn of(alloc: Global, version: u32, faults: Faults) -> Result<Bed, Refusal> {
+        let geometry = Geometry::new(2, 16, 16)?.with_version(version)?;
         let expected = addresses(alloc)?;
         let device = device_of(alloc, expected.as_slice())?;
         Ok(Bed {
-            queue: Queue::new(alloc, Geometry::new(2, 16, 16)?)?,
+            queue: Queue::new(alloc, geometry)?,
             device: Fuse::new(device, faults.after, faults.once),
             spares: Spares::new(alloc)?,
             expected,
@@ -725,35 +746,5 @@ fn expect_turns<R: AllocGlobal + Abort>(rt: &R, bed: &mut Bed) -> Result<(), Ref
 fn a_long_chain_goes_to_and_fro(rt: HostRuntime) -> Result<(), Fail> {
     let mut bed = Bed::new(rt.alloc(), NONE)?;
     expect_turns(&rt, &mut bed)?;
-    Ok(())
-}
-
-/// The bytes of block 3 on the device once a record 9 with so many links is there, which begins at byte 128.
-fn with_record_9<R: AllocGlobal + Abort>(rt: &R, links: u16) -> Result<Block, Fail> {
-    let mut bed = Bed::new(rt.alloc(), NONE)?;
-    bed.issue(updates_of(rt.alloc(), &[Told(Put::Record(9, links), &[])])?)?;
-    same(rt, "flush", bed.flush(3), Ok(1));
-    let mut image = bed.device.device().image_after(rt.alloc(), 1)?;
-    let block = read_block(&mut image, 3).ok_or("block 3 is not read")?;
-    Ok(block)
-}
-
-#[test]
-fn no_byte_of_a_freed_record_stays(rt: HostRuntime) -> Result<(), Fail> {
-    let block = with_record_9(&rt, 0)?;
-    let mut wanted = block_of(3);
-    wanted[128..256].copy_from_slice(&[0; 128]);
-    holds(&rt, "record 9 is freed", block == wanted);
-    Ok(())
-}
-
-#[test]
-fn a_changed_record_keeps_what_is_not_looked_at(rt: HostRuntime) -> Result<(), Fail> {
-    let block = with_record_9(&rt, 7)?;
-    let mut wanted = block_of(3);
-    wanted[128..188].copy_from_slice(&[0; 60]);
-    wanted[128] = 1; // the mode of a file
-    wanted[130] = 7;
-    holds(&rt, "record 9 has 7 links", block == wanted);
     Ok(())
 }

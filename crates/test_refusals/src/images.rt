@@ -1,7 +1,9 @@
 //! The images that are checked, and the trials that are carried out.
+use layout::SINGLE;
 use test_trials::{
-    COUNT_TOO_HIGH, FOUR_SNAPSHOTS, FULL, INTO_NEW_DIRECTORY, LOST_FILE, NUMBER_OF_ANOTHER,
-    SECOND_BLOCK, TWO_USERS, Trial, UNLINKED_AND_OPEN,
+    COUNT_TOO_HIGH, FOUR_SNAPSHOTS, FULL, FULL_OF_ONE_FILE, INTO_NEW_DIRECTORY, LOST_FILE,
+    NUMBER_OF_ANOTHER, PAST_268_BLOCKS, PAST_524_BLOCKS, SECOND_BLOCK, TWO_USERS, Trial,
+    UNDER_A_SNAPSHOT, UNLINKED_AND_OPEN,
 };
 
 /// A group of 16 blocks and 16 inodes.
@@ -20,27 +22,37 @@ pub const OF_VOLUMES: &[Trial] = &[
     NUMBER_OF_ANOTHER,
     TWO_USERS,
     FOUR_SNAPSHOTS,
-    FULL,
 ];
+
+/// Those that take all blocks of a volume.
+pub const OF_FULL_VOLUMES: &[Trial] = &[FULL, FULL_OF_ONE_FILE];
+
+/// Those of files that version 2 alone can have.
+pub const OF_LONG_FILES: &[Trial] = &[PAST_268_BLOCKS, PAST_524_BLOCKS, UNDER_A_SNAPSHOT];
 
 const FRESH: Trial = Trial {
     name: "fresh",
+    versions: &[SINGLE],
     numbers: SMALL,
     puts: &[],
+    before: &[],
     lines: &[("list /", "ok")],
 };
 
 /// Block 9 is marked.
 const LOST_BLOCK: Trial = Trial {
     name: "lost block",
+    versions: &[SINGLE],
     numbers: SMALL,
     puts: &[(1_184, b"\x21")],
+    before: &[],
     lines: &[("unmarked", "11")],
 };
 
 /// Directory 6, which nothing names, has block 5 and file 7 in it, and the root a link of its.
 const LOST_DIRECTORY: Trial = Trial {
     name: "lost directory",
+    versions: &[SINGLE],
     numbers: SMALL,
     puts: &[
         (1_056, b"\xc4"),
@@ -52,6 +64,7 @@ const LOST_DIRECTORY: Trial = Trial {
         (5_184, b"\x02\0\0\0\x02\0\0\0.."),
         (5_248, b"\x07\0\0\0\x01\0\0\0f"),
     ],
+    before: &[],
     lines: &[
         ("freeze", "ok 0"),
         (
@@ -70,6 +83,7 @@ const LOST_DIRECTORY: Trial = Trial {
 /// Files 5 and 6, which the root names, both have block 8. The volume is not mounted.
 const SHARED_BLOCK: Trial = Trial {
     name: "shared block",
+    versions: &[SINGLE],
     numbers: SMALL,
     puts: &[
         (1_056, b"\x64"),
@@ -79,12 +93,14 @@ const SHARED_BLOCK: Trial = Trial {
         (4_224, b"\x05\0\0\0\x01\0\0\0a"),
         (4_288, b"\x06\0\0\0\x01\0\0\0b"),
     ],
+    before: &[],
     lines: &[("list /", "ok a=5 b=6")],
 };
 
 /// Directories 6 and 7 name each other, and nothing else does.
 const LOST_CYCLE: Trial = Trial {
     name: "lost cycle",
+    versions: &[SINGLE],
     numbers: SMALL,
     puts: &[
         (1_056, b"\xc4"),
@@ -98,5 +114,6 @@ const LOST_CYCLE: Trial = Trial {
         (6_208, b"\x06\0\0\0\x02\0\0\0.."),
         (6_272, b"\x06\0\0\0\x01\0\0\0a"),
     ],
+    before: &[],
     lines: &[("stat /", "ok number 2 directory links 2 size 1024")],
 };

@@ -1,4 +1,5 @@
-//! `test_refusals NAME` carries out a trial, and `test_refusals` all of them: the image is checked by 1 and by 3 workers, its volume is
+//! `test_refusals NAME` carries out a trial with version 1 of the layout, `test_refusals NAME 2` with version 2, and `test_refusals`
+//! all of them with each version that they are for: the image is checked by 1 and by 3 workers, its volume is
 //! mounted, and its commands are carried out on a device in memory. What is refused for want of memory is asked for once more:
 //! a refused command has to have changed nothing that users see, and each one has to give its answer in the end. So what the
 //! program prints is the same wherever one allocation is refused; `bench/refused` refuses each one in turn. How many commands
@@ -10,13 +11,13 @@ mod outcome;
 mod trying;
 
 use anyhow::Result;
-use images::{OF_IMAGES, OF_VOLUMES};
+use images::{OF_FULL_VOLUMES, OF_IMAGES, OF_LONG_FILES, OF_VOLUMES};
 use outcome::Outcome;
 use std::alloc::Global;
 use std::env;
 use std::process::ExitCode;
 use std::thread::Threads;
-use test_trials::Trial;
+use test_trials::{Trial, is_asked};
 use trying::try_trial;
 
 fn main(rt: HostRuntime) -> Result<ExitCode> {
@@ -30,8 +31,10 @@ fn main(rt: HostRuntime) -> Result<ExitCode> {
         Err(_) => env::args(&rt)?.collect(alloc)?,
     };
     let mut outcome = Outcome::new(alloc);
-    try_asked(&rt, alloc, words.as_slice(), OF_IMAGES, &mut outcome)?;
-    try_asked(&rt, alloc, words.as_slice(), OF_VOLUMES, &mut outcome)?;
+    try_images(&rt, alloc, words.as_slice(), &mut outcome)?;
+    try_volumes(&rt, alloc, words.as_slice(), &mut outcome)?;
+    try_full_volumes(&rt, alloc, words.as_slice(), &mut outcome)?;
+    try_long_files(&rt, alloc, words.as_slice(), &mut outcome)?;
     let Outcome {
         text,
         refused,
@@ -40,6 +43,46 @@ fn main(rt: HostRuntime) -> Result<ExitCode> {
     print!(rt; "{text}")?;
     eprintln!(rt; "refused {refused}")?;
     Ok(ExitCode::from(if wrong == 0 { 0 } else { 1 }))
+}
+
+/// Carries out those trials of images that the words of a line ask for.
+fn try_images(
+    rt: &(impl Threads + Sync),
+    alloc: Global,
+    words: &[String],
+    outcome: &mut Outcome,
+) -> Result<()> {
+    try_asked(rt, alloc, words, OF_IMAGES, outcome)
+}
+
+/// Carries out those trials of volumes that the words of a line ask for.
+fn try_volumes(
+    rt: &(impl Threads + Sync),
+    alloc: Global,
+    words: &[String],
+    outcome: &mut Outcome,
+) -> Result<()> {
+    try_asked(rt, alloc, words, OF_VOLUMES, outcome)
+}
+
+/// Carries out those trials of full volumes that the words of a line ask for.
+fn try_full_volumes(
+    rt: &(impl Threads + Sync),
+    alloc: Global,
+    words: &[String],
+    outcome: &mut Outcome,
+) -> Result<()> {
+    try_asked(rt, alloc, words, OF_FULL_VOLUMES, outcome)
+}
+
+/// Carries out those trials of long files that the words of a line ask for.
+fn try_long_files(
+    rt: &(impl Threads + Sync),
+    alloc: Global,
+    words: &[String],
+    outcome: &mut Outcome,
+) -> Result<()> {
+    try_asked(rt, alloc, words, OF_LONG_FILES, outcome)
 }
 
 /// Carries out those of these trials that the words of a line ask for.
@@ -51,17 +94,11 @@ fn try_asked(
     outcome: &mut Outcome,
 ) -> Result<()> {
     for trial in trials {
-        if is_asked(words, trial.name) {
-            try_trial(rt, alloc, trial, outcome)?;
+        for version in trial.versions {
+            if is_asked(words, trial.name, *version) {
+                try_trial(rt, alloc, trial, *version, outcome)?;
+            }
         }
     }
     Ok(())
-}
-
-/// Whether the words of a line, the program's name first, ask for the trial of this name.
-fn is_asked(words: &[String], name: &str) -> bool {
-    match words.get(1) {
-        Some(asked) => asked.as_str() == name,
-        None => true,
-    }
 }

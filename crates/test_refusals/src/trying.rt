@@ -8,7 +8,9 @@ use snapshot::{Live, NotMounted, Volume};
 use std::alloc::Global;
 use std::sync::Arc;
 use std::thread::Threads;
-use test_trials::{Seen, Step, Told, Trial, bytes_of, carry_out, steps_of, write_told};
+use test_trials::{
+    Seen, Step, Told, Trial, beginning_of, behind_name, carry_out, steps_of, write_told,
+};
 use workers::OpenGate;
 
 /// What a call gives, which is made once more where memory was refused in it.
@@ -21,17 +23,18 @@ macro_rules! twice {
     };
 }
 
-/// Checks the image of a trial, mounts its volume, and carries its commands out.
+/// Checks the image of a trial with this version of the layout, mounts its volume, and carries its commands out.
 pub fn try_trial<R: Threads + Sync>(
     rt: &R,
     alloc: Global,
     trial: &Trial,
+    version: u32,
     outcome: &mut Outcome,
 ) -> Result<(), Refusal> {
-    let image = twice!(image_of(alloc, trial))?;
+    let image = twice!(beginning_of(rt, alloc, trial, version))?;
     report_image(rt, alloc, &image, outcome)?;
     match mounted(alloc, image, outcome) {
-        Ok(mut volume) => try_steps(rt, alloc, &mut volume, trial, outcome),
+        Ok(mut volume) => try_steps(rt, alloc, &mut volume, trial, version, outcome),
         Err(cause) => report_refused(alloc, trial, cause, outcome),
     }
 }
@@ -61,12 +64,6 @@ fn report_refused(
 ) -> Result<(), Refusal> {
     let line = twice!(refused_line(alloc, trial, cause))?;
     Ok(outcome.add(line.as_str())?)
-}
-
-/// The device of a trial.
-fn image_of(alloc: Global, trial: &Trial) -> Result<MemDevice, Refusal> {
-    let bytes = bytes_of(alloc, trial.numbers, trial.puts)?;
-    MemDevice::from_bytes(alloc, bytes.as_slice())
 }
 
 /// The report of a check of what a device holds, by so many workers.
@@ -127,6 +124,7 @@ fn try_steps<R: Threads + Sync>(
     alloc: Global,
     volume: &mut Volume<MemDevice>,
     trial: &Trial,
+    version: u32,
     outcome: &mut Outcome,
 ) -> Result<(), Refusal> {
     let steps = twice!(steps_of(alloc, trial))?;
@@ -137,7 +135,7 @@ fn try_steps<R: Threads + Sync>(
         rt,
         alloc,
         volume.live().device(),
-        trial,
+        (trial.name, behind_name(version)),
         steps.len(),
         outcome,
     )
@@ -148,11 +146,11 @@ fn report_end<R: Threads + Sync>(
     rt: &R,
     alloc: Global,
     device: &MemDevice,
-    trial: &Trial,
+    name: (&str, &str),
     steps: usize,
     outcome: &mut Outcome,
 ) -> Result<(), Refusal> {
-    let line = twice!(end_line(alloc, trial, steps, device))?;
+    let line = twice!(end_line(alloc, name, steps, device))?;
     outcome.add(line.as_str())?;
     let report = twice!(report_of(rt, alloc, device, 1))?;
     Ok(outcome.add(report.as_str())?)
@@ -218,15 +216,14 @@ fn text_of(alloc: Global, told: &Result<Told, Refusal>) -> Result<String, Refusa
 /// the device holds.
 fn end_line(
     alloc: Global,
-    trial: &Trial,
+    (name, behind): (&str, &str),
     steps: usize,
     device: &MemDevice,
 ) -> Result<String, Refusal> {
-    let name = trial.name;
     let writes = device.writes();
     let mut copy = device.image_after(alloc, writes)?;
     let sum = sum_of(&mut copy)?;
-    Ok(format!(in alloc; "{name}: steps {steps} writes {writes} sum {sum:016x}\n")?)
+    Ok(format!(in alloc; "{name}{behind}: steps {steps} writes {writes} sum {sum:016x}\n")?)
 }
 
 /// A sum of the bytes that a device holds, which depends on where they stand.

@@ -66,7 +66,14 @@ const NO_IMAGES: &[(Changes<'static>, Wanted<'static>)] = &[
         ),
     ),
     (
-        &[(4, 2)],
+        &[(4, 0)],
+        Refused(
+            "refused 4 BadSuper\nat rows_no_image.img: not an image of fsvol\n",
+            3,
+        ),
+    ),
+    (
+        &[(4, 3)],
         Refused(
             "refused 4 BadSuper\nat rows_no_image.img: not an image of fsvol\n",
             3,

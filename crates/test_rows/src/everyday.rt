@@ -15,7 +15,7 @@ use std::time::Clock;
 
 /// What the numbers of the image are at the end of the next row.
 const NUMBERS: &str =
-    "groups 1\nblocks-a-group 16\ninodes-a-group 16\nblocks 17\nblock-bytes 1024\nnumbers-used 5\nnumbers-free 9\ndata-blocks-used 5\ndata-blocks-free 8\nfiles 1\ndirectories 4\nlongest-free-run 8\n";
+    "format 1\ngroups 1\nblocks-a-group 16\ninodes-a-group 16\nblocks 17\nblock-bytes 1024\nnumbers-used 5\nnumbers-free 9\ndata-blocks-used 5\ndata-blocks-free 8\nfiles 1\ndirectories 4\nlongest-free-run 8\n";
 
 /// What the users of a script are told that writes the file `/f`, and the report behind it.
 const WRITTEN: &str =
@@ -375,7 +375,7 @@ const SOFT: &[(Changes<'static>, Wanted<'static>)] = &[(&[(1_184, 33)], Printed(
 
 /// What the numbers of a fresh image are whose block 9 is marked.
 const SOFT_NUMBERS: &str =
-    "groups 1\nblocks-a-group 16\ninodes-a-group 16\nblocks 17\nblock-bytes 1024\nnumbers-used 1\nnumbers-free 13\ndata-blocks-used 2\ndata-blocks-free 11\nfiles 0\ndirectories 1\nlongest-free-run 7\n";
+    "format 1\ngroups 1\nblocks-a-group 16\ninodes-a-group 16\nblocks 17\nblock-bytes 1024\nnumbers-used 1\nnumbers-free 13\ndata-blocks-used 2\ndata-blocks-free 11\nfiles 0\ndirectories 1\nlongest-free-run 7\n";
 
 /// The picture of a fresh image of 8 blocks.
 const PICTURE: &str =

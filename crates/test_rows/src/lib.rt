@@ -8,6 +8,8 @@ mod demoing;
 #[cfg(test)]
 mod everyday;
 #[cfg(test)]
+mod formats;
+#[cfg(test)]
 mod hosting;
 #[cfg(test)]
 mod making;

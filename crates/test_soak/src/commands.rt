@@ -1,4 +1,6 @@
 //! Random scripts of users.
+use crate::long_files::{BLOCKS, write_long};
+use layout::DOUBLE;
 use std::alloc::{AllocError, Global};
 use test_noise::Noise;
 
@@ -27,23 +29,44 @@ const NAMES: &[&str] = &[
 ];
 
 /// A script of random lines of each user. A user's handle 0 is of a file of its own, which no other one names, and each write
-/// to it is followed by a read of the same block. One user more takes snapshots.
-pub fn random_script(alloc: Global, noise: &mut Noise) -> Result<String, AllocError> {
+/// to it is followed by a read of the same block. In version 2 of the layout it is a long file, which grows and is cut where its
+/// double indirect block comes and goes. One user more takes snapshots.
+pub fn random_script(alloc: Global, noise: &mut Noise, version: u32) -> Result<String, AllocError> {
     let mut text = String::new(alloc);
     for user in 1..=USERS {
         writeln!(text, "{user} create /own{user}")?;
         writeln!(text, "{user} open /own{user}")?;
-        for _line in 0..LINES {
-            write_lines(&mut text, noise, user)?;
+        if version == DOUBLE {
+            write_of_long(&mut text, noise, user)?;
+        } else {
+            write_of_user(&mut text, noise, user)?;
         }
     }
-    write_of_keeper(&mut text, noise)?;
+    write_of_keeper(&mut text, noise, version)?;
     Ok(text)
+}
+
+/// Writes the lines of a user.
+fn write_of_user(text: &mut String, noise: &mut Noise, user: u32) -> Result<(), AllocError> {
+    for _line in 0..LINES {
+        write_lines(text, noise, user)?;
+    }
+    Ok(())
+}
+
+/// Writes the lines of a user whose own file is long.
+fn write_of_long(text: &mut String, noise: &mut Noise, user: u32) -> Result<(), AllocError> {
+    let mut blocks = BLOCKS;
+    for _line in 0..LINES {
+        write_lines(text, noise, user)?;
+        write_long(text, noise, user, &mut blocks)?;
+    }
+    Ok(())
 }
 
 /// Writes the lines of the user who takes snapshots. It names those that it took last, some of which it has ended; at last it
 /// ends them all.
-fn write_of_keeper(text: &mut String, noise: &mut Noise) -> Result<(), AllocError> {
+fn write_of_keeper(text: &mut String, noise: &mut Noise, version: u32) -> Result<(), AllocError> {
     let mut taken = 0u32;
     for _line in 0..LINES {
         let number = taken.saturating_sub(noise.below(5).saturating_add(1));
@@ -53,7 +76,7 @@ fn write_of_keeper(text: &mut String, noise: &mut Noise) -> Result<(), AllocErro
                 taken = taken.saturating_add(1);
             }
             1 => writeln!(text, "{KEEPER} release {number}")?,
-            _ => write_snapread(text, noise, number)?,
+            _ => write_snapread(text, noise, number, version)?,
         }
     }
     write_ends(text, taken)
@@ -68,9 +91,18 @@ fn write_ends(text: &mut String, taken: u32) -> Result<(), AllocError> {
 }
 
 /// Writes a read of a random block of a snapshot.
-fn write_snapread(text: &mut String, noise: &mut Noise, number: u32) -> Result<(), AllocError> {
+fn write_snapread(
+    text: &mut String,
+    noise: &mut Noise,
+    number: u32,
+    version: u32,
+) -> Result<(), AllocError> {
     let inode = noise.below(10).saturating_add(3);
-    let index = noise.below(2);
+    let index = if version == DOUBLE {
+        noise.one_of(&[0u32, 1, 267, 268, 269, 270], 0)
+    } else {
+        noise.below(2)
+    };
     writeln!(text, "{KEEPER} snapread {number} {inode} {index}")
 }
 

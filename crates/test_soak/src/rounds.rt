@@ -1,11 +1,12 @@
 //! Rounds of random commands, each with stops.
 use crate::answers::{is_possible, opens_own, reads_back};
 use crate::commands::random_script;
+use crate::long_files::image_of_long_files;
 use crate::snapshots::Snapshots;
 use anyhow::Result;
 use device::MemDevice;
 use findings::Verdict;
-use layout::Refusal;
+use layout::{DOUBLE, Refusal, SINGLE};
 use snapshot::{Answer, Volume};
 use std::alloc::Global;
 use std::io::Eprint;
@@ -17,7 +18,7 @@ use test_trials::{bytes_of, fault_of, mount};
 use user_scripts::{Commands, UserLine, parse};
 use users::{Answered, Mended, Ran, run};
 
-/// How many groups the volume has, and how many blocks and inodes each has: few, so that they run out.
+/// How many groups the volume of version 1 has, and how many blocks and inodes each has: few, so that they run out.
 const NUMBERS: [u32; 3] = [3, 48, 24];
 
 /// How many rounds there are at least.
@@ -56,21 +57,22 @@ impl Counts {
     }
 }
 
-/// Makes rounds for so many minutes.
+/// Makes rounds for so many minutes with this version of the layout.
 pub fn soak<R: Threads + Wait + Clock + Eprint + Sync + AllocGlobal>(
     rt: &R,
     minutes: u64,
     seed: u64,
+    version: u32,
 ) -> Result<Counts> {
     let start = Instant::now(rt)?;
     let mut noise = Noise::new(seed);
     let mut counts = Counts::new();
-    let mut image = fresh_image(rt.alloc())?;
+    let mut image = first_image(rt, rt.alloc(), version)?;
     for _ in rt.forever() {
         if is_over(rt, start, minutes, counts)? {
             return Ok(counts);
         }
-        image = round(rt, rt.alloc(), image, &mut noise, &mut counts)?;
+        image = round(rt, rt.alloc(), image, version, &mut noise, &mut counts)?;
     }
     unreachable!()
 }
@@ -81,9 +83,16 @@ fn is_over(rt: &impl Clock, start: Instant, minutes: u64, counts: Counts) -> Res
     Ok(counts.rounds >= LEAST_ROUNDS && seconds >= minutes.saturating_mul(60))
 }
 
-/// A fresh image.
-fn fresh_image(alloc: Global) -> Result<MemDevice, Refusal> {
-    let bytes = bytes_of(alloc, NUMBERS, &[])?;
+/// The image with which the first round begins: a fresh one in version 1, and one with long files in version 2.
+fn first_image(
+    rt: &(impl Threads + Sync),
+    alloc: Global,
+    version: u32,
+) -> Result<MemDevice, Refusal> {
+    if version == DOUBLE {
+        return image_of_long_files(rt, alloc);
+    }
+    let bytes = bytes_of(alloc, NUMBERS, SINGLE, &[])?;
     MemDevice::from_bytes(alloc, bytes.as_slice())
 }
 
@@ -92,10 +101,11 @@ fn round<R: Threads + Wait + Eprint + Sync>(
     rt: &R,
     alloc: Global,
     image: MemDevice,
+    version: u32,
     noise: &mut Noise,
     counts: &mut Counts,
 ) -> Result<MemDevice> {
-    let ran = ran(rt, alloc, image, noise)?;
+    let ran = ran(rt, alloc, image, version, noise)?;
     look_at_round(rt, alloc, &ran, noise, counts)
 }
 
@@ -119,9 +129,10 @@ fn ran<R: Threads + Wait + Sync>(
     rt: &R,
     alloc: Global,
     image: MemDevice,
+    version: u32,
     noise: &mut Noise,
 ) -> Result<Ran<MemDevice>> {
-    let script = script_of(alloc, noise)?;
+    let script = script_of(alloc, noise, version)?;
     let volume = Volume::new(mount(alloc, image)?);
     Ok(run(rt, alloc, volume, script, WORKERS)?)
 }
@@ -154,8 +165,8 @@ fn look_at_copy<R: Threads + Eprint + Sync>(
 }
 
 /// A random script.
-fn script_of(alloc: Global, noise: &mut Noise) -> Result<Vec<UserLine>> {
-    let text = random_script(alloc, noise)?;
+fn script_of(alloc: Global, noise: &mut Noise, version: u32) -> Result<Vec<UserLine>> {
+    let text = random_script(alloc, noise, version)?;
     Ok(parse(alloc, text.as_bytes(), Commands::OfUsersAndSnapshots)?)
 }
 

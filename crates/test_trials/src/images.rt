@@ -12,11 +12,17 @@ use std::alloc::Global;
 /// Bytes that an image has in place of a fresh one's: where the first one stands, and what they are.
 pub type Put = (usize, &'static [u8]);
 
-/// The bytes of a fresh image of so many groups, of so many blocks and inodes each, with these bytes in it. What would stand
-/// behind its end is left out. Refused with `BadGeometry` and with `NoMemory`.
-pub fn bytes_of(alloc: Global, numbers: [u32; 3], puts: &[Put]) -> Result<Vec<u8>, Refusal> {
+/// The bytes of a fresh image of so many groups, of so many blocks and inodes each, and of this version of the layout, with these
+/// bytes in it. What would stand behind its end is left out. Refused with `BadGeometry`, `BadSuper` and `NoMemory`.
+pub fn bytes_of(
+    alloc: Global,
+    numbers: [u32; 3],
+    version: u32,
+    puts: &[Put],
+) -> Result<Vec<u8>, Refusal> {
     let [groups, blocks, inodes] = numbers;
-    let mut bytes = fresh_bytes(alloc, &Geometry::new(groups, blocks, inodes)?)?;
+    let geometry = Geometry::new(groups, blocks, inodes)?.with_version(version)?;
+    let mut bytes = fresh_bytes(alloc, &geometry)?;
     for (at, values) in puts {
         put(bytes.as_mut_slice(), *at, values);
     }

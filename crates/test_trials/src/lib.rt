@@ -2,21 +2,25 @@
 //! its calls, and a look at what a stop leaves.
 #![tactic(auto)]
 
+mod beginning;
 mod carrying;
 mod images;
+mod long_rows;
 mod rows;
 mod seen;
 mod stops;
 mod trial;
 mod watched;
 
+pub use beginning::beginning_of;
 pub use carrying::{Told, carry_out, write_told};
 pub use images::{Put, bytes_of, mount};
+pub use long_rows::{FULL, FULL_OF_ONE_FILE, PAST_268_BLOCKS, PAST_524_BLOCKS, UNDER_A_SNAPSHOT};
 pub use rows::{
-    COUNT_TOO_HIGH, FOUR_SNAPSHOTS, FULL, INTO_NEW_DIRECTORY, LOST_FILE, NUMBER_OF_ANOTHER,
-    SECOND_BLOCK, TWO_USERS, UNLINKED_AND_OPEN,
+    COUNT_TOO_HIGH, FOUR_SNAPSHOTS, INTO_NEW_DIRECTORY, LOST_FILE, NUMBER_OF_ANOTHER, SECOND_BLOCK,
+    TWO_USERS, UNLINKED_AND_OPEN,
 };
 pub use seen::Seen;
 pub use stops::{Fault, fault_of};
-pub use trial::{Action, Step, Trial, steps_of};
+pub use trial::{Action, Step, Trial, behind_name, is_asked, steps_of};
 pub use watched::Watched;

@@ -1,6 +1,10 @@
-//! The trials: what leaks is found and given back while users go on, an image that is full, and names that are given and taken
-//! with the device flushed block by block.
+//! The trials of small volumes: what leaks is found and given back while users go on, and names that are given and taken with the
+//! device flushed block by block.
 use crate::trial::Trial;
+use layout::{DOUBLE, SINGLE};
+
+/// Both versions of the layout.
+const BOTH: &[u32] = &[SINGLE, DOUBLE];
 
 /// A group of 16 blocks and 16 inodes: blocks 4 to 16 are data blocks, the root is inode 2 and has block 4.
 const SMALL: [u32; 3] = [1, 16, 16];
@@ -8,12 +12,14 @@ const SMALL: [u32; 3] = [1, 16, 16];
 /// File 5 has block 6 and no name. It is dropped while a snapshot holds the block.
 pub const LOST_FILE: Trial = Trial {
     name: "lost file",
+    versions: BOTH,
     numbers: SMALL,
     puts: &[
         (1_056, b"\x24"),
         (1_184, b"\x05"),
         (2_688, b"\x01\0\x01\0\0\x04\0\0\x06"),
     ],
+    before: &[],
     lines: &[
         ("freeze", "ok 0"),
         ("check", "lost inode 5"),
@@ -32,12 +38,14 @@ pub const LOST_FILE: Trial = Trial {
 /// File 5 has the name /a and two links. It loses its name after the check and before the repair.
 pub const COUNT_TOO_HIGH: Trial = Trial {
     name: "count too high",
+    versions: BOTH,
     numbers: SMALL,
     puts: &[
         (1_056, b"\x24"),
         (2_688, b"\x01\0\x02\0"),
         (4_224, b"\x05\0\0\0\x01\0\0\0a"),
     ],
+    before: &[],
     lines: &[
         ("freeze", "ok 0"),
         ("check", "count high 5 links 2 entries 1"),
@@ -57,8 +65,10 @@ pub const COUNT_TOO_HIGH: Trial = Trial {
 /// A file without a name is open while the volume is checked, and closed before the repairs.
 pub const UNLINKED_AND_OPEN: Trial = Trial {
     name: "unlinked and open",
+    versions: BOTH,
     numbers: SMALL,
     puts: &[],
+    before: &[],
     lines: &[
         ("create /t", "ok 3"),
         ("open /t", "ok 0"),
@@ -78,40 +88,14 @@ pub const UNLINKED_AND_OPEN: Trial = Trial {
     ],
 };
 
-/// A file of 268 blocks is cut while a snapshot holds them, and another one takes all that is left. There are 508 data blocks
-/// beside the root's.
-pub const FULL: Trial = Trial {
-    name: "full",
-    numbers: [1, 512, 16],
-    puts: &[],
-    lines: &[
-        ("create /a", "ok 3"),
-        ("open /a", "ok 0"),
-        ("fill 0 0 268", "ok"),
-        ("write 0 268 x", "refused 16 TooBig"),
-        ("create /b", "ok 4"),
-        ("open /b", "ok 1"),
-        ("write 1 1 x", "refused 18 BadIndex"),
-        ("freeze", "ok 0"),
-        ("unmarked", "239"),
-        ("truncate 0 0", "ok"),
-        ("unmarked", "239"),
-        ("fill 1 0 238", "ok"),
-        ("unmarked", "0"),
-        ("write 1 238 x", "refused 14 NoBlock"),
-        ("release 0", "ok"),
-        ("unmarked", "269"),
-        ("write 1 238 x", "ok"),
-        ("sync", "ok"),
-    ],
-};
-
 /// A file is written between freezes, each of which begins a snapshot: up to four stand, a block is held as long as one of them
 /// has it, and the latest one shows no block as lost that is held for an older one.
 pub const FOUR_SNAPSHOTS: Trial = Trial {
     name: "four snapshots",
+    versions: BOTH,
     numbers: SMALL,
     puts: &[],
+    before: &[],
     lines: &[
         ("create /a", "ok 3"),
         ("open /a", "ok 0"),
@@ -163,8 +147,10 @@ pub const FOUR_SNAPSHOTS: Trial = Trial {
 /// The root has fifteen names, the last of them in a second block, which goes and is given again in the first one.
 pub const SECOND_BLOCK: Trial = Trial {
     name: "second block",
+    versions: BOTH,
     numbers: SMALL,
     puts: &[],
+    before: &[],
     lines: &[
         ("create /n01", "ok 3"),
         ("link /n01 /n02", "ok"),
@@ -199,8 +185,10 @@ pub const SECOND_BLOCK: Trial = Trial {
 /// A file is renamed into a directory that is not on the device yet.
 pub const INTO_NEW_DIRECTORY: Trial = Trial {
     name: "into a new directory",
+    versions: BOTH,
     numbers: SMALL,
     puts: &[],
+    before: &[],
     lines: &[
         ("create /b", "ok 3"),
         ("sync", "ok"),
@@ -222,8 +210,10 @@ pub const INTO_NEW_DIRECTORY: Trial = Trial {
 /// A file is made while another one goes.
 pub const NUMBER_OF_ANOTHER: Trial = Trial {
     name: "one comes and one goes",
+    versions: BOTH,
     numbers: SMALL,
     puts: &[],
+    before: &[],
     lines: &[
         ("create /b", "ok 3"),
         ("sync", "ok"),
@@ -244,8 +234,10 @@ pub const NUMBER_OF_ANOTHER: Trial = Trial {
 /// Two users: one writes a file, the other makes one and takes it away.
 pub const TWO_USERS: Trial = Trial {
     name: "two users",
+    versions: BOTH,
     numbers: SMALL,
     puts: &[],
+    before: &[],
     lines: &[
         ("create /x", "ok 3"),
         ("create /y", "ok 4"),

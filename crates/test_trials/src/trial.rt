@@ -1,7 +1,7 @@
 //! Lists of steps with their answers.
 use crate::images::Put;
-use command_text::{first_word, parse_command, three_numbers};
-use layout::{BLOCK_BYTES, Refusal};
+use command_text::{first_word, number, parse_command, three_numbers};
+use layout::{BLOCK_BYTES, Refusal, SINGLE};
 use snapshot::Command;
 use std::alloc::Global;
 
@@ -10,10 +10,15 @@ use std::alloc::Global;
 pub struct Trial {
     /// What it is called.
     pub name: &'static str,
+    /// The versions of the layout with which it is carried out. It comes out the same with each.
+    pub versions: &'static [u32],
     /// How many groups it has, and how many blocks and inodes each has.
     pub numbers: [u32; 3],
     /// What its image has in place of a fresh one's bytes.
     pub puts: &'static [Put],
+    /// What is done on a volume of this image, and synced, before the trial begins: lines, each of which is answered `ok` and so
+    /// on.
+    pub before: &'static [&'static str],
     /// What is asked of it, each with its answer:
     ///
     /// - a command in text, and its answer or `refused` with the number of the cause and its name
@@ -39,6 +44,31 @@ pub enum Action {
 pub struct Step {
     pub action: Action,
     pub wanted: &'static str,
+}
+
+/// What stands behind the name of a trial that is carried out with this version of the layout: nothing for version 1.
+pub fn behind_name(version: u32) -> &'static str {
+    if version == SINGLE { "" } else { ", version 2" }
+}
+
+/// Whether the words of a line, the program's name first, ask for the trial of this name with this version of the layout: no
+/// words ask for each, and a name alone for that with version 1.
+pub fn is_asked(words: &[String], name: &str, version: u32) -> bool {
+    match words {
+        [_, asked, of_version, ..] => asked.as_str() == name
+            && number(of_version.as_bytes()) == Some(version),
+        [_, asked] => asked.as_str() == name && version == SINGLE,
+        _ => true,
+    }
+}
+
+/// What is done before a trial begins. Refused with `NoMemory`, and with `BadName` where a line is of another form.
+pub fn steps_before(alloc: Global, trial: &Trial) -> Result<Vec<Step>, Refusal> {
+    let mut steps = Vec::new(alloc);
+    for line in trial.before {
+        add_steps(alloc, &mut steps, line.as_bytes(), "ok")?;
+    }
+    Ok(steps)
 }
 
 /// The steps of a trial. Refused with `NoMemory`, and with `BadName` where a line is of another form.

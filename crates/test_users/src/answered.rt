@@ -4,14 +4,14 @@ use crate::expect::{holds, same};
 use command_text::write_reply;
 use device::{Byte, MemDevice};
 use findings::Repair;
-use layout::Refusal;
-use scripts::SCRIPTS;
+use layout::{Refusal, SINGLE};
+use scripts::{SCRIPTS, Worked};
 use std::alloc::{AllocError, Global};
 use std::process::Abort;
 use std::sync::Wait;
 use std::test::Fail;
 use std::thread::Threads;
-use test_mounted::{found_on, mounted};
+use test_mounted::{VERSIONS, found_on, mounted_of};
 use user_scripts::{Commands, UserLine, parse};
 use users::{Answered, Ran, run};
 
@@ -23,17 +23,18 @@ fn lines_of(alloc: Global, script: &[u8]) -> Result<Vec<UserLine>, Refusal> {
     }
 }
 
-/// What comes of a script with so many workers, on the volume of an image of one group and 16 inodes that is fresh but for these
-/// bytes.
+/// What comes of a script with so many workers, on the volume, of this version of the layout, of an image of one group and 16
+/// inodes that is fresh but for these bytes.
 fn ran<R: Threads + Wait + Sync>(
     rt: &R,
     alloc: Global,
+    version: u32,
     bytes: &[Byte],
     script: &[u8],
     workers: u32,
 ) -> Result<Ran<MemDevice>, Refusal> {
     let lines = lines_of(alloc, script)?;
-    let volume = mounted(alloc, 1, 16, bytes)?;
+    let volume = mounted_of(alloc, version, 1, 16, bytes)?;
     run(rt, alloc, volume, lines, workers)
 }
 
@@ -88,7 +89,26 @@ fn expect_ran<R: Threads + AllocGlobal + Abort + Sync>(
     Ok(())
 }
 
-/// Expects this of a script with so many workers, on a volume that is fresh but for these bytes.
+/// Expects this of a script with so many workers, on volumes of these versions of the layout that are fresh but for these bytes.
+fn expect_run_of<R: Threads + Wait + AllocGlobal + Abort + Sync>(
+    rt: &R,
+    versions: &[u32],
+    bytes: &[Byte],
+    script: &[u8],
+    workers: u32,
+    lines: &[u8],
+    repairs: &[Repair],
+) -> Result<(), Refusal> {
+    for version in versions {
+        let ran = ran(rt, rt.alloc(), *version, bytes, script, workers)?;
+        let outcome = expect_ran(rt, &ran, lines, repairs);
+        drop(ran);
+        outcome?;
+    }
+    Ok(())
+}
+
+/// The same on volumes of both versions.
 fn expect_run<R: Threads + Wait + AllocGlobal + Abort + Sync>(
     rt: &R,
     bytes: &[Byte],
@@ -97,10 +117,7 @@ fn expect_run<R: Threads + Wait + AllocGlobal + Abort + Sync>(
     lines: &[u8],
     repairs: &[Repair],
 ) -> Result<(), Refusal> {
-    let ran = ran(rt, rt.alloc(), bytes, script, workers)?;
-    let outcome = expect_ran(rt, &ran, lines, repairs);
-    drop(ran);
-    outcome
+    expect_run_of(rt, &VERSIONS, bytes, script, workers, lines, repairs)
 }
 
 #[test]
@@ -157,12 +174,14 @@ fn expect_replies(
 
 #[test]
 fn a_users_snapshots_are_its_own(rt: HostRuntime) -> Result<(), Fail> {
-    for workers in [1, 2, 4] {
-        let script = script_of(rt.alloc(), OF_SNAPSHOTS)?;
-        let ran = ran(&rt, rt.alloc(), &[], script.as_slice(), workers)?;
-        let outcome = expect_replies(&rt, ran.answered.as_slice(), OF_SNAPSHOTS);
-        drop(ran);
-        outcome?;
+    let script = script_of(rt.alloc(), OF_SNAPSHOTS)?;
+    for version in VERSIONS {
+        for workers in [1, 2, 4] {
+            let ran = ran(&rt, rt.alloc(), version, &[], script.as_slice(), workers)?;
+            let outcome = expect_replies(&rt, ran.answered.as_slice(), OF_SNAPSHOTS);
+            drop(ran);
+            outcome?;
+        }
     }
     Ok(())
 }
@@ -174,10 +193,12 @@ const TOO_MANY: &[u8] =
 #[test]
 fn the_check_waits_until_it_may_freeze_the_volume(rt: HostRuntime) -> Result<(), Fail> {
     let bytes = [(1, 160, 0b10_0001)];
-    for _time in 0..20 {
-        let ran = ran(&rt, rt.alloc(), &bytes, TOO_MANY, 2)?;
-        expect_repairs(&rt, &ran, &[Repair::FreeBlock(9)]);
-        drop(ran);
+    for version in VERSIONS {
+        for _time in 0..20 {
+            let ran = ran(&rt, rt.alloc(), version, &bytes, TOO_MANY, 2)?;
+            expect_repairs(&rt, &ran, &[Repair::FreeBlock(9)]);
+            drop(ran);
+        }
     }
     Ok(())
 }
@@ -202,7 +223,7 @@ fn an_empty_script_has_no_user(rt: HostRuntime) -> Result<(), Fail> {
 #[test]
 fn so_many_workers_there_may_be(rt: HostRuntime) -> Result<(), Fail> {
     for workers in [0, 65] {
-        let refused = ran(&rt, rt.alloc(), &[], b"", workers).err();
+        let refused = ran(&rt, rt.alloc(), SINGLE, &[], b"", workers).err();
         same(&rt, workers, refused, Some(Refusal::BadWorkers));
     }
     Ok(())
@@ -212,7 +233,12 @@ fn so_many_workers_there_may_be(rt: HostRuntime) -> Result<(), Fail> {
 fn users_are_answered_as_worked_out(rt: HostRuntime) -> Result<(), Fail> {
     for worked in SCRIPTS {
         for workers in [1, 4] {
-            expect_run(&rt, &[], worked.script, workers, worked.told, &[])?;
+            let Worked {
+                versions,
+                script,
+                told,
+            } = worked;
+            expect_run_of(&rt, versions, &[], script, workers, told, &[])?;
         }
     }
     Ok(())

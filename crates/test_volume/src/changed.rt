@@ -7,7 +7,7 @@ use snapshot::Volume;
 use std::alloc::Global;
 use std::process::Abort;
 use std::test::Fail;
-use test_mounted::{Asked, commands_of};
+use test_mounted::{Asked, VERSIONS, commands_of};
 
 /// What came of commands on a volume.
 fn outcome_on(
@@ -65,6 +65,14 @@ fn expect_rows<R: AllocGlobal + Abort>(
 /// The volume has 6 free numbers.
 #[test]
 fn commands_stop_at_the_first_refusal(rt: HostRuntime) -> Result<(), Fail> {
-    on_mounted(rt.alloc(), 8, &[], |volume| expect_rows(&rt, volume))?;
+    for version in VERSIONS {
+        on_mounted(
+            rt.alloc(),
+            version,
+            8,
+            &[],
+            |volume| expect_rows(&rt, volume),
+        )?;
+    }
     Ok(())
 }

@@ -8,7 +8,7 @@ use snapshot::{Answer, Reply, Volume};
 use std::process::Abort;
 use std::test::Fail;
 use std::thread::Threads;
-use test_mounted::{Asked, Wanted, command_of, is_as};
+use test_mounted::{Asked, VERSIONS, Wanted, command_of, is_as};
 
 /// What is asked of a volume, or what is seen of it then.
 #[derive(Clone, Copy)]
@@ -122,22 +122,28 @@ fn expect_rows<R: Threads + AllocGlobal + Abort + Sync>(
 
 #[test]
 fn each_snapshot_has_what_the_file_had(rt: HostRuntime) -> Result<(), Fail> {
-    on_mounted(
-        rt.alloc(),
-        16,
-        &[],
-        |volume| expect_rows(&rt, volume, THREE_STAND),
-    )?;
+    for version in VERSIONS {
+        on_mounted(
+            rt.alloc(),
+            version,
+            16,
+            &[],
+            |volume| expect_rows(&rt, volume, THREE_STAND),
+        )?;
+    }
     Ok(())
 }
 
 #[test]
 fn a_block_is_held_until_no_snapshot_has_it(rt: HostRuntime) -> Result<(), Fail> {
-    on_mounted(
-        rt.alloc(),
-        16,
-        &[],
-        |volume| expect_rows(&rt, volume, TWO_HAVE_A_BLOCK),
-    )?;
+    for version in VERSIONS {
+        on_mounted(
+            rt.alloc(),
+            version,
+            16,
+            &[],
+            |volume| expect_rows(&rt, volume, TWO_HAVE_A_BLOCK),
+        )?;
+    }
     Ok(())
 }

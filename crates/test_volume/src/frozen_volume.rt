@@ -11,7 +11,7 @@ use std::sync::Arc;
 use std::test::Fail;
 use std::thread::Threads;
 use test_images::frozen_with;
-use test_mounted::{Asked, Wanted, commands_of, is_as};
+use test_mounted::{Asked, VERSIONS, Wanted, commands_of, is_as};
 
 /// Block 9 is marked, and in no use.
 const LOST_BLOCK: &[Byte] = &[(1, 160, 0b10_0001)];
@@ -104,12 +104,15 @@ fn expect_mended<R: Threads + AllocGlobal + Abort + Sync>(
 
 #[test]
 fn a_lost_block_is_found_and_given_back(rt: HostRuntime) -> Result<(), Fail> {
-    on_mounted(
-        rt.alloc(),
-        16,
-        LOST_BLOCK,
-        |volume| expect_mended(&rt, volume),
-    )?;
+    for version in VERSIONS {
+        on_mounted(
+            rt.alloc(),
+            version,
+            16,
+            LOST_BLOCK,
+            |volume| expect_mended(&rt, volume),
+        )?;
+    }
     Ok(())
 }
 
@@ -159,7 +162,15 @@ fn expect_replies<R: AllocGlobal + Abort>(
 
 #[test]
 fn commands_are_answered_in_their_order(rt: HostRuntime) -> Result<(), Fail> {
-    on_mounted(rt.alloc(), 16, &[], |volume| expect_replies(&rt, volume))?;
+    for version in VERSIONS {
+        on_mounted(
+            rt.alloc(),
+            version,
+            16,
+            &[],
+            |volume| expect_replies(&rt, volume),
+        )?;
+    }
     Ok(())
 }
 
@@ -183,7 +194,15 @@ fn expect_not_soft<R: Threads + AllocGlobal + Abort + Sync>(
 
 #[test]
 fn a_check_of_a_damaged_image_is_not_installed(rt: HostRuntime) -> Result<(), Fail> {
-    on_mounted(rt.alloc(), 16, &[], |volume| expect_not_soft(&rt, volume))?;
+    for version in VERSIONS {
+        on_mounted(
+            rt.alloc(),
+            version,
+            16,
+            &[],
+            |volume| expect_not_soft(&rt, volume),
+        )?;
+    }
     Ok(())
 }
 
@@ -219,6 +238,14 @@ fn expect_held<R: Threads + AllocGlobal + Abort + Sync>(
 
 #[test]
 fn what_is_held_is_no_finding(rt: HostRuntime) -> Result<(), Fail> {
-    on_mounted(rt.alloc(), 16, &[], |volume| expect_held(&rt, volume))?;
+    for version in VERSIONS {
+        on_mounted(
+            rt.alloc(),
+            version,
+            16,
+            &[],
+            |volume| expect_held(&rt, volume),
+        )?;
+    }
     Ok(())
 }

@@ -8,31 +8,39 @@ use std::test::Fail;
 const READ: &[(&str, &str)] = &[
     (
         "mkfs a.img --groups 2 --blocks 32 --inodes 16",
-        "mkfs \"a.img\" 2 32 16 None false",
+        "mkfs \"a.img\" 2 32 16 1 None false",
     ),
     (
         "mkfs --groups 2 --blocks 32 --inodes 16 a.img",
-        "mkfs \"a.img\" 2 32 16 None false",
+        "mkfs \"a.img\" 2 32 16 1 None false",
     ),
     (
         "mkfs --inodes 16 a.img --blocks 32 --groups 2",
-        "mkfs \"a.img\" 2 32 16 None false",
+        "mkfs \"a.img\" 2 32 16 1 None false",
     ),
     (
         "mkfs --blocks=32 --inodes=16 --groups=2 a.img",
-        "mkfs \"a.img\" 2 32 16 None false",
+        "mkfs \"a.img\" 2 32 16 1 None false",
     ),
     (
         "mkfs --groups 2 --blocks 32 --inodes 16 -- a.img",
-        "mkfs \"a.img\" 2 32 16 None false",
+        "mkfs \"a.img\" 2 32 16 1 None false",
     ),
     (
         "mkfs --groups +2 --blocks 032 --inodes=+16 a.img",
-        "mkfs \"a.img\" 2 32 16 None false",
+        "mkfs \"a.img\" 2 32 16 1 None false",
     ),
     (
         "mkfs --groups 0 --blocks 4294967295 --inodes=-0 a.img",
-        "mkfs \"a.img\" 0 4294967295 0 None false",
+        "mkfs \"a.img\" 0 4294967295 0 1 None false",
+    ),
+    (
+        "mkfs --groups 2 --blocks 32 --inodes 16 --format 1 a.img",
+        "mkfs \"a.img\" 2 32 16 1 None false",
+    ),
+    (
+        "mkfs --format=2 --groups 2 --blocks 32 --inodes 16 a.img --from b",
+        "mkfs \"a.img\" 2 32 16 2 Some(\"b\") false",
     ),
     ("bits a.img", "bits \"a.img\""),
     ("bits -- --help", "bits \"--help\""),
@@ -47,6 +55,7 @@ const READ: &[(&str, &str)] = &[
     ),
     ("repair --workers 1 a.img", "repair \"a.img\" 1 false"),
     ("repair a.img --workers=65", "repair \"a.img\" 65 false"),
+    ("upgrade a.img", "upgrade \"a.img\""),
     ("run --workers 1 a.img b.txt", "run \"a.img\" \"b.txt\" 1"),
     ("run a.img --workers=65 b.txt", "run \"a.img\" \"b.txt\" 65"),
     ("run a.img b.txt --workers 0", "run \"a.img\" \"b.txt\" 0"),

@@ -92,6 +92,27 @@ const WRONG_MKFS: &[(&str, &str)] = &[
     ),
 ];
 
+/// What stands in place of the version of the layout, and what the text that refuses it has.
+const NO_VERSIONS: &[(&str, &str)] = &[
+    (
+        " 3",
+        "invalid value '3' for '--format <NUMBER>': 3 is not in 1..=2\n",
+    ),
+    (
+        "=0",
+        "invalid value '0' for '--format <NUMBER>': 0 is not in 1..=2\n",
+    ),
+    (" x", "invalid value 'x' for '--format <NUMBER>'"),
+    (
+        "",
+        "a value is required for '--format <NUMBER>' but none was supplied",
+    ),
+    (
+        " 1 --format 2",
+        "the argument '--format <NUMBER>' cannot be used multiple times",
+    ),
+];
+
 /// What stands in place of the groups' number, and what the text that refuses it has.
 const NO_NUMBERS: &[(&str, &str)] = &[
     (" x", "invalid value 'x' for '--groups <NUMBER>'"),
@@ -121,11 +142,11 @@ const HELPS: &[(&str, &str)] = &[
     ),
     (
         "--help",
-        "Commands:\n  mkfs    Writes a fresh image\n  put     Puts ",
+        "Commands:\n  mkfs     Writes a fresh image\n  put      Puts ",
     ),
     (
         "--help",
-        "\nGroups:\n  make and move   mkfs, put, get\n  look            ls, stat, cat, info, map\n  change          mkdir, rm, rmdir, mv, ln\n  check and mend  check, repair, bits, run\n  experiments     stops, demo\n",
+        "\nGroups:\n  make and move   mkfs, put, get\n  look            ls, stat, cat, info, map\n  change          mkdir, rm, rmdir, mv, ln\n  check and mend  check, repair, upgrade, bits, run\n  experiments     stops, demo\n",
     ),
     ("--help", "\nStatus:\n  0  done, or the image is clean\n"),
     ("--help", "\n  3  the line is refused\n"),
@@ -160,6 +181,10 @@ const HELPS: &[(&str, &str)] = &[
         "Usage: fsvol get [OPTIONS] <IMAGE> <PATH> <HOST>\n",
     ),
     ("mkfs --help", "--from <HOST>"),
+    (
+        "mkfs --help",
+        "  --format <NUMBER>  The version of the layout: 1, or 2 for files of more than 268 KiB [default: 1]\n",
+    ),
 ];
 
 #[test]
@@ -182,6 +207,17 @@ fn refuses_a_wrong_mkfs(rt: HostRuntime) -> Result<(), Fail> {
 fn refuses_what_is_no_number(rt: HostRuntime) -> Result<(), Fail> {
     for &(value, cause) in NO_NUMBERS {
         is_no_number(&rt, value, cause)?;
+    }
+    Ok(())
+}
+
+#[test]
+fn refuses_what_is_no_version(rt: HostRuntime) -> Result<(), Fail> {
+    for &(value, cause) in NO_VERSIONS {
+        let line = format!(in rt.alloc();
+            "mkfs a.img --groups 1 --blocks 16 --inodes 16 --format{value}"
+        )?;
+        is_refused(&rt, line.as_str(), cause)?;
     }
     Ok(())
 }

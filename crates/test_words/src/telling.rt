@@ -4,6 +4,7 @@ use host_lines::mkfs::MkfsLine;
 use image_lines::bits::BitsLine;
 use image_lines::check::CheckLine;
 use image_lines::repair::RepairLine;
+use image_lines::upgrade::UpgradeLine;
 use script_lines::run::RunLine;
 use script_lines::stops::StopsLine;
 use std::alloc::{AllocError, Global};
@@ -54,6 +55,7 @@ pub(crate) fn told(alloc: Global, line: &Line<'_>) -> Result<String, AllocError>
             },
         ) => format!(in alloc; "run {image:?} {script:?} {workers}"),
         Line::Stops(StopsLine { image, script }) => format!(in alloc; "stops {image:?} {script:?}"),
+        Line::Upgrade(UpgradeLine { image }) => format!(in alloc; "upgrade {image:?}"),
         Line::Bits(BitsLine { image }) => format!(in alloc; "bits {image:?}"),
         Line::Sample => String::from_str(alloc, "sample"),
         _ => String::from_str(alloc, "an everyday line"),
@@ -66,8 +68,9 @@ fn told_of_mkfs(alloc: Global, line: &MkfsLine<'_>) -> Result<String, AllocError
         groups,
         blocks,
         inodes,
+        format,
         from,
         progress,
     } = line;
-    format!(in alloc; "mkfs {image:?} {groups} {blocks} {inodes} {from:?} {progress}")
+    format!(in alloc; "mkfs {image:?} {groups} {blocks} {inodes} {format} {from:?} {progress}")
 }

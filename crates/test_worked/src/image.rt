@@ -5,10 +5,16 @@ use findings::Finding;
 use frozen::{Frozen, load};
 use fsck::{Checked, check_one};
 use inode::{DIRECT_POINTERS, DIRECTORY, FILE, RECORD_BYTES, Record};
-use layout::{BLOCK_BYTES, Block, Geometry, Refusal, fresh_block};
+use layout::{BLOCK_BYTES, Block, DOUBLE, Geometry, Refusal, SINGLE, fresh_block};
 use std::alloc::Global;
 use std::sync::Arc;
 use std::thread::Threads;
+
+/// The versions of the layout.
+pub(crate) const VERSIONS: [u32; 2] = [SINGLE, DOUBLE];
+
+/// The position of the indirect block in version 1.
+const INDIRECT_POSITION: u32 = 268;
 
 /// A change of an image.
 #[derive(Clone, Copy)]
@@ -89,7 +95,8 @@ pub(crate) fn changed(
     Ok(Arc::new(alloc, load(alloc, &mut device)?)?)
 }
 
-/// What a check finds on a fresh image with these changes: a line for each finding that is wanted.
+/// What a check finds on a fresh image with these changes: a line for each finding that is wanted, with the positions of version 1
+/// of the layout.
 pub(crate) fn found<R: Threads + AllocGlobal + Sync>(
     rt: &R,
     geometry: &Geometry,
@@ -100,10 +107,24 @@ pub(crate) fn found<R: Threads + AllocGlobal + Sync>(
     let mut lines = String::new(rt.alloc());
     for finding in checked.findings() {
         if wanted == Wanted::All || is_of_used_blocks(finding) {
-            writeln!(lines, "{finding}")?;
+            let told = told(geometry, finding);
+            writeln!(lines, "{told}")?;
         }
     }
     Ok(lines)
+}
+
+/// A finding as it is told of an image of version 1, in which the indirect block stands at another position.
+fn told(geometry: &Geometry, finding: &Finding) -> Finding {
+    match *finding {
+        Finding::BadPointer(inode, position, value) if position == geometry.most_blocks() => {
+            Finding::BadPointer(inode, INDIRECT_POSITION, value)
+        }
+        Finding::Duplicate(inode, position, block) if position == geometry.most_blocks() => {
+            Finding::Duplicate(inode, INDIRECT_POSITION, block)
+        }
+        other => other,
+    }
 }
 
 /// Whether a finding is of phase 1 or of phase 5.
@@ -213,6 +234,7 @@ fn record(mode: u16, links: u16, size: u32, direct: &[u32], indirect: u32) -> Re
         size,
         direct: pointers(direct),
         indirect,
+        double: 0,
     }
 }
 
@@ -258,7 +280,7 @@ fn set_record(
     }
     let place = geometry.inode_place(number);
     let mut record = [0; RECORD_BYTES];
-    inode.write(&mut record);
+    inode.write(geometry.version(), &mut record);
     put(
         bytes,
         byte_of(place.address).saturating_add(place.byte),

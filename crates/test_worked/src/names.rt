@@ -1,7 +1,7 @@
 //! Names, paths and links. Where nothing else is said an image has one group of 32 blocks and 16 inodes: blocks 4 to 32
 //! are data blocks, the root is inode 2 and has block 4 with its dots, and its other slots are empty.
 use crate::expect::same;
-use crate::image::{Change, Wanted, found};
+use crate::image::{Change, VERSIONS, Wanted, found};
 use layout::Geometry;
 use std::process::Abort;
 use std::test::Fail;
@@ -15,16 +15,18 @@ const TWELVE: &[u32] = &[5, 6, 7, 8, 9, 10, 11, 12, 13, 14, 15, 16];
 /// A name of 56 bytes, the longest there is.
 const LONGEST: &[u8] = b"aaaaaaaaaaaaaaaaaaaaaaaaaaaaaaaaaaaaaaaaaaaaaaaaaaaaaaaa";
 
-/// Checks each example on an image of this many groups.
+/// Checks each example on images of this many groups, of both versions of the layout.
 fn check_all<R: Threads + AllocGlobal + Abort + Sync>(
     rt: &R,
     groups: u32,
     examples: &[Example],
 ) -> Result<(), Fail> {
-    let geometry = Geometry::new(groups, 32, 16)?;
-    for (name, changes, wanted) in examples {
-        let lines = found(rt, &geometry, changes, Wanted::All)?;
-        same(rt, *name, lines.as_str(), *wanted);
+    for version in VERSIONS {
+        let geometry = Geometry::new(groups, 32, 16)?.with_version(version)?;
+        for (name, changes, wanted) in examples {
+            let lines = found(rt, &geometry, changes, Wanted::All)?;
+            same(rt, (version, *name), lines.as_str(), *wanted);
+        }
     }
     Ok(())
 }

@@ -1,6 +1,6 @@
 //! An image that workers of any number check, and find the same.
 use crate::expect::same;
-use crate::image::{Change, changed};
+use crate::image::{Change, VERSIONS, changed};
 use fsck::check;
 use layout::Geometry;
 use std::test::Fail;
@@ -24,12 +24,14 @@ const REPORT: &str =
 #[test]
 fn a_claim_of_another_group_is_a_duplicate(rt: HostRuntime) -> Result<(), Fail> {
     let alloc = rt.alloc();
-    let geometry = Geometry::new(2, 16, 16)?;
-    let frozen = changed(alloc, &geometry, ONE_BLOCK_OF_TWO_FILES)?;
-    for workers in [1, 2, 3, 64] {
-        let checked = check(&rt, alloc, &frozen, workers, &OpenGate)?;
-        same(&rt, workers, checked.report(), REPORT.as_bytes());
-        same(&rt, workers, checked.report().len(), 170);
+    for version in VERSIONS {
+        let geometry = Geometry::new(2, 16, 16)?.with_version(version)?;
+        let frozen = changed(alloc, &geometry, ONE_BLOCK_OF_TWO_FILES)?;
+        for workers in [1, 2, 3, 64] {
+            let checked = check(&rt, alloc, &frozen, workers, &OpenGate)?;
+            same(&rt, workers, checked.report(), REPORT.as_bytes());
+            same(&rt, workers, checked.report().len(), 170);
+        }
     }
     Ok(())
 }

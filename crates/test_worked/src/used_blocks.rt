@@ -2,8 +2,8 @@
 //! group of 32 blocks and 16 inodes: the maps stand in block 1, the records in blocks 2 and 3, and blocks 4 to 32 are data
 //! blocks. The root is inode 2 and has block 4.
 use crate::expect::same;
-use crate::image::{Change, Wanted, found};
-use layout::Geometry;
+use crate::image::{Change, VERSIONS, Wanted, found};
+use layout::{DOUBLE, Geometry, SINGLE};
 use std::process::Abort;
 use std::test::Fail;
 use std::thread::Threads;
@@ -15,15 +15,18 @@ const TWELVE: &[u32] = &[5, 6, 7, 8, 9, 10, 11, 12, 13, 14, 15, 16];
 
 const NEXT_TWELVE: &[u32] = &[17, 18, 19, 20, 21, 22, 23, 24, 25, 26, 27, 28];
 
-/// Checks each example on an image of these numbers.
+/// Checks each example on images of these numbers, of both versions of the layout.
 fn check_all<R: Threads + AllocGlobal + Abort + Sync>(
     rt: &R,
     geometry: &Geometry,
     examples: &[Example],
 ) -> Result<(), Fail> {
-    for (name, changes, wanted) in examples {
-        let lines = found(rt, geometry, changes, Wanted::UsedBlocks)?;
-        same(rt, *name, lines.as_str(), *wanted);
+    for version in VERSIONS {
+        let geometry = geometry.with_version(version)?;
+        for (name, changes, wanted) in examples {
+            let lines = found(rt, &geometry, changes, Wanted::UsedBlocks)?;
+            same(rt, (version, *name), lines.as_str(), *wanted);
+        }
     }
     Ok(())
 }
@@ -300,21 +303,6 @@ const RECORDS_ARE_FREE_OR_SOUND: &[Example] = &[
         "unmarked block 6\n",
     ),
     (
-        "a file of 269 blocks",
-        &[
-            Change::Number(5),
-            Change::Marked(5, 5),
-            Change::Inode {
-                number: 5,
-                mode: 1,
-                size: 274_433,
-                direct: &[5, 6],
-                indirect: 0,
-            },
-        ],
-        "bad inode 5\nlost block 5\n",
-    ),
-    (
         "a free record with pointers",
         &[
             Change::Marked(5, 5),
@@ -333,6 +321,38 @@ const RECORDS_ARE_FREE_OR_SOUND: &[Example] = &[
 #[test]
 fn records_are_free_or_sound(rt: HostRuntime) -> Result<(), Fail> {
     check_all(&rt, &Geometry::new(1, 32, 16)?, RECORDS_ARE_FREE_OR_SOUND)
+}
+
+const A_FILE_OF_269_BLOCKS: &[Change] = &[
+    Change::Number(5),
+    Change::Marked(5, 5),
+    Change::Inode {
+        number: 5,
+        mode: 1,
+        size: 274_433,
+        direct: &[5, 6],
+        indirect: 0,
+    },
+];
+
+/// What is found on it in each version of the layout; the pointers of version 2 are those in the record, the last one the double
+/// indirect one.
+const FOUND_OF_269_BLOCKS: [(u32, &str); 2] = [
+    (SINGLE, "bad inode 5\nlost block 5\n"),
+    (
+        DOUBLE,
+        "bad pointer 5 position 2 value 0\nbad pointer 5 position 3 value 0\nbad pointer 5 position 4 value 0\nbad pointer 5 position 5 value 0\nbad pointer 5 position 6 value 0\nbad pointer 5 position 7 value 0\nbad pointer 5 position 8 value 0\nbad pointer 5 position 9 value 0\nbad pointer 5 position 10 value 0\nbad pointer 5 position 11 value 0\nbad pointer 5 position 268 value 0\nbad pointer 5 position 65805 value 0\nunmarked block 6\n",
+    ),
+];
+
+#[test]
+fn a_file_of_269_blocks_is_sound_in_version_2(rt: HostRuntime) -> Result<(), Fail> {
+    for (version, wanted) in FOUND_OF_269_BLOCKS {
+        let geometry = Geometry::new(1, 32, 16)?.with_version(version)?;
+        let lines = found(&rt, &geometry, A_FILE_OF_269_BLOCKS, Wanted::UsedBlocks)?;
+        same(&rt, version, lines.as_str(), wanted);
+    }
+    Ok(())
 }
 
 const MAPS_MARK_WHAT_IS_USED: &[Example] = &[

@@ -1,7 +1,7 @@
 //! Whole reports, repairs and rules. Where nothing else is said an image has one group of 16 blocks and 16 inodes: blocks
 //! 4 to 16 are data blocks, the root is inode 2 and has block 4 with its dots, and its other slots are empty.
 use crate::expect::same;
-use crate::image::{Change, checked};
+use crate::image::{Change, VERSIONS, checked};
 use fsck::Checked;
 use layout::Geometry;
 use rules::obeys;
@@ -56,14 +56,16 @@ fn expect_example<R: Threads + AllocGlobal + Abort + Sync>(
     Ok(())
 }
 
-/// Checks each example.
+/// Checks each example, on images of both versions of the layout.
 fn check_all<R: Threads + AllocGlobal + Abort + Sync>(
     rt: &R,
     examples: &[Example],
 ) -> Result<(), Fail> {
-    let geometry = Geometry::new(1, 16, 16)?;
-    for example in examples {
-        expect_example(rt, &geometry, example)?;
+    for version in VERSIONS {
+        let geometry = Geometry::new(1, 16, 16)?.with_version(version)?;
+        for example in examples {
+            expect_example(rt, &geometry, example)?;
+        }
     }
     Ok(())
 }

@@ -27,11 +27,11 @@ module _ (geo : Geometry) (ok : IsGeometry geo) (old new : List ℕ) where
   block_put a marked t change blocks e =
       block_write geo ok blocks a new marked t (subst (λ xs. ChangesBit xs new 160 (data_bit geo a) marked) (sym e) change)
 
-  pub record_put : (n : ℕ) (inode : Inode) → IsTrue (is_number geo n) → inode_at new (inode_byte n) ≡ inode
-      → ((k : ℕ) → (k ≡ n % 8 → ⊥) → inode_at new (128 * k) ≡ inode_at old (128 * k)) → PutsCell geo old new (SetInode n inode)
+  pub record_put : (n : ℕ) (inode : Inode) → IsTrue (is_number geo n) → inode_at geo.version new (inode_byte n) ≡ inode
+      → ((k : ℕ) → (k ≡ n % 8 → ⊥) → inode_at geo.version new (128 * k) ≡ inode_at geo.version old (128 * k)) → PutsCell geo old new (SetInode n inode)
   record_put n inode t written others blocks e =
       inode_write geo ok blocks n new inode t written (λ m differs same.
-      others (m % 8) (λ place. differs (inode_places geo ok m n same (ap (λ k. 128 * k) place))) ∙ ap (λ xs. inode_at xs (inode_byte m)) (sym e))
+      others (m % 8) (λ place. differs (inode_places geo ok m n same (ap (λ k. 128 * k) place))) ∙ ap (λ xs. inode_at geo.version xs (inode_byte m)) (sym e))
 
   pub bytes_put : (a : ℕ) → IsTrue (is_data_address geo a) → PutsCell geo old new (SetBytes a new)
   bytes_put a t blocks e = data_write geo ok blocks a new t

@@ -1,13 +1,13 @@
 -- A record that was written over its bytes in its block.
 use Rattle.std.proofs.Common.{◌≡◌, ◌<◌, ◌≤◌, ◌+◌, ◌-◌, ◌*◌, ◌⊎◌, inl, inr, ℕ, List, length, take, drop, replicate, slice_index, sym, ap, ap₂, ◌∙◌, arith}
-use Rattle.model.specs.View.{Inode, free_inode, inode_at}
+use Rattle.model.specs.View.{Inode, free_inode, inode_at, looked_at}
 use Rattle.layout.specs.Fresh.{put}
 use Rattle.layout.proofs.PutLemmas.{put_inside, put_apart, zeroes}
 use Rattle.inode.proofs.RecordBytes.{part_put, record_here, record_there, rest_stays}
 use Rattle.updates.specs.Alone.{ChangesRecord}
 use borrow.Rule.Slice.PartMut.{put_mid, mid_of}
 
-module _ (place : ℕ) (low : place < 8) (block bytes : List ℕ) (size : length block ≡ 1024) (long : length bytes ≡ 128) where
+module _ (version place : ℕ) (low : place < 8) (block bytes : List ℕ) (size : length block ≡ 1024) (long : length bytes ≡ 128) where
   abbrev after : List ℕ
   after = put_mid (place * 128) (place * 128 + 128 - place * 128) block bytes
 
@@ -19,13 +19,13 @@ module _ (place : ℕ) (low : place < 8) (block bytes : List ℕ) (size : length
   fits : 128 * place + 128 ≤ length block
   fits = omega (arith, low, size)
 
-  pub written_there : (inode : Inode) → inode_at bytes 0 ≡ inode → inode_at after (128 * place) ≡ inode
+  pub written_there : (inode : Inode) → inode_at version bytes 0 ≡ inode → inode_at version after (128 * place) ≡ inode
   written_there inode e =
-      ap (λ xs. inode_at xs (128 * place)) after_is_put ∙ record_here block bytes (128 * place) long fits ∙ e
+      ap (λ xs. inode_at version xs (128 * place)) after_is_put ∙ record_here block bytes (128 * place) long fits version ∙ e
 
-  pub others_stay : (k : ℕ) → (k ≡ place → ⊥) → inode_at after (128 * k) ≡ inode_at block (128 * k)
+  pub others_stay : (k : ℕ) → (k ≡ place → ⊥) → inode_at version after (128 * k) ≡ inode_at version block (128 * k)
   others_stay k differs =
-      ap (λ xs. inode_at xs (128 * k)) after_is_put ∙ record_there block bytes place k long fits (λ e. differs (sym e))
+      ap (λ xs. inode_at version xs (128 * k)) after_is_put ∙ record_there version block bytes place k long fits (λ e. differs (sym e))
 
   before_is_cut : mid_of (place * 128) (place * 128 + 128 - place * 128) block ≡ take 128 (drop (128 * place) block)
   before_is_cut =
@@ -47,14 +47,14 @@ module _ (place : ℕ) (low : place < 8) (block bytes : List ℕ) (size : length
       ∙ ap (λ xs. slice_index xs (128 * place + k - 128 * place)) e
       ∙ zeroes 128 (128 * place + k - 128 * place)
 
-  rest_stays_there : drop 60 bytes ≡ drop 60 (mid_of (place * 128) (place * 128 + 128 - place * 128) block)
-      → (k : ℕ) → 60 ≤ k → slice_index after (128 * place + k) ≡ slice_index block (128 * place + k)
+  rest_stays_there : drop (looked_at version) bytes ≡ drop (looked_at version) (mid_of (place * 128) (place * 128 + 128 - place * 128) block)
+      → (k : ℕ) → looked_at version ≤ k → slice_index after (128 * place + k) ≡ slice_index block (128 * place + k)
   rest_stays_there e k high =
       ap (λ xs. slice_index xs (128 * place + k)) after_is_put
-      ∙ rest_stays block bytes (128 * place) long fits (e ∙ ap (drop 60) before_is_cut) (128 * place + k) (inr (omega (arith, high)))
+      ∙ rest_stays block bytes (128 * place) long fits (looked_at version) (e ∙ ap (drop (looked_at version)) before_is_cut) (128 * place + k) (inr (omega (arith, high)))
 
   pub record_changed : (inode : Inode) → (inode ≡ free_inode → bytes ≡ replicate 128 0)
-      → ((inode ≡ free_inode → ⊥) → drop 60 bytes ≡ drop 60 (mid_of (place * 128) (place * 128 + 128 - place * 128) block)) → ChangesRecord block after (128 * place) inode
+      → ((inode ≡ free_inode → ⊥) → drop (looked_at version) bytes ≡ drop (looked_at version) (mid_of (place * 128) (place * 128 + 128 - place * 128) block)) → ChangesRecord version block after (128 * place) inode
   record_changed inode freed kept = record {
     outside = outside_stays;
     freed = λ e k inside. zero_there (freed e) k inside;

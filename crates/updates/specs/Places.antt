@@ -2,6 +2,8 @@
 use Rattle.std.specs.Prelude.{ℕ, ◌+◌, ◌*◌, IsTrue}
 use Rattle.std.specs.List.{All}
 use Rattle.model.specs.Layout.{Geometry, is_number, is_data_address, inode_count, block_count}
+use Rattle.model.specs.View.{Fits}
+use Rattle.model.specs.Cells as model
 use Rattle.ordering.specs.Cuts.{Cell, Record, NumberBit, BlockBit, Block, Pending, cell_of}
 use Rattle.updates.specs.declared.change.Update.{Update}
 use Rattle.updates.specs.Values.{written}
@@ -13,9 +15,15 @@ IsCell geo (NumberBit n) = IsTrue (is_number geo n)
 IsCell geo (BlockBit a) = IsTrue (is_data_address geo a)
 IsCell geo (Block a) = IsTrue (is_data_address geo a)
 
--- what a pending update writes is a cell of the volume, and so is each cell that it was issued after
+-- a record that is written fits the version of the volume's layout
+abbrev pub FitsVolume : Geometry → model.Update → Type 0
+FitsVolume geo (model.SetInode n inode) = Fits geo.version inode
+FitsVolume geo _ = Unit {0}
+
+-- what a pending update writes is a cell of the volume, whose value fits it, and so is each cell that it was issued after
 pub record AreCells (geo : Geometry) (p : Pending) : Type 0 where
   pub changed : IsCell geo (cell_of p.change)
+  pub fits : FitsVolume geo p.change
   pub after : All (IsCell geo) p.after
 
 abbrev pub IsUpdate : Geometry → Update → Type 0

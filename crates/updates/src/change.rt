@@ -1,13 +1,13 @@
 ghost use Rattle.std.specs.Arc.{arc_value};
 ghost use Rattle.std.specs.Prelude.{◌≡◌, ◌≢◌, ◌<◌, ◌*◌, ◌↔◌, ℕ, IfSome, IsTrue, List, length, drop, replicate};
-ghost use Rattle.model.specs.View.{free_inode, inode_at, view_of};
+ghost use Rattle.model.specs.View.{Fits, free_inode, inode_at, looked_at, view_of};
 ghost use Rattle.model.specs.Image.{IsGroupBlock};
 ghost use Rattle.model.specs.Layout.{Geometry as Numbers, IsGeometry, group_block};
 ghost use Rattle.model.specs.Cells.{put_at, updated};
 ghost use Rattle.ordering.specs.Cuts.{cell_of};
 ghost use Rattle.queue_model.specs.Blocks.{home_of};
 ghost use Rattle.updates.specs.Values.{cell, change};
-ghost use Rattle.updates.specs.Places.{IsCell};
+ghost use Rattle.updates.specs.Places.{FitsVolume, IsCell};
 ghost use Rattle.updates.specs.Alone.{ChangesAlone, ChangesRecord, IsPutInto};
 
 use crate::Cell;
@@ -23,6 +23,7 @@ const FREED: Record = Record {
     size: 0,
     direct: [0; DIRECT_POINTERS],
     indirect: 0,
+    double: 0,
 };
 
 /// A cell and its new value.
@@ -75,7 +76,8 @@ impl Change {
 
     /// Puts the new value into the block in which the cell stands. Of a record that is freed all bytes become zero.
     pub fn put(&self, geometry: &Geometry, block: &mut Block)
-        requires { IsCell geometry.now (cell_of (change self.now)) }
+        requires cell { IsCell geometry.now (cell_of (change self.now)) }
+        requires fits { FitsVolume geometry.now (change self.now) }
         ensures view { (blocks : ℕ → List ℕ) → blocks (home_of geometry.now (cell_of (change self.now))) ≡ block.old
             → view_of geometry.now (put_at blocks (home_of geometry.now (cell_of (change self.now))) block.new) ≡ updated (view_of geometry.now blocks) (change self.now) }
         ensures alone { ChangesAlone geometry.now (change self.now) block.old block.new }
@@ -85,7 +87,7 @@ impl Change {
         let inodes = geometry.inodes_a_group();
         match self {
             Change::SetInode(number, record) => {
-                put_record(record, *number % INODES_PER_BLOCK, block)
+                put_record(record, geometry, *number % INODES_PER_BLOCK, block)
             }
             Change::SetNumber(number, marked) => {
                 put_bit(block, Map::Inodes, *number % inodes, *marked)
@@ -100,23 +102,25 @@ impl Change {
 }
 
 /// Writes a record into its block of inodes, where it has this place among the records.
-fn put_record(inode: &Record, place: u32, block: &mut Block)
-    requires { place < 8 }
-    ensures written { inode_at block.new (128 * place) ≡ inode.now }
-    ensures others { (k : ℕ) → k ≢ place → inode_at block.new (128 * k) ≡ inode_at block.old (128 * k) }
-    ensures alone { ChangesRecord block.old block.new (128 * place) inode.now }
+fn put_record(inode: &Record, geometry: &Geometry, place: u32, block: &mut Block)
+    requires place { place < 8 }
+    requires fits { Fits geometry.now.version inode.now }
+    ensures written { inode_at geometry.now.version block.new (128 * place) ≡ inode.now }
+    ensures others { (k : ℕ) → k ≢ place → inode_at geometry.now.version block.new (128 * k) ≡ inode_at geometry.now.version block.old (128 * k) }
+    ensures alone { ChangesRecord geometry.now.version block.old block.new (128 * place) inode.now }
 {
     let byte = place as usize * RECORD_BYTES;
-    write_record(inode, &mut block[byte..byte + RECORD_BYTES]);
+    write_record(inode, geometry, &mut block[byte..byte + RECORD_BYTES]);
 }
 
 /// Writes a record over its bytes. No byte of a freed one stays, so that whoever is given the record next finds nothing
-/// in it; of any other one those stay that are not looked at.
-fn write_record(inode: &Record, bytes: &mut [u8])
-    requires { length bytes.old ≡ 128 }
-    ensures read { inode_at bytes.new 0 ≡ inode.now }
+/// in it; of any other one those stay that this version of the layout does not look at.
+fn write_record(inode: &Record, geometry: &Geometry, bytes: &mut [u8])
+    requires long { length bytes.old ≡ 128 }
+    requires fits { Fits geometry.now.version inode.now }
+    ensures read { inode_at geometry.now.version bytes.new 0 ≡ inode.now }
     ensures freed { inode.now ≡ free_inode → bytes.new ≡ replicate 128 0 }
-    ensures kept { inode.now ≢ free_inode → drop 60 bytes.new ≡ drop 60 bytes.old }
+    ensures kept { inode.now ≢ free_inode → drop (looked_at geometry.now.version) bytes.new ≡ drop (looked_at geometry.now.version) bytes.old }
 {
     let Some(record) = bytes.as_mut_array::<RECORD_BYTES>() else {
         unreachable!()
@@ -124,7 +128,7 @@ fn write_record(inode: &Record, bytes: &mut [u8])
     if is_freed(inode) {
         *record = [0; RECORD_BYTES];
     } else {
-        inode.write(record);
+        inode.write(geometry.version(), record);
     }
 }
 

@@ -2,14 +2,14 @@ ghost use Rattle.std.specs.Prelude.{◌≡◌};
 
 use crate::{Cell, Change, Update, places};
 use inode::{DIRECT_POINTERS, FILE, RECORD_BYTES, Record};
-use layout::{BLOCK_BYTES, Block, Geometry};
+use layout::{BLOCK_BYTES, Block, DOUBLE, Geometry, SINGLE};
 use std::alloc::{AllocError, Global};
 use std::process::Abort;
 use std::sync::Arc;
 
 /// Two groups of 16 blocks and 16 inodes: maps at 1 and 17, data from 4 to 16 and from 20 to 32.
 fn small<A: Abort>(rt: &A) -> Geometry
-    ensures { result ≡ record { groups = 2; blocks = 16; inodes = 16 } }
+    ensures { result ≡ record { groups = 2; blocks = 16; inodes = 16; version = 1 } }
 {
     Geometry::new(2, 16, 16).expect(rt, "a geometry")
 }
@@ -42,14 +42,17 @@ fn cells_have_places_in_one_table(rt: HostRuntime) {
     same(&rt, Cell::Block(32).place(&geometry), 129);
 }
 
-/// A record of a file.
-fn record() -> Record {
+/// A record of a file, without a double indirect pointer.
+fn record() -> Record
+    ensures { result.double ≡ 0 }
+{
     Record {
         mode: FILE,
         links: 1,
         size: 0x0304,
         direct: [5; DIRECT_POINTERS],
         indirect: 6,
+        double: 0,
     }
 }
 
@@ -79,8 +82,22 @@ fn a_record_is_put_among_its_neighbours(rt: HostRuntime) {
 fn a_record_is_read_where_it_was_put(rt: HostRuntime) {
     let block = block_with_record();
     let (records, _) = block.as_chunks::<RECORD_BYTES>();
-    assert_eq!(rt; Record::read(&records[1]), record());
+    assert_eq!(rt; Record::read(SINGLE, &records[1]), record());
     assert_eq!(rt; Change::SetInode(9, record()).cell(), Cell::Record(9));
+}
+
+#[test]
+fn a_record_of_version_2_is_put_with_its_double_pointer(rt: HostRuntime) {
+    let geometry = small(&rt).with_version(DOUBLE).expect(&rt, "version 2");
+    let mut block = [0xaa; BLOCK_BYTES];
+    let record = Record {
+        double: 7,
+        ..record()
+    };
+    Change::SetInode(9, record).put(&geometry, &mut block);
+    let mut wanted = block_with_record();
+    wanted[128 + 60..128 + 64].copy_from_slice(&[7, 0, 0, 0]);
+    assert!(rt; block == wanted, "the block of inodes 8 to 15");
 }
 
 #[test]

@@ -7,10 +7,10 @@ pub returns-clause-length : goal.returns-clause-length
 returns-clause-length c = λ block bytes byte long fits. length-put byte bytes block (omega (arith, long, fits))
 
 pub returns-clause-written : goal.returns-clause-written
-returns-clause-written c = record_here
+returns-clause-written c = λ version block bytes byte long fits. record_here block bytes byte long fits version
 
 pub returns-clause-others : goal.returns-clause-others
 returns-clause-others c = record_there
 
 pub returns-clause-rest : goal.returns-clause-rest
-returns-clause-rest c = rest_stays
+returns-clause-rest c = λ from block bytes byte long fits. rest_stays block bytes byte long fits from

@@ -7,5 +7,6 @@ abbrev pub invariant-loop-byte : goal.invariant-loop-byte
 invariant-loop-byte g l = record {
   put : g.D.Device.honest l.device → with_bytes (g.D.Device.image l.device) (drop l.byte-index l.bytes) ≡ with_bytes (g.D.Device.image l.fn.device) l.bytes;
   count : length (g.D.Device.image l.device) ≡ length (g.D.Device.image l.fn.device);
+  quiet : g.D.Device.failures l.device ≡ g.D.Device.failures l.fn.device;
   honest : g.D.Device.honest l.device → g.D.Device.honest l.fn.device;
 }

@@ -8,9 +8,10 @@ pub returns : goal.returns
 returns c =
     let bytes = c.args.bytes.now in
     same_inode
-    c.mode_of.ensures
+    (c.mode_of.ensures c.args.version)
     (c.read_u16.ensures ∙ little_from-take 0 2 126 (drop 2 bytes) (omega arith))
     (c.read_u32.ensures ∙ little_from-take 0 4 124 (drop 4 bytes) (omega arith))
     (numbers_read 12 8 c.read_u32_into.new.dst bytes c.read_u32_into.auto.dst
     (λ k b. c.read_u32_into.ensures k (omega (arith, c.read_u32_into.auto.dst)) ∙ number_in_part 8 48 (4 * k) bytes (omega arith)))
     (c.read_u32-2.ensures ∙ little_from-take 0 4 72 (drop 56 bytes) (omega arith))
+    c.double_of.ensures

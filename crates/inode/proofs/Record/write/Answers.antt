@@ -1,25 +1,26 @@
-use Rattle.std.proofs.Common.{◌≡◌, length, drop, slice_index, refl, ap, ◌∙◌, rules}
-use Rattle.byteorder.specs.Endian.{little_bytes}
-use Rattle.model.specs.View.{inode_at}
-use Rattle.inode.proofs.RecordBytes.{numbers_put, part_written, written_record, written_rest}
+use Rattle.std.proofs.Common.{◌≡◌, drop, sym, ap, ◌∙◌, arith}
+use Rattle.std.proofs.lemmas.Bool.{ne_eqb}
+use Rattle.model.specs.View.{Inode, inode_at, looked_at}
+use Rattle.inode.proofs.RecordBytes.{later_rest}
 use Rattle.inode.proofs.Record.write.Goals as goal
 
-pub returns-clause-read : goal.returns-clause-read
-returns-clause-read c =
-    let r = c.self.inside in
-    let bytes = c.args.bytes.now in
-    let before = numbers_put r.mode r.links r.size bytes c.told-bytes c.write_u16.new.buf c.write_u16-2.new.buf c.write_u32.new.buf c.write_u16.ensures c.write_u16-2.ensures c.write_u32.ensures in
-    let direct_long : length c.write_direct.new.bytes ≡ 128 = search rules in
-    ap (λ xs. inode_at xs 0) (part_written 56 4 (little_bytes 4 r.indirect) c.write_direct.new.bytes c.write_u32-2.new.buf refl c.write_u32-2.ensures)
-    ∙ written_record r.mode r.links r.size bytes c.told-bytes r.direct c.write_direct.new.bytes direct_long c.write_direct.ensures.read
-    (λ k apart. c.write_direct.ensures.rest k apart ∙ ap (λ xs. slice_index xs k) before) r.indirect (search rules) (search rules) (search rules) (search rules)
-    ∙ c.self.view_is
+pub returns-then-version-eq-DOUBLE-clause-read : goal.returns-then-version-eq-DOUBLE-clause-read
+returns-then-version-eq-DOUBLE-clause-read c = λ fits.
+    ap (λ version. inode_at version c.write_double.new.bytes 0) c.if-version-eq-DOUBLE.true
+    ∙ c.write_double.ensures.read c.args.self.now c.write_single.ensures.read
+    ∙ ap (λ (n : Inode). record c.args.self.now { double = n.double }) c.self.view_is
 
-pub returns-clause-rest : goal.returns-clause-rest
-returns-clause-rest c =
-    let r = c.self.inside in
-    let bytes = c.args.bytes.now in
-    let before = numbers_put r.mode r.links r.size bytes c.told-bytes c.write_u16.new.buf c.write_u16-2.new.buf c.write_u32.new.buf c.write_u16.ensures c.write_u16-2.ensures c.write_u32.ensures in
-    ap (drop 60) (part_written 56 4 (little_bytes 4 r.indirect) c.write_direct.new.bytes c.write_u32-2.new.buf refl c.write_u32-2.ensures)
-    ∙ written_rest r.mode r.links r.size bytes c.told-bytes r.direct c.write_direct.new.bytes (search rules) c.write_direct.ensures.read
-    (λ k apart. c.write_direct.ensures.rest k apart ∙ ap (λ xs. slice_index xs k) before) r.indirect
+pub returns-then-version-eq-DOUBLE-clause-rest : goal.returns-then-version-eq-DOUBLE-clause-rest
+returns-then-version-eq-DOUBLE-clause-rest c =
+    let at : looked_at c.args.version ≡ 64 = ap looked_at c.if-version-eq-DOUBLE.true in
+    ap (λ n. drop n c.write_double.new.bytes) at ∙ c.write_double.ensures.rest
+    ∙ later_rest 60 64 c.write_single.new.bytes c.args.bytes.now (omega arith) c.write_single.ensures.rest
+    ∙ ap (λ n. drop n c.args.bytes.now) (sym at)
+
+pub returns-else-version-eq-DOUBLE-clause-read : goal.returns-else-version-eq-DOUBLE-clause-read
+returns-else-version-eq-DOUBLE-clause-read c = λ fits.
+    let one = ne_eqb c.args.version 2 c.if-version-eq-DOUBLE.false in
+    rw one (c.write_single.ensures.read ∙ ap (λ n. record c.args.self.now { double = n }) (sym (fits one)))
+
+pub returns-else-version-eq-DOUBLE-clause-rest : goal.returns-else-version-eq-DOUBLE-clause-rest
+returns-else-version-eq-DOUBLE-clause-rest c = rw (ne_eqb c.args.version 2 c.if-version-eq-DOUBLE.false) c.write_single.ensures.rest

@@ -8,4 +8,4 @@ returns c =
     c.put_u32-5.ensures ∙ ap₂ (put_u32 16) c.inodes_a_group.ensures.count
     (c.put_u32-4.ensures ∙ ap₂ (put_u32 12) c.blocks_a_group.ensures.count
     (c.put_u32-3.ensures ∙ ap₂ (put_u32 8) c.groups.ensures.count
-    (c.put_u32-2.ensures ∙ ap (put_u32 4 1) (c.put_u32.ensures ∙ ap (put_u32 0 0x53555631) c.requires))))
+    (c.put_u32-2.ensures ∙ ap₂ (put_u32 4) c.version.ensures.version (c.put_u32.ensures ∙ ap (put_u32 0 0x53555631) c.requires))))

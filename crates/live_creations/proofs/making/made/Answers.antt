@@ -1,12 +1,26 @@
 -- The bits, the parent's record, the dots, the new record, and then the entry.
-use Rattle.std.proofs.Common.{◌+◌, map, sym, ap, ◌∙◌, subst}
+use Rattle.std.proofs.Common.{◌+◌, map, refl, sym, ap, ◌∙◌, subst}
 use Rattle.std.specs.Arc.{arc_value}
-use Rattle.frozen.specs.Kept.{Kept}
+use Rattle.frozen.specs.Kept.{Kept, frozen_view}
 use Rattle.machine.specs.Effects.{AreDots, with_links}
 use Rattle.model.specs.View.{Inode}
 use Rattle.updates.specs.Values.{cell}
+use Rattle.live_states.specs.Drafts.{Draft}
+use Rattle.live_plans.proofs.Fitting.{written_fits}
 use Rattle.live_creations.proofs.FirstUpdates.{makes_directory}
 use Rattle.live_creations.proofs.making.made.Goals as goal
+
+-- the parent has its record with other links, and the new directory no double indirect block
+pub push-requires-3-clause-fits : goal.push-requires-3-clause-fits
+push-requires-3-clause-fits c =
+    let kept = c.args.metadata.now in
+    let new = c.args.new.now in
+    written_fits kept c.push-2.new.self.geometry new.directory new.parent ((frozen_view kept).inode new.directory)
+    (c.in_ok-push-2.ensures.geometry ∙ c.in_ok-push.ensures.geometry ∙ ap (λ (d : Draft). d.geometry) c.new-plan.ensures ∙ c.geometry.ensures.geometry ∙ ap (λ (k : Kept). k.geometry) c.frozen.ensures.same)
+    refl (ap (λ (i : Inode). i.double) c.requires.parent)
+
+pub push-requires-5-clause-fits : goal.push-requires-5-clause-fits
+push-requires-5-clause-fits c = λ one. ap (λ (i : Inode). i.double) c.new_directory.ensures
 
 pub returns : goal.returns
 returns c = λ view shows.

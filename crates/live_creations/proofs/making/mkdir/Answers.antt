@@ -109,7 +109,7 @@ returns-clause-planned c =
     let ps = c.in_ok-parsed.parsed in
     let d = c.in_ok-directory.directory in
     let few : c.parent.inside.links < 32767 = c.if-parent-ge-MOST_LINKS.false in
-    let raised : Inode = record { mode = c.parent.inside.mode; links = c.parent.inside.links + 1; size = c.parent.inside.size; direct = c.parent.inside.direct; indirect = c.parent.inside.indirect } in
+    let raised : Inode = record { mode = c.parent.inside.mode; links = c.parent.inside.links + 1; size = c.parent.inside.size; direct = c.parent.inside.direct; indirect = c.parent.inside.indirect; double = c.parent.inside.double } in
     let named = there (λ geo v. IsNewIn geo v ps d) c.frozen.result.now kept c.frozen.ensures.same c.in_ok-directory.ensures.named in
     mkdir_planned kept c.args.path.now ps
     (record { directory = d; parent = raised; number = c.in-Some.number; name = c.name.result; place = c.in_ok-places.places.place })

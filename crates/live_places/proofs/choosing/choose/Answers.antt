@@ -7,6 +7,7 @@ use Rattle.live_places.specs.Chosen.{blocks_needed}
 use Rattle.live_places.specs.Rooms.{IsRoomOf, blocks_for}
 use Rattle.live_places.specs.Taken.{free_below}
 use Rattle.live_places.proofs.ChoiceLemmas.{needed_alone, needed_both, needed_some, too_big, too_few, enough}
+use Rattle.live_places.proofs.RoomLemmas.{room_few}
 use Rattle.live_places.proofs.ShownLemmas.{chosen_alone, chosen_both}
 use Rattle.live_places.proofs.choosing.choose.Goals as goal
 
@@ -16,6 +17,12 @@ room_there held kept d room e = subst (λ (k : Kept). IsRoomOf k.geometry (froze
 
 full_there : (held kept : Kept) (d : ℕ) → held ≡ kept → IsTrue (is_full held.geometry (frozen_view held) d) → IsTrue (is_full kept.geometry (frozen_view kept) d)
 full_there held kept d e = subst (λ (k : Kept). IsTrue (is_full k.geometry (frozen_view k) d)) e
+
+pub place_in-requires : goal.place_in-requires
+place_in-requires c = room_few c.frozen.result.now.geometry (frozen_view c.frozen.result.now) c.args.directory c.in_ok-room.room c.in_ok-room.ensures.room
+
+pub place_in-requires-2 : goal.place_in-requires-2
+place_in-requires-2 c = room_few c.frozen.result.now.geometry (frozen_view c.frozen.result.now) c.args.directory c.in_ok-room.room c.in_ok-room.ensures.room
 
 pub returns-in_err-room-clause-refused : goal.returns-in_err-room-clause-refused
 returns-in_err-room-clause-refused c = λ view shown.

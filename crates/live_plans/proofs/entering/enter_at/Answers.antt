@@ -24,7 +24,7 @@ pub overflow_mul-slot : goal.overflow_mul-slot
 overflow_mul-slot c =
     let kept = c.args.metadata.now in
     let new = c.args.new.now in
-    let is : IsNewBlock kept.geometry (frozen_view kept) new.directory c.in-NewBlock.block c.in-NewBlock.table = subst (IsPlace kept.geometry (frozen_view kept) new.directory) c.in-NewBlock.is c.requires.place in
+    let is : IsNewBlock kept.geometry (frozen_view kept) new.directory c.in-NewBlock.block c.in-NewBlock.tables = subst (IsPlace kept.geometry (frozen_view kept) new.directory) c.in-NewBlock.is c.requires.place in
     let few = few_before kept.geometry (frozen_view kept) new.directory new.parent c.requires.parent.0 c.requires.parent.1 is.none c.requires.room in
     omega (arith, few.1, c.blocks-in-NewBlock.ensures)
 
@@ -67,6 +67,6 @@ returns-in_ok-grow-in-NewBlock c =
     (enters_new_block kept.geometry view new.directory new.number new.name.now c.entry-entry.result (map cell c.add_blocks.new.cells.items) c.entry-entry.ensures
     (record_first new.number (map cell c.in_ok-after.after.items) (map cell c.add_blocks.new.cells.items) (ap (map cell) c.in_ok-after.ensures.items) c.in_ok-add_blocks.ensures.kept) (c.in_ok-add_blocks.ensures.blocks view shows)
     (only_these kept.geometry view new.directory new.number (map cell c.in_ok-after.after.items) (map cell c.add_blocks.new.cells.items) (ap (map cell) c.in_ok-after.ensures.items) (c.in_ok-add_blocks.ensures.only view shows))
-    new.parent c.in-NewBlock.block c.in-NewBlock.table (16 * c.blocks-in-NewBlock.result) c.args.plan.now c.grow.new.plan c.put_slot-in-NewBlock.new.plan (omega (arith, size, c.blocks-in-NewBlock.ensures))
+    new.parent c.in-NewBlock.block c.in-NewBlock.tables (16 * c.blocks-in-NewBlock.result) c.args.plan.now c.grow.new.plan c.put_slot-in-NewBlock.new.plan (omega (arith, size, c.blocks-in-NewBlock.ensures))
     (c.in_ok-grow-in-NewBlock.ensures.grows view shows) puts))
     c.put_slot-in-NewBlock.ensures

@@ -1,19 +1,21 @@
 -- The table that holds the pointer is claimed, and gets it.
-use Rattle.std.proofs.Common.{◌≡◌, ◌∷◌, ℕ, Some, sym, ap, ◌∙◌, subst, map, IsTrue}
+use Rattle.std.specs.Prelude.{option_to_list}
+use Rattle.std.proofs.Common.{◌≡◌, ◌∷◌, ℕ, sym, ap, ◌∙◌, subst, map, IsTrue, List, [], ◌++◌, None}
 use Rattle.std.proofs.lemmas.Bool.{le-leb}
 use Rattle.std.proofs.lemmas.Option.{none-some}
 use Rattle.model.specs.Layout.{Geometry, is_data_address}
 use Rattle.model.specs.Cells.{SetBytes}
-use Rattle.model.specs.Shape.{most_blocks, place_in_table, table_of}
+use Rattle.model.specs.Shape.{most_blocks, place_in_table, table_of, with_field}
 use Rattle.model.proofs.Shape.{table_is_table}
 use Rattle.model.proofs.UseLemmas.{claim_from, claim_parts}
 use Rattle.machine.specs.Cells.{with_pointer}
 use Rattle.frozen.specs.Kept.{frozen_view}
 use Rattle.plans_data.specs.Append.{pointer_after}
+use Rattle.updates.specs.declared.cell.Cell.{Cell}
+use Rattle.updates.specs.declared.cell.Cell.TheVariants as cells
 use Rattle.updates.specs.Values.{cell}
-use Rattle.live_places.specs.Chosen.{listed}
 use Rattle.live_states.specs.Drafts.{GoesOn}
-use Rattle.live_plans.proofs.LinkLemmas.{links_table}
+use Rattle.live_plans.proofs.LinkLemmas.{links_record, links_table}
 use Rattle.live_plans.proofs.linking.link_there.Goals as goal
 
 pub unreachable-requires : goal.unreachable-requires
@@ -40,6 +42,17 @@ put_at-requires-clause-table c =
     subst (λ (g : Geometry). IsTrue (is_data_address g c.in-Some-claim_at.table)) (sym c.requires.geometry)
     (claim_parts kept.geometry (frozen_view kept) c.args.number c.in-Some.place.table c.in-Some-claim_at.table (sym c.claim_at.ensures ∙ c.in-Some-claim_at.is)).1
 
+-- the record holds the pointer
+pub returns-in_default-clause-links : goal.returns-in_default-clause-links
+returns-in_default-clause-links c =
+    let kept = c.args.frozen.now in
+    let k = c.args.position in
+    let b = c.args.block in
+    let none : table_of kept.geometry k ≡ None = sym (ap (λ (g : Geometry). table_of g k) c.geometry-geometry.ensures.geometry) ∙ sym c.in_default.ensures.table in
+    links_record kept.geometry (frozen_view kept) c.args.number c.args.owner.now k b c.args.plan.now c.with_field-record.result (map cell c.push.new.self.items) c.requires.position none c.requires.block
+    (c.with_field-record.ensures ∙ ap (λ (g : Geometry). with_field g c.args.owner.now k b) c.geometry-geometry.ensures.geometry)
+    (ap (map cell) (c.in_ok-push.ensures.items ∙ ap (λ (xs : List Cell). xs ++ cells.Block b ∷ []) c.new-after.ensures.items))
+
 pub returns-clause-links : goal.returns-clause-links
 returns-clause-links c =
     let kept = c.args.frozen.now in
@@ -53,5 +66,5 @@ returns-clause-links c =
     links_table kept.geometry (frozen_view kept) c.args.number c.args.owner.now k b c.in-Some.place.table x pointers over c.args.plan.now c.put_at.new.plan (map cell c.in_ok-after.after.items) one
     (claim_parts kept.geometry (frozen_view kept) c.args.number c.in-Some.place.table x (sym c.claim_at.ensures ∙ c.in-Some-claim_at.is))
     c.pointers_of-pointers.ensures c.table_over-over.ensures.over c.table_over-over.ensures.address c.requires.block
-    (subst (λ (p : ℕ). GoesOn c.args.plan.now c.put_at.new.plan (λ q. record { change = SetBytes x (with_pointer pointers p b); after = pointer_after c.args.number p b pointers (listed over) } ∷ q)) place c.in_ok-put_at.ensures)
+    (subst (λ (p : ℕ). GoesOn c.args.plan.now c.put_at.new.plan (λ q. record { change = SetBytes x (with_pointer pointers p b); after = pointer_after c.args.number p b pointers (option_to_list over) } ∷ q)) place c.in_ok-put_at.ensures)
     c.in_ok-after.ensures

@@ -1,10 +1,9 @@
 -- The table over a table that is claimed is claimed too.
-use Rattle.std.proofs.Common.{◌≡◌, ℕ, None, Some, sym, ap, ◌∙◌, IsTrue}
-use Rattle.std.specs.Option.{IfSome}
-use Rattle.model.specs.Layout.{Geometry, is_data_address}
+use Rattle.std.specs.Prelude.{option_to_list}
+use Rattle.std.proofs.Common.{◌≡◌, None, Some, sym, ap, ◌∙◌}
+use Rattle.model.specs.Layout.{Geometry}
 use Rattle.model.specs.Shape.{table_of}
 use Rattle.frozen.specs.Kept.{frozen_view}
-use Rattle.live_places.specs.Chosen.{listed}
 use Rattle.live_plans.proofs.LinkLemmas.{none_over, over_there}
 use Rattle.live_plans.proofs.linking.table_over.Goals as goal
 
@@ -12,7 +11,7 @@ pub returns-in_err-place-clause-over : goal.returns-in_err-place-clause-over
 returns-in_err-place-clause-over c =
     let kept = c.args.frozen.now in
     let none : table_of kept.geometry c.args.table ≡ None = sym (ap (λ (g : Geometry). table_of g c.args.table) c.geometry.ensures.geometry) ∙ sym c.in_err-place.ensures.table in
-    ap listed c.from_residual.ensures ∙ sym (none_over kept.geometry (frozen_view kept) c.args.number c.args.table none)
+    ap option_to_list c.from_residual.ensures ∙ sym (none_over kept.geometry (frozen_view kept) c.args.number c.args.table none)
 
 pub returns-clause-over : goal.returns-clause-over
 returns-clause-over c =

@@ -17,7 +17,7 @@ returns-in_ok-push c =
     let f = c.frozen-else-record-fewer.result.now in
     let holdings = c.args.holdings.now in
     let n = c.args.number in
-    let is : (record { mode = c.record.inside.mode; links = c.record.inside.links; size = c.record.inside.size; direct = c.record.inside.direct; indirect = c.record.inside.indirect }) ≡ (frozen_view kept).inode n =
+    let is : (record { mode = c.record.inside.mode; links = c.record.inside.links; size = c.record.inside.size; direct = c.record.inside.direct; indirect = c.record.inside.indirect; double = c.record.inside.double }) ≡ (frozen_view kept).inode n =
     c.record.view_is ∙ c.record-record.ensures ∙ ap (λ (k : Kept). (frozen_view k).inode n) c.frozen.ensures.same in
     let after : map cell c.push.new.self.items ≡ Block c.args.block ∷ [] =
     ap (map cell) (c.in_ok-push.ensures.items ∙ ap (λ (xs : List Cell). xs ++ cells.Block c.args.block ∷ []) c.new-after.ensures.items) in

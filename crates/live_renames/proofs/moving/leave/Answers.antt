@@ -1,9 +1,10 @@
 -- The slot that was found is the directory's, and the record is the one that is kept.
-use Rattle.std.proofs.Common.{◌∷◌, [], ◌++◌, ap, map, subst, sym, ◌∙◌, IsTrue}
+use Rattle.std.proofs.Common.{◌∷◌, [], ◌++◌, ap, map, refl, subst, sym, ◌∙◌, IsTrue}
 use Rattle.frozen.specs.Kept.{Kept, frozen_view}
 use Rattle.model.specs.Layout.{is_data_address, is_number}
 use Rattle.updates.specs.Values.{cell}
 use Rattle.updates.specs.declared.cell.Cell.TheVariants.{Block}
+use Rattle.live_plans.proofs.Fitting.{written_fits}
 use Rattle.live_renames.proofs.GroundLemmas.{found_claim, found_directory, found_number, pushed}
 use Rattle.live_renames.proofs.MoveLemmas.{left_goes_on, none_cells, record_there}
 use Rattle.live_renames.proofs.moving.leave.Goals as goal
@@ -35,6 +36,13 @@ pub push-requires-2-clause-changed : goal.push-requires-2-clause-changed
 push-requires-2-clause-changed c =
     let kept = c.args.metadata.now in
     subst (λ geo. IsTrue (is_number geo c.args.found.now.number)) (sym (c.in_ok-put_slot.ensures.geometry ∙ c.requires.geometry)) (found_number kept.geometry (frozen_view kept) c.requires.found.0 c.args.found.now c.requires.found.1)
+
+pub push-requires-2-clause-fits : goal.push-requires-2-clause-fits
+push-requires-2-clause-fits c =
+    let kept = c.args.metadata.now in
+    let n = c.args.found.now.number in
+    written_fits kept c.put_slot.new.plan.geometry n c.record-record.result c.record-record.result (c.in_ok-put_slot.ensures.geometry ∙ c.requires.geometry)
+    (c.record-record.ensures ∙ record_there c.frozen.result.now kept n c.frozen.ensures.same) refl
 
 pub push-requires-2-clause-after : goal.push-requires-2-clause-after
 push-requires-2-clause-after c =

@@ -5,10 +5,12 @@ use Rattle.model.specs.Layout.{Geometry, is_number}
 use Rattle.model.specs.View.{Inode}
 use Rattle.model.specs.Shape.{most_blocks}
 use Rattle.model.specs.Uses.{blocks_of}
+use Rattle.machine.specs.Room.{unmarked_blocks}
 use Rattle.frozen.specs.Kept.{Kept, frozen_view}
+use Rattle.live_writes.specs.Aimed.{IsPlaced, blocks_needed}
 use Rattle.live_writes.proofs.Facts.{behind_needed, claimed, next_is, none_from, numbered, opened_sound, placed_seen, some_from}
 use Rattle.live_writes.proofs.Refusals.{bad_if, good_if, handle_refused, index_refused, piece_refused, position_refused, room_refused}
-use Rattle.live_writes.proofs.aiming.aim.Goals.{then-is_empty-via-then-is_empty, then-is_empty-via-else-is_empty+then-piece-gt-BLOCK_BYTES}
+use Rattle.live_writes.proofs.aiming.aim.Goals.{else-index-blocks+in_ok-place-2, then-index-blocks+in_ok-place, then-is_empty-via-then-is_empty, then-is_empty-via-else-is_empty+then-piece-gt-BLOCK_BYTES}
 use Rattle.live_writes.proofs.aiming.aim.Goals as goal
 
 -- what the geometry says of the limit
@@ -95,38 +97,27 @@ returns-in_err-place-2-clause-refused c =
     (good_if c.args.piece.now some c.if-piece-gt-BLOCK_BYTES.false) low near c.frozen.ensures.metadata
     c.in_err-place-2.field-0.0 c.in_err-place-2.ensures.refused.0 (omega (arith, c.in_err-place-2.ensures.refused.1, behind_needed kept c.args.holdings.now i c.args.index next)))
 
-pub returns-in_ok-place-clause-aimed : goal.returns-in_ok-place-clause-aimed
-returns-in_ok-place-clause-aimed c =
-    let low = subst (λ n. c.args.index < n) (limit c.most_blocks.ensures.count c.geometry.ensures.geometry c.frozen.ensures.same) c.if-index-most_blocks.false in
-    record {
-      opened = sym c.file_of.ensures ∙ c.in-Some.is;
-      index = refl;
-      some = some_from (length c.args.piece.now) c.is_empty.result c.is_empty.ensures c.if-is_empty.false;
-      few = c.if-piece-gt-BLOCK_BYTES.false;
-      near =
-          subst (λ (n : Inode). c.args.index ≤ n.size / 1024) (c.size.view_is ∙ c.record.ensures ∙ ap (λ (f : Kept). (frozen_view f).inode c.in-Some.file) c.frozen-2.ensures.same) c.if-size-index.false;
-      fits = record {
-        sound = opened_sound c.args.metadata.now c.args.holdings.now c.requires.volume c.args.handle c.in-Some.file (sym c.file_of.ensures ∙ c.in-Some.is);
-        room = low;
-        placed = c.in_ok-place.ensures.placed;
-      };
-      enough = c.in_ok-place.ensures.enough;
-    }
+pub place_behind-requires : goal.place_behind-requires
+place_behind-requires c =
+    subst (λ n. c.args.index < n) (limit c.most_blocks.ensures.count c.geometry.ensures.geometry c.frozen.ensures.same) c.if-index-most_blocks.false
 
-pub returns-in_ok-place-clause-seen : goal.returns-in_ok-place-clause-seen
-returns-in_ok-place-clause-seen c =
-    placed_seen c.args.metadata.now c.args.holdings.now c.in-Some.file c.args.index c.in_ok-place.place c.in_ok-place.ensures.placed
-
-pub returns-in_ok-place-2-clause-aimed : goal.returns-in_ok-place-2-clause-aimed
-returns-in_ok-place-2-clause-aimed c =
+-- where the piece goes, and that there are blocks enough
+pub returns-clause-aimed : goal.returns-clause-aimed
+returns-clause-aimed c =
     let kept = c.args.metadata.now in
-    let low = subst (λ n. c.args.index < n) (limit c.most_blocks.ensures.count c.geometry.ensures.geometry c.frozen.ensures.same) c.if-index-most_blocks.false in
+    let holdings = c.args.holdings.now in
     let i = c.in-Some.file in
+    let low = subst (λ n. c.args.index < n) (limit c.most_blocks.ensures.count c.geometry.ensures.geometry c.frozen.ensures.same) c.if-index-most_blocks.false in
     let same = c.size.view_is ∙ c.record.ensures ∙ ap (λ (f : Kept). (frozen_view f).inode i) c.frozen-2.ensures.same in
     let same_record = c.record-2.ensures ∙ ap (λ (f : Kept). (frozen_view f).inode i) c.frozen-3.ensures.same in
     let near = subst (λ (n : Inode). c.args.index ≤ n.size / 1024) same c.if-size-index.false in
-    let past = subst (λ (n : Inode). blocks_of n.size ≤ c.args.index) same_record (subst (λ n. n ≤ c.args.index) c.blocks-2.ensures c.if-index-blocks.false) in
-    let next = next_is ((frozen_view kept).inode i).size c.args.index near past in
+    let placed : IsPlaced kept holdings i c.args.index c.if-index-blocks.place × (blocks_needed kept holdings i c.args.index ≤ unmarked_blocks kept.geometry (frozen_view kept)) = elim c.if-index-blocks.branch [
+      | then-index-blocks+in_ok-place w ↦ rw (w.place-is) (w.in_ok-place.ensures.placed, w.in_ok-place.ensures.enough)
+      | else-index-blocks+in_ok-place-2 w ↦
+          let past = subst (λ (n : Inode). blocks_of n.size ≤ c.args.index) same_record (subst (λ n. n ≤ c.args.index) c.blocks-2.ensures w.if-index-blocks.false) in
+          let next = next_is ((frozen_view kept).inode i).size c.args.index near past in
+          rw (w.place-is) (w.in_ok-place-2.ensures.placed holdings i next, omega (arith, w.in_ok-place-2.ensures.enough, behind_needed kept holdings i c.args.index next))
+    ] in
     record {
       opened = sym c.file_of.ensures ∙ c.in-Some.is;
       index = refl;
@@ -134,24 +125,24 @@ returns-in_ok-place-2-clause-aimed c =
       few = c.if-piece-gt-BLOCK_BYTES.false;
       near = near;
       fits = record {
-        sound = opened_sound kept c.args.holdings.now c.requires.volume c.args.handle i (sym c.file_of.ensures ∙ c.in-Some.is);
+        sound = opened_sound kept holdings c.requires.volume c.args.handle i (sym c.file_of.ensures ∙ c.in-Some.is);
         room = low;
-        placed = c.in_ok-place-2.ensures.placed c.args.holdings.now i next;
+        placed = placed.0;
       };
-      enough = omega (arith, c.in_ok-place-2.ensures.enough, behind_needed kept c.args.holdings.now i c.args.index next);
+      enough = placed.1;
     }
 
-pub returns-in_ok-place-2-clause-seen : goal.returns-in_ok-place-2-clause-seen
-returns-in_ok-place-2-clause-seen c =
+pub returns-clause-seen : goal.returns-clause-seen
+returns-clause-seen c =
     let kept = c.args.metadata.now in
+    let holdings = c.args.holdings.now in
     let i = c.in-Some.file in
     let same = c.size.view_is ∙ c.record.ensures ∙ ap (λ (f : Kept). (frozen_view f).inode i) c.frozen-2.ensures.same in
     let same_record = c.record-2.ensures ∙ ap (λ (f : Kept). (frozen_view f).inode i) c.frozen-3.ensures.same in
     let near = subst (λ (n : Inode). c.args.index ≤ n.size / 1024) same c.if-size-index.false in
-    let past = subst (λ (n : Inode). blocks_of n.size ≤ c.args.index) same_record (subst (λ n. n ≤ c.args.index) c.blocks-2.ensures c.if-index-blocks.false) in
-    placed_seen kept c.args.holdings.now i c.args.index c.in_ok-place-2.place
-    (c.in_ok-place-2.ensures.placed c.args.holdings.now i (next_is ((frozen_view kept).inode i).size c.args.index near past))
-
-pub place_behind-requires : goal.place_behind-requires
-place_behind-requires c =
-    subst (λ n. c.args.index < n) (limit c.most_blocks.ensures.count c.geometry.ensures.geometry c.frozen.ensures.same) c.if-index-most_blocks.false
+    elim c.if-index-blocks.branch [
+      | then-index-blocks+in_ok-place w ↦ rw (w.place-is) (placed_seen kept holdings i c.args.index w.in_ok-place.place w.in_ok-place.ensures.placed)
+      | else-index-blocks+in_ok-place-2 w ↦
+          let past = subst (λ (n : Inode). blocks_of n.size ≤ c.args.index) same_record (subst (λ n. n ≤ c.args.index) c.blocks-2.ensures w.if-index-blocks.false) in
+          rw (w.place-is) (placed_seen kept holdings i c.args.index w.in_ok-place-2.place (w.in_ok-place-2.ensures.placed holdings i (next_is ((frozen_view kept).inode i).size c.args.index near past)))
+    ]

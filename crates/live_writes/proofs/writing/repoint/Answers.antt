@@ -1,18 +1,21 @@
 -- The pointer is put, and then the record, where it changes.
-use Rattle.std.proofs.Common.{◌≡◌, ◌||◌, not, false, true, map, sym, ap, ap₂, ◌∙◌, subst, refl, arith, Option, Some, None, is_some, All}
+use Rattle.std.proofs.Common.{◌≡◌, ◌||◌, not, false, true, eqb, length, map, sym, ap, ap₂, ◌∙◌, subst, refl, arith, Option, Some, None, is_some, All}
 use Rattle.std.proofs.lemmas.Result.{on_ok_weaker}
 use Rattle.std.specs.Option.{option_map}
 use Rattle.layout.specs.declared.geometry.TablePlace.{TablePlace}
 use Rattle.model.specs.Layout.{Geometry}
-use Rattle.model.specs.View.{Inode}
+use Rattle.model.specs.Cells.{SetInode}
+use Rattle.model.specs.View.{Fits, Inode}
 use Rattle.model.specs.Shape.{position_count, table_of}
+use Rattle.model.proofs.Places.{record_fits}
 use Rattle.model.proofs.Shape.{some_table}
-use Rattle.frozen.specs.Kept.{Kept, frozen_view}
-use Rattle.updates.specs.Places.{IsCell}
+use Rattle.frozen.specs.Kept.{Kept, frozen_view, kept_bytes}
+use Rattle.updates.specs.Places.{FitsVolume, IsCell}
 use Rattle.updates.specs.Values.{cell}
+use Rattle.live_plans.proofs.Fitting.{written_fits}
 use Rattle.live_writes.specs.Written.{holder_at}
 use Rattle.live_writes.proofs.Pointing.{in_record, in_table, is_of_record, which_record}
-use Rattle.live_writes.proofs.writing.repoint.Goals.{else-is_none-via-then-is_none+else-is_some, else-is_none-via-else-is_none}
+use Rattle.live_writes.proofs.writing.repoint.Goals.{else-is_empty-via-then-is_empty+else-is_some, else-is_empty-via-else-is_empty}
 use Rattle.live_writes.proofs.writing.repoint.Goals as goal
 
 -- what the geometry says of the pointer's place
@@ -28,6 +31,24 @@ pointer_place-requires c =
     let here = ap position_count (c.geometry.ensures.geometry ∙ ap (λ (f : Kept). f.geometry) c.frozen-frozen.ensures.same) in
     omega (arith, c.requires.room, some_table c.args.metadata.now.geometry, here)
 
+-- the record that is kept fits, and with the pointer too
+pub enlarge-requires-clause-fits : goal.enlarge-requires-clause-fits
+enlarge-requires-clause-fits c =
+    let i = c.args.target.now.file in
+    written_fits c.args.metadata.now c.link.new.plan.geometry i c.record-owner.result c.record-owner.result (c.in_ok-linked.ensures.geometry ∙ c.requires.geometry)
+    (c.record-owner.ensures ∙ ap (λ (f : Kept). (frozen_view f).inode i) c.frozen-frozen.ensures.same) refl
+
+pub push-requires-clause-fits : goal.push-requires-clause-fits
+push-requires-clause-fits c =
+    let kept = c.args.metadata.now in
+    let i = c.args.target.now.file in
+    let same = c.record-owner.ensures ∙ ap (λ (f : Kept). (frozen_view f).inode i) c.frozen-frozen.ensures.same in
+    let owner : Fits kept.geometry.version c.record-owner.result = subst (Fits kept.geometry.version) (sym same) (record_fits kept.geometry (kept_bytes kept.blocks) i) in
+    let before : Inode = record { mode = c.changed.inside.mode; links = c.changed.inside.links; size = c.changed.inside.size; direct = c.changed.inside.direct; indirect = c.changed.inside.indirect; double = c.changed.inside.double } in
+    let given : Inode = record before { size = c.args.size } in
+    let fits : Fits kept.geometry.version given = λ one. ap (λ (n : Inode). n.double) c.changed.view_is ∙ c.in_ok-linked.ensures.links.record_fits owner one in
+    subst (λ (g : Geometry). FitsVolume g (SetInode i given)) (sym (c.in_ok-linked.ensures.geometry ∙ c.requires.geometry)) fits
+
 pub enlarge-requires-clause-after : goal.enlarge-requires-clause-after
 enlarge-requires-clause-after c =
     subst (λ (g : Geometry). All (IsCell g) (map cell c.in_ok-linked.linked.after.items)) (sym (c.in_ok-linked.ensures.geometry ∙ c.requires.geometry)) c.in_ok-linked.ensures.links.cells
@@ -42,15 +63,15 @@ returns-then-is_some c =
     let i = c.args.target.now.file in
     let k = c.args.target.now.index in
     let b = c.args.block in
-    let table = c.args.table in
+    let tables = c.args.tables in
     let same = c.record-owner.ensures ∙ ap (λ (f : Kept). (frozen_view f).inode i) c.frozen-frozen.ensures.same in
     let one : is_some (table_of kept.geometry k) ≡ true =
     sym (ap (λ (g : Geometry). is_some (table_of g k)) (c.geometry.ensures.geometry ∙ ap (λ (f : Kept). f.geometry) c.frozen-frozen.ensures.same))
     ∙ ap is_some (sym c.pointer_place.ensures.table) ∙ mapped c.pointer_place.result ∙ sym c.is_some.ensures ∙ c.if-is_some.true in
-    let none : is_some table ≡ false = c.is_none.ensures ∙ ap not c.if-is_none.true in
+    let none : not (eqb (length tables) 0) ≡ false = ap not (sym c.is_empty.ensures ∙ c.if-is_empty.true) in
     on_ok_weaker c.enlarge.result
-    (λ sets. in_table kept.geometry i ((frozen_view kept).inode i) k b c.args.size c.args.plan.now c.link.new.plan c.enlarge.new.plan (holder_at kept i k b table) c.in_ok-linked.linked.record c.record-owner.result
-    (map cell c.in_ok-linked.linked.after.items) (which_record kept i k b table c.requires.table ∙ ap₂ (λ s t. s || not t) none one) same c.in_ok-linked.ensures.links sets)
+    (λ sets. in_table kept.geometry i ((frozen_view kept).inode i) k b c.args.size c.args.plan.now c.link.new.plan c.enlarge.new.plan (holder_at kept i k b tables) c.in_ok-linked.linked.record c.record-owner.result
+    (map cell c.in_ok-linked.linked.after.items) (which_record kept i k b tables c.requires.tables ∙ ap₂ (λ s t. s || not t) none one) same c.in_ok-linked.ensures.links sets)
     c.enlarge.ensures
 
 pub returns : goal.returns
@@ -59,23 +80,23 @@ returns c =
     let i = c.args.target.now.file in
     let k = c.args.target.now.index in
     let b = c.args.block in
-    let table = c.args.table in
+    let tables = c.args.tables in
     let same = c.record-owner.ensures ∙ ap (λ (f : Kept). (frozen_view f).inode i) c.frozen-frozen.ensures.same in
-    let before : Inode = record { mode = c.changed.inside.mode; links = c.changed.inside.links; size = c.changed.inside.size; direct = c.changed.inside.direct; indirect = c.changed.inside.indirect } in
+    let before : Inode = record { mode = c.changed.inside.mode; links = c.changed.inside.links; size = c.changed.inside.size; direct = c.changed.inside.direct; indirect = c.changed.inside.indirect; double = c.changed.inside.double } in
     let given : Inode = record before { size = c.args.size } in
     let sized_so = ap (λ (n : Inode). record n { size = c.args.size }) c.changed.view_is in
-    let of_record : is_of_record (holder_at kept i k b table) ≡ true = elim c.else-is_none.branch [
-      | else-is_none-via-then-is_none+else-is_some w ↦
-          let none : is_some table ≡ false = c.is_none.ensures ∙ ap not w.if-is_none.true in
+    let of_record : is_of_record (holder_at kept i k b tables) ≡ true = elim c.else-is_empty.branch [
+      | else-is_empty-via-then-is_empty+else-is_some w ↦
+          let none : not (eqb (length tables) 0) ≡ false = ap not (sym c.is_empty.ensures ∙ w.if-is_empty.true) in
           let nowhere : is_some (table_of kept.geometry k) ≡ false =
           sym (ap (λ (g : Geometry). is_some (table_of g k)) (w.geometry.ensures.geometry ∙ ap (λ (f : Kept). f.geometry) c.frozen-frozen.ensures.same))
           ∙ ap is_some (sym w.pointer_place.ensures.table) ∙ mapped w.pointer_place.result ∙ sym w.is_some.ensures ∙ w.if-is_some.false in
-          which_record kept i k b table c.requires.table ∙ ap₂ (λ s t. s || not t) none nowhere
-      | else-is_none-via-else-is_none w ↦
-          let some : is_some table ≡ true = c.is_none.ensures ∙ ap not w.if-is_none.false in
-          which_record kept i k b table c.requires.table ∙ ap (λ s. s || not (is_some (table_of kept.geometry k))) some
+          which_record kept i k b tables c.requires.tables ∙ ap₂ (λ s t. s || not t) none nowhere
+      | else-is_empty-via-else-is_empty w ↦
+          let some : not (eqb (length tables) 0) ≡ true = ap not (sym c.is_empty.ensures ∙ w.if-is_empty.false) in
+          which_record kept i k b tables c.requires.tables ∙ ap (λ s. s || not (is_some (table_of kept.geometry k))) some
     ] in
     on_ok_weaker c.push.result
-    (λ sets. in_record kept.geometry i ((frozen_view kept).inode i) k b c.args.size c.args.plan.now c.link.new.plan c.push.new.self (holder_at kept i k b table) c.in_ok-linked.linked.record given c.record-owner.result
+    (λ sets. in_record kept.geometry i ((frozen_view kept).inode i) k b c.args.size c.args.plan.now c.link.new.plan c.push.new.self (holder_at kept i k b tables) c.in_ok-linked.linked.record given c.record-owner.result
     (map cell c.in_ok-linked.linked.after.items) of_record same c.in_ok-linked.ensures.links sized_so sets)
     c.push.ensures

@@ -9,7 +9,7 @@ pub returns : goal.returns
 returns c =
     let kept = c.args.self.now in
     let block = c.records_of.result.now in
-    ap (λ chunks. inode_at (slice_index_or chunks (c.args.number % 8) []) 0) c.as_chunks.ensures.front
-    ∙ c.a_record_is_read_from_its_bytes.ensures.chunks block (length block / 128) (c.args.number % 8) [] (search rules)
-    ∙ ap (λ b. inode_at b (inode_byte c.args.number)) c.records_of.ensures
-    ∙ sym (cond-true (is_number kept.geometry c.args.number) (inode_at (kept_bytes kept.blocks (inode_block kept.geometry c.args.number)) (inode_byte c.args.number)) free_inode c.requires)
+    ap (λ chunks. inode_at kept.geometry.version (slice_index_or chunks (c.args.number % 8) []) 0) c.as_chunks.ensures.front
+    ∙ c.a_record_is_read_from_its_bytes.ensures.chunks kept.geometry.version block (length block / 128) (c.args.number % 8) [] (search rules)
+    ∙ ap (λ b. inode_at kept.geometry.version b (inode_byte c.args.number)) c.records_of.ensures
+    ∙ sym (cond-true (is_number kept.geometry c.args.number) (inode_at kept.geometry.version (kept_bytes kept.blocks (inode_block kept.geometry c.args.number)) (inode_byte c.args.number)) free_inode c.requires)

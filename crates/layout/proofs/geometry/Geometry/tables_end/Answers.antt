@@ -1,20 +1,13 @@
--- The numbers of version 1 are those of the words.
-use Rattle.std.proofs.Common.{rules}
-use Rattle.model.specs.Shape.{most_blocks, position_count, tables}
+use Rattle.std.proofs.Common.{◌≡◌, ◌≤◌, ◌+◌, arith}
+use Rattle.model.specs.Shape.{most_blocks, tables}
+use Rattle.layout.proofs.TablePlaces.{tables_inside, positions_few}
 use Rattle.layout.proofs.geometry.Geometry.tables_end.Goals as goal
 
-pub returns-then-blocks-clause-end : goal.returns-then-blocks-clause-end
-unfolding most_blocks position_count tables
-returns-then-blocks-clause-end c = search rules
+pub overflow_add-result : goal.overflow_add-result
+overflow_add-result c = omega (arith, tables_inside c.args.self.now c.args.blocks c.requires, positions_few c.args.self.now, c.most_blocks.ensures.count, c.tables.ensures)
 
-pub returns-then-blocks-clause-inside : goal.returns-then-blocks-clause-inside
-unfolding most_blocks position_count tables
-returns-then-blocks-clause-inside c = search rules
+pub returns-clause-inside : goal.returns-clause-inside
+returns-clause-inside c = omega (arith, tables_inside c.args.self.now c.args.blocks c.requires, c.most_blocks.ensures.count, c.tables.ensures)
 
-pub returns-else-blocks-clause-end : goal.returns-else-blocks-clause-end
-unfolding most_blocks position_count tables
-returns-else-blocks-clause-end c = search rules
-
-pub returns-else-blocks-clause-inside : goal.returns-else-blocks-clause-inside
-unfolding most_blocks position_count tables
-returns-else-blocks-clause-inside c = search rules
+pub returns-clause-few : goal.returns-clause-few
+returns-clause-few c = omega (arith, tables_inside c.args.self.now c.args.blocks c.requires, positions_few c.args.self.now, c.most_blocks.ensures.count, c.tables.ensures)

@@ -2,7 +2,7 @@
 use Rattle.std.proofs.Common.{◌∷◌, map, Some, refl, sym, ap, ◌∙◌, subst, All}
 use Rattle.ordering.specs.Cuts.{cell_of}
 use Rattle.updates.specs.declared.change.Update.{Update}
-use Rattle.updates.specs.Places.{IsCell}
+use Rattle.updates.specs.Places.{FitsVolume, IsCell}
 use Rattle.updates.specs.Values.{cell, change as change_of, written}
 use Rattle.live_states.specs.Drafts.{AreOf, Draft, over}
 use Rattle.live_plans.proofs.DraftLemmas.{are_of_push, over_push}
@@ -15,6 +15,7 @@ invariant_of-self-2 c =
     (are_of_push c.self.inside.geometry c.self.inside.file c.self.inside.updates.items update c.self.invariant
     (record {
       changed = subst (λ (d : Draft). IsCell d.geometry (cell_of (change_of c.args.change))) (sym c.self.view_is) c.requires.changed;
+      fits = subst (λ (d : Draft). FitsVolume d.geometry (change_of c.args.change)) (sym c.self.view_is) c.requires.fits;
       after = subst (λ (d : Draft). All (IsCell d.geometry) (map cell c.args.after.items)) (sym c.self.view_is) c.requires.after;
     })
     refl)

@@ -26,6 +26,7 @@ strike-requires-clause-shows c =
       update = at.0.change;
       shows = subst (λ i. Shows (node_at c.loop-left.self.nodes.items i).update at.0.change) id (subst (λ (x : Node). Shows x.update at.0.change) (sym (before.4.nodes at.0.id (not_done h.queue c.args.address before.0 at.1 at.0 each))) node.change);
       cell = node.cell;
+      fits = node.fits;
       low = (let l = id_low (home_of geo) h.queue h.q h.released.ties.represents c.args.address at.0 listed in let n = h.released.ties.next in let m = before.4.count in omega (arith, l, n, m, id));
     }
 

@@ -41,6 +41,7 @@ put-requires c =
       update = e.change;
       shows = subst (λ i. Shows (node_at t.nodes.items i).update e.change) id node.change;
       cell = node.cell;
+      fits = node.fits;
       low = (let l = id_low (home_of c.args.geometry.now) h.queue h.q h.takes.ties.represents c.args.address e listed in let n = h.takes.ties.next in omega (arith, l, n, id));
     }
 

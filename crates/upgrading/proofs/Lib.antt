@@ -1,0 +1,6 @@
+pub mod Cleared
+pub mod Places
+pub mod Chains
+pub mod Stages
+pub mod Ends
+pub mod Loaded

@@ -1,0 +1,18 @@
+use Rattle.std.proofs.Common.{refl, sym, ap, ◌∙◌, slice_set}
+use Rattle.std.proofs.lemmas.Bool.{both_ways}
+use Rattle.std.proofs.lemmas.Bool.Decides.{Decides-eqb}
+use Rattle.std.proofs.lemmas.Slice.Eq.{slice_eq-Decides}
+use Rattle.upgrading.specs.Steps.{Leaves, Writes}
+use Rattle.upgrading.proofs.clearing.clear_block.Goals as goal
+
+pub returns-then-eq-clause-clears : goal.returns-then-eq-clause-clears
+returns-then-eq-clause-clears g c =
+    Leaves (sym c.without_pointers-block.ensures ∙ (slice_eq-Decides Decides-eqb _ _ _ c.eq.ensures).0 c.if-eq.true) refl refl
+
+pub returns-clause-clears : goal.returns-clause-clears
+returns-clause-clears g c =
+    let image = g.D.Device.image c.args.device.now in
+    Writes
+    (λ same. both_ways c.eq.result c.if-eq.false ((slice_eq-Decides Decides-eqb _ _ _ c.eq.ensures).1 (c.without_pointers-block.ensures ∙ same)))
+    (c.in_ok-write.ensures.written ∙ ap (slice_set image c.args.address) c.without_pointers-block.ensures)
+    c.in_ok-write.ensures.held

@@ -1,0 +1,2 @@
+pub mod Upgraded
+pub mod Steps

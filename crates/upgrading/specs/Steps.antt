@@ -1,0 +1,54 @@
+-- The steps of an upgrade: how a block of records is cleared, and an image whose blocks of records are cleared up to one.
+use Rattle.std.specs.Prelude.{◌≡◌, ◌≢◌, ℕ, zero, suc, ◌+◌, ◌*◌, ◌<◌, ◌≤◌, List, [], ◌∷◌, ◌++◌, length, slice_set}
+use Rattle.model.specs.Layout.{Geometry, inode_block, inode_count}
+use Rattle.model.specs.Image.{block_at, image_view}
+use Rattle.model.specs.Rules.{ObeysRules}
+use Rattle.layout.specs.Fresh.{put_u32}
+use Rattle.frozen.specs.Kept.{IsKeptOf, KeepsFrame, Kept}
+use Rattle.upgrading.specs.Upgraded.{AreOfVolume, last_held}
+
+-- a block whose first k records have no double indirect pointer
+unfoldable pub cleared_below : ℕ → List ℕ → List ℕ
+cleared_below zero block = block
+cleared_below (suc k) block = put_u32 (128 * k + 60) 0 (cleared_below k block)
+
+-- and of all eight of its records none has one
+abbrev pub cleared : List ℕ → List ℕ
+cleared block = cleared_below 8 block
+
+-- a superblock that tells version 2
+abbrev pub doubled : List ℕ → List ℕ
+doubled block = put_u32 4 2 block
+
+-- A block is written with its records cleared, or left where they are clear; so many writes were made.
+pub data Clears (a : ℕ) (block : List ℕ) (image : List (List ℕ)) (held : List (List (List ℕ))) (image' : List (List ℕ)) (held' : List (List (List ℕ))) : ℕ → Type 0 where
+  Writes : cleared block ≢ block → image' ≡ slice_set image a (cleared block) → held' ≡ held ++ image' ∷ [] → Clears a block image held image' held' 1
+  Leaves : cleared block ≡ block → image' ≡ image → held' ≡ held → Clears a block image held image' held' 0
+
+-- The superblock is written with version 2.
+pub record TellsVersion (block : List ℕ) (image : List (List ℕ)) (held : List (List (List ℕ))) (image' : List (List ℕ)) (held' : List (List (List ℕ))) : Type 0 where
+  pub image_is : image' ≡ slice_set image 0 (doubled block)
+  pub held_is : held' ≡ held ++ image' ∷ []
+
+-- the records of the numbers below 8 n are cleared, and all other blocks are those of the first image
+pub record IsStage (geo : Geometry) (start : List (List ℕ)) (n : ℕ) (image : List (List ℕ)) : Type 0 where
+  pub count : length image ≡ length start
+  pub few : 8 * n ≤ inode_count geo
+  pub done : (m : ℕ) → m < 8 * n → block_at image (inode_block geo m) ≡ cleared (block_at start (inode_block geo m))
+  pub others : (a : ℕ) → ((m : ℕ) → m < 8 * n → a ≡ inode_block geo m → ⊥) → block_at image a ≡ block_at start a
+
+-- what is kept is of this image, which is one of version 1 that obeys the rules
+pub record IsUpgradable (kept : Kept) (start : List (List ℕ)) : Type 0 where
+  pub frame : KeepsFrame kept
+  pub of_image : IsKeptOf kept start
+  pub single : kept.geometry.version ≡ 1
+  pub obeys : ObeysRules kept.geometry (image_view kept.geometry start)
+
+-- since the device held the first image, so many writes were made, and the records of the numbers below 8 n are cleared
+pub record HasCleared (kept : Kept) (start : List (List ℕ)) (before : List (List (List ℕ))) (n : ℕ) (image : List (List ℕ)) (held : List (List (List ℕ))) (writes : ℕ) : Type 0 where
+  pub more : List (List (List ℕ))
+  pub held_now : held ≡ before ++ more
+  pub image_now : image ≡ last_held start more
+  pub counted : writes ≡ length more
+  pub stage : IsUpgradable kept start → IsStage kept.geometry start n image
+  pub of_volume : IsUpgradable kept start → AreOfVolume kept.geometry start more

@@ -1,0 +1,5 @@
+pub mod Positions
+mod Sums
+pub mod Alike
+pub mod Carried
+pub mod Same
