@@ -198,7 +198,7 @@ fn the_blocks_of_directories_are_loaded(rt: HostRuntime) -> Result<(), Fail> {
     Ok(())
 }
 
-/// How many groups an image has, the block and the byte that become 2, and how it is refused then.
+/// How many groups an image has, the block and the byte that become 3, and how it is refused then.
 const CHANGED: &[(u32, u32, usize, Refusal)] = &[
     (1, 1, 0, Refusal::BadGroup(0)),
     (1, 0, 4, Refusal::BadSuper),
@@ -211,7 +211,7 @@ fn a_changed_image_is_refused(rt: HostRuntime) -> Result<(), Fail> {
     for (groups, address, byte, wanted) in CHANGED {
         let mut device = fresh(rt.alloc(), *groups)?;
         expect_load(&rt, (*groups, 0), &mut device, None);
-        set_byte(&mut device, (*address, *byte, 2))?;
+        set_byte(&mut device, (*address, *byte, 3))?;
         expect_load(&rt, (*address, *byte), &mut device, Some(*wanted));
     }
     Ok(())
