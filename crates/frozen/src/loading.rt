@@ -28,6 +28,7 @@ pub fn load<D: Device>(alloc: Global, device: &mut D) -> Result<Frozen, Refusal>
     ensures count { IfOk result (λ frozen. length (D.image device.old) ≡ block_count frozen.geometry) }
     ensures refused { IfErr result (λ refusal. LoadRefuses (D.honest device.new) (D.image device.old) refusal) }
     ensures cause { IsErrOf result Refusal.Device → HasFailed (D.failures device.old) (D.failures device.new) }
+    ensures failures { OnOk result (D.failures device.new ≡ D.failures device.old) }
 
     ensures reads { ReadsOnly D.honest D.image D.held device.old device.new }
 {
@@ -116,6 +117,7 @@ fn read_directories<D: Device>(
         → AreBlocksOf held.new.blocks (D.image device.old)) }
     ensures refused { IfErr result GivesOut }
     ensures cause { IsErrOf result Refusal.Device → HasFailed (D.failures device.old) (D.failures device.new) }
+    ensures failures { OnOk result (D.failures device.new ≡ D.failures device.old) }
 
     ensures reads { ReadsOnly D.honest D.image D.held device.old device.new }
 {

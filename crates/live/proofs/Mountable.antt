@@ -6,7 +6,8 @@ use Rattle.model.specs.Image.{IsSuper, block_at, image_view}
 use Rattle.model.specs.Layout.{Geometry, block_count, group_block}
 use Rattle.model.specs.Rules.{ObeysRules}
 use Rattle.model.specs.Image.{IsGroupBlock}
-use Rattle.live.specs.Mounting.{IsMountable, MountRefuses}
+use Rattle.live.specs.Mounting.{IsMountable}
+use Rattle.rules.specs.Loading.{LoadSoundRefuses}
 
 -- a superblock tells one geometry
 told_once : (g h : Geometry) (block : List ℕ) → IsSuper g block → IsSuper h block → g ≡ h
@@ -20,7 +21,7 @@ told_once g h block a b =
 abbrev pub GivesOut : Refusal → Type 0
 GivesOut r = (r ≡ refusal.NoMemory) ⊎ (r ≡ refusal.Device)
 
-pub mounts : (geo : Geometry) (image : List (List ℕ)) (honest : Type 0) (r : Refusal) → IsMountable geo image → MountRefuses honest image r → honest → GivesOut r
+pub mounts : (geo : Geometry) (image : List (List ℕ)) (honest : Type 0) (r : Refusal) → IsMountable geo image → LoadSoundRefuses honest image r → honest → GivesOut r
 mounts geo image honest refusal.NoMemory is refuses h = inl refl
 mounts geo image honest refusal.Device is refuses h = inr refl
 mounts geo image honest refusal.Damaged is refuses h =

@@ -12,7 +12,7 @@ use Rattle.live_states.proofs.Loading.{of_an_image}
 use Rattle.live_states.proofs.Standing.{loaded}
 use Rattle.live_states.specs.Snapshots.{AreRepairsOf}
 use Rattle.live.specs.Alive.{IsLive, AreSnapshotsOf}
-use Rattle.live.specs.Mounting.{BreaksRule, IsFresh, IsMountable}
+use Rattle.live.specs.Mounting.{IsFresh, IsMountable}
 use Rattle.live.proofs.Whole.{none_kept}
 
 -- what follows from two clauses on a result
@@ -20,35 +20,7 @@ pub with_both : {T E : Type 0} (r : Result T E) (P Q R : T → Type 0) → IfOk 
 with_both (Ok t) P Q R p q f = f t p q
 with_both (Err e) P Q R p q f = tt
 
--- what is told by the least rule that is broken
-pub obeyed : (geo : Geometry) (view : View) (least : Option ℕ) → MatchOption least (ObeysRules geo view) (IsLeastBroken geo view) → is_some least ≡ false → ObeysRules geo view
-obeyed geo view None told e = told
-obeyed geo view (Some n) told e = let bad : true ≡ false = e in cc
-
-pub not_obeyed : (geo : Geometry) (view : View) (least : Option ℕ) → MatchOption least (ObeysRules geo view) (IsLeastBroken geo view) → is_some least ≡ true → ObeysRules geo view → ⊥
-not_obeyed geo view None told e obeys = let bad : false ≡ true = e in cc
-not_obeyed geo view (Some n) told e obeys = told.broken (each_rule n)
-  where
-    each_rule : (n : ℕ) → Rule geo view n
-    each_rule zero = tt
-    each_rule (suc zero) = obeys.rule1
-    each_rule (suc (suc zero)) = obeys.rule2
-    each_rule (suc (suc (suc zero))) = obeys.rule3
-    each_rule (suc (suc (suc (suc zero)))) = obeys.rule4
-    each_rule (suc (suc (suc (suc (suc zero))))) = obeys.rule5
-    each_rule (suc (suc (suc (suc (suc (suc zero)))))) = obeys.rule6
-    each_rule (suc (suc (suc (suc (suc (suc (suc zero))))))) = obeys.rule7
-    each_rule (suc (suc (suc (suc (suc (suc (suc (suc zero)))))))) = obeys.rule8
-    each_rule (suc (suc (suc (suc (suc (suc (suc (suc (suc n))))))))) = tt
-
 module _ (honest : Type 0) (image : List (List ℕ)) (kept : Kept) (of : honest → IsKeptOf kept image) where
-  pub breaks : (ObeysRules kept.geometry (frozen_view kept) → ⊥) → honest → BreaksRule image
-  breaks broken h = record {
-    geometry = kept.geometry;
-    is_image = (of h).is_image;
-    breaks = λ obeys. broken ((same_rules kept.geometry (frozen_view kept) (image_view kept.geometry image) (of h).metadata).1 obeys);
-  }
-
   module _ (obeys : ObeysRules kept.geometry (frozen_view kept)) where
     pub mountable : (metadata : Kept) → metadata ≡ kept → honest → IsMountable metadata.geometry image
     mountable metadata is h = subst (λ (k : Kept). IsMountable k.geometry image) (sym is)

@@ -22,3 +22,4 @@ mod snapshots;
 pub use live::{Live, NotMounted};
 pub use looking::Status;
 pub use runs::{each_stop_of_a_run_is_safe, mountable_images_mount, mounted_volumes_begin};
+pub use upgrading::upgrade;

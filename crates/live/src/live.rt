@@ -1,6 +1,5 @@
 ghost use Rattle.std.specs.Prelude.{◌≡◌, [], ◌<◌, Bool, IfErr, IfOk, IsErrOf, IsOkUnless, List, OnErr, OnOk, length};
 ghost use Rattle.std.specs.List.{All};
-ghost use Rattle.device.specs.Reading.{ReadsOnly};
 ghost use Rattle.device.specs.Writes.{HasFailed};
 ghost use Rattle.layout.specs.declared.refusal.Refusal.TheVariants.{NoMemory};
 ghost use Rattle.ordering.specs.Cuts.{IsClosed, seen};
@@ -16,17 +15,18 @@ ghost use Rattle.live_states.specs.Planned.{AreSeen, IsPlannedFor, IsPlannedWith
 ghost use Rattle.live.specs.Alive.{IsLive, StandsSo, disk_of};
 ghost use Rattle.live.specs.Ended.{ended};
 ghost use Rattle.live.specs.Issued.{IsIssued};
-ghost use Rattle.live.specs.Mounting.{IsFresh, IsMountable, MountRefuses};
+ghost use Rattle.live.specs.Mounting.{IsFresh, IsMountable};
+ghost use Rattle.rules.specs.Loading.{LoadSoundRefuses};
 ghost use Rattle.live.specs.Seen.{seen_of, Answered};
 
 use crate::ending::{Ending, end};
 use device::Device;
-use frozen::{Frozen, load};
+use frozen::Frozen;
 use layout::{Geometry, Refusal};
 use live_holdings::Holdings;
 use live_plans::{Plan, Planned};
 use metadata::Metadata;
-use rules::obeys;
+use rules::load_sound;
 use softdep::Queue;
 use spares::Spares;
 use std::alloc::Global;
@@ -79,7 +79,7 @@ impl<D: Device> Live<D> {
         ensures idle { IfOk result (λ live. IsIdle live.holdings) }
         ensures mounted { IfOk result (λ live. D.honest live.device → IsMountable live.kept.geometry (D.image device)) }
         ensures untouched { IfErr result (λ refused. (D.image refused.device ≡ D.image device) × (D.held refused.device ≡ D.held device)) }
-        ensures refused { IfErr result (λ refused. MountRefuses (D.honest refused.device) (D.image device) refused.cause) }
+        ensures refused { IfErr result (λ refused. LoadSoundRefuses (D.honest refused.device) (D.image device) refused.cause) }
         ensures cause { IfErr result (λ refused. refused.cause ≡ Refusal.Device → HasFailed (D.failures device) (D.failures refused.device)) }
     {
         match load_sound(alloc, &mut device) {
@@ -121,22 +121,6 @@ impl<D: Device> Live<D> {
             Err(cause) => Err(NotMounted { device, cause }),
         }
     }
-}
-
-/// Loads a device's metadata, and refuses those that break a rule.
-fn load_sound<D: Device>(alloc: Global, device: &mut D) -> Result<Frozen, Refusal>
-    ensures reads { ReadsOnly D.honest D.image D.held device.old device.new }
-    ensures ok { IfOk result (λ frozen. D.honest device.new → IsKeptOf frozen (D.image device.old)) }
-    ensures count { IfOk result (λ frozen. length (D.image device.old) ≡ block_count frozen.geometry) }
-    ensures obeys { IfOk result (λ frozen. ObeysRules frozen.geometry (frozen_view frozen)) }
-    ensures refused { IfErr result (MountRefuses (D.honest device.new) (D.image device.old)) }
-    ensures cause { IsErrOf result Refusal.Device → HasFailed (D.failures device.old) (D.failures device.new) }
-{
-    let frozen = load(alloc, device)?;
-    if obeys(alloc, &frozen)?.is_some() {
-        return Err(Refusal::Damaged);
-    }
-    Ok(frozen)
 }
 
 /// What a volume with this metadata has in memory: nothing is pending, open or held.

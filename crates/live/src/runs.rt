@@ -14,7 +14,8 @@ ghost use Rattle.softdep.specs.Queued.{pending_of};
 ghost use Rattle.live_states.specs.Holdings.{AreImagesOf, Beside, IsIdle, nothing_beside};
 ghost use Rattle.live_states.specs.Volume.{state_over};
 ghost use Rattle.live.specs.Alive.{Alive, disk_of, state_of};
-ghost use Rattle.live.specs.Mounting.{IsMountable, MountRefuses};
+ghost use Rattle.live.specs.Mounting.{IsMountable};
+ghost use Rattle.rules.specs.Loading.{LoadSoundRefuses};
 ghost use Rattle.live.specs.Runs.{Lives};
 
 use device::Device;
@@ -28,7 +29,7 @@ pub fn mounted_volumes_begin<D: Device>()
 
 /// An image of a volume that obeys the rules is mounted: it is refused for want of memory and for a fault of the device alone.
 pub fn mountable_images_mount<D: Device>()
-    ensures { (geo : Geometry) (image : List (List ℕ)) (device : D) (r : Refusal) → IsMountable geo image → MountRefuses (D.honest device) image r → D.honest device
+    ensures { (geo : Geometry) (image : List (List ℕ)) (device : D) (r : Refusal) → IsMountable geo image → LoadSoundRefuses (D.honest device) image r → D.honest device
         → (r ≡ NoMemory) ⊎ (r ≡ DeviceRefusal) }
 {}
 

@@ -1,1 +1,2 @@
 mod LeastRule
+mod Loaded

@@ -7,6 +7,10 @@ ghost use Rattle.model.specs.Rules.{IsLeastBroken, ObeysRules};
 ghost use Rattle.frozen.specs.Kept.{frozen_view};
 ghost use Rattle.rules.specs.Broken.{rule_broken};
 
+mod loading;
+
+pub use loading::load_sound;
+
 use findings::Finding;
 use frozen::Frozen;
 use layout::Refusal;

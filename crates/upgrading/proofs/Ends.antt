@@ -145,7 +145,7 @@ pub first_there : (kept : Kept) (o : Option (Bor (List ℕ))) (b : Bor (List ℕ
 first_there kept o b is e = ap (λ x. unwrap_or x []) (ap option_copied (sym e) ∙ is)
 
 -- ---- a call that failed
-pub has_failed : (old new : ℕ) → new ≡ min (old + 1) (2 ^ 64 - 1) → HasFailed 0 new
+pub has_failed : (old new : ℕ) → new ≡ min (old + 1) (2 ^ 64 - 1) → HasFailed old new
 has_failed old new counted = elim (cases_lt (old + 1) (2 ^ 64 - 1)) [
   | inl low ↦ inl (let e = min-eq_left (le_of_lt low) in omega (arith, counted, e))
   | inr high ↦ inr (let e = min-eq_right high in counted ∙ e)

@@ -3,4 +3,3 @@ pub mod Places
 pub mod Chains
 pub mod Stages
 pub mod Ends
-pub mod Loaded

@@ -3,9 +3,6 @@ use Rattle.std.specs.Prelude.{◌≡◌, ◌≢◌, ℕ, ◌+◌, ◌%◌, ◌<�
 use Rattle.model.specs.Layout.{Geometry, inode_block, inode_byte, inode_count}
 use Rattle.model.specs.Image.{IsImage, block_at, image_view}
 use Rattle.model.specs.Rules.{ObeysRules}
-use Rattle.layout.specs.declared.refusal.Refusal.{Refusal}
-use Rattle.layout.specs.declared.refusal.Refusal.TheVariants.{Damaged}
-use Rattle.frozen.specs.Loading.{LoadRefuses}
 use Rattle.versions.specs.Shown.{ShowsTheSame, of_version}
 
 -- ---- one image
@@ -82,16 +79,3 @@ pub record IsUpgraded (start : List (List ℕ)) (before : List (List (List ℕ))
   pub obeyed : ObeysRules geometry (image_view geometry start)
   pub is_image : IsImage (of_version 2 geometry) image
   pub again : geometry.version ≡ 2 → more ≡ []
-
--- ---- refusals
-
--- it is an image that breaks a rule
-pub record BreaksRule (image : List (List ℕ)) : Type 0 where
-  pub geometry : Geometry
-  pub is_image : IsImage geometry image
-  pub breaks : ObeysRules geometry (image_view geometry image) → ⊥
-
--- An image that is read honestly is refused as damaged only where it breaks a rule, and else as one that cannot be loaded.
-abbrev pub UpgradeRefuses : Type 0 → List (List ℕ) → Refusal → Type 0
-UpgradeRefuses honest image Damaged = honest → BreaksRule image
-UpgradeRefuses honest image r = LoadRefuses honest image r

@@ -3,20 +3,16 @@
 #![tactic(auto)]
 
 ghost use Rattle.std.specs.Prelude.{◌≡◌, ◌⊎◌, ◌<◌, length, IfErr, IfOk, IsErrOf, OnErr, OnOk};
-ghost use Rattle.model.specs.Layout.{block_count};
-ghost use Rattle.model.specs.Rules.{ObeysRules};
 ghost use Rattle.layout.specs.declared.refusal.Refusal.TheVariants.{Device as DeviceRefusal};
-ghost use Rattle.device.specs.Reading.{ReadsOnly};
 ghost use Rattle.device.specs.Writes.{CountsFaults, HasFailed};
-ghost use Rattle.frozen.specs.Kept.{IsKeptOf, frozen_view};
 ghost use Rattle.upgrading.specs.Steps.{TellsVersion};
-ghost use Rattle.upgrading.specs.Upgraded.{IsUpgraded, UpgradeRefuses, Upgrades};
+ghost use Rattle.rules.specs.Loading.{LoadSoundRefuses};
+ghost use Rattle.upgrading.specs.Upgraded.{IsUpgraded, Upgrades};
 
 use byteorder::{ByteOrder, LittleEndian};
 use device::{Device, DeviceFault};
-use frozen::{Frozen, load};
 use layout::{Block, DOUBLE, Refusal};
-use rules::obeys;
+use rules::load_sound;
 use std::alloc::Global;
 
 mod clearing;
@@ -36,10 +32,10 @@ pub fn upgrade<D: Device>(alloc: Global, device: &mut D) -> Result<u32, Refusal>
     ensures held { Upgrades (D.honest device.new) (D.image device.old) (D.held device.old) (D.image device.new) (D.held device.new) }
     ensures done { IfOk result (λ writes. D.honest device.new
         → IsUpgraded (D.image device.old) (D.held device.old) (D.image device.new) (D.held device.new) writes) }
-    ensures refused { IfErr result (UpgradeRefuses (D.honest device.new) (D.image device.old)) }
+    ensures refused { IfErr result (LoadSoundRefuses (D.honest device.new) (D.image device.old)) }
     ensures quiet { IfErr result (λ refusal. (refusal ≡ DeviceRefusal)
         ⊎ ((D.image device.new ≡ D.image device.old) × (D.held device.new ≡ D.held device.old))) }
-    ensures cause { IsErrOf result Refusal.Device → HasFailed 0 (D.failures device.new) }
+    ensures cause { IsErrOf result Refusal.Device → HasFailed (D.failures device.old) (D.failures device.new) }
     ensures honest { D.honest device.new → D.honest device.old }
 {
     let frozen = load_sound(alloc, device)?;
@@ -49,22 +45,6 @@ pub fn upgrade<D: Device>(alloc: Global, device: &mut D) -> Result<u32, Refusal>
     let writes = clear_records(device, &frozen)?;
     set_version(device, frozen.block(0).unwrap())?;
     Ok(writes + 1)
-}
-
-/// Loads a device's metadata, and refuses those that break a rule.
-fn load_sound<D: Device>(alloc: Global, device: &mut D) -> Result<Frozen, Refusal>
-    ensures reads { ReadsOnly D.honest D.image D.held device.old device.new }
-    ensures ok { IfOk result (λ frozen. D.honest device.new → IsKeptOf frozen (D.image device.old)) }
-    ensures count { IfOk result (λ frozen. length (D.image device.old) ≡ block_count frozen.geometry) }
-    ensures obeys { IfOk result (λ frozen. ObeysRules frozen.geometry (frozen_view frozen)) }
-    ensures refused { IfErr result (UpgradeRefuses (D.honest device.new) (D.image device.old)) }
-    ensures cause { IsErrOf result Refusal.Device → HasFailed (D.failures device.old) (D.failures device.new) }
-{
-    let frozen = load(alloc, device)?;
-    if obeys(alloc, &frozen)?.is_some() {
-        return Err(Refusal::Damaged);
-    }
-    Ok(frozen)
 }
 
 /// Writes this superblock with version 2. Before that it waits until all that was written has reached the medium, so that no loss

@@ -1,4 +1,4 @@
-use Rattle.std.proofs.Common.{◌≡◌, ◌/◌, inl, inr, refl, sym, ap, subst, subst₂, arith}
+use Rattle.std.proofs.Common.{◌≡◌, ◌/◌, ◌+◌, ◌-◌, ◌^◌, ◌∙◌, min, inl, inr, refl, sym, ap, subst, subst₂, arith}
 use Rattle.std.proofs.lemmas.Result.{err_from_is_err_and}
 use Rattle.model.specs.Layout.{Geometry, inode_count}
 use Rattle.upgrading.specs.Steps.{HasCleared, TellsVersion}
@@ -45,7 +45,9 @@ returns-in_err-writes-clause-quiet g c =
     let p = err_from_is_err_and c.from_residual-in_err-writes.result c.from_residual-in_err-writes.ensures.1 in rw (p.1, p.2) (inl refl)
 
 pub returns-in_err-writes-clause-cause : goal.returns-in_err-writes-clause-cause
-returns-in_err-writes-clause-cause g c = λ failed. has_failed (g.D.Device.failures c.load_sound.new.device) (g.D.Device.failures c.clear_records.new.device) c.in_err-writes.ensures.cause
+returns-in_err-writes-clause-cause g c = λ failed.
+    has_failed (g.D.Device.failures c.args.device.now) (g.D.Device.failures c.clear_records.new.device)
+    (c.in_err-writes.ensures.cause ∙ ap (λ n. min (n + 1) (2 ^ 64 - 1)) c.in_ok-frozen.ensures.failures)
 
 pub returns-in_err-writes-clause-honest : goal.returns-in_err-writes-clause-honest
 returns-in_err-writes-clause-honest g c = λ h. c.load_sound.ensures.reads.honest (c.clear_records.ensures.honest h)
@@ -84,7 +86,9 @@ returns-in_err-set_version-clause-quiet g c =
     let p = err_from_is_err_and c.from_residual-in_err-set_version.result c.from_residual-in_err-set_version.ensures.1 in rw (p.1, p.2) (inl refl)
 
 pub returns-in_err-set_version-clause-cause : goal.returns-in_err-set_version-clause-cause
-returns-in_err-set_version-clause-cause g c = λ failed. has_failed (g.D.Device.failures c.clear_records.new.device) (g.D.Device.failures c.set_version.new.device) c.in_err-set_version.ensures.cause
+returns-in_err-set_version-clause-cause g c = λ failed.
+    has_failed (g.D.Device.failures c.args.device.now) (g.D.Device.failures c.set_version.new.device)
+    (c.in_err-set_version.ensures.cause ∙ ap (λ n. min (n + 1) (2 ^ 64 - 1)) (c.in_ok-writes.ensures.cause ∙ c.in_ok-frozen.ensures.failures))
 
 pub returns-in_err-set_version-clause-honest : goal.returns-in_err-set_version-clause-honest
 returns-in_err-set_version-clause-honest g c = λ h. c.load_sound.ensures.reads.honest (c.clear_records.ensures.honest (c.set_version.ensures.honest h))

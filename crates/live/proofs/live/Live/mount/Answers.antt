@@ -2,7 +2,8 @@ use Rattle.std.proofs.Common.{◌≡◌, ◌∙◌, IfOk, ap, subst, sym}
 use Rattle.std.proofs.lemmas.Result.{IfErr-weaker, IfOk-weaker}
 use Rattle.layout.specs.declared.refusal.Refusal.TheVariants.{Device, NoMemory}
 use Rattle.frozen.specs.Kept.{IsKeptOf}
-use Rattle.live.specs.Mounting.{IsMountable, MountRefuses}
+use Rattle.live.specs.Mounting.{IsMountable}
+use Rattle.rules.specs.Loading.{LoadSoundRefuses}
 use Rattle.live.proofs.Mounting.{with_both}
 use Rattle.live.proofs.live.Live.mount.Goals as goal
 
@@ -27,6 +28,6 @@ returns-in-Ok g c =
       idle = live.idle;
       mounted = with_both c.mount_loaded.result _ _ _ live.device live.mounted (λ live same mounted h. subst (λ i. IsMountable live.kept.geometry i) reads.same (mounted (subst honest same h)));
       untouched = IfErr-weaker c.mount_loaded.result _ _ (λ refused same. (ap image same ∙ reads.same, ap held same ∙ reads.held)) live.untouched;
-      refused = IfErr-weaker c.mount_loaded.result _ _ (λ refused e. subst (MountRefuses (honest refused.device) (image c.args.device)) (sym e) tt) live.error;
+      refused = IfErr-weaker c.mount_loaded.result _ _ (λ refused e. subst (LoadSoundRefuses (honest refused.device) (image c.args.device)) (sym e) tt) live.error;
       cause = IfErr-weaker c.mount_loaded.result _ _ (λ refused e device. let bad : Device ≡ NoMemory = sym device ∙ e in cc) live.error;
     }

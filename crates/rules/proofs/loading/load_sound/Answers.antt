@@ -1,7 +1,7 @@
 use Rattle.std.proofs.Common.{◌∙◌, sym}
 use Rattle.frozen.specs.Kept.{frozen_view}
-use Rattle.live.proofs.Mounting.{breaks, not_obeyed, obeyed}
-use Rattle.live.proofs.live.load_sound.Goals as goal
+use Rattle.rules.proofs.Loaded.{breaks, not_obeyed, obeyed}
+use Rattle.rules.proofs.loading.load_sound.Goals as goal
 
 pub returns-then-is_some-clause-refused : goal.returns-then-is_some-clause-refused
 returns-then-is_some-clause-refused g c =

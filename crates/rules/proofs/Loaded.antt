@@ -7,7 +7,7 @@ use Rattle.model.specs.Rules.{IsLeastBroken, ObeysRules}
 use Rattle.model.specs.View.{View}
 use Rattle.model.proofs.Same.{same_rules}
 use Rattle.frozen.specs.Kept.{IsKeptOf, Kept, frozen_view}
-use Rattle.upgrading.specs.Upgraded.{BreaksRule}
+use Rattle.rules.specs.Loading.{BreaksRule}
 
 -- what is told by the least rule that is broken
 pub obeyed : (geo : Geometry) (view : View) (least : Option ℕ) → MatchOption least (ObeysRules geo view) (IsLeastBroken geo view) → is_some least ≡ false → ObeysRules geo view
