@@ -1,1 +1,2 @@
 mod StopLemmas
+mod AskingLemmas

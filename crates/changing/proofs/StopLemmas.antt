@@ -3,22 +3,14 @@ use Rattle.std.proofs.Common.{◌≡◌, ◌<◌, ◌+◌, ℕ, zero, suc, List,
 use Rattle.std.proofs.lemmas.List.{length-append}
 use Rattle.layout.specs.declared.refusal.Refusal.{Refusal}
 use Rattle.frozen.specs.Loading.{GivesOut}
-use Rattle.snapshot.specs.Mounting.{MountRefuses}
+use Rattle.rules.specs.Loading.{LoadSoundRefuses}
 use Rattle.snapshot.specs.declared.answer.Answer.{Answer}
+use Rattle.changing.specs.Asking.{AllAnswer}
 use Rattle.changing.specs.Stops.{StopsAtRefusal}
-
-abbrev pub AllAnswer : List (Result Answer Refusal) → Type 0
-AllAnswer [] = Unit {0}
-AllAnswer (Ok answer ∷ replies) = AllAnswer replies
-AllAnswer (Err r ∷ replies) = ⊥
+use Rattle.changing.proofs.AskingLemmas.{answered_more}
 
 pub one_more : (replies more : List (Result Answer Refusal)) (reply : Result Answer Refusal) (answer : Answer) → reply ≡ Ok answer → more ≡ replies ++ reply ∷ [] → AllAnswer replies → AllAnswer more
-one_more replies more reply answer is same all = subst AllAnswer (sym (same ∙ ap (λ r. replies ++ r ∷ []) is)) (push replies all)
-  where
-    push : (rs : List (Result Answer Refusal)) → AllAnswer rs → AllAnswer (rs ++ Ok answer ∷ [])
-    push [] a = tt
-    push (Ok x ∷ rs) a = push rs a
-    push (Err r ∷ rs) a = absurd a
+one_more replies more reply answer is same all = subst AllAnswer (sym (same ∙ ap (λ r. replies ++ r ∷ []) is)) (answered_more replies answer all)
 
 pub longer : (replies more : List (Result Answer Refusal)) (reply : Result Answer Refusal) → more ≡ replies ++ reply ∷ [] → (i : ℕ) → length replies ≡ i → length more ≡ i + 1
 longer replies more reply same i is = ap length same ∙ length-append replies (reply ∷ []) ∙ ap (λ n. n + 1) is
@@ -43,6 +35,6 @@ pub last_refused : (n : ℕ) (replies more : List (Result Answer Refusal)) (repl
 last_refused n replies more reply r is same all low = subst (StopsAtRefusal n) (sym (same ∙ ap (λ x. replies ++ x ∷ []) is)) (stops n replies r all low)
 
 -- want of memory and a fault refuse a mount too
-pub given_out : (honest : Type 0) (image : List (List ℕ)) (r : Refusal) → GivesOut r → MountRefuses honest image r
-given_out honest image r (inl memory) = subst (MountRefuses honest image) (sym memory) tt
-given_out honest image r (inr device) = subst (MountRefuses honest image) (sym device) tt
+pub given_out : (honest : Type 0) (image : List (List ℕ)) (r : Refusal) → GivesOut r → LoadSoundRefuses honest image r
+given_out honest image r (inl memory) = subst (LoadSoundRefuses honest image) (sym memory) tt
+given_out honest image r (inr device) = subst (LoadSoundRefuses honest image) (sym device) tt

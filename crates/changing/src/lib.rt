@@ -1,4 +1,5 @@
-//! Commands that are carried out on a mounted volume, one after another, until one is refused; then all is written.
+//! Commands that are carried out on a mounted volume, one after another, until one is refused; then all is written, or blocks are
+//! flushed.
 #![tactic(auto)]
 
 ghost use Rattle.std.specs.Prelude.{◌≡◌, IfErr, IfOk, IsOkUnless, OnErr, OnOk, length, map, take};
@@ -8,9 +9,13 @@ ghost use Rattle.changing.specs.Stops.{StopsAtRefusal};
 ghost use Rattle.snapshot.specs.Asked.{asked};
 ghost use Rattle.snapshot.specs.Goes.{Runs};
 
+mod asking;
+mod flushing;
 mod mounted;
 
+pub use asking::{answer_to, ask};
 use device::Device;
+pub use flushing::flush_in_passes;
 use layout::Refusal;
 pub use mounted::{Changed, change_device, mount};
 use snapshot::{Command, Reply, Volume};

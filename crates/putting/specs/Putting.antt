@@ -1,51 +1,35 @@
 -- What a volume went through into which files and folders of the host were put.
-use Rattle.std.specs.Prelude.{◌≡◌, ℕ, zero, suc, List, [], ◌∷◌, ◌++◌, length, map, Ok, Err, Result}
+use Rattle.std.specs.Prelude.{◌≡◌, ℕ, suc, List, [], ◌∷◌, ◌++◌, length, map}
 use Rattle.std.specs.Fork.{slice_chunk}
 use Rattle.std.proofs.Common.{Vec, Global}
 use Rattle.archives.specs.declared.entries.Kind.TheVariants as kind
-use Rattle.layout.specs.declared.refusal.Refusal.{Refusal}
 use Rattle.snapshot.specs.Alive.{Alive}
 use Rattle.snapshot.specs.Mounting.{IsMountable}
 use Rattle.live_states.specs.Holdings.{IsIdle}
 use Rattle.machine.specs.Command.{Command as Request, Create, Mkdir, Open, Write, Close, Flush, Sync}
 use Rattle.model.specs.Uses.{blocks_of}
 use Rattle.softdep.specs.Queued.{pending_of}
-use Rattle.snapshot.specs.declared.answer.Answer.{Answer}
-use Rattle.snapshot.specs.declared.command.Command.{Command}
-use Rattle.snapshot.specs.Asked.{asked}
-use Rattle.snapshot.specs.Goes.{Runs}
+use Rattle.changing.specs.Asking.{Adds, Went}
 use Rattle.putting.specs.declared.items.Item.{Item}
 use Rattle.putting.specs.declared.items.Source.{Source}
 use Rattle.putting.specs.declared.items.Source.TheVariants.{Host, Held}
 
--- none of these replies is a refusal
-abbrev pub AllAnswer : List (Result Answer Refusal) → Type 0
-AllAnswer [] = Unit {0}
-AllAnswer (Ok answer ∷ replies) = AllAnswer replies
-AllAnswer (Err r ∷ replies) = ⊥
-
--- From one volume to another this was asked, and each of it was answered.
-pub record Went {D : Type 0} (held : List (List (List ℕ))) (image : List (List ℕ)) (old : Alive D) (requests : List Request) (held' : List (List (List ℕ))) (image' : List (List ℕ)) (new : Alive D) : Type 0 where
-  pub commands : List Command
-  pub ask : map (asked old.kept.geometry) commands ≡ requests
-  pub replies : List (Result Answer Refusal)
-  pub answered : AllAnswer replies
-  pub runs : Runs held image old (map (asked old.kept.geometry) commands) replies held' image' new
-
--- This comes next, after whatever was asked from whichever volume on.
-abbrev pub Adds : {D : Type 0} → List (List (List ℕ)) → List (List ℕ) → Alive D → List Request → List (List (List ℕ)) → List (List ℕ) → Alive D → Type 0
-Adds {D} held image old requests held' image' new = (held₀ : List (List (List ℕ))) (image₀ : List (List ℕ)) (start : Alive D) (before : List Request)
-    → Went held₀ image₀ start before held image old → Went held₀ image₀ start (before ++ requests) held' image' new
-
--- the writes, by a handle, of the first n blocks of a file of these bytes
-abbrev pub block_writes : ℕ → List ℕ → ℕ → List Request
-block_writes handle bytes zero = []
-block_writes handle bytes (suc k) = block_writes handle bytes k ++ Write handle k (slice_chunk bytes 1024 k) ∷ []
+-- The first n blocks of a file of these bytes are written by a handle, one after another; between them blocks may be flushed.
+pub data WriteBlocks (handle : ℕ) (bytes : List ℕ) : ℕ → List Request → Type 0 where
+  NoBlock : WriteBlocks handle bytes 0 []
+  NextBlock : (n : ℕ) (requests : List Request) → WriteBlocks handle bytes n requests → WriteBlocks handle bytes (suc n) (requests ++ Write handle n (slice_chunk bytes 1024 n) ∷ [])
+  ThenFlushed : (n : ℕ) (requests : List Request) (addresses : List ℕ) → WriteBlocks handle bytes n requests → WriteBlocks handle bytes n (requests ++ map Flush addresses)
 
 -- what makes a file of these bytes: it is created, and if it has any it is opened, each block is written, and it is closed
 pub data MakesFile (path bytes : List ℕ) (requests : List Request) : Type 0 where
   Empty : bytes ≡ [] → requests ≡ Create path ∷ [] → MakesFile path bytes requests
-  Full : (handle : ℕ) → requests ≡ Create path ∷ Open path ∷ (block_writes handle bytes (blocks_of (length bytes)) ++ Close handle ∷ []) → MakesFile path bytes requests
+  Full : (handle : ℕ) (writes : List Request) → WriteBlocks handle bytes (blocks_of (length bytes)) writes → requests ≡ Create path ∷ Open path ∷ (writes ++ Close handle ∷ []) → MakesFile path bytes requests
+
+-- The first n blocks of a file of these bytes are written next, by a handle.
+pub record AddsBlocks {D : Type 0} (handle : ℕ) (bytes : List ℕ) (n : ℕ) (held : List (List (List ℕ))) (image : List (List ℕ)) (old : Alive D) (held' : List (List (List ℕ))) (image' : List (List ℕ)) (new : Alive D) : Type 0 where
+  pub requests : List Request
+  pub write : WriteBlocks handle bytes n requests
+  pub adds : Adds held image old requests held' image' new
 
 -- bytes that the host gave
 abbrev pub Read : Type 0
@@ -71,7 +55,7 @@ pub data ArePut : List Reading → List Request → Type 0 where
   Nothing : ArePut [] []
   Folder : (readings : List Reading) (requests : List Request) (item : Item) (read : Read) → ArePut readings requests → item.kind ≡ kind.Folder → ArePut (readings ++ (item, read) ∷ []) (requests ++ Mkdir item.path.items ∷ [])
   File : (readings : List Reading) (requests more : List Request) (item : Item) (read : Read) → ArePut readings requests → item.kind ≡ kind.File → MakesFile item.path.items read.items more → ArePut (readings ++ (item, read) ∷ []) (requests ++ more)
-  Flushed : (readings : List Reading) (requests : List Request) (a : ℕ) → ArePut readings requests → ArePut readings (requests ++ Flush a ∷ [])
+  Flushed : (readings : List Reading) (requests : List Request) (addresses : List ℕ) → ArePut readings requests → ArePut readings (requests ++ map Flush addresses)
   Written : (readings : List Reading) (requests : List Request) → ArePut readings requests → ArePut readings (requests ++ Sync ∷ [])
 
 -- The requests put these items into a volume, and each was answered.

@@ -4,16 +4,15 @@ ghost use Rattle.std.specs.Io.KnownBytes.{IsAtEnd};
 ghost use Rattle.std.specs.IoError.{error_kind};
 ghost use Rattle.std.specs.declared.io.ErrorKind.TheVariants.{Interrupted};
 ghost use Rattle.machine.specs.Command.{Command as Request, Close as AsksClose, Create as AsksCreate, Mkdir as AsksMkdir, Open as AsksOpen, Write as AsksWrite};
-ghost use Rattle.model.specs.Layout.{Geometry};
 ghost use Rattle.model.specs.Uses.{blocks_of};
-ghost use Rattle.putting.specs.Putting.{Adds, AddsItems, IsTrueReading, IsTrueTo, MakesFile, PutMounted, Read, TookIn, block_writes, item_of};
-ghost use Rattle.snapshot.specs.Asked.{asked};
+ghost use Rattle.changing.specs.Asking.{Adds};
+ghost use Rattle.putting.specs.Putting.{AddsBlocks, AddsItems, IsTrueReading, IsTrueTo, MakesFile, PutMounted, Read, TookIn, item_of};
 
 use crate::items::{Item, Source};
 use crate::limits::MOST_BYTES;
-use crate::writing::{flush_in_passes, write_rest, write_some};
+use crate::writing::{write_behind, write_rest, write_some};
 use archives::Kind;
-use changing::{mount, write_all};
+use changing::{answer_to, ask, flush_in_passes, mount, write_all};
 use device::Device;
 use failures::Failure;
 use http_server::Log;
@@ -312,15 +311,16 @@ fn open<D: Device>(alloc: Global, volume: &mut Volume<D>, path: &[u8]) -> Result
     }
 }
 
-/// Writes these bytes to the empty file of a handle, block by block.
+/// Writes these bytes to the empty file of a handle, block by block, and flushes what waits now and then: what waits at once is
+/// bounded, however long the file is.
 fn write_blocks<D: Device>(
     alloc: Global,
     volume: &mut Volume<D>,
     handle: u32,
     bytes: &[u8],
 ) -> Result<(), Refusal>
-    ensures written { OnOk result (D.honest volume.new.device
-        → Adds (D.held volume.old.device) (D.image volume.old.device) volume.old (block_writes handle bytes.now (blocks_of (length bytes.now))) (D.held volume.new.device) (D.image volume.new.device) volume.new) }
+    ensures written { OnOk result (D.honest volume.new.device → AddsBlocks handle bytes.now (blocks_of (length bytes.now))
+        (D.held volume.old.device) (D.image volume.old.device) volume.old (D.held volume.new.device) (D.image volume.new.device) volume.new) }
     ensures honest { D.honest volume.new.device → D.honest volume.old.device }
 {
     let mut next = Next {
@@ -329,6 +329,7 @@ fn write_blocks<D: Device>(
     };
     for piece in bytes.chunks(BLOCK_BYTES) {
         next = write_piece(alloc, volume, handle, next, piece)?;
+        write_behind(alloc, volume, next.index)?;
     }
     Ok(())
 }
@@ -377,31 +378,4 @@ fn close<D: Device>(alloc: Global, volume: &mut Volume<D>, handle: u32) -> Resul
     ensures honest { D.honest volume.new.device → D.honest volume.old.device }
 {
     ask(alloc, volume, &Command::Close(handle))
-}
-
-/// Carries out a command.
-pub(crate) fn ask<D: Device>(
-    alloc: Global,
-    volume: &mut Volume<D>,
-    command: &Command,
-) -> Result<(), Refusal>
-    ensures asked { OnOk result (D.honest volume.new.device → (request : Request) → ((geo : Geometry) → asked geo command.now ≡ request)
-        → Adds (D.held volume.old.device) (D.image volume.old.device) volume.old (request ∷ []) (D.held volume.new.device) (D.image volume.new.device) volume.new) }
-    ensures honest { D.honest volume.new.device → D.honest volume.old.device }
-{
-    answer_to(alloc, volume, command)?;
-    Ok(())
-}
-
-/// Carries out a command, and gives the answer.
-fn answer_to<D: Device>(
-    alloc: Global,
-    volume: &mut Volume<D>,
-    command: &Command,
-) -> Result<Answer, Refusal>
-    ensures asked { IfOk result (λ _. D.honest volume.new.device → (request : Request) → ((geo : Geometry) → asked geo command.now ≡ request)
-        → Adds (D.held volume.old.device) (D.image volume.old.device) volume.old (request ∷ []) (D.held volume.new.device) (D.image volume.new.device) volume.new) }
-    ensures honest { D.honest volume.new.device → D.honest volume.old.device }
-{
-    volume.apply(alloc, command)
 }

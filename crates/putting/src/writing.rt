@@ -1,17 +1,19 @@
 //! How what waits in a volume's queue is written while items go into it.
 ghost use Rattle.std.specs.Prelude.{◌≡◌, [], ◌∷◌, IfOk, OnOk};
+ghost use Rattle.changing.specs.Asking.{Adds, AddsFlushes};
 ghost use Rattle.machine.specs.Command.{Sync as AsksSync};
-ghost use Rattle.putting.specs.Putting.{Adds, AddsItems};
 
-use crate::filling::ask;
-use changing::write_all;
+use changing::{flush_in_passes, write_all};
 use device::Device;
-use layout::Refusal;
-use snapshot::{Command, Volume};
+use layout::{BLOCK_BYTES, Refusal};
+use snapshot::Volume;
 use std::alloc::Global;
 
 /// After how many bytes what waits is flushed, so that the queue of updates stays short.
 const BYTES_AT_ONCE: usize = 1 << 17;
+
+/// After how many blocks of a file it is.
+const BLOCKS_AT_ONCE: u32 = (BYTES_AT_ONCE / BLOCK_BYTES) as u32;
 
 /// Flushes what waits, if it is this many bytes or more, and tells how many wait then. It does not wait for the medium: each
 /// image that the device holds on the way is one that a stop may leave.
@@ -21,7 +23,7 @@ pub(crate) fn write_some<D: Device>(
     pending: usize,
 ) -> Result<usize, Refusal>
     ensures written { IfOk result (λ _. D.honest volume.new.device
-        → AddsItems [] (D.held volume.old.device) (D.image volume.old.device) volume.old (D.held volume.new.device) (D.image volume.new.device) volume.new) }
+        → AddsFlushes (D.held volume.old.device) (D.image volume.old.device) volume.old (D.held volume.new.device) (D.image volume.new.device) volume.new) }
     ensures honest { D.honest volume.new.device → D.honest volume.old.device }
 {
     if pending < BYTES_AT_ONCE {
@@ -31,6 +33,22 @@ pub(crate) fn write_some<D: Device>(
     Ok(0)
 }
 
+/// Flushes what waits after a block of a file, each time so many have been written.
+pub(crate) fn write_behind<D: Device>(
+    alloc: Global,
+    volume: &mut Volume<D>,
+    blocks: u32,
+) -> Result<(), Refusal>
+    ensures written { OnOk result (D.honest volume.new.device
+        → AddsFlushes (D.held volume.old.device) (D.image volume.old.device) volume.old (D.held volume.new.device) (D.image volume.new.device) volume.new) }
+    ensures honest { D.honest volume.new.device → D.honest volume.old.device }
+{
+    if blocks % BLOCKS_AT_ONCE != 0 {
+        return Ok(());
+    }
+    flush_in_passes(alloc, volume)
+}
+
 /// Writes all that waits, and waits for the medium.
 pub(crate) fn write_rest<D: Device>(alloc: Global, volume: &mut Volume<D>) -> Result<(), Refusal>
     ensures written { OnOk result (D.honest volume.new.device
@@ -38,65 +56,4 @@ pub(crate) fn write_rest<D: Device>(alloc: Global, volume: &mut Volume<D>) -> Re
     ensures honest { D.honest volume.new.device → D.honest volume.old.device }
 {
     write_all(alloc, volume)
-}
-
-/// Flushes blocks in passes until none is ready. A sync would do too, but it flushes the least block that may be written each
-/// time, and so a block of inodes, which stands before the blocks of their files, again after each of these; a pass writes it
-/// once.
-pub(crate) fn flush_in_passes<D: Device>(
-    alloc: Global,
-    volume: &mut Volume<D>,
-) -> Result<(), Refusal>
-    ensures flushed { OnOk result (D.honest volume.new.device
-        → AddsItems [] (D.held volume.old.device) (D.image volume.old.device) volume.old (D.held volume.new.device) (D.image volume.new.device) volume.new) }
-    ensures honest { D.honest volume.new.device → D.honest volume.old.device }
-{
-    // Each pass writes an update, and no queue has more of them.
-    for _pass in 0..u32::MAX {
-        if !has_ready(volume) {
-            break;
-        }
-        flush_pass(alloc, volume)?;
-    }
-    Ok(())
-}
-
-/// Whether some block has an update that may go to the device.
-fn has_ready<D: Device>(volume: &Volume<D>) -> bool {
-    volume.live().least_ready().is_some()
-}
-
-/// Flushes each block with an update that may go to the device once its turn comes, in the order of their addresses.
-fn flush_pass<D: Device>(alloc: Global, volume: &mut Volume<D>) -> Result<(), Refusal>
-    ensures flushed { OnOk result (D.honest volume.new.device
-        → AddsItems [] (D.held volume.old.device) (D.image volume.old.device) volume.old (D.held volume.new.device) (D.image volume.new.device) volume.new) }
-    ensures honest { D.honest volume.new.device → D.honest volume.old.device }
-{
-    let mut from = 0;
-    // No volume has more blocks.
-    for _turn in 0..u32::MAX {
-        match flush_next(alloc, volume, from)? {
-            Some(next) => from = next,
-            None => break,
-        }
-    }
-    Ok(())
-}
-
-/// Flushes the least block with an update that may go to the device, of this one and those above it, and gives the address
-/// behind it; none where there is no such block.
-fn flush_next<D: Device>(
-    alloc: Global,
-    volume: &mut Volume<D>,
-    from: u32,
-) -> Result<Option<u32>, Refusal>
-    ensures flushed { IfOk result (λ _. D.honest volume.new.device
-        → AddsItems [] (D.held volume.old.device) (D.image volume.old.device) volume.old (D.held volume.new.device) (D.image volume.new.device) volume.new) }
-    ensures honest { D.honest volume.new.device → D.honest volume.old.device }
-{
-    let Some(address) = volume.live().next_ready(from) else {
-        return Ok(None);
-    };
-    ask(alloc, volume, &Command::Flush(address))?;
-    Ok(address.checked_add(1))
 }

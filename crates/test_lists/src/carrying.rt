@@ -52,6 +52,11 @@ impl<D: Device> Mounted<D> {
             .is_ok()
     }
 
+    /// Flushes what waits.
+    pub fn flush(&mut self, alloc: Global) -> Result<(), Refusal> {
+        changing::flush_in_passes(alloc, &mut self.volume)
+    }
+
     /// Carries out a request. One that is refused leaves what users see, what is open and held, the repairs, and what was
     /// frozen and inspected last, as they were: the writes of `flush`, `sync`, `freeze` and `release` before a fault stay,
     /// and a device need not be the same once it was read.

@@ -13,6 +13,9 @@ use std::os::unix::fs::FileExt;
 use std::rt::Files;
 use std::thread::Threads;
 
+/// After how many lines what waits is flushed, so that the queue of updates stays short.
+const LINES_AT_ONCE: usize = 128;
+
 /// How many lines there were.
 #[derive(Clone, Copy)]
 pub struct Count {
@@ -31,7 +34,7 @@ pub fn carry_out_on<R: Files + AllocGlobal + Threads + Sync>(
 where
     R::File: FileExt,
 {
-    let device: FileDevice<R::File, Brand> = FileDevice::open_to_write(rt, image)?;
+    let device: FileDevice<R::File, Brand> = FileDevice::open_to_write(rt, image)?.gathering();
     let mut mounted = mount(rt.alloc(), device)?;
     let count = carry_out_and_sync(rt, rt.alloc(), &mut mounted, bytes);
     drop(mounted);
@@ -46,6 +49,7 @@ fn carry_out_and_sync<D: Device>(
     bytes: &[u8],
 ) -> Result<Count, Refusal> {
     let count = carry_out_all(rt, alloc, mounted, bytes)?;
+    mounted.flush(alloc)?;
     match mounted.carry_out(rt, alloc, Request::Command(Command::Sync)) {
         Answer::Refused(refusal) => Err(refusal),
         _ => Ok(count),
@@ -58,7 +62,7 @@ fn carry_out_all<D: Device>(
     alloc: Global,
     mounted: &mut Mounted<D>,
     bytes: &[u8],
-) -> Result<Count, AllocError> {
+) -> Result<Count, Refusal> {
     let mut count = Count {
         lines: 0,
         refused: 0,
@@ -70,6 +74,9 @@ fn carry_out_all<D: Device>(
         count.lines = count.lines.saturating_add(1);
         if carry_out_line(rt, alloc, mounted, line)?.is_refusal() {
             count.refused = count.refused.saturating_add(1);
+        }
+        if count.lines % LINES_AT_ONCE == 0 {
+            mounted.flush(alloc)?;
         }
     }
     Ok(count)

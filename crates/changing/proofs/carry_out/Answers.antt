@@ -2,7 +2,8 @@ use Rattle.std.proofs.Common.{◌≡◌, ◌+◌, ◌<◌, ℕ, arith, ◌∷◌
 use Rattle.snapshot.specs.Asked.{asked}
 use Rattle.snapshot.specs.Goes.{Runs}
 use Rattle.snapshot.proofs.AppliesLemmas.{runs_next, runs_none}
-use Rattle.changing.proofs.StopLemmas.{AllAnswer, each_done, last_refused, longer, one_more}
+use Rattle.changing.specs.Asking.{AllAnswer}
+use Rattle.changing.proofs.StopLemmas.{each_done, last_refused, longer, one_more}
 use Rattle.changing.proofs.carry_out.Goals as goal
 
 one_longer : (n m i : ℕ) → n ≡ m + 1 → m ≡ i → n ≡ i + 1

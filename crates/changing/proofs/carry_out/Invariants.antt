@@ -2,7 +2,7 @@ use Rattle.std.proofs.Common.{◌≡◌, ◌≤◌, length, map, take}
 use Rattle.std.specs.Prelude.{vec_capacity, vec_len}
 use Rattle.snapshot.specs.Asked.{asked}
 use Rattle.snapshot.specs.Goes.{Runs}
-use Rattle.changing.proofs.StopLemmas.{AllAnswer}
+use Rattle.changing.specs.Asking.{AllAnswer}
 use Rattle.changing.proofs.carry_out.Given as goal
 
 abbrev pub invariant-loop-command : goal.invariant-loop-command

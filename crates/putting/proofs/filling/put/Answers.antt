@@ -1,6 +1,6 @@
 use Rattle.std.proofs.Common.{◌<◌, ◌≤◌, ◌∙◌, length, refl, arith}
 use Rattle.std.proofs.lemmas.List.{take_all}
-use Rattle.putting.proofs.PutLemmas.{next_true, none_false, nothing_put, put_next, put_rest, read_next, read_none}
+use Rattle.putting.proofs.PutLemmas.{adds_flushes, next_true, none_false, nothing_put, put_next, put_rest, read_next, read_none}
 use Rattle.putting.proofs.filling.put.Goals as goal
 
 pub loop-item-init : goal.loop-item-init
@@ -38,7 +38,8 @@ loop-item-preserved g c =
       held = next_true readings next (item, added.0) added.1 added.2 inv.held;
       put = λ h. let then = c.write_some.ensures.honest h in
           put_next (held old.device) (held here.device) (held mid.device) (held new.device) (image old.device) (image here.device) (image mid.device) (image new.device) old here mid new
-          readings next (item, added.0) added.1 (inv.put (c.put_item.ensures.honest then)) (added.3 then) (c.in_ok-pending.ensures.written h);
+          readings next (item, added.0) added.1 (inv.put (c.put_item.ensures.honest then)) (added.3 then)
+          (adds_flushes (held mid.device) (held new.device) (image mid.device) (image new.device) mid new (c.in_ok-pending.ensures.written h));
     }
 
 pub returns-clause-read : goal.returns-clause-read
@@ -59,7 +60,8 @@ returns-clause-took_in g c = λ none honest.
     let new = c.write_rest.new.volume in
     let then = c.write_rest.ensures.honest honest in
     put_rest (held old.device) (held here.device) (held mid.device) (held new.device) (image old.device) (image here.device) (image mid.device) (image new.device) old here mid new c.loop-item.readings.items.items
-    (inv.put (c.flush_in_passes.ensures.honest then)) (c.in_ok-flush_in_passes.ensures.flushed then) (c.in_ok-write_rest.ensures.written honest)
+    (inv.put (c.flush_in_passes.ensures.honest then))
+    (adds_flushes (held here.device) (held mid.device) (image here.device) (image mid.device) here mid (c.in_ok-flush_in_passes.ensures.flushed then)) (c.in_ok-write_rest.ensures.written honest)
 
 pub returns-clause-held : goal.returns-clause-held
 returns-clause-held g c = λ none. c.loop-item.invariant.held

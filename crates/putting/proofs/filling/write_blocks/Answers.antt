@@ -1,9 +1,9 @@
 use Rattle.std.proofs.Common.{ℕ, ap, ◌∙◌, subst, arith, rules}
 use Rattle.std.specs.Slice.Iter.{chunks_rest, chunks_size}
 use Rattle.std.specs.declared.slice.Chunks.{Chunks}
-use Rattle.putting.specs.Putting.{Adds, block_writes}
+use Rattle.putting.specs.Putting.{AddsBlocks}
 use Rattle.putting.proofs.CutLemmas.{cut_end, cut_step}
-use Rattle.putting.proofs.PutLemmas.{adds_none, wrote_more}
+use Rattle.putting.proofs.PutLemmas.{no_block, then_flushed, wrote_more}
 use Rattle.putting.proofs.filling.write_blocks.Goals as goal
 
 pub loop-piece-preserved : goal.loop-piece-preserved
@@ -13,7 +13,8 @@ loop-piece-preserved g c =
     let image = g.D.Device.image in
     let old = c.args.volume.now in
     let mid = c.loop-piece.volume in
-    let new = c.write_piece.new.volume in
+    let wrote = c.write_piece.new.volume in
+    let new = c.write_behind.new.volume in
     let bytes = c.args.bytes.now in
     let n = c.loop-piece.next.index in
     let next = c.in_ok-next.next.index in
@@ -23,9 +24,11 @@ loop-piece-preserved g c =
       cut.size,
       cut.rest,
       cut.within,
-      λ h. inv.5 (c.write_piece.ensures.honest h),
-      λ h. wrote_more (held old.device) (held mid.device) (held new.device) (image old.device) (image mid.device) (image new.device) old mid new c.args.handle n next bytes c.in-Some.piece.now
-          c.in_ok-next.ensures.next cut.piece_is (inv.6 (c.write_piece.ensures.honest h)) (c.in_ok-next.ensures.written h),
+      λ h. inv.5 (c.write_piece.ensures.honest (c.write_behind.ensures.honest h)),
+      λ h. let then = c.write_behind.ensures.honest h in
+          then_flushed (held old.device) (held wrote.device) (held new.device) (image old.device) (image wrote.device) (image new.device) old wrote new c.args.handle next bytes
+          (wrote_more (held old.device) (held mid.device) (held wrote.device) (image old.device) (image mid.device) (image wrote.device) old mid wrote c.args.handle n next bytes c.in-Some.piece.now
+          c.in_ok-next.ensures.next cut.piece_is (inv.6 (c.write_piece.ensures.honest then)) (c.in_ok-next.ensures.written then)) (c.in_ok-write_behind.ensures.written h),
     )
 
 pub loop-piece-init : goal.loop-piece-init
@@ -38,7 +41,7 @@ loop-piece-init g c =
       ap (λ (s : Chunks ℕ). chunks_rest s) first ∙ c.chunks-piece-items.ensures.rest,
       omega arith,
       λ h. h,
-      λ h. adds_none (g.D.Device.held old.device) (g.D.Device.image old.device) old,
+      λ h. no_block (g.D.Device.held old.device) (g.D.Device.image old.device) old c.args.handle c.args.bytes.now,
     )
 
 pub returns-clause-written : goal.returns-clause-written
@@ -48,5 +51,5 @@ returns-clause-written g c = λ honest.
     let image = g.D.Device.image in
     let old = c.args.volume.now in
     let new = c.loop-piece.volume in
-    subst (λ n. Adds (held old.device) (image old.device) old (block_writes c.args.handle c.args.bytes.now n) (held new.device) (image new.device) new)
+    subst (λ n. AddsBlocks c.args.handle c.args.bytes.now n (held old.device) (image old.device) old (held new.device) (image new.device) new)
     (cut_end c.args.bytes.now c.loop-piece.next.index _ _ _ c.in-None.is c.next.ensures.steps inv.3 inv.4) (inv.6 honest)

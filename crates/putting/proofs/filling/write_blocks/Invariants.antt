@@ -1,6 +1,6 @@
 use Rattle.std.proofs.Common.{◌≡◌, ◌<◌, ◌+◌, ◌*◌, drop, length}
 use Rattle.std.specs.Slice.Iter.{chunks_rest, chunks_size}
-use Rattle.putting.specs.Putting.{Adds, block_writes}
+use Rattle.putting.specs.Putting.{AddsBlocks}
 use Rattle.putting.proofs.filling.write_blocks.Given as goal
 
 abbrev pub invariant-loop-piece : goal.invariant-loop-piece
@@ -11,5 +11,5 @@ invariant-loop-piece g l =
     × (chunks_rest l.piece-iterator ≡ drop (l.next.index * 1024) l.bytes)
     × (l.next.index * 1024 < length l.bytes + 1024)
     × (g.D.Device.honest l.volume.device → g.D.Device.honest l.fn.volume.device)
-    × (g.D.Device.honest l.volume.device → Adds (g.D.Device.held l.fn.volume.device) (g.D.Device.image l.fn.volume.device) l.fn.volume
-    (block_writes l.handle l.bytes l.next.index) (g.D.Device.held l.volume.device) (g.D.Device.image l.volume.device) l.volume)
+    × (g.D.Device.honest l.volume.device → AddsBlocks l.handle l.bytes l.next.index (g.D.Device.held l.fn.volume.device) (g.D.Device.image l.fn.volume.device) l.fn.volume
+    (g.D.Device.held l.volume.device) (g.D.Device.image l.volume.device) l.volume)

@@ -2,7 +2,7 @@ use Rattle.std.proofs.Common.{refl}
 use Rattle.std.proofs.lemmas.Result.{on_ok_weaker}
 use Rattle.machine.specs.Command.{Sync as AsksSync}
 use Rattle.snapshot.specs.declared.command.Command.TheVariants.{Sync}
-use Rattle.putting.proofs.PutLemmas.{adds_one}
+use Rattle.changing.proofs.AskingLemmas.{adds_one}
 use Rattle.putting.proofs.writing.write_rest.Goals as goal
 
 pub returns-clause-written : goal.returns-clause-written

@@ -1,5 +1,5 @@
-use Rattle.putting.proofs.PutLemmas.{answered_adds}
-use Rattle.putting.proofs.filling.answer_to.Goals as goal
+use Rattle.changing.proofs.AskingLemmas.{answered_adds}
+use Rattle.changing.proofs.asking.answer_to.Goals as goal
 
 pub returns-clause-asked : goal.returns-clause-asked
 returns-clause-asked g c =

@@ -1,7 +1,7 @@
 use Rattle.std.proofs.Common.{refl}
 use Rattle.machine.specs.Command.{Flush}
-use Rattle.putting.proofs.PutLemmas.{adds_flush}
-use Rattle.putting.proofs.writing.flush_next.Goals as goal
+use Rattle.changing.proofs.AskingLemmas.{one_flush}
+use Rattle.changing.proofs.flushing.flush_next.Goals as goal
 
 pub returns-clause-flushed : goal.returns-clause-flushed
 returns-clause-flushed g c = λ honest.
@@ -9,5 +9,5 @@ returns-clause-flushed g c = λ honest.
     let image = g.D.Device.image in
     let old = c.args.volume.now in
     let new = c.ask.new.volume in
-    adds_flush (held old.device) (held new.device) (image old.device) (image new.device) old new c.in-Some.address
+    one_flush (held old.device) (held new.device) (image old.device) (image new.device) old new c.in-Some.address
     (c.in_ok-ask.ensures.asked honest (Flush c.in-Some.address) (λ geo. refl))
