@@ -3,7 +3,7 @@ use Rattle.std.proofs.Common.{◌≡◌, ◌<◌, ◌+◌, ℕ, zero, suc, List,
 use Rattle.std.proofs.lemmas.List.{length-append}
 use Rattle.layout.specs.declared.refusal.Refusal.{Refusal}
 use Rattle.frozen.specs.Loading.{GivesOut}
-use Rattle.snapshot.specs.Mounting.{MountRefuses}
+use Rattle.rules.specs.Loading.{LoadSoundRefuses}
 use Rattle.snapshot.specs.declared.answer.Answer.{Answer}
 use Rattle.changing.specs.Stops.{StopsAtRefusal}
 
@@ -43,6 +43,6 @@ pub last_refused : (n : ℕ) (replies more : List (Result Answer Refusal)) (repl
 last_refused n replies more reply r is same all low = subst (StopsAtRefusal n) (sym (same ∙ ap (λ x. replies ++ x ∷ []) is)) (stops n replies r all low)
 
 -- want of memory and a fault refuse a mount too
-pub given_out : (honest : Type 0) (image : List (List ℕ)) (r : Refusal) → GivesOut r → MountRefuses honest image r
-given_out honest image r (inl memory) = subst (MountRefuses honest image) (sym memory) tt
-given_out honest image r (inr device) = subst (MountRefuses honest image) (sym device) tt
+pub given_out : (honest : Type 0) (image : List (List ℕ)) (r : Refusal) → GivesOut r → LoadSoundRefuses honest image r
+given_out honest image r (inl memory) = subst (LoadSoundRefuses honest image) (sym memory) tt
+given_out honest image r (inr device) = subst (LoadSoundRefuses honest image) (sym device) tt

@@ -2,7 +2,8 @@
 use Rattle.std.specs.Prelude.{◌≡◌, ℕ, List, [], ◌∷◌, ◌++◌, map, Ok, Result}
 use Rattle.layout.specs.declared.refusal.Refusal.{Refusal}
 use Rattle.snapshot.specs.Alive.{Alive}
-use Rattle.snapshot.specs.Mounting.{IsMountable, MountRefuses}
+use Rattle.rules.specs.Loading.{LoadSoundRefuses}
+use Rattle.snapshot.specs.Mounting.{IsMountable}
 use Rattle.live_states.specs.Holdings.{IsIdle}
 use Rattle.softdep.specs.Queued.{pending_of}
 use Rattle.machine.specs.Command.{Sync as AsksSync}
@@ -35,4 +36,4 @@ pub record ChangesMounted {D : Type 0} (image : List (List ℕ)) (commands : Lis
 -- A device that held this image was let go, which was not changed, or not wholly, and refused so: where the device was honest, as one whose volume cannot be mounted, for want of memory, or for a fault.
 pub record IsNotChanged {D : Type 0} (honest_of : D → Type 0) (image : List (List ℕ)) (r : Refusal) : Type 0 where
   pub after : D
-  pub refuses : honest_of after → MountRefuses (honest_of after) image r
+  pub refuses : honest_of after → LoadSoundRefuses (honest_of after) image r
