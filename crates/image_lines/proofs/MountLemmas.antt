@@ -15,7 +15,7 @@ use Rattle.model.specs.Layout.{Geometry}
 use Rattle.model.specs.Rules.{ObeysRules}
 use Rattle.model.specs.View.{View}
 use Rattle.model.proofs.Same.{same_rules}
-use Rattle.snapshot.specs.Mounting.{BreaksRule, MountRefuses}
+use Rattle.rules.specs.Loading.{BreaksRule, LoadSoundRefuses}
 use Rattle.mending.proofs.MayMend.{all_soft}
 
 -- that rules hold where all findings are soft
@@ -37,6 +37,6 @@ breaks_where_damaged kept image of broken = record {
 }
 
 -- an image that cannot be loaded cannot be mounted
-pub load_refused : (honest : Type 0) (image : List (List ℕ)) (r : Refusal) → LoadRefuses honest image r → MountRefuses honest image r
+pub load_refused : (honest : Type 0) (image : List (List ℕ)) (r : Refusal) → LoadRefuses honest image r → LoadSoundRefuses honest image r
 load_refused honest image Damaged refuses = absurd refuses
 load_refused honest image _ refuses = refuses

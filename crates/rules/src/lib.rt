@@ -7,14 +7,14 @@ ghost use Rattle.model.specs.Rules.{IsLeastBroken, ObeysRules};
 ghost use Rattle.frozen.specs.Kept.{frozen_view};
 ghost use Rattle.rules.specs.Broken.{rule_broken};
 
-mod loading;
-
-pub use loading::load_sound;
-
 use findings::Finding;
 use frozen::Frozen;
 use layout::Refusal;
 use std::alloc::Global;
+
+mod loading;
+
+pub use loading::load_sound;
 
 /// The least number of a rule that the image breaks, from 1 to 8; `None` where it obeys all of them. Only `NoMemory` is
 /// refused.

@@ -2,7 +2,8 @@ use Rattle.std.proofs.Common.{◌≡◌, ◌∙◌, Err, ap, sym, subst}
 use Rattle.std.proofs.lemmas.Result.{err_from_is_err_and, IfErr-weaker, IfOk-weaker}
 use Rattle.layout.specs.declared.refusal.Refusal.TheVariants.{Damaged, Device, NoMemory}
 use Rattle.frozen.specs.Kept.{IsKeptOf}
-use Rattle.snapshot.specs.Mounting.{IsMountable, MountRefuses}
+use Rattle.rules.specs.Loading.{LoadSoundRefuses}
+use Rattle.snapshot.specs.Mounting.{IsMountable}
 use Rattle.image_lines.proofs.MountLemmas.{breaks_where_damaged, load_refused}
 use Rattle.image_lines.proofs.RepairLemmas.{of_both}
 use Rattle.image_lines.proofs.mounting.mount.Goals as goal
@@ -50,7 +51,7 @@ returns-in-Clean g c =
         after = device;
         image_stays = reads.same;
         held_stays = reads.held;
-        refuses = subst (MountRefuses (honest device) (image c.args.device)) (sym e) tt;
+        refuses = subst (LoadSoundRefuses (honest device) (image c.args.device)) (sym e) tt;
         cause = λ is. let bad : NoMemory ≡ Device = sym e ∙ is in cc;
       }) live.error;
     }
