@@ -1,2 +1,2 @@
 mod StopLemmas
-mod AskingLemmas
+pub mod AskingLemmas
