@@ -9,6 +9,7 @@ use image_lines::upgrade::UpgradeLine;
 use script_lines::demo::DemoLine;
 use script_lines::run::RunLine;
 use script_lines::stops::StopsLine;
+use serve_lines::serve::ServeLine;
 use tool_lines::cat::CatLine;
 use tool_lines::change::ChangeLine;
 use tool_lines::info::InfoLine;
@@ -36,6 +37,7 @@ pub enum Line<'a> {
     Put(PutLine<'a>),
     /// One of those that change the names in an image.
     Change(ChangeLine<'a>),
+    Serve(ServeLine<'a>),
     /// No words at all: the findings of a small fresh image in memory.
     Sample,
 }

@@ -1,13 +1,16 @@
 //! A line carried out, from its words to its output.
-ghost use Rattle.std.specs.Prelude.{◌≡◌, ◌<◌, ◌≤◌, IfOk};
+ghost use Rattle.std.specs.Prelude.{◌≡◌, ◌<◌, ◌≤◌, ◌⊎◌, IfOk};
+ghost use Rattle.commands.specs.Lines.{IsServe};
 
 use crate::line::Line;
 use crate::words::parse;
+use channels::Channel;
 use command_line::{Answer, Failure, GAVE_OUT, Screen};
 use host_lines::{get, mkfs, put};
 use image_lines::{bits, check, repair, sample, upgrade};
 use progress::Watcher;
 use script_lines::{demo, run, stops};
+use serve_lines::serve;
 use std::convert::AsStr;
 use std::io::Write;
 use std::os::unix::fs::FileExt;
@@ -23,20 +26,23 @@ use tool_lines::{cat, change, info, ls, map, stat};
 ///
 /// How far the line has come is shown on the screen while it is carried out. That is no part of what is written to `err`, and no
 /// clause speaks of it.
+///
+/// The channel is the connection to Linux of the line that serves an image. No other line uses it.
 pub fn perform<
     R: Files + AllocGlobal + Clock + Threads + Wait + Sync + Clone + Drop,
     S: AsStr,
     W: Write,
     E: Write,
     P: Write + Send + Drop,
->(rt: &R, words: &[S], out: &mut W, err: &mut E, screen: Screen<P>) -> u8
+    C: Channel,
+>(rt: &R, words: &[S], out: &mut W, err: &mut E, screen: Screen<P>, channel: &mut C) -> u8
 where
     R::File: FileExt + Send,
     ensures few { result ≤ 4 }
     ensures refused { result ≡ 3 → out.new ≡ out.old }
     ensures done { result < 2 → err.new ≡ err.old }
 {
-    match answer(rt, words, screen) {
+    match answer(rt, words, screen, channel) {
         Ok(answer) => match answer.print(out) {
             Ok(()) => answer.status,
             Err(_) => GAVE_OUT,
@@ -50,7 +56,8 @@ fn answer<
     R: Files + AllocGlobal + Clock + Threads + Wait + Sync + Clone + Drop,
     S: AsStr,
     P: Write + Send + Drop,
->(rt: &R, words: &[S], screen: Screen<P>) -> Result<Answer, Failure>
+    C: Channel,
+>(rt: &R, words: &[S], screen: Screen<P>, channel: &mut C) -> Result<Answer, Failure>
 where
     R::File: FileExt + Send,
     ensures { IfOk result (λ answer. answer.status < 3) }
@@ -60,7 +67,7 @@ where
         Err(failure) => return Err(failure),
     };
     let shown = screen.line(rt, rt.alloc(), line.asks_progress());
-    let answer = carry_out(rt, &line, &shown);
+    let answer = carry_out(rt, &line, &shown, channel);
     if let Some(shown) = shown {
         shown.end();
     }
@@ -68,14 +75,15 @@ where
 }
 
 /// Does what a line asks for, and tells the watcher how far that has come.
-pub fn carry_out<R: Files + AllocGlobal + Threads + Wait + Sync + Clone + Drop, T: Watcher + Sync>(
-    rt: &R,
-    line: &Line<'_>,
-    watcher: &T,
-) -> Result<Answer, Failure>
+pub fn carry_out<
+    R: Files + AllocGlobal + Threads + Wait + Sync + Clone + Drop,
+    T: Watcher + Sync,
+    C: Channel,
+>(rt: &R, line: &Line<'_>, watcher: &T, channel: &mut C) -> Result<Answer, Failure>
 where
     R::File: FileExt + Send,
-    ensures { IfOk result (λ answer. answer.status < 3) }
+    ensures status { IfOk result (λ answer. answer.status < 3) }
+    ensures apart { IsServe line.now ⊎ (channel.new ≡ channel.old) }
 {
     match line {
         Line::Mkfs(line) => mkfs::answer(rt, line, watcher),
@@ -94,6 +102,7 @@ where
         Line::Get(line) => get::answer(rt, line, watcher),
         Line::Put(line) => put::answer(rt, line, watcher),
         Line::Change(line) => change::answer(rt, line),
+        Line::Serve(line) => serve::answer(rt, line, channel),
         Line::Sample => sample::answer(rt.alloc()),
     }
 }

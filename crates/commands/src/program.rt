@@ -3,6 +3,7 @@ use clap::Command;
 use host_lines::{get, mkfs, put};
 use image_lines::{bits, check, repair, upgrade};
 use script_lines::{demo, run, stops};
+use serve_lines::serve;
 use std::alloc::{AllocError, Global};
 use tool_lines::{cat, change, info, ls, map, stat};
 
@@ -15,6 +16,7 @@ Groups:
   make and move   mkfs, put, get
   look            ls, stat, cat, info, map
   change          mkdir, rm, rmdir, mv, ln
+  mount           serve
   check and mend  check, repair, upgrade, bits, run
   experiments     stops, demo
 
@@ -39,6 +41,7 @@ pub(crate) fn program<'a>(alloc: Global) -> Result<Command<'a>, AllocError> {
     let program = that_make(alloc, without_lines(alloc)?)?;
     let program = that_look(alloc, program)?;
     let program = that_change(alloc, program)?;
+    let program = with_line(program, serve::command(alloc))?;
     let program = that_check(alloc, program)?;
     that_try(alloc, program)
 }

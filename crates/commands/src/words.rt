@@ -10,6 +10,7 @@ use host_lines::{get, mkfs, put};
 use image_lines::{bits, check, repair, upgrade};
 use layout::Refusal;
 use script_lines::{demo, run, stops};
+use serve_lines::serve;
 use std::alloc::{AllocError, Global};
 use std::convert::AsStr;
 use std::env::Env;
@@ -109,7 +110,7 @@ fn line_of_parts<'a>(name: &str, options: &ArgMatches<'a>) -> Option<Line<'a>>
     }
 }
 
-/// What the matches of a line ask for that looks into an image, or of one that checks, mends, upgrades or tries something.
+/// What the matches of a line ask for that looks into an image, or of one that serves, checks, mends, upgrades or tries something.
 fn line_that_looks<'a>(name: &str, options: &ArgMatches<'a>) -> Option<Line<'a>>
     ensures { IfSome result (λ line. line ≢ Line.Sample) }
 {
@@ -123,11 +124,12 @@ fn line_that_looks<'a>(name: &str, options: &ArgMatches<'a>) -> Option<Line<'a>>
     }
 }
 
-/// What the matches of a line ask for that checks an image, mends it or upgrades it, or of one that shows what the program does.
+/// What the matches of a line ask for that serves an image, checks, mends or upgrades it, or of one that shows what the program does.
 fn line_that_checks<'a>(name: &str, options: &ArgMatches<'a>) -> Option<Line<'a>>
     ensures { IfSome result (λ line. line ≢ Line.Sample) }
 {
     match name {
+        "serve" => Some(Line::Serve(serve::line_of(options)?)),
         "check" => Some(Line::Check(check::line_of(options)?)),
         "repair" => Some(Line::Repair(repair::line_of(options)?)),
         "upgrade" => Some(Line::Upgrade(upgrade::line_of(options)?)),

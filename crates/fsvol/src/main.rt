@@ -1,6 +1,7 @@
 //! `fsvol`: a file system in an image file. It makes, fills, checks and mends volumes.
 #![tactic(auto)]
 
+use channels::DeviceChannel;
 use command_line::Screen;
 use commands::{perform, words_given};
 use std::io::IsTerminal;
@@ -15,7 +16,15 @@ fn main(rt: HostRuntime) -> ExitCode {
                 to: rt.stderr(),
                 is_terminal: err.is_terminal(),
             };
-            ExitCode::from(perform(&rt, words.as_slice(), &mut out, &mut err, screen))
+            let mut channel = DeviceChannel::new(rt.stdin(), rt.stdout());
+            ExitCode::from(perform(
+                &rt,
+                words.as_slice(),
+                &mut out,
+                &mut err,
+                screen,
+                &mut channel,
+            ))
         }
         Err(failure) => ExitCode::from(failure.report(&mut err)),
     }

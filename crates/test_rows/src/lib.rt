@@ -14,6 +14,8 @@ mod hosting;
 #[cfg(test)]
 mod making;
 #[cfg(test)]
+mod mounting;
+#[cfg(test)]
 mod printing;
 #[cfg(test)]
 mod progressing;

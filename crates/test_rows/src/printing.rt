@@ -1,6 +1,6 @@
 //! Lines without an image, and writers that fail.
 use crate::trying::Wanted::Printed;
-use crate::trying::{gives_of_words, is_missing, unwatched};
+use crate::trying::{gives_of_words, is_missing, unconnected, unwatched};
 use commands::perform;
 use std::io::Write;
 use std::os::unix::fs::FileExt;
@@ -49,7 +49,15 @@ where
     let words: Vec<&str> = line.split(' ').collect(rt.alloc())?;
     let mut out = Vec::new(rt.alloc());
     let mut err = Vec::new(rt.alloc());
-    let status = perform(rt, words.as_slice(), &mut out, &mut err, unwatched());
+    let mut channel = unconnected(rt.alloc());
+    let status = perform(
+        rt,
+        words.as_slice(),
+        &mut out,
+        &mut err,
+        unwatched(),
+        &mut channel,
+    );
     has_status(rt, line, status, 3);
     is_empty(rt, line, out.as_slice());
     is_not_empty(rt, line, err.as_slice());
@@ -120,7 +128,8 @@ where
 {
     let words: &[&str] = &[];
     let mut err = Vec::new(rt.alloc());
-    let status = perform(rt, words, out, &mut err, unwatched());
+    let mut channel = unconnected(rt.alloc());
+    let status = perform(rt, words, out, &mut err, unwatched(), &mut channel);
     has_status(rt, "no words", status, wanted);
     is_empty(rt, "no words", err.as_slice());
 }
@@ -139,8 +148,16 @@ where
     R::File: FileExt + Send,
 {
     let mut out = Vec::new(rt.alloc());
+    let mut channel = unconnected(rt.alloc());
     let words = [name, "rows_unprinted.img"];
-    let status = perform(rt, words.as_slice(), &mut out, &mut Failing(3), unwatched());
+    let status = perform(
+        rt,
+        words.as_slice(),
+        &mut out,
+        &mut Failing(3),
+        unwatched(),
+        &mut channel,
+    );
     has_status(rt, name, status, wanted);
     is_empty(rt, name, out.as_slice());
 }

@@ -1,6 +1,6 @@
 //! What a watcher is told of the lines.
 use crate::hosting::made_folder;
-use crate::trying::{changed, made_small};
+use crate::trying::{changed, made_small, unconnected};
 use commands::{Line, carry_out, parse};
 use progress::{Step, Watcher};
 use std::fs;
@@ -48,7 +48,8 @@ where
     let watcher = Counting {
         told: AtomicU64::new(0),
     };
-    carry_out(rt, line, &watcher).ok()?;
+    let mut channel = unconnected(rt.alloc());
+    carry_out(rt, line, &watcher, &mut channel).ok()?;
     Some(watcher.told.load(Ordering::SeqCst))
 }
 

@@ -1,4 +1,5 @@
 //! How a line is tried on an image, and what it is to give.
+use channels::MemoryChannel;
 use command_line::Screen;
 use commands::perform;
 use std::alloc::{AllocError, Global};
@@ -41,6 +42,11 @@ pub(crate) fn unwatched() -> Screen<Sink> {
     }
 }
 
+/// A channel on which nothing comes.
+pub(crate) fn unconnected(alloc: Global) -> MemoryChannel {
+    MemoryChannel::new(alloc, Vec::new(alloc))
+}
+
 /// Carries out a line of these words, and of a last one behind them.
 pub(crate) fn gives<R: Files + AllocGlobal + Clock + Threads + Wait + Sync + Abort + Clone + Drop>(
     rt: &R,
@@ -66,12 +72,20 @@ where
 {
     let mut out = Vec::new(rt.alloc());
     let mut err = Vec::new(rt.alloc());
-    let status = perform(rt, words, &mut out, &mut err, unwatched());
+    let mut channel = unconnected(rt.alloc());
+    let status = perform(rt, words, &mut out, &mut err, unwatched(), &mut channel);
     given(rt, words, out.as_slice(), err.as_slice(), status, wanted);
 }
 
 /// What was written to the output and the errors, and the status, are those that are wanted of these words.
-fn given(rt: &impl Abort, words: &[&str], out: &[u8], err: &[u8], status: u8, wanted: Wanted<'_>) {
+pub(crate) fn given(
+    rt: &impl Abort,
+    words: &[&str],
+    out: &[u8],
+    err: &[u8],
+    status: u8,
+    wanted: Wanted<'_>,
+) {
     let (wanted_out, wanted_err, wanted_status) = match wanted {
         Printed(text, status) => (text, "", status),
         Refused(text, status) => ("", text, status),

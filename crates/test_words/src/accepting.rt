@@ -60,6 +60,11 @@ const READ: &[(&str, &str)] = &[
     ("run a.img --workers=65 b.txt", "run \"a.img\" \"b.txt\" 65"),
     ("run a.img b.txt --workers 0", "run \"a.img\" \"b.txt\" 0"),
     ("stops a.img b.txt", "stops \"a.img\" \"b.txt\""),
+    ("serve --read-only a.img", "serve \"a.img\" None"),
+    (
+        "serve a.img --owner=1:2 --read-only",
+        "serve \"a.img\" Some(\"1:2\")",
+    ),
 ];
 
 #[test]

@@ -54,6 +54,18 @@ const WRONG: &[(&str, &str)] = &[
         "bits --groups 1 a.img",
         "unexpected argument '--groups' found",
     ),
+    (
+        "serve a.img",
+        "required arguments were not provided:\n  --read-only",
+    ),
+    (
+        "serve --read-only",
+        "required arguments were not provided:\n  <IMAGE>",
+    ),
+    (
+        "serve a.img --read-only --owner",
+        "a value is required for '--owner <USER:GROUP>' but none was supplied",
+    ),
 ];
 
 /// Lines with `mkfs` of no form, and what the text that refuses each has.
@@ -146,7 +158,7 @@ const HELPS: &[(&str, &str)] = &[
     ),
     (
         "--help",
-        "\nGroups:\n  make and move   mkfs, put, get\n  look            ls, stat, cat, info, map\n  change          mkdir, rm, rmdir, mv, ln\n  check and mend  check, repair, upgrade, bits, run\n  experiments     stops, demo\n",
+        "\nGroups:\n  make and move   mkfs, put, get\n  look            ls, stat, cat, info, map\n  change          mkdir, rm, rmdir, mv, ln\n  mount           serve\n  check and mend  check, repair, upgrade, bits, run\n  experiments     stops, demo\n",
     ),
     ("--help", "\nStatus:\n  0  done, or the image is clean\n"),
     ("--help", "\n  3  the line is refused\n"),

@@ -7,6 +7,7 @@ use image_lines::repair::RepairLine;
 use image_lines::upgrade::UpgradeLine;
 use script_lines::run::RunLine;
 use script_lines::stops::StopsLine;
+use serve_lines::serve::ServeLine;
 use std::alloc::{AllocError, Global};
 use std::test::Fail;
 
@@ -56,6 +57,7 @@ pub(crate) fn told(alloc: Global, line: &Line<'_>) -> Result<String, AllocError>
         ) => format!(in alloc; "run {image:?} {script:?} {workers}"),
         Line::Stops(StopsLine { image, script }) => format!(in alloc; "stops {image:?} {script:?}"),
         Line::Upgrade(UpgradeLine { image }) => format!(in alloc; "upgrade {image:?}"),
+        Line::Serve(ServeLine { image, owner }) => format!(in alloc; "serve {image:?} {owner:?}"),
         Line::Bits(BitsLine { image }) => format!(in alloc; "bits {image:?}"),
         Line::Sample => String::from_str(alloc, "sample"),
         _ => String::from_str(alloc, "an everyday line"),

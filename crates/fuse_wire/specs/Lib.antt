@@ -1,0 +1,7 @@
+pub mod Fields
+pub mod Forgets
+pub mod Opcodes
+pub mod Refusals
+pub mod Requests
+pub mod Replies
+pub mod ReadBack

@@ -1,0 +1,3 @@
+pub mod Known
+pub mod Table
+pub mod Runs

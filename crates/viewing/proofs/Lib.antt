@@ -1,0 +1,5 @@
+mod LawLemmas
+mod ListingLemmas
+mod PieceLemmas
+mod SameLemmas
+mod TurnLemmas

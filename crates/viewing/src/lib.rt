@@ -1,0 +1,26 @@
+//! One request after another of Linux's FUSE, answered from an image that is read alone: a soft one too, and a damaged one as far
+//! as it can be loaded.
+//!
+//! Nothing of the image changes, so the kernel may keep names, attributes, contents and listings for an hour, listings go on from
+//! the slot of a directory that the kernel names, and no handle is needed: each open file or directory has the handle 0. A request
+//! that would change something is refused with EROFS.
+#![tactic(auto)]
+
+mod agreeing;
+mod answering;
+mod desk;
+mod forgetting;
+mod laws;
+mod listing;
+mod looking;
+mod owner;
+mod piece;
+mod saying;
+mod showing;
+
+pub use desk::{Desk, Turned};
+pub use laws::a_request_acts_on_the_inode_that_was_told;
+pub use owner::Owner;
+
+#[cfg(test)]
+mod tests;
