@@ -38,7 +38,9 @@ pub(crate) struct Sent {
 /// Its bytes.
 pub(crate) fn bytes_of(alloc: Global, sent: &Sent) -> Result<Vec<u8>, AllocError> {
     let mut bytes = Vec::new(alloc);
-    let length = 40 + sent.fields.len() as u32;
+    let length = u32::try_from(sent.fields.len())
+        .unwrap_or(u32::MAX)
+        .saturating_add(40);
     bytes.extend_from_slice(&length.to_le_bytes())?;
     bytes.extend_from_slice(&sent.kind.to_le_bytes())?;
     bytes.extend_from_slice(&u64::from(sent.unique).to_le_bytes())?;
