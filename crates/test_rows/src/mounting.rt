@@ -121,7 +121,11 @@ where
     R::File: FileExt + Send,
 {
     let channel = served(rt, words, &[FIRST, LAST, FIRST], Printed("", 0), 2)?;
-    assert!(rt; channel.replies()[1].as_slice() == DONE, "{words:?}");
+    let last = channel.replies().get(1);
+    assert!(rt;
+        last.is_some_and(|reply| reply.as_slice() == DONE),
+        "{words:?}"
+    );
     Ok(())
 }
 
