@@ -1,0 +1,9 @@
+//! Tests of viewing and serving: sessions of Linux's FUSE as bytes, over a channel in memory. The crate has nothing but tests.
+#![tactic(auto)]
+
+#[cfg(test)]
+mod requests;
+#[cfg(test)]
+mod sessions;
+#[cfg(test)]
+mod volumes;
