@@ -3,3 +3,4 @@ pub mod MemoryLemmas
 pub mod FormatLemmas
 pub mod ReadingLemmas
 pub mod ByteLemmas
+pub mod MediaLemmas

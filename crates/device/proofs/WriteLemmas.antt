@@ -3,21 +3,15 @@ use Rattle.std.proofs.Common.{◌≡◌, ℕ, List, [], ◌∷◌, ◌++◌, len
 use Rattle.std.specs.List.{AllByRecursion}
 use Rattle.std.proofs.lemmas.List.{length-set}
 use Rattle.std.proofs.Math.Seq.{take-suc}
-use Rattle.std.proofs.lemmas.List.Elements.{All-set, recursion_from_All}
+use Rattle.std.proofs.lemmas.List.Elements.{All-push, All-set, recursion_from_All}
 use Rattle.model.specs.Image.{IsBlock}
-use Rattle.device.specs.Memory.{IsWriteTo}
-use Rattle.device.specs.Writes.{Write, image_after, images_held}
+use Rattle.device.specs.MediaLaws.{image_after-push}
+use Rattle.device.specs.Memory.{IsMemory, IsWriteTo}
+use Rattle.device.specs.Writes.{Write, image_after}
 
--- the image after one more write
-pub image_after-push : (image : List (List ℕ)) (ws : List Write) (w : Write) → image_after image (ws ++ w ∷ []) ≡ slice_set (image_after image ws) w.0 w.1
-image_after-push image [] w = refl
-image_after-push image (v ∷ ws) w = image_after-push (slice_set image v.0 v.1) ws w
-
--- the images held after one more write
-pub images_held-push : (image : List (List ℕ)) (ws : List Write) (w : Write)
-    → images_held image (ws ++ w ∷ []) ≡ images_held image ws ++ image_after image (ws ++ w ∷ []) ∷ []
-images_held-push image [] w = refl
-images_held-push image (v ∷ ws) w = ap (λ xs. image ∷ xs) (images_held-push (slice_set image v.0 v.1) ws w)
+pub image_after-append : (image : List (List ℕ)) (ws vs : List Write) → image_after image (ws ++ vs) ≡ image_after (image_after image ws) vs
+image_after-append image [] vs = refl
+image_after-append image (w ∷ ws) vs = image_after-append (slice_set image w.0 w.1) ws vs
 
 pub length-image_after : (image : List (List ℕ)) (ws : List Write) → length (image_after image ws) ≡ length image
 length-image_after image [] = refl
@@ -39,3 +33,14 @@ written_by_recursion image count (w ∷ ws) whole bs = written_by_recursion (sli
 -- writes of blocks leave blocks
 pub whole_after_writes : (image : List (List ℕ)) (count : ℕ) (ws : List Write) → All IsBlock image → All (IsWriteTo count) ws → All IsBlock (image_after image ws)
 whole_after_writes image count ws whole bs = written_by_recursion image count ws whole (recursion_from_All (IsWriteTo count) ws bs)
+
+-- a device in memory after one more write
+pub memory-push : (first now : List (List ℕ)) (ws : List Write) (a : ℕ) (block : List ℕ) → IsMemory first now ws → a < length (image_after first ws) → IsBlock block
+    → IsMemory first (slice_set now a block) (ws ++ (a, block) ∷ [])
+memory-push first now ws a block m low is = record {
+  kept = ap (λ blocks. slice_set blocks a block) m.kept ∙ sym (image_after-push first ws (a, block));
+  began = m.began;
+  written = All-push (IsWriteTo (length first)) ws (a, block) m.written (record { address = omega (arith, length-image_after first ws, low); block = is });
+  whole = All-set IsBlock now a block is m.whole;
+  few = omega (arith, m.few, length-set now a block);
+}

@@ -4,3 +4,6 @@ pub mod Memory
 pub mod Zeroes
 pub mod Fused
 pub mod Reading
+pub mod Media
+pub mod MediaLaws
+pub mod Cached

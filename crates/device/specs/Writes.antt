@@ -11,11 +11,6 @@ abbrev pub image_after : List (List ℕ) → List Write → List (List ℕ)
 image_after image [] = image
 image_after image (w ∷ ws) = image_after (slice_set image w.0 w.1) ws
 
--- the images that were held: the first one, and one more after each write
-abbrev pub images_held : List (List ℕ) → List Write → List (List (List ℕ))
-images_held image [] = image ∷ []
-images_held image (w ∷ ws) = image ∷ images_held (slice_set image w.0 w.1) ws
-
 -- a fault adds one to the count of failures, which stands at 2^64 - 1, and nothing else changes it
 abbrev pub CountsFaults : {T E : Type 0} → Result T E → ℕ → ℕ → Type 0
 CountsFaults result old new = MatchResult result (λ _. new ≡ old) (λ _. new ≡ min (old + 1) (2 ^ 64 - 1))

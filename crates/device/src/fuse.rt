@@ -67,6 +67,8 @@ impl<D> Fuse<D> {
 }
 
 impl<D: Device> Device for Fuse<D> {
+    ghost KEEPS_ORDER = { D.KEEPS_ORDER };
+
     ghost honest = { λ fuse. D.honest fuse.device };
 
     ghost image = { λ fuse. D.image fuse.device };
@@ -74,6 +76,8 @@ impl<D: Device> Device for Fuse<D> {
     ghost held = { λ fuse. D.held fuse.device };
 
     ghost failures = { λ fuse. min (D.failures fuse.device + fuse.failures) (2 ^ 64 - 1) };
+
+    const KEEPS_ORDER: bool = D::KEEPS_ORDER;
 
     fn blocks(&self) -> u32 {
         self.device.blocks()
@@ -99,4 +103,8 @@ impl<D: Device> Device for Fuse<D> {
         }
         self.device.sync()
     }
+
+    ghost answers = { λ fuse. D.answers fuse.device };
+
+    ghost in_order = { λ keeps fuse. D.in_order keeps fuse.device };
 }

@@ -1,9 +1,10 @@
-ghost use Rattle.std.specs.Prelude.{◌≡◌, ◌≢◌, ◌⊎◌, ℕ, ◌+◌, ◌-◌, ◌<◌, ◌≤◌, ◌^◌, ◌%◌, ◌/◌, min, [], ◌∷◌, ◌++◌, List, length, All, IfOk, OnOk, OnErr, MatchResult, IsErrOf, slice_set, take};
+ghost use Rattle.std.specs.Prelude.{◌≡◌, ◌≢◌, ◌⊎◌, ℕ, ◌+◌, ◌-◌, ◌<◌, ◌≤◌, ◌^◌, ◌%◌, ◌/◌, min, true, [], ◌∷◌, ◌++◌, List, length, All, IfOk, OnOk, OnErr, MatchResult, IsErrOf, slice_set, take};
 ghost use Rattle.std.specs.List.{flat_map};
 ghost use Rattle.layout.specs.declared.refusal.Refusal.TheVariants.{NoMemory, BadLength, BadIndex};
 ghost use Rattle.model.specs.Image.{IsBlock};
 ghost use Rattle.device.specs.Memory.{IsWholeBlocks, IsWriteTo};
-ghost use Rattle.device.specs.Writes.{image_after, images_held};
+ghost use Rattle.device.specs.Cached.{held_in_memory, memory_answers, memory_in_order};
+ghost use Rattle.device.specs.Writes.{image_after};
 
 use crate::{Device, DeviceFault};
 use layout::{BLOCK_BYTES, Block, Refusal};
@@ -47,10 +48,18 @@ impl MemDevice {
         if count == 0 || bytes.len() % BLOCK_BYTES != 0 || count > MOST_BLOCKS {
             return Err(Refusal::BadLength);
         }
-        let first = blocks_of(alloc, bytes)?;
-        let now = Vec::from_slice(alloc, first.as_slice())?;
+        MemDevice::of_blocks(alloc, blocks_of(alloc, bytes)?)
+    }
+
+    /// The device with these blocks.
+    pub(crate) fn of_blocks(alloc: Global, blocks: Vec<Block>) -> Result<MemDevice, Refusal>
+        requires whole { All IsBlock blocks.items }
+        requires few { length blocks.items < 2 ^ 32 }
+        ensures { MatchResult result (λ device. device ≡ record { first = blocks.items; writes = []; failures = 0 }) (λ refusal. refusal ≡ NoMemory) }
+    {
+        let now = Vec::from_slice(alloc, blocks.as_slice())?;
         Ok(MemDevice {
-            first,
+            first: blocks,
             now,
             writes: Vec::new(alloc),
             failures: 0,
@@ -64,6 +73,15 @@ impl MemDevice {
         self.writes.len()
     }
 
+    /// The blocks now.
+    pub(crate) fn into_blocks(self) -> Vec<Block>
+        ensures blocks { result.items ≡ image_after self.first self.writes }
+        ensures whole { All IsBlock result.items }
+        ensures few { length result.items < 2 ^ 32 }
+    {
+        self.now
+    }
+
     /// A device that begins with what this one held after so many of its writes. `BadIndex` where fewer were made.
     pub fn image_after(&self, alloc: Global, writes: usize) -> Result<MemDevice, Refusal>
         ensures image { IfOk result (λ device. device ≡ record { first = image_after self.entry.now.first (take writes self.entry.now.writes); writes = []; failures = 0 }) }
@@ -73,24 +91,22 @@ impl MemDevice {
         let made = self.writes.get(..writes).ok_or(Refusal::BadIndex)?;
         let mut first = Vec::from_slice(alloc, self.first.as_slice())?;
         write_all(&mut first, made);
-        let now = Vec::from_slice(alloc, first.as_slice())?;
-        Ok(MemDevice {
-            first,
-            now,
-            writes: Vec::new(alloc),
-            failures: 0,
-        })
+        MemDevice::of_blocks(alloc, first)
     }
 }
 
 impl Device for MemDevice {
+    ghost KEEPS_ORDER = { true };
+
     ghost honest = { λ _. Unit {0} };
 
     ghost image = { λ device. image_after device.first device.writes };
 
-    ghost held = { λ device. images_held device.first device.writes };
+    ghost held = { λ device. held_in_memory device };
 
     ghost failures = { λ device. device.failures };
+
+    const KEEPS_ORDER: bool = true;
 
     fn blocks(&self) -> u32 {
         self.now.len() as u32
@@ -117,6 +133,10 @@ impl Device for MemDevice {
     fn sync(&mut self) -> Result<(), DeviceFault> {
         Ok(())
     }
+
+    ghost answers = { memory_answers };
+
+    ghost in_order = { λ _ device. memory_in_order device };
 }
 
 /// Makes these writes, the first first.

@@ -1,20 +1,21 @@
 -- What is kept of a file stays a true copy, whatever the file answers and whatever is written.
-use Rattle.std.proofs.Common.{◌≡◌, ℕ, true, false, List, [], ◌∷◌, ◌++◌, All, sym, ap, ap₂, ◌∙◌, subst, append-nil, set as slice_set}
+use Rattle.std.proofs.Common.{◌≡◌, ℕ, true, false, List, [], ◌∷◌, ◌++◌, length, All, sym, ap, ap₂, ◌∙◌, subst, append-nil, set as slice_set}
 use Rattle.std.proofs.lemmas.List.{append_assoc}
 use Rattle.std.proofs.lemmas.List.Elements.{All-push, All-nil}
-use Rattle.model.specs.Image.{IsBlock}
+use Rattle.file_device.specs.declared.file.Call.{Call}
 use Rattle.file_device.specs.declared.file.Call.TheVariants.{WriteBlock}
+use Rattle.device.specs.MediaLaws.{image_after-push}
+use Rattle.device.specs.Memory.{IsWriteTo}
 use Rattle.device.specs.Writes.{Write, image_after}
-use Rattle.file_device.specs.Calls.{Answered, AreHonest, calls_of, writes_of}
+use Rattle.file_device.specs.Calls.{Answered, AreHonest, calls_of, write_of, writes_of}
 use Rattle.file_device.specs.Runs.{AreCopies, IsCopy, IsKeeping, IsUntouched, replaced}
-use Rattle.device.proofs.WriteLemmas.{image_after-push}
 use Rattle.file_device.proofs.CallLemmas.{honest-append, read_stands, writes_of-append, writes_of-reads, writes_of-writes}
 use Rattle.file_device.proofs.RunLemmas.{push_copies, replaced_copies, written_copy}
 
 -- nothing is kept
 pub keeps_nothing : (image : List (List ℕ)) (kept earlier : List Write) → kept ≡ [] → earlier ≡ [] → IsKeeping image [] [] kept earlier
 keeps_nothing image kept earlier none none' = record {
-  whole = All-nil (λ (w : Write). IsBlock w.1);
+  whole = All-nil (IsWriteTo (length image));
   kept = λ h. subst (AreCopies image) (sym none) tt;
   earlier = λ h. subst (AreCopies image) (sym none') tt;
 }
@@ -34,7 +35,7 @@ module _ (image : List (List ℕ)) (es es' more : List Answered) (ws ws' kept ea
   keeps_others : (kept' earlier' : List Write) → (AreHonest image es' → AreCopies (image_after image (writes_of es ++ ws)) kept')
       → (AreHonest image es' → AreCopies (image_after image (writes_of es ++ ws)) earlier') → IsKeeping image es' ws' kept' earlier'
   keeps_others kept' earlier' copies copies' = record {
-    whole = subst (All (λ (w : Write). IsBlock w.1)) (sym same) k.whole;
+    whole = subst (All (IsWriteTo (length image))) (sym same) k.whole;
     kept = λ h. subst (λ vs. AreCopies (image_after image vs) kept') (sym same) (copies h);
     earlier = λ h. subst (λ vs. AreCopies (image_after image vs) earlier') (sym same) (copies' h);
   }
@@ -72,10 +73,16 @@ module _ (image : List (List ℕ)) (es es' : List Answered) (ws ws' kept earlier
       (ap (λ fs. writes_of fs ++ ws) is ∙ ap (λ vs. vs ++ ws) (writes_of-append es (calls_of false ((a, block) ∷ [])) ∙ append-nil (writes_of es))) k earlier'
       (λ h. puts (image_after image (writes_of es ++ ws)) (λ low. read_stands image es ws a block clear (subst (λ fs. AreHonest image fs) is h)))
 
+  -- a call of the file is noted that writes nothing
+  pub keeps_noted : (call : Call) (block : List ℕ) → write_of call block ≡ [] → es' ≡ es ++ (call, block) ∷ [] → IsKeeping image es' ws kept earlier
+  keeps_noted call block none is =
+      keeps_singles image es es' ((call, block) ∷ []) ws ws kept earlier is
+      (ap (λ fs. writes_of fs ++ ws) is ∙ ap (λ vs. vs ++ ws) (writes_of-append es ((call, block) ∷ []) ∙ ap (λ vs. writes_of es ++ (vs ++ [])) none ∙ append-nil (writes_of es))) k earlier (λ h copies. copies)
+
   -- what is kept is let go
   pub lets_go : (kept' : List Write) → kept' ≡ [] → ws' ≡ ws → IsKeeping image es ws' kept' earlier
   lets_go kept' none same = record {
-    whole = subst (λ vs. All (λ (w : Write). IsBlock w.1) (writes_of es ++ vs)) (sym same) k.whole;
+    whole = subst (λ vs. All (IsWriteTo (length image)) (writes_of es ++ vs)) (sym same) k.whole;
     kept = λ h. subst (λ vs. AreCopies (image_after image (writes_of es ++ ws')) vs) (sym none) tt;
     earlier = λ h. subst (λ vs. AreCopies (image_after image (writes_of es ++ vs)) earlier) (sym same) (k.earlier h);
   }
@@ -92,7 +99,7 @@ adds_put es es' ws ws' a block none more none' =
     ap₂ (λ fs vs. writes_of fs ++ vs) more none' ∙ append-nil (writes_of (es ++ (WriteBlock a, block) ∷ [])) ∙ writes_of-append es ((WriteBlock a, block) ∷ [])
     ∙ ap (λ vs. vs ++ (a, block) ∷ []) (sym (append-nil (writes_of es)) ∙ ap (λ vs. writes_of es ++ vs) (sym none))
 
-module _ (image : List (List ℕ)) (es es' : List Answered) (ws ws' kept earlier : List Write) (a : ℕ) (block : List ℕ) (is : IsBlock block) (k : IsKeeping image es ws kept earlier) (before : AreHonest image es' → AreHonest image es) (written : writes_of es' ++ ws' ≡ (writes_of es ++ ws) ++ (a, block) ∷ []) where
+module _ (image : List (List ℕ)) (es es' : List Answered) (ws ws' kept earlier : List Write) (a : ℕ) (block : List ℕ) (is : IsWriteTo (length image) (a, block)) (k : IsKeeping image es ws kept earlier) (before : AreHonest image es' → AreHonest image es) (written : writes_of es' ++ ws' ≡ (writes_of es ++ ws) ++ (a, block) ∷ []) where
   image_is : image_after image (writes_of es' ++ ws') ≡ slice_set (image_after image (writes_of es ++ ws)) a block
   image_is = ap (image_after image) written ∙ image_after-push image (writes_of es ++ ws) (a, block)
 
@@ -100,12 +107,12 @@ module _ (image : List (List ℕ)) (es es' : List Answered) (ws ws' kept earlier
   keeps_after : (kept' earlier' : List Write) → (AreHonest image es → AreCopies (slice_set (image_after image (writes_of es ++ ws)) a block) kept')
       → (AreHonest image es → AreCopies (slice_set (image_after image (writes_of es ++ ws)) a block) earlier') → IsKeeping image es' ws' kept' earlier'
   keeps_after kept' earlier' copies copies' = record {
-    whole = subst (All (λ (w : Write). IsBlock w.1)) (sym written) (All-push (λ (w : Write). IsBlock w.1) (writes_of es ++ ws) (a, block) k.whole is);
+    whole = subst (All (IsWriteTo (length image))) (sym written) (All-push (IsWriteTo (length image)) (writes_of es ++ ws) (a, block) k.whole is);
     kept = λ h. subst (λ now. AreCopies now kept') (sym image_is) (copies (before h));
     earlier = λ h. subst (λ now. AreCopies now earlier') (sym image_is) (copies' (before h));
   }
 
-module _ (image : List (List ℕ)) (es : List Answered) (ws kept earlier : List Write) (a : ℕ) (block : List ℕ) (is : IsBlock block) (k : IsKeeping image es ws kept earlier) where
+module _ (image : List (List ℕ)) (es : List Answered) (ws kept earlier : List Write) (a : ℕ) (block : List ℕ) (is : IsWriteTo (length image) (a, block)) (k : IsKeeping image es ws kept earlier) where
   abbrev now : List (List ℕ)
   now = image_after image (writes_of es ++ ws)
 

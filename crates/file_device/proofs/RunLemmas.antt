@@ -7,9 +7,9 @@ use Rattle.std.proofs.lemmas.Bool.Decides.{eqb_tells}
 use Rattle.std.proofs.lemmas.List.{append_assoc, map-append, length-take-le, length-set, take_more, take_more_set}
 use Rattle.model.specs.Image.{block_at}
 use Rattle.device.specs.Writes.{Write, image_after}
-use Rattle.file_device.specs.Calls.{Answered, call_at, calls_of}
+use Rattle.file_device.specs.Calls.{Answered, call_at, calls_of, writes_from}
 use Rattle.file_device.specs.declared.run.Run.{Run}
-use Rattle.file_device.specs.Runs.{IsKept, IsUntouched, waiting, writes_of_run, blocks_of_run, writes_from, replaced_one, replaced, IsCopy, AreCopies}
+use Rattle.file_device.specs.Runs.{IsKept, IsUntouched, waiting, writes_of_run, blocks_of_run, replaced_one, replaced, IsCopy, AreCopies}
 
 -- one more block
 pub writes_from-push : (a : ℕ) (xs : List (List ℕ)) (x : List ℕ) → writes_from a (xs ++ x ∷ []) ≡ writes_from a xs ++ (a + length xs, x) ∷ []

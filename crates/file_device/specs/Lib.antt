@@ -1,3 +1,4 @@
 pub mod Calls
 pub mod Opening
 pub mod Runs
+pub mod CallLaws

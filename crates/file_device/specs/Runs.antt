@@ -1,17 +1,13 @@
 -- Blocks of a file of which a copy is kept in memory.
 use Rattle.std.specs.Prelude.{◌≡◌, ℕ, suc, ◌+◌, ◌-◌, ◌*◌, ◌%◌, ◌<◌, ◌≤◌, ◌==◌, if◌then◌else◌, Bool, true, false, Option, Some, None, List, [], ◌∷◌, ◌++◌, All, length, map, slice_index_or, take}
 use Rattle.std.specs.Option.{option_map}
-use Rattle.model.specs.Image.{IsBlock, block_at}
+use Rattle.model.specs.Image.{block_at}
 use Rattle.file_device.specs.declared.run.Run.{Run}
 use Rattle.file_device.specs.declared.run.earlier.Earlier.{Earlier}
 use Rattle.file_device.specs.declared.run.earlier.Slot.{Slot}
+use Rattle.device.specs.Memory.{IsWriteTo}
 use Rattle.device.specs.Writes.{Write, image_after}
-use Rattle.file_device.specs.Calls.{Answered, writes_of, AreHonest}
-
--- the writes of these blocks, one after another from this address on
-abbrev pub writes_from : ℕ → List (List ℕ) → List Write
-writes_from a [] = []
-writes_from a (block ∷ blocks) = (a, block) ∷ writes_from (suc a) blocks
+use Rattle.file_device.specs.Calls.{Answered, AreHonest, has_refused, writes_from, writes_of}
 
 -- the blocks of a run
 abbrev pub blocks_of_run : Run → List (List ℕ)
@@ -83,6 +79,11 @@ IsUntouched ws a = (image : List (List ℕ)) → block_at (image_after image ws)
 -- What is kept of a file that held this image at first, answered these calls and was not given those writes: if each block that
 -- the file gave was true, each that is kept, and each earlier one, is the block that stands there after all writes.
 pub record IsKeeping (image : List (List ℕ)) (answered : List Answered) (waiting run singles : List Write) : Type 0 where
-  pub whole : All (λ (w : Write). IsBlock w.1) (writes_of answered ++ waiting)
+  pub whole : All (IsWriteTo (length image)) (writes_of answered ++ waiting)
   pub kept : AreHonest image answered → AreCopies (image_after image (writes_of answered ++ waiting)) run
   pub earlier : AreHonest image answered → AreCopies (image_after image (writes_of answered ++ waiting)) singles
+
+-- The same of a device, and it knows whether the file refused a write or a sync.
+pub record IsOfFile (image : List (List ℕ)) (answered : List Answered) (waiting run singles : List Write) (broken : Bool) : Type 0 where
+  pub keeping : IsKeeping image answered waiting run singles
+  pub heard : broken ≡ has_refused false answered

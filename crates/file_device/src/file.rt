@@ -1,13 +1,17 @@
 ghost use Rattle.std.specs.Prelude.{◌≡◌, ℕ, ◌<◌, ◌*◌, ◌+◌, ◌-◌, ◌^◌, min, true, false, None, List, [], ◌∷◌, ◌++◌, IfOk, IfErr, IfSome, OnErr, OnOk, replicate};
+ghost use Rattle.std.proofs.lemmas.Bool.{false≢true};
 ghost use Rattle.layout.specs.declared.refusal.Refusal.TheVariants.{BadLength};
 ghost use Rattle.model.specs.Image.{IsBlock, block_at};
+ghost use Rattle.device.specs.declared.cache.Step.TheVariants.{Wrote, Synced};
+ghost use Rattle.device.specs.Media.{settled_on};
 ghost use Rattle.device.specs.Writes.{CountsFaults};
 ghost use Rattle.device.specs.Memory.{IsWholeBlocks};
 ghost use Rattle.device.specs.Zeroes.{zeroes_are_whole};
-ghost use Rattle.file_device.specs.Calls.{GoesOn, IsHonestFile, call_at, calls_of, held_so_far, image_now};
+ghost use Rattle.file_device.specs.Calls.{GoesOn, IsHonestFile, call_at, calls_of, has_refused, held_so_far, image_now, no_block};
+ghost use Rattle.file_device.specs.CallLaws.{file_answers};
 ghost use Rattle.file_device.specs.Opening.{IsOfCall, MayNotOpen};
 ghost use Rattle.file_device.specs.Runs.{IsUntouched, writes_of_run};
-ghost use Rattle.file_device.specs.declared.file.Call.TheVariants.{ReadBlock};
+ghost use Rattle.file_device.specs.declared.file.Call.TheVariants.{ReadBlock, Refuse, Sync};
 
 use crate::opening::OpenError;
 use crate::run::{Earlier, RUN_BLOCKS, Run};
@@ -22,15 +26,25 @@ use std::{fs, io};
 
 /// What a file held before its first call, block by block. Only clauses read it.
 pub trait Start {
+    /// What it would have given.
     ghost first: { ℕ → List ℕ };
 
+    /// What was on the medium: a power cut may have left any of the blocks there as they were before.
+    ghost below: { ℕ → List ℕ };
+
     ghost whole: { (a : ℕ) → IsBlock (first a) };
+
+    ghost whole_below: { (a : ℕ) → IsBlock (below a) };
 }
 
 impl Start for Brand {
     ghost first = { λ _. replicate 1024 0 };
 
+    ghost below = { λ _. replicate 1024 0 };
+
     ghost whole = { λ _. zeroes_are_whole };
+
+    ghost whole_below = { λ _. zeroes_are_whole };
 }
 
 /// A call that a file answered, and the address of its block.
@@ -38,18 +52,30 @@ impl Start for Brand {
 pub enum Call {
     ReadBlock(u32),
     WriteBlock(u32),
+    /// All that the file was given before is on the medium.
+    Sync,
+    /// A write or a sync was refused. Of what the file was given and what is not on the medium nothing is known any more,
+    /// whatever it answers later: a system may report a failed write once, and forget it.
+    Refuse,
 }
+
+/// The block that is noted with a call that has none.
+const NO_BLOCK: Block = [0; BLOCK_BYTES];
 
 /// A file as a device. It keeps a history of what the file was asked and answered, which only clauses read: no contract can
 /// say what a file gives back, so what is proved of the blocks of a file has as its premise that each block that the file
 /// gave is what it held at first or what it was given there since. A block that is read out of memory needs no premise of
 /// its own: that it is the one that stands there is proved.
 ///
+/// Nor can a contract say what is on the medium. What is said of it has as its premises that a sync that the file answers has
+/// brought all there that the file was given before, that a block is there whole or not at all, that a write that the file
+/// refuses changed nothing, and that nobody else writes. A file that refused a write or a sync is asked nothing any more.
+///
 /// Blocks that are read one after another come from the file in runs, and those that are read alone are kept, each until
 /// another needs its place: so what others write to the file meanwhile may stay unseen. A device that gathers gives the file
 /// blocks that are written one after another in runs, too: the last ones wait in memory until another block is written, or
 /// `sync` or `give` is called. The file is given all writes in their order, so that after each call of the system it holds
-/// what some of the writes left, the first first.
+/// what some of the writes left, the first first; the medium may have any of those since the last sync.
 #[derive(Drop)]
 pub struct FileDevice<F, S: Start> {
     file: F,
@@ -65,18 +91,20 @@ pub struct FileDevice<F, S: Start> {
     earlier: Earlier,
     /// Whether writes may wait.
     gathers: bool,
+    /// Whether the file refused a write or a sync.
+    broken: bool,
     start: PhantomData<S>,
 }
 
 impl<F, S: Start> Model for FileDevice<F, S> {
     ghost use Rattle.file_device.specs.Calls.{Calls, image_of};
-    ghost use Rattle.file_device.specs.Runs.{IsKeeping, waiting, writes_of_run, writes_of_earlier};
+    ghost use Rattle.file_device.specs.Runs.{IsOfFile, waiting, writes_of_run, writes_of_earlier};
 
     ghost Value = { Calls };
 
     ghost view = { λ device. record { count = device.count; answered = device.answered.items; waiting = waiting device.waits device.kept; failures = device.failures } };
 
-    ghost invariant = { λ device. IsKeeping (image_of S.first device.count) device.answered.items (waiting device.waits device.kept) (writes_of_run device.kept) (writes_of_earlier device.earlier) };
+    ghost invariant = { λ device. IsOfFile (image_of S.first device.count) device.answered.items (waiting device.waits device.kept) (writes_of_run device.kept) (writes_of_earlier device.earlier) device.broken };
 }
 
 impl<F, S: Start> FileDevice<F, S> {
@@ -93,6 +121,7 @@ impl<F, S: Start> FileDevice<F, S> {
             waits: false,
             earlier: Earlier::none(),
             gathers: false,
+            broken: false,
             start: PhantomData,
         }
     }
@@ -113,6 +142,25 @@ impl<F, S: Start> FileDevice<F, S> {
     {
         self.failures = self.failures.saturating_add(1);
         DeviceFault
+    }
+
+    /// Refuses a call where the file refused a write or a sync before.
+    fn check(&self) -> io::Result<()>
+        ensures sound { OnOk result (has_refused false self.now.answered ≡ false) }
+        ensures broken { OnErr result (has_refused false self.now.answered ≡ true) }
+    {
+        if self.broken {
+            return Err(io::Error::from(io::ErrorKind::Other));
+        }
+        Ok(())
+    }
+
+    /// Notes that the file refused a write or a sync: it is asked nothing any more.
+    fn refuse(&mut self)
+        ensures { self.new ≡ record self.old { answered = self.old.answered ++ (Refuse, no_block) ∷ [] } }
+    {
+        self.answered = self.answered.and(&Call::Refuse, &NO_BLOCK);
+        self.broken = true;
     }
 
     /// The block of this address, where a copy of it is kept. Where none is, no block waits for this address.
@@ -141,7 +189,12 @@ impl<F: FileExt, S: Start> FileDevice<F, S> {
     /// Gives the file what waits; then it was given each write that was answered. After a fault it still waits.
     pub fn give(&mut self) -> Result<(), DeviceFault>
         ensures given { OnOk result (self.new ≡ record self.old { answered = self.old.answered ++ calls_of true self.old.waiting; waiting = [] }) }
-        ensures fault { OnErr result (self.new ≡ record self.old { failures = min (self.old.failures + 1) (2 ^ 64 - 1) }) }
+        ensures fault { OnErr result (GoesOn self.old self.new []) }
+        ensures waits { OnErr result (self.new.waiting ≡ self.old.waiting) }
+        ensures sound { OnOk result (has_refused false self.old.answered ≡ false) }
+        ensures unasked { has_refused false self.old.answered ≡ true → self.new.answered ≡ self.old.answered }
+        ensures ends { OnErr result (has_refused false self.new.answered ≡ true) }
+        ensures cause { CountsFaults result self.old.failures self.new.failures }
     {
         match self.give_waiting() {
             Ok(()) => Ok(()),
@@ -149,26 +202,42 @@ impl<F: FileExt, S: Start> FileDevice<F, S> {
         }
     }
 
-    /// Gives the file what waits, and counts no fault.
+    /// Gives the file what waits, and counts no fault. The file has refused nothing then.
     fn give_waiting(&mut self) -> io::Result<()>
         ensures given { OnOk result (self.new ≡ record self.old { answered = self.old.answered ++ calls_of true self.old.waiting; waiting = [] }) }
-        ensures refused { OnErr result (self.new ≡ self.old) }
+        ensures sound { OnOk result (has_refused false self.old.answered ≡ false) }
+        ensures refused { OnErr result (GoesOn self.old self.new []) }
+        ensures waits { OnErr result (self.new.waiting ≡ self.old.waiting) }
+        ensures unasked { has_refused false self.old.answered ≡ true → self.new.answered ≡ self.old.answered }
+        ensures ends { OnErr result (has_refused false self.new.answered ≡ true) }
+        ensures failures { self.new.failures ≡ self.old.failures }
     {
+        self.check()?;
         if !self.waits {
             return Ok(());
         }
-        self.file.write_all_at(self.kept.blocks().as_flattened(), offset(self.kept.first()))?;
-        add_run(&mut self.answered, &self.kept, true);
-        self.waits = false;
-        Ok(())
+        match self.file.write_all_at(self.kept.blocks().as_flattened(), offset(self.kept.first())) {
+            Ok(()) => {
+                add_run(&mut self.answered, &self.kept, true);
+                self.waits = false;
+                Ok(())
+            }
+            Err(error) => {
+                self.refuse();
+                Err(error)
+            }
+        }
     }
 
     /// Gets a block from what is kept, or else from the file.
     fn get(&mut self, address: u32, to: &mut Block) -> io::Result<()>
         ensures read { GoesOn self.old self.new [] }
+        ensures sound { OnOk result (has_refused false self.old.answered ≡ false) }
+        ensures unasked { has_refused false self.old.answered ≡ true → self.new.answered ≡ self.old.answered }
         ensures failures { self.new.failures ≡ self.old.failures }
         ensures block { OnOk result (IsHonestFile S.first self.new → address < self.new.count → to.new ≡ block_at (image_now S.first self.new) address) }
     {
+        self.check()?;
         self.read_ahead(address);
         if let Some(block) = self.find(address) {
             *to = *block;
@@ -207,8 +276,12 @@ impl<F: FileExt, S: Start> FileDevice<F, S> {
 
     /// Writes a block, and counts no fault.
     fn take(&mut self, address: u32, from: &Block) -> io::Result<()>
-        ensures taken { OnOk result (GoesOn self.old self.new ((address, from.now) ∷ [])) }
+        requires { address < self.old.count }
+        ensures taken { OnOk result (GoesOn self.old self.new (Wrote address from.now ∷ [])) }
         ensures refused { OnErr result (GoesOn self.old self.new []) }
+        ensures sound { OnOk result (has_refused false self.old.answered ≡ false) }
+        ensures unasked { has_refused false self.old.answered ≡ true → self.new.answered ≡ self.old.answered }
+        ensures ends { OnErr result (has_refused false self.new.answered ≡ true) }
         ensures failures { self.new.failures ≡ self.old.failures }
     {
         if self.gathers {
@@ -219,10 +292,15 @@ impl<F: FileExt, S: Start> FileDevice<F, S> {
 
     /// Keeps a block that is written, and gives the file those before it, if they are no run with it.
     fn gather(&mut self, address: u32, from: &Block) -> io::Result<()>
-        ensures taken { OnOk result (GoesOn self.old self.new ((address, from.now) ∷ [])) }
+        requires { address < self.old.count }
+        ensures taken { OnOk result (GoesOn self.old self.new (Wrote address from.now ∷ [])) }
         ensures refused { OnErr result (GoesOn self.old self.new []) }
+        ensures sound { OnOk result (has_refused false self.old.answered ≡ false) }
+        ensures unasked { has_refused false self.old.answered ≡ true → self.new.answered ≡ self.old.answered }
+        ensures ends { OnErr result (has_refused false self.new.answered ≡ true) }
         ensures failures { self.new.failures ≡ self.old.failures }
     {
+        self.check()?;
         if self.waits && self.kept.goes_on(address) {
             self.kept.push(from);
             self.earlier.replace(address, from);
@@ -237,32 +315,62 @@ impl<F: FileExt, S: Start> FileDevice<F, S> {
 
     /// Gives the file a block that is written, and what waited before it.
     fn put(&mut self, address: u32, from: &Block) -> io::Result<()>
-        ensures taken { OnOk result (GoesOn self.old self.new ((address, from.now) ∷ [])) }
+        requires { address < self.old.count }
+        ensures taken { OnOk result (GoesOn self.old self.new (Wrote address from.now ∷ [])) }
         ensures refused { OnErr result (GoesOn self.old self.new []) }
+        ensures sound { OnOk result (has_refused false self.old.answered ≡ false) }
+        ensures unasked { has_refused false self.old.answered ≡ true → self.new.answered ≡ self.old.answered }
+        ensures ends { OnErr result (has_refused false self.new.answered ≡ true) }
         ensures failures { self.new.failures ≡ self.old.failures }
     {
         self.give_waiting()?;
-        self.file.write_all_at(from, offset(address))?;
-        self.answered = self.answered.and(&Call::WriteBlock(address), from);
-        self.kept.replace(address, from);
-        self.earlier.replace(address, from);
-        // What waited was given.
-        self.waits = false;
-        Ok(())
+        match self.file.write_all_at(from, offset(address)) {
+            Ok(()) => {
+                self.answered = self.answered.and(&Call::WriteBlock(address), from);
+                self.kept.replace(address, from);
+                self.earlier.replace(address, from);
+                // What waited was given.
+                self.waits = false;
+                Ok(())
+            }
+            Err(error) => {
+                self.refuse();
+                Err(error)
+            }
+        }
     }
 }
 
 impl<F: FileExt + OpenFile, S: Start> FileDevice<F, S> {
     /// Gives the file what waits, and then waits until what it was given has reached the medium.
-    fn settle(&mut self) -> Result<(), DeviceFault>
-        ensures same { GoesOn self.old self.new [] }
-        ensures given { OnOk result (self.new.waiting ≡ []) }
-        ensures cause { CountsFaults result self.old.failures self.new.failures }
+    fn settle(&mut self) -> io::Result<()>
+        ensures settled { OnOk result (GoesOn self.old self.new (Synced ∷ [])) }
+        ensures refused { OnErr result (GoesOn self.old self.new []) }
+        ensures sound { OnOk result (has_refused false self.old.answered ≡ false) }
+        ensures unasked { has_refused false self.old.answered ≡ true → self.new.answered ≡ self.old.answered }
+        ensures ends { OnErr result (has_refused false self.new.answered ≡ true) }
+        ensures failures { self.new.failures ≡ self.old.failures }
     {
-        self.give()?;
+        self.give_waiting()?;
+        self.sync_file()
+    }
+}
+
+impl<F: OpenFile, S: Start> FileDevice<F, S> {
+    /// Waits until what the file was given has reached the medium.
+    fn sync_file(&mut self) -> io::Result<()>
+        ensures synced { OnOk result (self.new ≡ record self.old { answered = self.old.answered ++ (Sync, no_block) ∷ [] }) }
+        ensures refused { OnErr result (self.new ≡ record self.old { answered = self.old.answered ++ (Refuse, no_block) ∷ [] }) }
+    {
         match self.file.sync_data() {
-            Ok(()) => Ok(()),
-            Err(_) => Err(self.fault()),
+            Ok(()) => {
+                self.answered = self.answered.and(&Call::Sync, &NO_BLOCK);
+                Ok(())
+            }
+            Err(error) => {
+                self.refuse();
+                Err(error)
+            }
         }
     }
 }
@@ -302,23 +410,6 @@ impl<F: OpenFile, S: Start> FileDevice<F, S> {
         }
     }
 
-    /// Opens a file for reading and writing. It is refused as by `open`.
-    pub fn open_to_write<R: Files<File = F>>(
-        rt: &R,
-        path: &str,
-    ) -> Result<FileDevice<F, S>, OpenError>
-        ensures new { IfOk result (λ device. (device.answered ≡ []) × (device.waiting ≡ []) × (device.failures ≡ 0) × (0 < device.count)) }
-        ensures error { IfErr result MayNotOpen }
-    {
-        match OpenOptions::new().read(true).write(true).open(rt, path) {
-            Ok(file) => {
-                let count = blocks_in(&file)?;
-                Ok(FileDevice::over(file, count))
-            }
-            Err(error) => Err(OpenError::of_call(error)),
-        }
-    }
-
     /// Makes a file of this many blocks, all zero, for reading and writing. A file that was there is replaced.
     pub fn create<R: Files<File = F>>(
         rt: &R,
@@ -330,6 +421,38 @@ impl<F: OpenFile, S: Start> FileDevice<F, S> {
     {
         match created(rt, path, blocks) {
             Ok(file) => Ok(FileDevice::over(file, blocks)),
+            Err(error) => Err(OpenError::of_call(error)),
+        }
+    }
+}
+
+impl<F: OpenFile + Drop, S: Start> FileDevice<F, S> {
+    /// Opens a file for reading and writing, and waits until all that others wrote to it has reached the medium. It is refused
+    /// as by `open`, and where that fails.
+    pub fn open_to_write<R: Files<File = F>>(
+        rt: &R,
+        path: &str,
+    ) -> Result<FileDevice<F, S>, OpenError>
+        ensures durable { IfOk result (λ device. (held_so_far S.first S.below device).now ≡ settled_on (image_now S.first device)) }
+        ensures new { IfOk result (λ device. (device.answered ≡ (Sync, no_block) ∷ []) × (device.waiting ≡ []) × (device.failures ≡ 0) × (0 < device.count)) }
+        ensures error { IfErr result MayNotOpen }
+    {
+        match OpenOptions::new().read(true).write(true).open(rt, path) {
+            Ok(file) => {
+                let count = blocks_in(&file)?;
+                FileDevice::over(file, count).synced()
+            }
+            Err(error) => Err(OpenError::of_call(error)),
+        }
+    }
+
+    /// The same device, once all that its file holds is on the medium.
+    fn synced(mut self) -> Result<FileDevice<F, S>, OpenError>
+        ensures synced { IfOk result (λ device. device ≡ record self { answered = self.answered ++ (Sync, no_block) ∷ [] }) }
+        ensures error { IfErr result IsOfCall }
+    {
+        match self.sync_file() {
+            Ok(()) => Ok(self),
             Err(error) => Err(OpenError::of_call(error)),
         }
     }
@@ -387,13 +510,17 @@ pub(crate) fn offset(address: u32) -> u64
 }
 
 impl<F: FileExt + OpenFile, S: Start> Device for FileDevice<F, S> {
+    ghost KEEPS_ORDER = { false };
+
     ghost honest = { λ device. IsHonestFile S.first device };
 
     ghost image = { λ device. image_now S.first device };
 
-    ghost held = { λ device. held_so_far S.first device };
+    ghost held = { λ device. held_so_far S.first S.below device };
 
     ghost failures = { λ device. device.failures };
+
+    const KEEPS_ORDER: bool = false;
 
     fn blocks(&self) -> u32 {
         self.count
@@ -414,8 +541,15 @@ impl<F: FileExt + OpenFile, S: Start> Device for FileDevice<F, S> {
     }
 
     fn sync(&mut self) -> Result<(), DeviceFault> {
-        self.settle()
+        match self.settle() {
+            Ok(()) => Ok(()),
+            Err(_) => Err(self.fault()),
+        }
     }
+
+    ghost answers = { file_answers S.first S.below };
+
+    ghost in_order = { λ keeps. absurd (false≢true keeps) };
 }
 
 #[cfg(test)]

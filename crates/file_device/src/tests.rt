@@ -38,23 +38,32 @@ fn have_zeroes(made: &mut FileDevice<File, Brand>, opened: &mut FileDevice<File,
         && read_block(opened, 16) == Some([0; BLOCK_BYTES])
 }
 
-/// Whether one shows what is written through the other, and changes nothing.
+/// Whether a device shows the map that a format puts into block 1.
+fn has_maps(opened: &mut FileDevice<File, Brand>) -> bool {
+    match read_block(opened, 1) {
+        Some(maps) => maps[..4] == b"GCUS"[..],
+        None => false,
+    }
+}
+
+/// Whether one shows what is written through the other, and refuses a write, which is its last call.
 fn shows_a_format(
     made: &mut FileDevice<File, Brand>,
     opened: &mut FileDevice<File, Brand>,
 ) -> Result<bool, Refusal> {
     format_groups(made, 1)?;
-    let maps = read_block(opened, 1).ok_or(Refusal::Device)?;
+    let is_shown = has_maps(opened);
     let refused = set_byte(opened, (1, 0, 2)).err();
-    let is_kept = read_block(opened, 1) == Some(maps);
-    Ok(maps[..4] == b"GCUS"[..] && refused == Some(Refusal::Device) && is_kept)
+    Ok(is_shown && refused == Some(Refusal::Device) && !has_maps(opened))
 }
 
 /// Whether a file that is made, and opened while it stands, is as it has to be.
 fn is_made_and_opened(rt: &HostRuntime) -> Result<bool, Refusal> {
     let mut made: FileDevice<File, Brand> = FileDevice::create(rt, IMAGE_PATH, 17)?;
     let mut opened: FileDevice<File, Brand> = FileDevice::open(rt, IMAGE_PATH)?;
-    Ok(have_zeroes(&mut made, &mut opened) && shows_a_format(&mut made, &mut opened)?)
+    let is_so = have_zeroes(&mut made, &mut opened) && shows_a_format(&mut made, &mut opened)?;
+    let mut again: FileDevice<File, Brand> = FileDevice::open(rt, IMAGE_PATH)?;
+    Ok(is_so && has_maps(&mut again))
 }
 
 /// Why a file is not opened to be read.

@@ -44,6 +44,8 @@ impl<D> Recording<D> {
 }
 
 impl<D: Device> Device for Recording<D> {
+    ghost KEEPS_ORDER = { D.KEEPS_ORDER };
+
     ghost honest = { λ recording. D.honest recording.device };
 
     ghost image = { λ recording. D.image recording.device };
@@ -51,6 +53,8 @@ impl<D: Device> Device for Recording<D> {
     ghost held = { λ recording. D.held recording.device };
 
     ghost failures = { λ recording. min (D.failures recording.device + recording.failures) (2 ^ 64 - 1) };
+
+    const KEEPS_ORDER: bool = D::KEEPS_ORDER;
 
     fn blocks(&self) -> u32 {
         self.device.blocks()
@@ -79,4 +83,8 @@ impl<D: Device> Device for Recording<D> {
     fn sync(&mut self) -> Result<(), DeviceFault> {
         self.device.sync()
     }
+
+    ghost answers = { λ recording. D.answers recording.device };
+
+    ghost in_order = { λ keeps recording. D.in_order keeps recording.device };
 }

@@ -257,17 +257,50 @@ fn a_block_stands_at_its_byte(rt: HostRuntime) -> Result<(), AllocError> {
 }
 
 #[test]
-fn a_call_that_fails_changes_nothing(rt: HostRuntime) -> Result<(), AllocError> {
+fn a_read_that_fails_changes_nothing(rt: HostRuntime) -> Result<(), AllocError> {
     let steps = [
         Step::Blocks(3),
-        Step::Fail(0, 2),
+        Step::Fail(0, 0),
+        Step::Read(2, None),
+        Step::Failures(1),
+        Step::Read(2, Some(0xAA)),
+        Step::Write(2, 1, true),
+        Step::Sync(true),
+        Step::Failures(1),
+        Step::Calls(4),
+    ];
+    expect(&rt, 3, &steps)
+}
+
+#[test]
+fn a_write_that_fails_is_the_last(rt: HostRuntime) -> Result<(), AllocError> {
+    let steps = [
+        Step::Fail(0, 0),
         Step::Write(2, 1, false),
         Step::Blocks(3),
         Step::Read(2, None),
+        Step::Write(2, 1, false),
         Step::Sync(false),
-        Step::Failures(3),
-        Step::Sync(true),
-        Step::Read(2, Some(0xAA)),
+        Step::Failures(4),
+        // The file is asked nothing any more.
+        Step::Calls(1),
+        Step::Byte(2 * BLOCK_BYTES, 0xAA),
+    ];
+    expect(&rt, 3, &steps)
+}
+
+#[test]
+fn a_sync_that_fails_is_the_last(rt: HostRuntime) -> Result<(), AllocError> {
+    let steps = [
+        Step::Write(2, 1, true),
+        Step::Read(2, Some(1)),
+        Step::Fail(0, 0),
+        Step::Sync(false),
+        Step::Sync(false),
+        Step::Read(2, None),
+        Step::Write(1, 1, false),
+        Step::Failures(4),
+        Step::Calls(1),
     ];
     expect(&rt, 3, &steps)
 }
@@ -309,20 +342,16 @@ fn blocks_that_follow_are_written_together(rt: HostRuntime) -> Result<(), AllocE
 }
 
 #[test]
-fn what_waits_outlives_a_fault(rt: HostRuntime) -> Result<(), AllocError> {
+fn what_waits_is_not_given_after_a_fault(rt: HostRuntime) -> Result<(), AllocError> {
     let steps = [
         Step::Write(4, 7, true),
-        Step::Fail(0, 1),
+        Step::Fail(0, 0),
         Step::Write(6, 8, false),
         Step::Sync(false),
-        Step::Failures(2),
-        Step::Read(4, Some(7)),
+        Step::Write(5, 8, false),
+        Step::Failures(3),
+        Step::Calls(1),
         Step::Byte(4 * BLOCK_BYTES, 0xAA),
-        Step::Write(6, 8, true),
-        Step::Give,
-        Step::Byte(4 * BLOCK_BYTES, 7),
-        Step::Byte(5 * BLOCK_BYTES, 0xAA),
-        Step::Byte(6 * BLOCK_BYTES, 8),
     ];
     expect_gathering(&rt, 9, &steps)
 }

@@ -1,7 +1,6 @@
 use Rattle.std.proofs.Common.{◌+◌, ◌++◌, ◌∷◌, [], sym, ap, ◌∙◌, append-nil, arith, slice_index_or}
 use Rattle.std.proofs.lemmas.List.{take_all}
-use Rattle.file_device.specs.Calls.{call_at, calls_of}
-use Rattle.file_device.specs.Runs.{writes_from}
+use Rattle.file_device.specs.Calls.{call_at, calls_of, writes_from}
 use Rattle.file_device.proofs.RunLemmas.{add_next}
 use Rattle.file_device.proofs.file.add_run.Goals as goal
 

@@ -1,6 +1,5 @@
 use Rattle.std.proofs.Common.{◌≡◌, ◌++◌, take}
-use Rattle.file_device.specs.Calls.{calls_of}
-use Rattle.file_device.specs.Runs.{writes_from}
+use Rattle.file_device.specs.Calls.{calls_of, writes_from}
 use Rattle.file_device.proofs.file.add_run.Given as goal
 
 abbrev pub invariant-loop-at : goal.invariant-loop-at

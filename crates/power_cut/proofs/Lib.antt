@@ -1,0 +1,12 @@
+pub mod Unions
+pub mod EpochLemmas
+pub mod VolumeLemmas
+pub mod SweepLemmas
+pub mod TakenTwice
+pub mod SweptLemmas
+pub mod ImageLemmas
+pub mod UsersLemmas
+pub mod SyncLemmas
+pub mod DoubtLemmas
+pub mod BeyondLemmas
+pub mod GoingLemmas
