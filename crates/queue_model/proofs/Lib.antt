@@ -1,9 +1,9 @@
 pub mod Lists
 pub mod HistoryLemmas
 pub mod FlushLemmas
-mod SyncLemmas
-mod EntryLemmas
-mod QueueLemmas
+pub mod SyncLemmas
+pub mod EntryLemmas
+pub mod QueueLemmas
 pub mod Represented
 pub mod NewClaims
 mod HeldCuts
@@ -11,7 +11,7 @@ pub mod FileLemmas
 mod OwnLemmas
 pub mod CourseLemmas
 pub mod HoldLemmas
-mod BlockLemmas
+pub mod BlockLemmas
 pub mod NamingLemmas
 mod CourseHistories
 pub mod QuietUpdates

@@ -8,16 +8,16 @@ use Rattle.ordering.specs.ClosedSets.{pending_at, takes}
 use Rattle.ordering.proofs.CutLemmas.{was_fresh, is_other}
 use Rattle.ordering.proofs.Flushes.{commute}
 use Rattle.queue_model.specs.Flush.{is_ready, ready, taken, TakesChange}
-use Rattle.queue_model.specs.Entries.{Entry, has_id, entries_at, Stand, may_go, Queue, Represents, goes, AreTaken, NoOtherMayGo, view_after}
+use Rattle.queue_model.specs.Entries.{Entry, marks, has_id, entries_at, Stand, may_go, Queue, Represents, goes, AreTaken, NoOtherMayGo, view_after}
 use Rattle.queue_model.proofs.Lists.{bool_same, contains_head, contains_tail, contains_cases, contains_none, all_at, all_from}
 use Rattle.queue_model.proofs.FlushLemmas.{ready_parts, closed_step}
-use Rattle.queue_model.proofs.EntryLemmas.{marks, marks_same, has_below, pending_older, go_ready, ready_go, passed_has}
+use Rattle.queue_model.proofs.EntryLemmas.{marks_same, has_below, pending_older, go_ready, ready_go, passed_has}
 use Rattle.queue_model.proofs.Listed.{at_within, at_from, at_to, has_from, one_entry}
 use Rattle.queue_model.proofs.Represented.{goes_ready, goes_passed}
 
 -- ---- a set that takes with each entry what it waits for is a closed cut
 
-set_closed : (pending : ℕ → Bool) (n : ℕ) (es : List Entry) (q : List Pending) (set : ℕ → Bool) → Stand n es q → ((i : ℕ) → i < n → pending i ≡ has_id es i)
+pub set_closed : (pending : ℕ → Bool) (n : ℕ) (es : List Entry) (q : List Pending) (set : ℕ → Bool) → Stand n es q → ((i : ℕ) → i < n → pending i ≡ has_id es i)
     → ((e : Entry) → Contains es e → IsTrue (set e.id) → IsTrue (may_go pending set e)) → IsClosed q (marks set es)
 set_closed pending n [] [] set s says after = tt
 set_closed pending n [] (u ∷ q) set s says after = absurd s
@@ -46,15 +46,15 @@ not_fresh n (e ∷ es) (u ∷ q) set x s m f t = step (set e.id) refl t (contain
     step false y t (inr older) more = more older (was_fresh (fresh q (marks set es)) (cell_of u.change) (cell_of x.change) t)
 
 -- the set with one more id
-abbrev with_id : (ℕ → Bool) → ℕ → ℕ → Bool
+abbrev pub with_id : (ℕ → Bool) → ℕ → ℕ → Bool
 with_id set i j = eqb j i || set j
 
 -- an entry that is taken after a closed cut changes its view by its update
-record IsOneMore (disk : View) (es : List Entry) (q : List Pending) (set : ℕ → Bool) (x : Entry) : Type 0 where
-  view : seen disk q (marks (with_id set x.id) es) ≡ updated (seen disk q (marks set es)) x.change
-  count : taken (marks (with_id set x.id) es) ≡ suc (taken (marks set es))
+pub record IsOneMore (disk : View) (es : List Entry) (q : List Pending) (set : ℕ → Bool) (x : Entry) : Type 0 where
+  pub view : seen disk q (marks (with_id set x.id) es) ≡ updated (seen disk q (marks set es)) x.change
+  pub count : taken (marks (with_id set x.id) es) ≡ suc (taken (marks set es))
 
-one_more : (disk : View) (n : ℕ) (es : List Entry) (q : List Pending) (set : ℕ → Bool) (x : Entry) → Stand n es q → IsClosed q (marks set es) → Contains es x → IsFalse (set x.id) → IsOneMore disk es q set x
+pub one_more : (disk : View) (n : ℕ) (es : List Entry) (q : List Pending) (set : ℕ → Bool) (x : Entry) → Stand n es q → IsClosed q (marks set es) → Contains es x → IsFalse (set x.id) → IsOneMore disk es q set x
 one_more disk n [] q set x s k m f = absurd (contains_none x m)
 one_more disk n (e ∷ es) [] set x s k m f = absurd s
 one_more disk n (e ∷ es) (u ∷ q) set x s k m f = elim (contains_cases e x es m) [
@@ -99,7 +99,7 @@ one_more disk n (e ∷ es) (u ∷ q) set x s k m f = elim (contains_cases e x es
 
 -- ---- more may go where more is taken
 
-more_may_go : (pending set more : ℕ → Bool) (e : Entry) → ((i : ℕ) → IsTrue (set i) → IsTrue (more i)) → IsTrue (may_go pending set e) → IsTrue (may_go pending more e)
+pub more_may_go : (pending set more : ℕ → Bool) (e : Entry) → ((i : ℕ) → IsTrue (set i) → IsTrue (more i)) → IsTrue (may_go pending set e) → IsTrue (may_go pending more e)
 more_may_go pending set more e h t = all_from (λ i. not (pending i) || more i) e.waits (λ i m. elim (or_cases (not (pending i)) (set i) (all_at (λ j. not (pending j) || set j) e.waits i t m)) [
   | inl free ↦ or_left (not (pending i)) (more i) free
   | inr there ↦ or_right (not (pending i)) (more i) (h i there)
@@ -122,7 +122,7 @@ marks_rest x y xs ys e = ap (λ l. others l) e
     others (b ∷ l) = l
 
 -- an entry in the set is an update that its cut takes
-marked : (set : ℕ → Bool) (n : ℕ) (es : List Entry) (q : List Pending) → Stand n es q → (e : Entry) → Contains es e → IsTrue (set e.id) → TakesChange q (marks set es) e.change
+pub marked : (set : ℕ → Bool) (n : ℕ) (es : List Entry) (q : List Pending) → Stand n es q → (e : Entry) → Contains es e → IsTrue (set e.id) → TakesChange q (marks set es) e.change
 marked set n [] q s x m t = absurd (contains_none x m)
 marked set n (e ∷ es) [] s x m t = absurd s
 marked set n (e ∷ es) (u ∷ q) s x m t = elim (contains_cases e x es m) [
@@ -130,7 +130,7 @@ marked set n (e ∷ es) (u ∷ q) s x m t = elim (contains_cases e x es m) [
   | inr older ↦ let more = marked set e.id es q s.1 x older t in (suc more.0, more.1, more.2)
 ]
 
-unmarked : (set : ℕ → Bool) (n : ℕ) (es : List Entry) (q : List Pending) → Stand n es q → (u : Update) → TakesChange q (marks set es) u
+pub unmarked : (set : ℕ → Bool) (n : ℕ) (es : List Entry) (q : List Pending) → Stand n es q → (u : Update) → TakesChange q (marks set es) u
     → (e : Entry) × Contains es e × IsTrue (set e.id) × (e.change ≡ u)
 unmarked set n [] q s u t = absurd (let bad : false ≡ true = t.1 in cc)
 unmarked set n (e ∷ es) [] s u t = absurd s
@@ -142,21 +142,21 @@ unmarked set n (e ∷ es) (p ∷ q) s u t = at t.0 t.1 t.2 (λ older. unmarked s
     at (suc k) t d more = let x = more (k, t, d) in (x.0, contains_tail e x.0 es x.1, x.2, x.3)
 
 -- the changes of entries, and the entries of ids
-change_of : (es : List Entry) (u : Update) → Contains (map (λ (e : Entry). e.change) es) u → (e : Entry) × Contains es e × (e.change ≡ u)
+pub change_of : (es : List Entry) (u : Update) → Contains (map (λ (e : Entry). e.change) es) u → (e : Entry) × Contains es e × (e.change ≡ u)
 change_of [] u m = absurd (contains_none u m)
 change_of (e ∷ es) u m = elim (contains_cases e.change u (map (λ (x : Entry). x.change) es) m) [
   | inl d ↦ (e, contains_head e es, d)
   | inr older ↦ let x = change_of es u older in (x.0, contains_tail e x.0 es x.1, x.2)
 ]
 
-change_in : (es : List Entry) (e : Entry) → Contains es e → Contains (map (λ (x : Entry). x.change) es) e.change
+pub change_in : (es : List Entry) (e : Entry) → Contains es e → Contains (map (λ (x : Entry). x.change) es) e.change
 change_in [] e m = absurd (contains_none e m)
 change_in (x ∷ es) e m = elim (contains_cases x e es m) [
   | inl d ↦ subst (λ (z : Entry). Contains (map (λ (y : Entry). y.change) (x ∷ es)) z.change) d (contains_head x.change (map (λ (y : Entry). y.change) es))
   | inr older ↦ contains_tail x.change e.change (map (λ (y : Entry). y.change) es) (change_in es e older)
 ]
 
-of_id : (es : List Entry) (i : ℕ) → IsTrue (has_id es i) → (e : Entry) × Contains es e × (e.id ≡ i)
+pub of_id : (es : List Entry) (i : ℕ) → IsTrue (has_id es i) → (e : Entry) × Contains es e × (e.id ≡ i)
 of_id [] i h = absurd (let bad : false ≡ true = h in cc)
 of_id (e ∷ es) i h = elim (or_cases (eqb i e.id) (has_id es i) h) [
   | inl same ↦ (e, contains_head e es, sym (eqb-true i e.id same))
@@ -165,7 +165,7 @@ of_id (e ∷ es) i h = elim (or_cases (eqb i e.id) (has_id es i) h) [
 
 module _ (home : Cell → ℕ) (a : ℕ) (queue : Queue) (q : List Pending) (r : Represents home queue q) where
   -- each entry of the block's list is an entry, and stands there
-  listed : (e : Entry) → Contains (queue.lists a) e → Contains r.entries e × (home (cell_of e.change) ≡ a)
+  pub listed : (e : Entry) → Contains (queue.lists a) e → Contains r.entries e × (home (cell_of e.change) ≡ a)
   listed e m = let there : Contains (entries_at home a r.entries) e = subst (λ l. Contains l e) (r.lists a) m in (at_within home a r.entries e there, at_from home a r.entries e there)
 
   -- an id that was taken is that of a listed entry, which may go
@@ -180,18 +180,18 @@ module _ (home : Cell → ℕ) (a : ℕ) (queue : Queue) (q : List Pending) (r :
   one_id x y m k e = one_entry queue.next r.entries q r.stand x y m k e
 
   -- it takes with each entry what it waits for
-  after : (es : List Entry) → AreTaken queue a es → (e : Entry) → Contains r.entries e → IsTrue (has_id es e.id) → (home (cell_of e.change) ≡ a) × IsTrue (may_go queue.pending (has_id es) e)
+  pub after : (es : List Entry) → AreTaken queue a es → (e : Entry) → Contains r.entries e → IsTrue (has_id es e.id) → (home (cell_of e.change) ≡ a) × IsTrue (may_go queue.pending (has_id es) e)
   after es t e m h =
       let f = found es t e.id h in
       let l = listed f.0 f.1 in
       let same : f.0 ≡ e = one_id f.0 e l.0 m f.2 in
       (ap (λ (z : Entry). home (cell_of z.change)) (sym same) ∙ l.1, subst (λ (z : Entry). IsTrue (may_go queue.pending (has_id es) z)) same f.3)
 
-  closed : (es : List Entry) → AreTaken queue a es → IsClosed q (marks (has_id es) r.entries)
+  pub closed : (es : List Entry) → AreTaken queue a es → IsClosed q (marks (has_id es) r.entries)
   closed es t = set_closed queue.pending queue.next r.entries q (has_id es) r.stand (λ i b. r.pending i) (λ e m h. (after es t e m h).1)
 
   -- the view after them is that of their cut
-  cut_view : (disk : View) (es : List Entry) → AreTaken queue a es → (view_after disk es ≡ seen disk q (marks (has_id es) r.entries)) × (length es ≡ taken (marks (has_id es) r.entries))
+  pub cut_view : (disk : View) (es : List Entry) → AreTaken queue a es → (view_after disk es ≡ seen disk q (marks (has_id es) r.entries)) × (length es ≡ taken (marks (has_id es) r.entries))
   cut_view disk [] t = none queue.next r.entries q r.stand
     where
       none : (n : ℕ) (es : List Entry) (q : List Pending) → Stand n es q → (disk ≡ seen disk q (marks (λ i. false) es)) × (0 ≡ taken (marks (λ i. false) es))
@@ -225,14 +225,14 @@ module _ (home : Cell → ℕ) (a : ℕ) (queue : Queue) (q : List Pending) (r :
   in_list : (e : Entry) → Contains r.entries e → home (cell_of e.change) ≡ a → Contains (queue.lists a) e
   in_list e m at = subst (λ l. Contains l e) (sym (r.lists a)) (at_to home a r.entries e m at)
 
-  marks_tell : (f g : ℕ → Bool) (es : List Entry) → marks f es ≡ marks g es → (i : ℕ) → IsTrue (has_id es i) → f i ≡ g i
+  pub marks_tell : (f g : ℕ → Bool) (es : List Entry) → marks f es ≡ marks g es → (i : ℕ) → IsTrue (has_id es i) → f i ≡ g i
   marks_tell f g [] m i h = absurd (let bad : false ≡ true = h in cc)
   marks_tell f g (e ∷ es) m i h = elim (or_cases (eqb i e.id) (has_id es i) h) [
     | inl same ↦ let d = eqb-true i e.id same in ap f d ∙ marks_head (f e.id) (g e.id) (marks f es) (marks g es) m ∙ sym (ap g d)
     | inr there ↦ marks_tell f g es (marks_rest (f e.id) (g e.id) (marks f es) (marks g es) m) i there
   ]
 
-  taken_cut : (es : List Entry) → AreTaken queue a es → NoOtherMayGo queue a es → marks (has_id es) r.entries ≡ ready home a q
+  pub taken_cut : (es : List Entry) → AreTaken queue a es → NoOtherMayGo queue a es → marks (has_id es) r.entries ≡ ready home a q
   taken_cut es t none = settled (has_id es) queue.next r.entries q r.stand (λ i b. r.pending i) (λ e m h. after es t e m h) (λ e m at may. none e (in_list e m at) may)
 
   pub all_taken : (disk : View) (es : List Entry) → AreTaken queue a es → NoOtherMayGo queue a es

@@ -1,5 +1,5 @@
 -- What a flush leaves of the frame of an image: its superblock, and the magic and the number of each group's block of maps.
-use Rattle.std.proofs.Common.{◌≡◌, ℕ, ◌+◌, ◌<◌, ◌≤◌, true, false, List, [], ◌∷◌, inl, inr, sym, ap, ◌∙◌, subst, length, arith, slice_set, Contains, IsTrue}
+use Rattle.std.proofs.Common.{◌≡◌, ℕ, ◌+◌, ◌<◌, ◌≤◌, true, false, Bool, List, [], ◌∷◌, ◌++◌, inl, inr, sym, ap, ◌∙◌, subst, length, arith, slice_set, IsTrue}
 use Rattle.std.specs.List.{All}
 use Rattle.std.proofs.lemmas.Bool.{cases_eq}
 use Rattle.std.proofs.lemmas.List.{length-set}
@@ -9,13 +9,14 @@ use Rattle.model.specs.Cells.{put_at}
 use Rattle.model.proofs.Places.{put_here, put_there}
 use Rattle.ordering.specs.Cuts.{Cell, Record, NumberBit, BlockBit, Block, Pending, cell_of}
 use Rattle.queue_model.specs.Blocks.{home_of}
-use Rattle.queue_model.specs.Entries.{Entry, Queue, AreTaken}
-use Rattle.queue_model.proofs.Listed.{at_from}
+use Rattle.queue_model.specs.Entries.{Entry, Queue}
+use Rattle.queue_model.proofs.Lists.{contains_head}
 use Rattle.updates.specs.Places.{IsCell}
 use Rattle.softdep_queue.specs.declared.table.Table.{Table}
-use Rattle.softdep_queue.specs.Ties.{Holds}
+use Rattle.softdep_queue.specs.Ties.{WereTaken}
 use Rattle.softdep_queue.specs.Taking.{TakesAll}
 use Rattle.softdep.proofs.Flushed.{block_written}
+use Rattle.softdep.proofs.Puts.{AreOf}
 
 one_more : (x : ℕ) → 1 + x ≡ 0 → ⊥
 one_more x e = omega (arith, e)
@@ -31,14 +32,12 @@ home_is_not_super geo (BlockBit a) t e = one_more _ e
 home_is_not_super geo (Block a) t e = let bad : false ≡ true = subst (λ x. IsTrue (is_data_address geo x)) e t in cc
 
 -- so a block of which something was taken is another one
-pub above_super : (geo : Geometry) (queue : Queue) (q : List Pending) (a : ℕ) (t t' : Table) (old new : List ℕ) (count : ℕ) → Holds geo t queue q → TakesAll geo queue q a t' old new count → 1 ≤ count → a ≡ 0 → ⊥
-above_super geo queue q a t t' old new count holds takes some zero = first takes.es takes.takes.each takes.count
+pub above_super : (geo : Geometry) (queue : Queue) (q : List Pending) (loose : List Bool) (a : ℕ) (t : Table) (old new : List ℕ) (count : ℕ) → TakesAll geo queue q loose a t old new count → 1 ≤ count → a ≡ 0 → ⊥
+above_super geo queue q loose a t old new count takes some zero = first takes.last.es takes.last.takes.each takes.last.own takes.last.count
   where
-    first : (es : List Entry) → AreTaken queue a es → length es ≡ count → ⊥
-    first [] each n = omega (arith, some, n)
-    first (e ∷ es) each n =
-        home_is_not_super geo (cell_of e.change) (takes.takes.ties.node a e each.0).cell
-        (at_from (home_of geo) a holds.ties.represents.entries e (subst (λ l. Contains l e) (holds.ties.represents.lists a) each.0) ∙ zero)
+    first : (es : List Entry) → WereTaken (home_of geo) queue (es ++ takes.last.older) → AreOf geo a es → length es ≡ count → ⊥
+    first [] each own n = omega (arith, some, n)
+    first (e ∷ es) each own n = home_is_not_super geo (cell_of e.change) (takes.last.takes.ties.node (home_of geo (cell_of e.change)) e each.0).cell (own e (contains_head e es) ∙ zero)
 
 -- an image with another block in place of one that is not the superblock, and that has what a group's block of maps needs
 pub framed : (geo : Geometry) (image image' : List (List ℕ)) (a : ℕ) (new : List ℕ) → IsImage geo image → All IsBlock image' → image' ≡ slice_set image a new → a < length image → (a ≡ 0 → ⊥)

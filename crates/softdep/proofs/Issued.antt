@@ -1,12 +1,12 @@
 -- What an issue adds, one update after the other.
-use Rattle.std.proofs.Common.{◌≡◌, ℕ, suc, ◌+◌, ◌<◌, false, List, [], ◌∷◌, ◌++◌, refl, ap, ◌∙◌, subst, length, take, arith, get_or, All, length-append}
+use Rattle.std.proofs.Common.{◌≡◌, ℕ, suc, ◌+◌, ◌<◌, Bool, false, List, [], ◌∷◌, ◌++◌, refl, ap, ◌∙◌, subst, length, take, arith, get_or, All, length-append}
 use Rattle.std.proofs.Math.Seq.{take-suc, get_or-append_seam}
-use Rattle.ordering.specs.Cuts.{Pending, IsClosed}
-use Rattle.queue_model.specs.Files.{Written, updates}
+use Rattle.ordering.specs.Cuts.{Pending}
+use Rattle.queue_model.specs.Files.{Written}
 use Rattle.updates.specs.declared.change.Update.{Update}
 use Rattle.softdep_queue.specs.declared.table.Table.{Table}
 use Rattle.softdep_queue.specs.Rooms.{HasRoom}
-use Rattle.softdep.specs.Queued.{Queued, pending_of, issued, added, after, after_event, Event, cells_of}
+use Rattle.softdep.specs.Queued.{Queued, issued, added, unmarked, after, after_event, Event, cells_of}
 
 -- ---- counts of cells
 
@@ -25,19 +25,15 @@ after_push queue (x ∷ es) e = after_push (after_event queue x) es e
 
 -- ---- what is issued
 
-pub pending_issued : (queue : Queued) (ws : List Written) → pending_of (issued queue ws) ≡ added (pending_of queue) ws
-pending_issued queue [] = refl
-pending_issued queue (w ∷ ws) = pending_issued (record queue { written = w ∷ queue.written; cut = false ∷ queue.cut }) ws
-
-pub geometry_issued : (queue : Queued) (ws : List Written) → (issued queue ws).geometry ≡ queue.geometry
-geometry_issued queue [] = refl
-geometry_issued queue (w ∷ ws) = geometry_issued (record queue { written = w ∷ queue.written; cut = false ∷ queue.cut }) ws
-
-pub closed_issued : (queue : Queued) (ws : List Written) → IsClosed (updates queue.written) queue.cut → IsClosed (updates (issued queue ws).written) (issued queue ws).cut
-closed_issued queue [] k = k
-closed_issued queue (w ∷ ws) k = closed_issued (record queue { written = w ∷ queue.written; cut = false ∷ queue.cut }) ws k
+pub loose_issued : (queue : Queued) (ws : List Written) → (issued queue ws).loose ≡ unmarked queue.loose ws
+loose_issued queue [] = refl
+loose_issued queue (w ∷ ws) = loose_issued (record queue { written = w ∷ queue.written; durable = false ∷ queue.durable; loose = false ∷ queue.loose }) ws
 
 -- one more
+pub unmarked_push : (loose : List Bool) (ws : List Written) (w : Written) → unmarked loose (ws ++ w ∷ []) ≡ false ∷ unmarked loose ws
+unmarked_push loose [] w = refl
+unmarked_push loose (x ∷ ws) w = unmarked_push (false ∷ loose) ws w
+
 pub added_push : (q : List Pending) (ws : List Written) (w : Written) → added q (ws ++ w ∷ []) ≡ w.update ∷ added q ws
 added_push q [] w = refl
 added_push q (x ∷ ws) w = added_push (x.update ∷ q) ws w

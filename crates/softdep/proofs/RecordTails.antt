@@ -1,5 +1,5 @@
 -- What a flush leaves of the bytes of a record that are not looked at.
-use Rattle.std.proofs.Common.{◌≡◌, ℕ, suc, ◌<◌, ◌≤◌, ◌+◌, ◌*◌, ◌%◌, ◌/◌, ◌⊎◌, inl, inr, List, [], ◌∷◌, refl, sym, ap, ap₂, ◌∙◌, subst, Contains, slice_index, arith}
+use Rattle.std.proofs.Common.{◌≡◌, ℕ, suc, Bool, ◌<◌, ◌≤◌, ◌+◌, ◌*◌, ◌%◌, ◌/◌, ◌⊎◌, inl, inr, List, [], ◌∷◌, refl, sym, ap, ap₂, ◌∙◌, subst, Contains, slice_index, arith}
 use Rattle.std.specs.List.{All}
 use Rattle.std.proofs.lemmas.Bool.{cases_eq, cases_lt}
 use Rattle.std.proofs.lemmas.List.Elements.{All-contains}
@@ -10,9 +10,8 @@ use Rattle.model.proofs.Addresses.{inode_places}
 use Rattle.model.proofs.Places.{inodes_are_no_data, inodes_are_no_maps}
 use Rattle.ordering.specs.Cuts.{Pending, cell_of}
 use Rattle.queue_model.specs.Blocks.{home_of}
-use Rattle.queue_model.specs.Flush.{ready, TakesChange}
+use Rattle.queue_model.specs.Flush.{TakesChange}
 use Rattle.queue_model.proofs.Lists.{contains_head, contains_tail, contains_cases, contains_none}
-use Rattle.queue_model.proofs.FlushLemmas.{ready_of_block}
 use Rattle.updates.specs.Alone.{IsPutInto, IsPutAll}
 use Rattle.updates.specs.Places.{IsCell}
 use Rattle.softdep.specs.Writing.{WritesTaken}
@@ -47,9 +46,9 @@ module _ (geo : Geometry) (ok : IsGeometry geo) (n k : ℕ) (high : looked_at ge
 
   -- a zero stays
   stays : (old new : List ℕ) (u : Update) → IsCell geo (cell_of u) → home_of geo (cell_of u) ≡ inode_block geo n → IsPutInto geo u old new → slice_index old at ≡ 0 → slice_index new at ≡ 0
-  stays old new u cell home put zero = elim (cases_eq (slice_index new at) 0) [
+  stays old new u cell home put none = elim (cases_eq (slice_index new at) 0) [
     | inl is ↦ is
-    | inr not ↦ absurd (not (left old new u cell home put (λ same. not (freed old new u same put)) ∙ zero))
+    | inr not ↦ absurd (not (left old new u cell home put (λ same. not (freed old new u same put)) ∙ none))
   ]
 
   all_freed : (us : List Update) (old new : List ℕ) → All (λ u. IsCell geo (cell_of u)) us → ((u : Update) → Contains us u → home_of geo (cell_of u) ≡ inode_block geo n) → IsPutAll geo us old new
@@ -71,14 +70,12 @@ module _ (geo : Geometry) (ok : IsGeometry geo) (n k : ℕ) (high : looked_at ge
       left put.0 new u (All-contains (λ (v : Update). IsCell geo (cell_of v)) (u ∷ us) u cells here) (homes u here) put.2 (λ same. none (subst (Contains (u ∷ us)) same here))
       ∙ all_left us old put.0 (λ j d b. cells (suc j) d (omega (arith, b))) (λ v i. homes v (contains_tail u v us i)) put.1 (λ m. none (contains_tail u (SetInode n free_inode) us m))
 
-  module _ (q : List Pending) (old new : List ℕ) (writes : WritesTaken geo (inode_block geo n) q old new) where
+  module _ (q : List Pending) (cut : List Bool) (old new : List ℕ) (writes : WritesTaken geo (inode_block geo n) q cut old new) where
     home : (u : Update) → Contains writes.changes u → home_of geo (cell_of u) ≡ inode_block geo n
-    home u m =
-        let t = (writes.taken u).0 m in
-        ap (λ v. home_of geo (cell_of v)) (sym t.2) ∙ ready_of_block (home_of geo) (inode_block geo n) q t.0 t.1
+    home u m = let t = (writes.taken u).0 m in ap (λ v. home_of geo (cell_of v)) (sym t.2) ∙ writes.own t.0 t.1
 
-    pub tail_freed : TakesChange q (ready (home_of geo) (inode_block geo n) q) (SetInode n free_inode) → slice_index new (inode_byte n + k) ≡ 0
+    pub tail_freed : TakesChange q cut (SetInode n free_inode) → slice_index new (inode_byte n + k) ≡ 0
     tail_freed t = all_freed writes.changes old new writes.cells home writes.put ((writes.taken (SetInode n free_inode)).1 t)
 
-    pub tail_left : (TakesChange q (ready (home_of geo) (inode_block geo n) q) (SetInode n free_inode) → ⊥) → slice_index new (inode_byte n + k) ≡ slice_index old (inode_byte n + k)
+    pub tail_left : (TakesChange q cut (SetInode n free_inode) → ⊥) → slice_index new (inode_byte n + k) ≡ slice_index old (inode_byte n + k)
     tail_left none = all_left writes.changes old new writes.cells home writes.put (λ m. none ((writes.taken (SetInode n free_inode)).0 m))

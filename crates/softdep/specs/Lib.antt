@@ -1,3 +1,4 @@
 pub mod Queued
+pub mod OnMedium
 pub mod Syncing
 pub mod Writing

@@ -1,4 +1,4 @@
-ghost use Rattle.std.specs.Prelude.{◌≡◌, ℕ, List, All, OnOk, OnErr, IsOkUnless, IfSome, length, map};
+ghost use Rattle.std.specs.Prelude.{◌≡◌, ℕ, Bool, List, All, OnOk, OnErr, IsOkUnless, IfSome, length, map};
 ghost use Rattle.ordering.specs.Cuts.{Pending};
 ghost use Rattle.queue_model.specs.Entries.{Queue as Entries};
 ghost use Rattle.softdep_queue.specs.Ties.{Holds};
@@ -6,9 +6,10 @@ ghost use Rattle.softdep_queue.specs.Rooms.{IsTable, HasRoom};
 ghost use Rattle.layout.specs.declared.refusal.Refusal.TheVariants.{NoMemory};
 ghost use Rattle.updates.specs.Places.{IsUpdate};
 ghost use Rattle.updates.specs.Values.{written};
-ghost use Rattle.softdep.specs.Queued.{issued, added, pending_of, cells_of};
+ghost use Rattle.softdep.specs.Queued.{issued, added, unmarked, pending_of, cells_of};
 
 use crate::Queue;
+use crate::queue::Kind;
 use layout::{Geometry, Refusal};
 use softdep_queue::Table;
 use updates::Update;
@@ -27,7 +28,7 @@ impl Queue {
         let cells = cells_in(updates.as_slice()).ok_or(Refusal::NoMemory)?;
         self.table.begin_anew();
         self.table.make_room(&self.geometry, updates.len(), cells)?;
-        self.events = self.events.and(&updates, &None);
+        self.events = self.events.and(&updates, &Kind::Issued);
         add_all(&mut self.table, &self.geometry, updates);
         Ok(())
     }
@@ -38,8 +39,8 @@ fn add_all(table: &mut Table, geometry: &Geometry, updates: Vec<Update>)
     requires held { IsTable geometry.now table.old }
     requires cells { All (IsUpdate geometry.now) updates.items }
     requires room { HasRoom table.old (length updates.items) (cells_of updates.items) }
-    ensures { (entries : Entries) (q : List Pending) → Holds geometry.now table.old entries q
-        → (entries' : Entries) × Holds geometry.now table.new entries' (added q (map written updates.items)) }
+    ensures { (entries : Entries) (q : List Pending) (loose : List Bool) → Holds geometry.now table.old entries q loose
+        → (entries' : Entries) × Holds geometry.now table.new entries' (added q (map written updates.items)) (unmarked loose (map written updates.items)) }
 {
     for update in updates {
         table.add(geometry, update);

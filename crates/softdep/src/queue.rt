@@ -1,16 +1,12 @@
 ghost use Rattle.std.specs.Prelude.{◌≡◌, ℕ, [], IfOk, IfSome, IsOkUnless, MatchOption, ◌<◌, length};
 ghost use Rattle.model.specs.Layout.{block_count};
 ghost use Rattle.layout.specs.declared.refusal.Refusal.TheVariants.{NoMemory};
-ghost use Rattle.ordering.specs.Cuts.{IsClosed};
-ghost use Rattle.queue_model.specs.Blocks.{home_of};
-ghost use Rattle.queue_model.specs.Files.{updates};
-ghost use Rattle.queue_model.specs.Sync.{IsLeastReady};
 ghost use Rattle.std.specs.Prelude.{IsTrue};
 ghost use Rattle.std.specs.Option.{option_copied};
 ghost use Rattle.model.specs.Layout.{is_data_address};
 ghost use Rattle.softdep_queue.specs.Contents.{last_bytes};
-ghost use Rattle.softdep_queue.specs.Next.{IsNextReady, NothingReadyFrom};
-ghost use Rattle.softdep.specs.Queued.{fresh_queue, pending_of};
+ghost use Rattle.queue_model.specs.Flush.{taken};
+ghost use Rattle.softdep.specs.Queued.{fresh_queue, pending_of, AreClosed, IsLeastNext, IsNext, NothingNext, NothingNextFrom};
 
 use http_server::Log;
 use layout::{BLOCK_BYTES, Block, Geometry, Refusal};
@@ -19,13 +15,25 @@ use std::alloc::Global;
 use std::marker::Model;
 use updates::Update;
 
-/// The updates that were issued and are not on the device yet. It keeps a history of what was issued and flushed, which
-/// only clauses read.
+/// What a history tells besides a command's updates.
+#[derive(Drop)]
+pub(crate) enum Kind {
+    /// The updates were issued.
+    Issued,
+    /// A block was written with all that may go there over what is durable.
+    Wrote(u32),
+    /// The device has told that all that was written is durable.
+    Settled,
+}
+
+/// The updates that were issued and are not known to be durable: those that are pending, and those that were written since the
+/// device last told that all had reached its medium. It keeps a history of what was issued, written and settled, which only
+/// clauses read.
 #[derive(Drop)]
 pub struct Queue {
     pub(crate) geometry: Geometry,
     pub(crate) table: Table,
-    pub(crate) events: Log<Vec<Update>, Option<u32>>,
+    pub(crate) events: Log<Vec<Update>, Kind>,
     /// No updates, for the history.
     pub(crate) none: Vec<Update>,
     /// Room for the block that a flush writes.
@@ -64,28 +72,36 @@ impl Queue {
         self.geometry
     }
 
-    /// How many updates are pending.
+    /// How many updates are pending: those that are not written.
     pub fn pending(&self) -> usize
         ensures count { result ≡ length (pending_of self.now) }
-        ensures closed { IsClosed (updates self.now.written) self.now.cut }
+        ensures closed { AreClosed self.now }
     {
-        self.table.pending()
+        self.table.pending() - self.table.loose()
     }
 
-    /// The least block with an update that may go to the device; `None` where nothing is pending.
+    /// How many updates are written, and not known to be durable.
+    pub(crate) fn loose(&self) -> usize
+        ensures { result ≡ taken self.now.loose }
+    {
+        self.table.loose()
+    }
+
+    /// The least block of which a flush writes something; `None` where there is none: then nothing is pending, or what is
+    /// waits until what is written of other blocks is durable.
     pub fn least_ready(&self) -> Option<u32>
-        ensures least { MatchOption result (pending_of self.now ≡ []) (λ address. IsLeastReady (home_of self.now.geometry) (pending_of self.now) address) }
+        ensures least { MatchOption result (NothingNext self.now) (λ address. IsLeastNext self.now address) }
         ensures on_volume { IfSome result (λ address. address < block_count self.now.geometry) }
-        ensures closed { IsClosed (updates self.now.written) self.now.cut }
+        ensures closed { AreClosed self.now }
     {
         self.table.least_ready()
     }
 
-    /// The least block with an update that may go to the device, of this one and those above it.
+    /// The least block of which a flush writes something, of this one and those above it.
     pub fn next_ready(&self, from: u32) -> Option<u32>
-        ensures next { MatchOption result (NothingReadyFrom (home_of self.now.geometry) (pending_of self.now) from)
-            (λ address. IsNextReady (home_of self.now.geometry) (pending_of self.now) from address) }
+        ensures next { MatchOption result (NothingNextFrom self.now from) (λ address. IsNext self.now from address) }
         ensures on_volume { IfSome result (λ address. address < block_count self.now.geometry) }
+        ensures closed { AreClosed self.now }
     {
         self.table.next_ready(from)
     }

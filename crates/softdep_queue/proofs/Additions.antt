@@ -1,6 +1,6 @@
 -- A table to which an update is added.
-use Rattle.std.proofs.Common.{◌≡◌, ℕ, suc, ◌+◌, ◌<◌, ◌≤◌, ◌^◌, Bool, true, false, eqb, ltb, leb, ◌||◌, ◌&&◌, List, [], ◌∷◌, ◌++◌, ◌⊎◌, inl, inr, ◌↔◌, Some, refl, sym, ap, ap₂, ◌∙◌, subst, IsTrue, Contains, length, arith, slice_set, slice_index_or, filter, length-append, get_or-set_same, get_or-set_other, eqb-true, eq-eqb, ne_eqb, if◌then◌else◌}
-use Rattle.std.proofs.lemmas.Bool.{cases_eq, cases_Bool, cond-true, cond-false, or_left, or_right, both_ways, and_parts}
+use Rattle.std.proofs.Common.{◌≡◌, ℕ, suc, ◌+◌, ◌<◌, ◌≤◌, ◌^◌, Bool, true, false, not, eqb, ltb, leb, ◌||◌, ◌&&◌, List, [], ◌∷◌, ◌++◌, ◌⊎◌, inl, inr, ◌↔◌, Some, refl, sym, ap, ap₂, ◌∙◌, subst, IsTrue, Contains, length, arith, slice_set, slice_index_or, filter, length-append, get_or-set_same, get_or-set_other, eqb-true, eq-eqb, ne_eqb, if◌then◌else◌}
+use Rattle.std.proofs.lemmas.Bool.{cases_eq, cases_Bool, cond-true, cond-false, or_left, or_right, both_ways, and_from, and_parts, false_from_ne_true}
 use Rattle.std.proofs.lemmas.List.{length-set, get_or_append_left}
 use Rattle.std.proofs.Math.Seq.{get_or-append_seam}
 use Rattle.std.proofs.lemmas.List.Elements.{Contains-append_cases, Contains-append_left, Contains-append_right}
@@ -11,8 +11,8 @@ use Rattle.model.specs.Layout.{Geometry, block_count, inode_count, is_number, is
 use Rattle.ordering.specs.Cuts.{Cell, Record, NumberBit, BlockBit, Block, Pending, cell_of, same_cell}
 use Rattle.ordering.proofs.CutLemmas.{same_cell_eq, same_cell_self}
 use Rattle.queue_model.specs.Blocks.{home_of}
-use Rattle.queue_model.specs.Entries.{Entry, Queue, Stand, issued, new_entry}
-use Rattle.queue_model.proofs.Lists.{contains_head, contains_tail, contains_cases, contains_none, unmapped}
+use Rattle.queue_model.specs.Entries.{Entry, Queue, Stand, has_id, marks, issued, new_entry}
+use Rattle.queue_model.proofs.Lists.{bool_same, contains_head, contains_tail, contains_cases, contains_none, all_at, all_from, unmapped}
 use Rattle.queue_model.proofs.Represented.{issued_represents}
 use Rattle.queue_model.proofs.Standing.{is_pending, entry_of, id_low, waits_low, last_entry}
 use Rattle.updates.specs.Places.{IsCell, AreCells, place_of, place_count}
@@ -21,10 +21,13 @@ use Rattle.stacks.specs.Stacks.{Links as StackLinks, stack_at, count_of, room_of
 use Rattle.softdep_queue.specs.declared.table.Node.{Node}
 use Rattle.softdep_queue.specs.declared.table.Table.{Table}
 use Rattle.softdep_queue.specs.Counts.{occurrences, count_in, code}
-use Rattle.softdep_queue.specs.Ties.{Holds, IsNodeOf, Shows, node_at, pending_in, shown_by, waiters_of}
+use Rattle.softdep_queue.specs.Ties.{Holds, Takes, WereTaken, IsNodeOf, Shows, of_block, due_after, node_at, pending_in, shown_by, waiters_of}
 use Rattle.softdep_queue.specs.Rooms.{HasRoom}
-use Rattle.softdep_queue.specs.Adding.{lasts, in_front, IsBehind}
+use Rattle.softdep_queue.specs.Adding.{lasts, is_own, counted, in_front, IsBehind}
 use Rattle.softdep_queue.proofs.Shown.{same_below}
+use Rattle.softdep_queue.proofs.Falling.{marks_issued}
+use Rattle.softdep_queue.proofs.Blocks.{has_of, taken_entry, own_of, apart_of}
+use Rattle.softdep_queue.proofs.Taken.{ids, has_to, has_from, reverse_to, reverse_from}
 use Rattle.softdep_queue.proofs.Waits.{occurrences_tail, front_other, front_own, front_member, last_is}
 
 -- ---- counts
@@ -135,7 +138,8 @@ pub record IsNodeFor (geo : Geometry) (t : Table) (u : Pending) (node : Node) : 
   pub on_volume : node.home < block_count geo
   pub update : pending_in node.update ≡ Some u
   pub change : Shows node.update u.change
-  pub waiting : node.waiting ≡ length (lasts geo t (cell_of u.change ∷ u.after))
+  pub waiting : node.waiting ≡ counted t (home_of geo (cell_of u.change)) (lasts geo t (cell_of u.change ∷ u.after))
+  pub flag : node.taken ≡ false
   pub few : node.waiting < 2 ^ 64
   pub waiters : node.waiters ≡ 0
 
@@ -159,7 +163,44 @@ room_left t t' t'' number place many updates cells ids node behind added few has
       links = omega (arith, l, cl, bl, few);
     }
 
-module _ (geo : Geometry) (t : Table) (queue : Queue) (q : List Pending) (holds : Holds geo t queue q) where
+module _ (geo : Geometry) (t : Table) (queue : Queue) (q : List Pending) (ws : List Entry) (holds : Takes geo t queue q ws) where
+  -- what was taken has an id below the next one
+  pub taken_low : (i : ℕ) → IsTrue (has_id ws i) → i < queue.next
+  taken_low i h =
+      let e = taken_entry (home_of geo) queue ws holds.each i h in
+      subst (λ j. j < queue.next) e.3 (id_low (home_of geo) queue q holds.ties.represents (home_of geo (cell_of e.0.change)) e.0 e.2)
+
+  pub next_not_taken : Contains t.taken.items (length t.nodes.items) → ⊥
+  next_not_taken m =
+      let low = taken_low (length t.nodes.items) (has_from ws (length t.nodes.items) (reverse_from (ids ws) (length t.nodes.items) (subst (λ l. Contains l (length t.nodes.items)) holds.taken m))) in
+      let next = holds.ties.next in
+      omega (arith, low, next)
+
+  pub next_not_written : has_id ws queue.next ≡ false
+  next_not_written = false_from_ne_true (has_id ws queue.next) (λ h. let low = taken_low queue.next h in omega (arith, low))
+
+  -- the node of a pending update tells whether it was taken of a block
+  own_is : (b i : ℕ) → IsTrue (queue.pending i) → has_id (of_block (home_of geo) b ws) i ≡ is_own t b i
+  own_is b i p =
+      let x = entry_of (home_of geo) queue q holds.ties.represents i p in
+      let e = x.0 in
+      let k = home_of geo (cell_of e.change) in
+      let flag = holds.ties.flags k e x.1 in
+      let at = (holds.ties.node k e x.1).home in
+      subst (λ j. has_id (of_block (home_of geo) b ws) j ≡ is_own t b j) x.2
+      (bool_same (has_id (of_block (home_of geo) b ws) e.id) (is_own t b e.id)
+      (λ h. and_from (node_at t.nodes.items e.id).taken (eqb (node_at t.nodes.items e.id).home b)
+      (flag.1 (subst (λ l. Contains l e.id) (sym holds.taken) (reverse_to (ids ws) e.id (has_to ws e.id (has_of (home_of geo) b ws e.id h)))))
+      (eq-eqb (node_at t.nodes.items e.id).home b (at ∙ elim (cases_eq b k) [
+        | inl d ↦ sym d
+        | inr d ↦ absurd (both_ways (has_id (of_block (home_of geo) b ws) e.id) (apart_of (home_of geo) queue q holds.ties.represents ws holds.each k b e x.1 d) h)
+      ])))
+      (λ o.
+      let both = and_parts (node_at t.nodes.items e.id).taken (eqb (node_at t.nodes.items e.id).home b) o in
+      let same = sym at ∙ eqb-true (node_at t.nodes.items e.id).home b both.1 in
+      own_of (home_of geo) queue q holds.ties.represents ws holds.each b e (subst (λ j. Contains (queue.lists j) e) same x.1)
+      (has_from ws e.id (reverse_from (ids ws) e.id (subst (λ l. Contains l e.id) holds.taken (flag.0 both.0))))))
+
   -- the next number stands in no stack
   pub next_not_stacked : (b : ℕ) → Contains (stack_at t.ready b) (length t.nodes.items) → ⊥
   next_not_stacked b m =
@@ -171,7 +212,7 @@ module _ (geo : Geometry) (t : Table) (queue : Queue) (q : List Pending) (holds 
 
   pub lasts_are : (cells : List Cell) → All (IsCell geo) cells → lasts geo t cells ≡ filter_map queue.last cells
   lasts_are [] all = refl
-  lasts_are (c ∷ cells) all = ap₂ (λ o l. cons_option o l) (last_is geo t queue q holds c (all 0 c (omega arith))) (lasts_are cells (λ k d l. all (suc k) d (omega (arith, l))))
+  lasts_are (c ∷ cells) all = ap₂ (λ o l. cons_option o l) (last_is geo t queue q ws holds c (all 0 c (omega arith))) (lasts_are cells (λ k d l. all (suc k) d (omega (arith, l))))
 
   module _ (u : Pending) (cells : AreCells geo u) where
     abbrev home : ℕ
@@ -183,8 +224,8 @@ module _ (geo : Geometry) (t : Table) (queue : Queue) (q : List Pending) (holds 
     abbrev entry : Entry
     entry = new_entry queue u
 
-    waits_are : lasts geo t (cell_of u.change ∷ u.after) ≡ entry.waits
-    waits_are = ap₂ (λ o l. cons_option o l) (last_is geo t queue q holds (cell_of u.change) cells.changed) (lasts_are u.after cells.after)
+    pub waits_are : lasts geo t (cell_of u.change ∷ u.after) ≡ entry.waits
+    waits_are = ap₂ (λ o l. cons_option o l) (last_is geo t queue q ws holds (cell_of u.change) cells.changed) (lasts_are u.after cells.after)
 
     waits_pending : (i : ℕ) → Contains entry.waits i → IsTrue (queue.pending i)
     waits_pending i m =
@@ -202,15 +243,20 @@ module _ (geo : Geometry) (t : Table) (queue : Queue) (q : List Pending) (holds 
     still_pending : (i : ℕ) → IsTrue (queue.pending i) → IsTrue (after_it.pending i)
     still_pending i p = or_right (eqb i queue.next) (queue.pending i) p
 
-    -- what is pending of older updates
-    same_due : (b : ℕ) (e : Entry) → Contains (queue.lists b) e → count_in after_it.pending e.waits ≡ count_in queue.pending e.waits
-    same_due b e m = count_same after_it.pending queue.pending e.waits (λ i w.
+    same_pending : (b : ℕ) (e : Entry) → Contains (queue.lists b) e → (i : ℕ) → Contains e.waits i → after_it.pending i ≡ queue.pending i
+    same_pending b e m i w =
         let low = id_low (home_of geo) queue q holds.ties.represents b e m in
         let before = waits_low (home_of geo) queue q holds.ties.represents b e i m w in
-        ap (λ x. x || queue.pending i) (ne_eqb i queue.next (λ d. omega (arith, low, before, d))))
+        ap (λ x. x || queue.pending i) (ne_eqb i queue.next (λ d. omega (arith, low, before, d)))
 
-    new_due : count_in after_it.pending entry.waits ≡ length entry.waits
-    new_due = count_all after_it.pending entry.waits (λ i m. still_pending i (waits_pending i m))
+    -- what older updates wait for
+    same_due : (b : ℕ) (e : Entry) → Contains (queue.lists b) e → due_after (home_of geo) after_it ws b e ≡ due_after (home_of geo) queue ws b e
+    same_due b e m = count_same (λ i. after_it.pending i && not (has_id (of_block (home_of geo) b ws) i)) (λ i. queue.pending i && not (has_id (of_block (home_of geo) b ws) i)) e.waits
+        (λ i w. ap (λ x. x && not (has_id (of_block (home_of geo) b ws) i)) (same_pending b e m i w))
+
+    new_due : due_after (home_of geo) after_it ws home entry ≡ counted t home entry.waits
+    new_due = count_same (λ i. after_it.pending i && not (has_id (of_block (home_of geo) home ws) i)) (λ i. not (is_own t home i)) entry.waits
+        (λ i m. ap₂ (λ x y. x && not y) (still_pending i (waits_pending i m)) (own_is home i (waits_pending i m)))
 
     -- the entries of a block
     listed_cases : (b : ℕ) (e : Entry) → Contains (after_it.lists b) e → Contains (queue.lists b) e ⊎ ((entry ≡ e) × (home ≡ b))
@@ -232,8 +278,20 @@ module _ (geo : Geometry) (t : Table) (queue : Queue) (q : List Pending) (holds 
     listed_new = subst (λ l. Contains l entry) (sym (cond-true (eqb home home) (queue.lists home ++ entry ∷ []) (queue.lists home) (eq-eqb home home refl)))
         (Contains-append_right (queue.lists home) (entry ∷ []) entry (contains_head entry []))
 
+    -- what was taken was so from the queue with the update, too
+    still_taken : (es : List Entry) → WereTaken (home_of geo) queue es → WereTaken (home_of geo) (issued (home_of geo) u queue) es
+    still_taken [] each = tt
+    still_taken (e ∷ es) each = (
+      listed_still (home_of geo (cell_of e.change)) e each.0,
+      each.1,
+      all_from (λ i. not (after_it.pending i) || has_id (of_block (home_of geo) (home_of geo (cell_of e.change)) es) i) e.waits (λ i w.
+          subst (λ x. IsTrue (not x || has_id (of_block (home_of geo) (home_of geo (cell_of e.change)) es) i)) (sym (same_pending (home_of geo (cell_of e.change)) e each.0 i w))
+          (all_at (λ j. not (queue.pending j) || has_id (of_block (home_of geo) (home_of geo (cell_of e.change)) es) j) e.waits i each.2 w)),
+      still_taken es each.3,
+    )
+
     module _ (t' t'' : Table) (node : Node) (behind : IsBehind t t' (length t.nodes.items) (lasts geo t (cell_of u.change ∷ u.after))) (is_node : IsNodeFor geo t u node)
-        (added : IsAdded t' t'' (place_of geo (cell_of u.change)) (length t.nodes.items) node) (own_place : place_of geo (cell_of u.change) < place_count geo) (many : ℕ) (has : HasRoom t 1 many) where
+        (added : IsAdded t' t'' (place_of geo (cell_of u.change)) (length t.nodes.items) node) (own_place : place_of geo (cell_of u.change) < place_count geo) (few_waits : length entry.waits < 2 ^ 64) (many : ℕ) (has : HasRoom t 1 many) where
       -- the nodes
       node_old : (i : ℕ) → i < length t.nodes.items → node_at t''.nodes.items i ≡ node_at t'.nodes.items i
       node_old i low = let same = behind.count in ap (λ l. node_at l i) added.nodes ∙ get_or_append_left t'.nodes.items (node ∷ []) (node_at [] 0) i (omega (arith, low, same))
@@ -253,7 +311,7 @@ module _ (geo : Geometry) (t : Table) (queue : Queue) (q : List Pending) (holds 
       waiters_new : waiters_of t'' queue.next ≡ []
       waiters_new = ap (waiters_of t'') holds.ties.next ∙ ap (λ (n : Node). numbers t''.chains n.waiters) node_new ∙ ap (numbers t''.chains) is_node.waiters
 
-      old_node : (b : ℕ) (e : Entry) → Contains (queue.lists b) e → IsNodeOf geo t'' b e (count_in after_it.pending e.waits)
+      old_node : (b : ℕ) (e : Entry) → Contains (queue.lists b) e → IsNodeOf geo t'' b e (due_after (home_of geo) after_it ws b e)
       old_node b e m =
           let n = holds.ties.node b e m in
           let now = node_old e.id (low_id b e m) in
@@ -268,28 +326,27 @@ module _ (geo : Geometry) (t : Table) (queue : Queue) (q : List Pending) (holds 
             chain = subst (λ (v : ChainLinks). IsChain v (node_at t''.nodes.items e.id).waiters) (sym added.chains) (subst (λ (x : Node). IsChain t'.chains x.waiters) (sym now) (behind.chain e.id n.chain));
           }
 
-      new_node : IsNodeOf geo t'' home entry (count_in after_it.pending entry.waits)
+      new_node : IsNodeOf geo t'' home entry (due_after (home_of geo) after_it ws home entry)
       new_node =
           let now : node_at t''.nodes.items queue.next ≡ node = ap (node_at t''.nodes.items) holds.ties.next ∙ node_new in
           let low = is_node.on_volume in
           let at = is_node.home in
-          let few = is_node.few in
-          let count = is_node.waiting ∙ ap length waits_are in
+          let few = few_waits in
           record {
             home = ap (λ (x : Node). x.home) now ∙ is_node.home;
             on_volume = omega (arith, low, at);
             change = subst (λ (x : Node). Shows x.update u.change) (sym now) is_node.change;
             cell = cells.changed;
             fits = cells.fits;
-            waiting = ap (λ (x : Node). x.waiting) now ∙ is_node.waiting ∙ ap length waits_are ∙ sym new_due;
-            few = omega (arith, few, count);
+            waiting = ap (λ (x : Node). x.waiting) now ∙ is_node.waiting ∙ ap (counted t home) waits_are ∙ sym new_due;
+            few = few;
             chain = let none = ap (λ (x : Node). x.waiters) now ∙ is_node.waiters in omega (arith, none);
           }
 
-      node_of : (b : ℕ) (e : Entry) → Contains (after_it.lists b) e → IsNodeOf geo t'' b e (count_in after_it.pending e.waits)
+      node_of : (b : ℕ) (e : Entry) → Contains (after_it.lists b) e → IsNodeOf geo t'' b e (due_after (home_of geo) after_it ws b e)
       node_of b e m = elim (listed_cases b e m) [
         | inl old ↦ old_node b e old
-        | inr (d, h) ↦ subst (λ k. IsNodeOf geo t'' k e (count_in after_it.pending e.waits)) h (subst (λ (x : Entry). IsNodeOf geo t'' home x (count_in after_it.pending x.waits)) d new_node)
+        | inr (d, h) ↦ subst (λ k. IsNodeOf geo t'' k e (due_after (home_of geo) after_it ws k e)) h (subst (λ (x : Entry). IsNodeOf geo t'' home x (due_after (home_of geo) after_it ws home x)) d new_node)
       ]
 
       -- those that wait
@@ -346,45 +403,73 @@ module _ (geo : Geometry) (t : Table) (queue : Queue) (q : List Pending) (holds 
       stack_now : (b i : ℕ) → Contains (stack_at t.ready b) i → Contains (stack_at t''.ready b) i
       stack_now b i m = added.still b i (subst (λ v. Contains (stack_at v b) i) (sym behind.ready) m)
 
-      none_taken : (i : ℕ) → Contains t''.taken.items i → ⊥
-      none_taken i m = contains_none i (subst (λ l. Contains l i) (ap (λ v. v.items) (added.taken ∙ behind.taken) ∙ holds.none) m)
+      taken_same : t''.taken ≡ t.taken
+      taken_same = added.taken ∙ behind.taken
 
-      new_ready : (Contains (stack_at t''.ready home) queue.next ⊎ Contains t''.taken.items queue.next) ↔ (count_in after_it.pending entry.waits ≡ 0)
+      taken_before : (i : ℕ) → Contains t''.taken.items i → Contains t.taken.items i
+      taken_before i m = subst (λ v. Contains v.items i) taken_same m
+
+      taken_now : (i : ℕ) → Contains t.taken.items i → Contains t''.taken.items i
+      taken_now i m = subst (λ v. Contains v.items i) (sym taken_same) m
+
+      not_taken : Contains t''.taken.items queue.next → ⊥
+      not_taken m = next_not_taken (subst (Contains t.taken.items) holds.ties.next (taken_before queue.next m))
+
+      new_ready : (Contains (stack_at t''.ready home) queue.next ⊎ Contains t''.taken.items queue.next) ↔ (due_after (home_of geo) after_it ws home entry ≡ 0)
       new_ready =
-          let due : node.waiting ≡ count_in after_it.pending entry.waits = is_node.waiting ∙ ap length waits_are ∙ sym new_due in (
+          let due : node.waiting ≡ due_after (home_of geo) after_it ws home entry = is_node.waiting ∙ ap (counted t home) waits_are ∙ sym new_due in (
             (λ x. elim x [
               | inl stack ↦ elim (added.more home queue.next stack) [
                 | inl old ↦ absurd (next_not_stacked home (subst (λ i. Contains (stack_at t.ready home) i) holds.ties.next (stack_before home queue.next old)))
                 | inr (z, at, is) ↦ sym due ∙ z
               ]
-              | inr taken ↦ absurd (none_taken queue.next taken)
+              | inr taken ↦ absurd (not_taken taken)
             ]),
             (λ z. inl (subst (λ b. Contains (stack_at t''.ready b) queue.next) is_node.home (subst (λ i. Contains (stack_at t''.ready node.home) i) (sym holds.ties.next) (added.pushed (due ∙ z))))),
           )
 
-      old_ready : (b : ℕ) (e : Entry) → Contains (queue.lists b) e → (Contains (stack_at t''.ready b) e.id ⊎ Contains t''.taken.items e.id) ↔ (count_in after_it.pending e.waits ≡ 0)
+      old_ready : (b : ℕ) (e : Entry) → Contains (queue.lists b) e → (Contains (stack_at t''.ready b) e.id ⊎ Contains t''.taken.items e.id) ↔ (due_after (home_of geo) after_it ws b e ≡ 0)
       old_ready b e m =
           let r = holds.ties.ready b e m in
           let due = same_due b e m in
           let low = low_id b e m in (
             (λ x. due ∙ r.0 (elim x [
               | inl stack ↦ elim (added.more b e.id stack) [ inl old ↦ inl (stack_before b e.id old) | inr (z, at, is) ↦ absurd (omega (arith, low, is)) ]
-              | inr taken ↦ absurd (none_taken e.id taken)
+              | inr taken ↦ inr (taken_before e.id taken)
             ])),
-            (λ z. elim (r.1 (sym due ∙ z)) [ inl stack ↦ inl (stack_now b e.id stack) | inr taken ↦ absurd (contains_none e.id (subst (λ l. Contains l e.id) holds.none taken)) ]),
+            (λ z. elim (r.1 (sym due ∙ z)) [ inl stack ↦ inl (stack_now b e.id stack) | inr taken ↦ inr (taken_now e.id taken) ]),
           )
 
-      ready : (b : ℕ) (e : Entry) → Contains (after_it.lists b) e → (Contains (stack_at t''.ready b) e.id ⊎ Contains t''.taken.items e.id) ↔ (count_in after_it.pending e.waits ≡ 0)
+      ready : (b : ℕ) (e : Entry) → Contains (after_it.lists b) e → (Contains (stack_at t''.ready b) e.id ⊎ Contains t''.taken.items e.id) ↔ (due_after (home_of geo) after_it ws b e ≡ 0)
       ready b e m = elim (listed_cases b e m) [
         | inl old ↦ old_ready b e old
-        | inr (d, h) ↦ subst (λ k. (Contains (stack_at t''.ready k) e.id ⊎ Contains t''.taken.items e.id) ↔ (count_in after_it.pending e.waits ≡ 0)) h
-            (subst (λ (x : Entry). (Contains (stack_at t''.ready home) x.id ⊎ Contains t''.taken.items x.id) ↔ (count_in after_it.pending x.waits ≡ 0)) d new_ready)
+        | inr (d, h) ↦ subst (λ k. (Contains (stack_at t''.ready k) e.id ⊎ Contains t''.taken.items e.id) ↔ (due_after (home_of geo) after_it ws k e ≡ 0)) h
+            (subst (λ (x : Entry). (Contains (stack_at t''.ready home) x.id ⊎ Contains t''.taken.items x.id) ↔ (due_after (home_of geo) after_it ws home x ≡ 0)) d new_ready)
+      ]
+
+      flags : (b : ℕ) (e : Entry) → Contains (after_it.lists b) e → IsTrue (node_at t''.nodes.items e.id).taken ↔ Contains t''.taken.items e.id
+      flags b e m = elim (listed_cases b e m) [
+        | inl old ↦
+            let f = holds.ties.flags b e old in
+            let same = ap (λ (x : Node). x.taken) (node_old e.id (low_id b e old)) ∙ behind.flag e.id in
+            ((λ x. taken_now e.id (f.0 (sym same ∙ x))), (λ x. same ∙ f.1 (taken_before e.id x)))
+        | inr (d, h) ↦
+            let id = ap (λ (x : Entry). x.id) (sym d) in
+            let now = ap (λ i. (node_at t''.nodes.items i).taken) (id ∙ holds.ties.next) ∙ ap (λ (x : Node). x.taken) node_new ∙ is_node.flag in (
+              (λ x. absurd (both_ways (node_at t''.nodes.items e.id).taken now x)),
+              (λ x. absurd (not_taken (subst (Contains t''.taken.items) id x))),
+            )
       ]
 
       stacked : (b i : ℕ) → Contains (stack_at t''.ready b) i → (e : Entry) × Contains (after_it.lists b) e × (e.id ≡ i) × (Contains t''.taken.items i → ⊥)
       stacked b i m = elim (added.more b i m) [
-        | inl old ↦ let s = holds.ties.stacked b i (stack_before b i old) in (s.0, listed_still b s.0 s.1, s.2, none_taken i)
-        | inr (z, at, is) ↦ (entry, subst (λ k. Contains (after_it.lists k) entry) (sym (at ∙ is_node.home)) listed_new, holds.ties.next ∙ sym is, none_taken i)
+        | inl old ↦ let s = holds.ties.stacked b i (stack_before b i old) in (s.0, listed_still b s.0 s.1, s.2, λ x. s.3 (taken_before i x))
+        | inr (z, at, is) ↦ (
+          entry,
+          subst (λ k. Contains (after_it.lists k) entry) (sym (at ∙ is_node.home)) listed_new,
+          holds.ties.next ∙ sym is,
+          λ x. not_taken (subst (Contains t''.taken.items) (is ∙ sym holds.ties.next) x),
+        )
       ]
 
       -- the last of each cell
@@ -409,8 +494,8 @@ module _ (geo : Geometry) (t : Table) (queue : Queue) (q : List Pending) (holds 
           ∙ ap₂ (λ o l. cons_option o l) (ap (λ (x : Node). pending_in x.update) node_new ∙ is_node.update)
           (same_below t''.nodes.items t.nodes.items (length t.nodes.items) (λ i low. ap (λ (x : Node). x.update) (node_old i low) ∙ behind.change i) ∙ holds.ties.shown)
 
-      pub added_holds : Holds geo t'' after_it (u ∷ q)
-      added_holds =
+      pub added_takes : Takes geo t'' after_it (u ∷ q) ws
+      added_takes =
           let nodes = ap length added.nodes in
           let one = length-append t'.nodes.items (node ∷ []) in
           let same = behind.count in
@@ -428,6 +513,7 @@ module _ (geo : Geometry) (t : Table) (queue : Queue) (q : List Pending) (holds 
               waiters = waiters;
               alive = alive;
               ready = ready;
+              flags = flags;
               stacked = stacked;
               latest = latest;
               places = ap length added.latest ∙ length-set t'.latest.items (place_of geo (cell_of u.change)) (length t.nodes.items + 1) ∙ ap (λ v. length v.items) behind.latest ∙ holds.ties.places;
@@ -436,5 +522,13 @@ module _ (geo : Geometry) (t : Table) (queue : Queue) (q : List Pending) (holds 
               room = omega (arith, nodes, one, same, r, cr, br);
               spare = omega (arith, nodes, one, same, k, ck);
             };
-            none = ap (λ v. v.items) (added.taken ∙ behind.taken) ∙ holds.none;
+            taken = ap (λ v. v.items) taken_same ∙ holds.taken;
+            each = still_taken ws holds.each;
           }
+
+      pub added_holds : (loose : List Bool) → marks (has_id ws) holds.ties.represents.entries ≡ loose → Holds geo t'' after_it (u ∷ q) (false ∷ loose)
+      added_holds loose cut = record {
+        written = ws;
+        takes = added_takes;
+        cut = marks_issued (home_of geo) queue (has_id ws) u q holds.ties.represents added_takes.ties.represents ∙ ap₂ (λ b l. b ∷ l) next_not_written cut;
+      }

@@ -1,13 +1,19 @@
 mod Shown
 mod Steps
+mod Falling
+mod Flagged
+pub mod Blocks
 mod Counting
 mod Taken
 mod Released
 mod Struck
-mod Retired
 mod MoreCounts
 mod Raising
 mod GivenBack
+pub mod LooseCuts
+pub mod Left
+mod TakenAll
+mod Settled
 mod Asked
 mod Rooms
 mod Waits

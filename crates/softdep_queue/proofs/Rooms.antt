@@ -1,19 +1,20 @@
 -- A table that has got more room, and one in which nothing is pending, holds what it held.
-use Rattle.std.proofs.Common.{◌≡◌, ℕ, ◌≤◌, List, [], ◌∷◌, inl, inr, refl, sym, ap, ap₂, ◌∙◌, subst, Contains, length, arith, slice_index_or}
+use Rattle.std.proofs.Common.{◌≡◌, ℕ, ◌≤◌, Bool, List, [], ◌∷◌, inl, inr, refl, sym, ap, ap₂, ◌∙◌, subst, Contains, length, map, reverse, arith, slice_index_or}
 use Rattle.std.specs.Vec.{vec_capacity}
-use Rattle.model.specs.Layout.{Geometry}
-use Rattle.ordering.specs.Cuts.{Pending}
+use Rattle.model.specs.Layout.{Geometry, block_count}
+use Rattle.ordering.specs.Cuts.{Pending, cell_of}
 use Rattle.queue_model.specs.Blocks.{home_of}
-use Rattle.queue_model.specs.Entries.{Entry, Queue}
+use Rattle.queue_model.specs.Entries.{Entry, Queue, empty_queue, has_id}
 use Rattle.queue_model.proofs.Lists.{contains_none}
-use Rattle.queue_model.proofs.Represented.{none_listed_of_none, begun_anew}
-use Rattle.updates.specs.Places.{place_of}
+use Rattle.queue_model.proofs.Represented.{none_listed_of_none, begun_anew, empty_represents}
+use Rattle.updates.specs.Places.{place_of, place_count}
 use Rattle.chains.specs.Chains.{walk}
 use Rattle.stacks.specs.Stacks.{stack_at, count_of, room_of}
 use Rattle.softdep_queue.specs.declared.table.Node.{Node}
 use Rattle.softdep_queue.specs.declared.table.Table.{Table}
-use Rattle.softdep_queue.specs.Counts.{occurrences, count_in}
-use Rattle.softdep_queue.specs.Ties.{Holds, IsNodeOf, Shows, node_at, shown_by, waiters_of}
+use Rattle.softdep_queue.specs.Counts.{occurrences}
+use Rattle.softdep_queue.specs.Ties.{Holds, Takes, WereTaken, IsNodeOf, Shows, due_after, node_at, shown_by, waiters_of}
+use Rattle.softdep_queue.proofs.Falling.{marks_of, marks_nothing}
 
 -- the same but for more room
 pub record IsRoomier (t t' : Table) : Type 0 where
@@ -51,9 +52,9 @@ module _ (t t' : Table) (roomier : IsRoomier t t') where
         chain = omega (arith, links, waiters, chain);
       }
 
-  pub still_holds : (geo : Geometry) (queue : Queue) (q : List Pending) → Holds geo t queue q → Holds geo t' queue q
-  still_holds geo queue q holds =
-      let ties = holds.ties in
+  pub still_takes : (geo : Geometry) (queue : Queue) (q : List Pending) (ws : List Entry) → Takes geo t queue q ws → Takes geo t' queue q ws
+  still_takes geo queue q ws takes =
+      let ties = takes.ties in
       let nodes = ap length roomier.nodes in
       let room = ties.room in
       let more = roomier.room in
@@ -65,12 +66,16 @@ module _ (t t' : Table) (roomier : IsRoomier t t') where
           shown = ap (λ l. shown_by l (length l)) roomier.nodes ∙ ties.shown;
           cells = ties.cells;
           next = ties.next ∙ sym nodes;
-          node = λ b e m. node_kept geo b e (count_in queue.pending e.waits) (ties.node b e m);
+          node = λ b e m. node_kept geo b e (due_after (home_of geo) queue ws b e) (ties.node b e m);
           waiters = λ b c e f m n. ap (occurrences f.id) (same_waiters e.id) ∙ ties.waiters b c e f m n;
           alive = λ b e i m o. ties.alive b e i m (subst (λ l. Contains l i) (same_waiters e.id) o);
           ready = λ b e m. let r = ties.ready b e m in (
             (λ x. r.0 (elim x [ inl s ↦ inl (subst (λ l. Contains l e.id) (roomier.stacks b) s) | inr k ↦ inr (subst (λ l. Contains l e.id) roomier.taken k) ])),
             (λ z. elim (r.1 z) [ inl s ↦ inl (subst (λ l. Contains l e.id) (sym (roomier.stacks b)) s) | inr k ↦ inr (subst (λ l. Contains l e.id) (sym roomier.taken) k) ]),
+          );
+          flags = λ b e m. let f = ties.flags b e m in let same = ap (λ (n : Node). n.taken) (same_node e.id) in (
+            (λ x. subst (λ l. Contains l e.id) (sym roomier.taken) (f.0 (sym same ∙ x))),
+            (λ x. same ∙ f.1 (subst (λ l. Contains l e.id) roomier.taken x)),
           );
           stacked = λ b i m. let s = ties.stacked b i (subst (λ l. Contains l i) (roomier.stacks b) m) in (s.0, s.1, s.2, λ o. s.3 (subst (λ l. Contains l i) roomier.taken o));
           latest = λ c is. ap (λ v. slice_index_or v.items (place_of geo c) 0) roomier.latest ∙ ties.latest c is;
@@ -80,8 +85,14 @@ module _ (t t' : Table) (roomier : IsRoomier t t') where
           room = omega (arith, nodes, room, more);
           spare = omega (arith, nodes, spare, grown);
         };
-        none = roomier.taken ∙ holds.none;
+        taken = roomier.taken ∙ takes.taken;
+        each = takes.each;
       }
+
+  pub still_holds : (geo : Geometry) (queue : Queue) (q : List Pending) (loose : List Bool) → Holds geo t queue q loose → Holds geo t' queue q loose
+  still_holds geo queue q loose holds =
+      let now = still_takes geo queue q holds.written holds.takes in
+      record { written = holds.written; takes = now; cut = marks_of (home_of geo) queue (has_id holds.written) q now.ties.represents holds.takes.ties.represents ∙ holds.cut }
 
 -- ---- nothing is pending
 
@@ -98,38 +109,83 @@ none_of [] z = refl
 none_of (u ∷ q) z = absurd (omega (arith, z))
 
 module _ (t t' : Table) (emptied : IsEmptied t t') (none : t.pending ≡ 0) (geo : Geometry) (queue : Queue) where
-  held_nothing : (q : List Pending) → Holds geo t queue q → q ≡ []
-  held_nothing q holds = none_of q (sym holds.ties.pending ∙ none)
+  held_nothing : (q : List Pending) (loose : List Bool) → Holds geo t queue q loose → q ≡ []
+  held_nothing q loose holds = none_of q (sym holds.takes.ties.pending ∙ none)
 
-  holds_nothing : Holds geo t queue [] → Holds geo t' (record queue { next = 0 }) []
-  holds_nothing holds =
-      let ties = holds.ties in
+  holds_nothing : (loose : List Bool) → Holds geo t queue [] loose → Holds geo t' (record queue { next = 0 }) [] loose
+  holds_nothing loose holds =
+      let ties = holds.takes.ties in
       let length_none = ap length emptied.nodes in
+      let anew = begun_anew (home_of geo) queue 0 ties.represents in
       record {
-        ties = record {
-          represents = begun_anew (home_of geo) queue 0 ties.represents;
-          shown = ap (λ l. shown_by l (length l)) emptied.nodes;
-          cells = ties.cells;
-          next = sym length_none;
-          node = λ b e m. absurd (nobody b e m);
-          waiters = λ b c e f m n. absurd (nobody b e m);
-          alive = λ b e i m o. absurd (nobody b e m);
-          ready = λ b e m. absurd (nobody b e m);
-          stacked = λ b i m. let s = ties.stacked b i (subst (λ v. Contains (stack_at v b) i) emptied.ready m) in absurd (nobody b s.0 s.1);
-          latest = λ c is. ap (λ v. slice_index_or v.items (place_of geo c) 0) emptied.latest ∙ ties.latest c is;
-          places = ap (λ v. length v.items) emptied.latest ∙ ties.places;
-          blocks = ap count_of emptied.ready ∙ ties.blocks;
-          pending = emptied.pending ∙ ties.pending;
-          room = omega (arith, length_none);
-          spare = omega (arith, length_none);
+        written = [];
+        takes = record {
+          ties = record {
+            represents = anew;
+            shown = ap (λ l. shown_by l (length l)) emptied.nodes;
+            cells = ties.cells;
+            next = sym length_none;
+            node = λ b e m. absurd (nobody b e m);
+            waiters = λ b c e f m n. absurd (nobody b e m);
+            alive = λ b e i m o. absurd (nobody b e m);
+            ready = λ b e m. absurd (nobody b e m);
+            flags = λ b e m. absurd (nobody b e m);
+            stacked = λ b i m. let s = ties.stacked b i (subst (λ v. Contains (stack_at v b) i) emptied.ready m) in absurd (nobody b s.0 s.1);
+            latest = λ c is. ap (λ v. slice_index_or v.items (place_of geo c) 0) emptied.latest ∙ ties.latest c is;
+            places = ap (λ v. length v.items) emptied.latest ∙ ties.places;
+            blocks = ap count_of emptied.ready ∙ ties.blocks;
+            pending = emptied.pending ∙ ties.pending;
+            room = omega (arith, length_none);
+            spare = omega (arith, length_none);
+          };
+          taken = ap (λ v. v.items) emptied.taken ∙ holds.takes.taken ∙ ap (λ ws. reverse (map (λ (e : Entry). e.id) ws)) (none_written holds.written holds.takes.each);
+          each = tt;
         };
-        none = ap (λ v. v.items) emptied.taken ∙ holds.none;
+        cut = marks_nothing (has_id []) (has_id holds.written) 0 queue.next anew.entries ties.represents.entries anew.stand ties.represents.stand ∙ holds.cut;
       }
     where
       nobody : (b : ℕ) (e : Entry) → Contains (queue.lists b) e → ⊥
-      nobody b e m = contains_none e (subst (λ l. Contains l e) (none_listed_of_none (home_of geo) queue holds.ties.represents b) m)
+      nobody b e m = contains_none e (subst (λ l. Contains l e) (none_listed_of_none (home_of geo) queue holds.takes.ties.represents b) m)
 
-  pub begins_anew : (q : List Pending) → Holds geo t queue q → Holds geo t' (record queue { next = 0 }) q
-  begins_anew q holds =
-      let empty = held_nothing q holds in
-      subst (λ l. Holds geo t' (record queue { next = 0 }) l) (sym empty) (holds_nothing (subst (λ l. Holds geo t queue l) empty holds))
+      none_written : (ws : List Entry) → WereTaken (home_of geo) queue ws → ws ≡ []
+      none_written [] each = refl
+      none_written (e ∷ ws) each = absurd (nobody (home_of geo (cell_of e.change)) e each.0)
+
+  pub begins_anew : (q : List Pending) (loose : List Bool) → Holds geo t queue q loose → Holds geo t' (record queue { next = 0 }) q loose
+  begins_anew q loose holds =
+      let empty = held_nothing q loose holds in
+      subst (λ l. Holds geo t' (record queue { next = 0 }) l loose) (sym empty) (holds_nothing loose (subst (λ l. Holds geo t queue l loose) empty holds))
+
+-- ---- a table that was just made
+
+pub holds_none : (geo : Geometry) (t : Table) → t.nodes.items ≡ [] → ((b : ℕ) → stack_at t.ready b ≡ []) → t.taken.items ≡ [] → t.pending ≡ 0 → count_of t.ready ≡ block_count geo → length t.latest.items ≡ place_count geo
+    → ((k : ℕ) → slice_index_or t.latest.items k 0 ≡ 0) → Holds geo t empty_queue [] []
+holds_none geo t nodes stacks taken pending blocks places latest =
+    let empty = empty_represents (home_of geo) in
+    let none = ap length nodes in
+    record {
+      written = [];
+      takes = record {
+        ties = record {
+          represents = empty;
+          shown = ap (λ l. shown_by l (length l)) nodes;
+          cells = λ u m. absurd (contains_none u m);
+          next = sym none;
+          node = λ b e m. absurd (contains_none e m);
+          waiters = λ b c e f m n. absurd (contains_none e m);
+          alive = λ b e i m o. absurd (contains_none e m);
+          ready = λ b e m. absurd (contains_none e m);
+          flags = λ b e m. absurd (contains_none e m);
+          stacked = λ b i m. absurd (contains_none i (subst (λ l. Contains l i) (stacks b) m));
+          latest = λ c is. latest (place_of geo c);
+          places = places;
+          blocks = blocks;
+          pending = pending;
+          room = omega (arith, none);
+          spare = omega (arith, none);
+        };
+        taken = taken;
+        each = tt;
+      };
+      cut = marks_nothing (has_id []) (has_id []) 0 0 empty.entries [] empty.stand tt;
+    }

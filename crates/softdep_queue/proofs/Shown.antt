@@ -3,12 +3,13 @@ use Rattle.std.proofs.Common.{◌≡◌, ℕ, zero, suc, ◌<◌, ◌≤◌, Boo
 use Rattle.std.proofs.lemmas.Bool.{cases_eq, cases_Bool}
 use Rattle.std.specs.List.{cons_option}
 use Rattle.ordering.specs.Cuts.{Pending, rest}
-use Rattle.queue_model.specs.Entries.{Entry, Stand}
+use Rattle.queue_model.specs.Entries.{Entry, Stand, marks}
 use Rattle.queue_model.proofs.Lists.{contains_head, contains_tail, contains_cases}
 use Rattle.updates.specs.declared.change.Update.{Update}
 use Rattle.updates.specs.Values.{written}
 use Rattle.softdep_queue.specs.declared.table.Node.{Node}
 use Rattle.softdep_queue.specs.Ties.{node_at, pending_in, shown_by}
+use Rattle.softdep_queue.specs.Moving.{flag_if, taken_by}
 
 -- so many nodes with the same updates
 pub same_below : (ns ms : List Node) (n : ℕ) → ((i : ℕ) → i < n → (node_at ns i).update ≡ (node_at ms i).update) → shown_by ns n ≡ shown_by ms n
@@ -20,11 +21,6 @@ pub same_shown : (ns ms : List Node) → length ns ≡ length ms → ((i : ℕ) 
 same_shown ns ms long same = same_below ns ms (length ns) (λ i l. same i) ∙ ap (shown_by ms) long
 
 -- ---- without some of them
-
--- what a set of ids takes of entries, as a cut
-abbrev pub marks : (ℕ → Bool) → List Entry → List Bool
-marks set [] = []
-marks set (e ∷ es) = set e.id ∷ marks set es
 
 -- the nodes of these entries show something
 abbrev pub AreShown : List Node → List Entry → Type 0
@@ -115,3 +111,52 @@ within_rest (p ∷ q) (false ∷ cut) u m = elim (contains_cases p u (rest q cut
   | inl d ↦ subst (Contains (p ∷ q)) d (contains_head p q)
   | inr later ↦ contains_tail p u q (within_rest q cut u later)
 ]
+
+-- ---- which of them were taken
+
+module _ (ns : List Node) (set : ℕ → Bool) where
+  -- the nodes of these entries tell whether they are in the set
+  abbrev pub TellTaken : List Entry → Type 0
+  TellTaken es = (e : Entry) → Contains es e → (node_at ns e.id).taken ≡ set e.id
+
+  tail_tell : (e : Entry) (es : List Entry) → TellTaken (e ∷ es) → TellTaken es
+  tail_tell e es tell f m = tell f (contains_tail e f es m)
+
+  pub taken_marks : (n : ℕ) (es : List Entry) (q : List Pending) → Stand n es q → AreShown ns es → TellTaken es → shown_by ns n ≡ q → taken_by ns n ≡ marks set es
+  taken_marks zero [] [] s some tell is = refl
+  taken_marks zero [] (u ∷ q) s some tell is = absurd s
+  taken_marks zero (e ∷ es) [] s some tell is = absurd s
+  taken_marks zero (e ∷ es) (u ∷ q) s some tell is = let low = s.0 in absurd (omega (arith, low))
+  taken_marks (suc n) es q s some tell is = at (λ es q s some tell is. taken_marks n es q s some tell is) (node_at ns n).update refl is
+    where
+      lower : (es : List Entry) (q : List Pending) → Stand (suc n) es q → AreShown ns es → (node_at ns n).update ≡ None → Stand n es q
+      lower [] [] s some z = tt
+      lower [] (u ∷ q) s some z = absurd s
+      lower (e ∷ es) [] s some z = absurd s
+      lower (e ∷ es) (u ∷ q) s some z =
+          let low = s.0 in
+          let other : e.id ≡ n → ⊥ = λ d. some e (contains_head e es) (ap (λ i. (node_at ns i).update) d ∙ z) in
+          (omega (arith, low, other), s.1, s.2)
+
+      first : ((es : List Entry) (q : List Pending) → Stand n es q → AreShown ns es → TellTaken es → shown_by ns n ≡ q → taken_by ns n ≡ marks set es)
+          → (x : Update) (es : List Entry) (q : List Pending) → Stand (suc n) es q → AreShown ns es → TellTaken es → (node_at ns n).update ≡ Some x → (written x).update ∷ shown_by ns n ≡ q → taken_by ns (suc n) ≡ marks set es
+      first more x [] [] s some tell o is = absurd (let l = ap length is in omega (arith, l))
+      first more x [] (u ∷ q) s some tell o is = absurd s
+      first more x (e ∷ es) [] s some tell o is = absurd s
+      first more x (e ∷ es) (u ∷ q) s some tell o is =
+          let tail : shown_by ns n ≡ q = cc in
+          elim (cases_eq e.id n) [
+            | inl d ↦ ap (λ y. cons_option (flag_if y (node_at ns n).taken) (taken_by ns n)) o
+                ∙ ap₂ (λ b l. b ∷ l) (ap (λ i. (node_at ns i).taken) (sym d) ∙ tell e (contains_head e es)) (more es q (subst (λ k. Stand k es q) d s.1) (tail_shown ns e es some) (tail_tell e es tell) tail)
+            | inr d ↦
+                let low = s.0 in
+                let few = few_shown ns n (e ∷ es) (u ∷ q) (omega (arith, low, d), s.1, s.2) some in
+                let long = stand_long e.id es q s.1 in
+                let same_long = ap length tail in
+                absurd (omega (arith, few, long, same_long))
+          ]
+
+      at : ((es : List Entry) (q : List Pending) → Stand n es q → AreShown ns es → TellTaken es → shown_by ns n ≡ q → taken_by ns n ≡ marks set es)
+          → (o : Option Update) → (node_at ns n).update ≡ o → cons_option (pending_in o) (shown_by ns n) ≡ q → taken_by ns (suc n) ≡ marks set es
+      at more None z is = ap (λ y. cons_option (flag_if y (node_at ns n).taken) (taken_by ns n)) z ∙ more es q (lower es q s some z) some tell is
+      at more (Some x) o is = first more x es q s some tell o is

@@ -60,6 +60,7 @@ ties_due geo t queue q due due' same ties = record {
   waiters = ties.waiters;
   alive = ties.alive;
   ready = λ b e m. let r = ties.ready b e m in ((λ s. sym (same b e m) ∙ r.0 s), (λ z. r.1 (same b e m ∙ z)));
+  flags = ties.flags;
   stacked = ties.stacked;
   latest = ties.latest;
   places = ties.places;
@@ -119,6 +120,12 @@ module _ (t t' : Table) (b w n : ℕ) (step : IsStep t t' b w n) (low : w < leng
   same_home i = elim (cases_eq i w) [
     | inl e ↦ ap (λ j. (node_at t'.nodes.items j).home) e ∙ ap (λ (x : Node). x.home) node_there ∙ ap (λ j. (node_at t.nodes.items j).home) (sym e)
     | inr d ↦ ap (λ (x : Node). x.home) (node_other i d)
+  ]
+
+  pub same_flag : (i : ℕ) → (node_at t'.nodes.items i).taken ≡ (node_at t.nodes.items i).taken
+  same_flag i = elim (cases_eq i w) [
+    | inl e ↦ ap (λ j. (node_at t'.nodes.items j).taken) e ∙ ap (λ (x : Node). x.taken) node_there ∙ ap (λ j. (node_at t.nodes.items j).taken) (sym e)
+    | inr d ↦ ap (λ (x : Node). x.taken) (node_other i d)
   ]
 
   pub waiters_same : (i : ℕ) → waiters_of t' i ≡ waiters_of t i
@@ -182,6 +189,10 @@ module _ (geo : Geometry) (t : Table) (queue : Queue) (q : List Pending) (due : 
         waiters = λ k l e g m o. ap (occurrences g.id) (waiters_same t t' b w (due b f - 1) step number_low e.id) ∙ ties.waiters k l e g m o;
         alive = λ k e i m o. ties.alive k e i m (subst (λ l. Contains l i) (waiters_same t t' b w (due b f - 1) step number_low e.id) o);
         ready = ready;
+        flags = λ k e m. let g = ties.flags k e m in let same = same_flag t t' b w (due b f - 1) step number_low e.id in (
+          (λ x. subst (λ v. Contains v.items e.id) (sym step.taken) (g.0 (sym same ∙ x))),
+          (λ x. same ∙ g.1 (subst (λ v. Contains v.items e.id) step.taken x)),
+        );
         stacked = stacked;
         latest = λ c is. ap (λ l. slice_index_or l (place_of geo c) 0) (ap (λ v. v.items) step.latest) ∙ ties.latest c is;
         places = ap (λ v. length v.items) step.latest ∙ ties.places;

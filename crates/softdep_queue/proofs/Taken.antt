@@ -1,28 +1,31 @@
 -- An entry that may go is taken.
-use Rattle.std.proofs.Common.{◌≡◌, ℕ, ◌-◌, ◌<◌, ◌≤◌, Bool, true, false, not, ◌&&◌, eqb, if◌then◌else◌, List, [], ◌∷◌, ◌++◌, ◌⊎◌, inl, inr, ◌↔◌, refl, sym, ap, ap₂, ◌∙◌, subst, IsTrue, IsFalse, Contains, length, map, reverse, slice_index_or, Vec, Global, arith, eqb-true, eq-eqb}
+use Rattle.std.proofs.Common.{◌≡◌, ℕ, ◌+◌, ◌-◌, ◌<◌, ◌≤◌, Bool, true, false, not, ◌&&◌, eqb, if◌then◌else◌, List, [], ◌∷◌, ◌++◌, ◌⊎◌, inl, inr, ◌↔◌, refl, sym, ap, ap₂, ◌∙◌, subst, IsTrue, IsFalse, Contains, length, map, reverse, slice_index_or, slice_set, Vec, Global, arith, eqb-true, eq-eqb}
 use Rattle.std.specs.List.{IsDistinct, AllByRecursion}
 use Rattle.std.specs.Vec.{vec_capacity}
-use Rattle.std.proofs.lemmas.Bool.{cases_eq, cases_Bool, cond-true, or_cases, or_left, or_right, or_parts}
+use Rattle.std.proofs.lemmas.Bool.{cases_eq, cases_Bool, or_cases, or_left, or_right, or_parts, both_ways}
 use Rattle.std.proofs.lemmas.List.Elements.{Contains-append_cases, Contains-append_left, Contains-append_right}
 use Rattle.std.proofs.lemmas.List.{reverse-append, length-map}
 use Rattle.std.proofs.lemmas.Map.Steps.{length-le_from_distinct_below}
 use Rattle.std.proofs.lemmas.Map.Views.{Contains-from_any}
 use Rattle.model.specs.Layout.{Geometry}
-use Rattle.ordering.specs.Cuts.{Pending}
+use Rattle.ordering.specs.Cuts.{Pending, cell_of}
 use Rattle.queue_model.specs.Blocks.{home_of}
-use Rattle.queue_model.specs.Entries.{Entry, Queue, has_id, AreTaken, NoOtherMayGo}
+use Rattle.queue_model.specs.Entries.{Entry, Queue, has_id, may_go, AreTaken, NoOtherMayGo}
 use Rattle.queue_model.proofs.Lists.{contains_head, contains_tail, contains_cases, contains_none}
-use Rattle.queue_model.proofs.Standing.{same_entry, id_low, is_pending}
+use Rattle.queue_model.proofs.Standing.{same_entry, home_is, id_low, is_pending}
 use Rattle.stacks.specs.Stacks.{Links as StackLinks, stack_at, count_of, room_of}
 use Rattle.chains.specs.Chains.{Links as ChainLinks, numbers, IsChain}
 use Rattle.updates.specs.Places.{place_of}
 use Rattle.softdep_queue.specs.declared.table.Node.{Node}
 use Rattle.softdep_queue.specs.declared.table.Table.{Table}
 use Rattle.softdep_queue.specs.Counts.{occurrences, count_in}
-use Rattle.softdep_queue.specs.Ties.{Ties, TiesBy, Holds, Takes, due_after, Shows, node_at, waiters_of, shown_by}
+use Rattle.softdep_queue.specs.Ties.{Ties, TiesBy, Takes, WereTaken, of_block, due_after, Shows, node_at, waiters_of}
 use Rattle.softdep_queue.specs.Lowering.{released, AreWaiting, MayBeReleased}
-use Rattle.softdep_queue.proofs.Counting.{count_same, taken_one, may_go_of_none, none_of_may_go}
+use Rattle.softdep_queue.proofs.Counting.{taken_one, may_go_of_none, none_of_may_go}
 use Rattle.softdep_queue.proofs.Steps.{ties_due}
+use Rattle.softdep_queue.proofs.Shown.{same_shown}
+use Rattle.softdep_queue.proofs.Flagged.{IsFlagged, flagged_node, other_node, same_update, same_chain, same_home, same_waiting, same_count}
+use Rattle.softdep_queue.proofs.Blocks.{of_here, of_other, not_of, by_block, own_of}
 
 abbrev pub ids : List Entry → List ℕ
 ids es = map (λ (e : Entry). e.id) es
@@ -66,20 +69,20 @@ other_ids : (es : List Entry) (i : ℕ) → IsFalse (has_id es i) → AllByRecur
 other_ids [] i f = tt
 other_ids (e ∷ es) i f = let p = or_parts (eqb i e.id) (has_id es i) f in (p.0, other_ids es i p.1)
 
-module _ (geo : Geometry) (t : Table) (queue : Queue) (q : List Pending) (due : ℕ → Entry → ℕ) (IsReady : ℕ → Entry → Type 0) (ties : TiesBy geo t queue q due IsReady) (a : ℕ) where
-  distinct : (es : List Entry) → AreTaken queue a es → IsDistinct eqb (ids es)
+module _ (geo : Geometry) (t : Table) (queue : Queue) (q : List Pending) (due : ℕ → Entry → ℕ) (IsReady : ℕ → Entry → Type 0) (ties : TiesBy geo t queue q due IsReady) where
+  distinct : (es : List Entry) → WereTaken (home_of geo) queue es → IsDistinct eqb (ids es)
   unfolding IsDistinct
   distinct [] each = tt
   distinct (e ∷ es) each = (other_ids es e.id each.1, distinct es each.3)
 
-  all_low : (es : List Entry) → AreTaken queue a es → (i : ℕ) → Contains (ids es) i → i < queue.next
+  all_low : (es : List Entry) → WereTaken (home_of geo) queue es → (i : ℕ) → Contains (ids es) i → i < queue.next
   all_low [] each i m = absurd (contains_none i m)
   all_low (e ∷ es) each i m = elim (contains_cases e.id i (ids es) m) [
-    | inl d ↦ subst (λ j. j < queue.next) d (id_low (home_of geo) queue q ties.represents a e each.0)
+    | inl d ↦ subst (λ j. j < queue.next) d (id_low (home_of geo) queue q ties.represents (home_of geo (cell_of e.change)) e each.0)
     | inr there ↦ all_low es each.3 i there
   ]
 
-  pub few_taken : (es : List Entry) → AreTaken queue a es → length es ≤ length t.nodes.items
+  pub few_taken : (es : List Entry) → WereTaken (home_of geo) queue es → length es ≤ length t.nodes.items
   few_taken es each =
       let l = length-le_from_distinct_below (ids es) queue.next (distinct es each) (λ i m. all_low es each i (Contains-from_any (λ x y d. eqb-true x y d) i (ids es) m)) in
       let n = ties.next in
@@ -88,9 +91,10 @@ module _ (geo : Geometry) (t : Table) (queue : Queue) (q : List Pending) (due : 
 
 -- ---- the next one
 
--- a number is moved from the stack of a block to what is taken
+-- a number is moved from the stack of a block to what is taken, and its node says so
 pub record IsMoved (t t1 : Table) (a number : ℕ) : Type 0 where
-  pub nodes : t1.nodes ≡ t.nodes
+  pub nodes : t1.nodes.items ≡ slice_set t.nodes.items number (record (node_at t.nodes.items number) { taken = true })
+  pub low : number < length t.nodes.items
   pub chains : t1.chains ≡ t.chains
   pub latest : t1.latest ≡ t.latest
   pub pending : t1.pending ≡ t.pending
@@ -103,11 +107,13 @@ pub record IsMoved (t t1 : Table) (a number : ℕ) : Type 0 where
   pub gone : (b : ℕ) → Contains (stack_at t1.ready b) number → ⊥
 
 -- what a pop of the stack leaves, with the number behind what is taken
-pub moved_to : (t : Table) (ready : StackLinks) (taken : Vec ℕ Global) (a number : ℕ) → stack_at t.ready a ≡ number ∷ stack_at ready a → ((b : ℕ) → (b ≡ a → ⊥) → stack_at ready b ≡ stack_at t.ready b)
+pub moved_to : (t : Table) (ready : StackLinks) (taken : Vec ℕ Global) (nodes : Vec Node Global) (a number : ℕ) → nodes.items ≡ slice_set t.nodes.items number (record (node_at t.nodes.items number) { taken = true })
+    → number < length t.nodes.items → stack_at t.ready a ≡ number ∷ stack_at ready a → ((b : ℕ) → (b ≡ a → ⊥) → stack_at ready b ≡ stack_at t.ready b)
     → ((b : ℕ) → Contains (stack_at ready b) number → ⊥) → count_of ready ≡ count_of t.ready → room_of ready ≡ room_of t.ready → taken.items ≡ t.taken.items ++ number ∷ [] → vec_capacity taken ≡ vec_capacity t.taken
-    → IsMoved t (record t { ready = ready; taken = taken }) a number
-moved_to t ready taken a number popped others gone count room items capacity = record {
-  nodes = refl;
+    → IsMoved t (record t { nodes = nodes; ready = ready; taken = taken }) a number
+moved_to t ready taken nodes a number flagged low popped others gone count room items capacity = record {
+  nodes = flagged;
+  low = low;
   chains = refl;
   latest = refl;
   pending = refl;
@@ -129,22 +135,15 @@ moved_to t ready taken a number popped others gone count room items capacity = r
   gone = gone;
 }
 
-same_waiters : (t t1 : Table) → t1.nodes ≡ t.nodes → t1.chains ≡ t.chains → (i : ℕ) → waiters_of t1 i ≡ waiters_of t i
-same_waiters t t1 nodes chains i = ap₂ (λ (c : ChainLinks) (v : Vec Node Global). numbers c (node_at v.items i).waiters) chains nodes
-
-subst2_chain : (t t1 : Table) → t1.nodes ≡ t.nodes → t1.chains ≡ t.chains → (i : ℕ) → IsChain t.chains (node_at t.nodes.items i).waiters → IsChain t1.chains (node_at t1.nodes.items i).waiters
-subst2_chain t t1 nodes chains i is =
-    subst (λ (v : Vec Node Global). IsChain t1.chains (node_at v.items i).waiters) (sym nodes) (subst (λ (c : ChainLinks). IsChain c (node_at t.nodes.items i).waiters) (sym chains) is)
-
-module _ (geo : Geometry) (t : Table) (queue : Queue) (q : List Pending) (a : ℕ) (es : List Entry) (takes : Takes geo t queue q a es) where
-  due_here : (f : Entry) → due_after queue a es a f ≡ count_in (λ i. queue.pending i && not (has_id es i)) f.waits
-  due_here f = cond-true (eqb a a) (count_in (λ i. queue.pending i && not (has_id es i)) f.waits) (count_in queue.pending f.waits) (eq-eqb a a refl)
+module _ (geo : Geometry) (t : Table) (queue : Queue) (q : List Pending) (a : ℕ) (ws : List Entry) (takes : Takes geo t queue q ws) where
+  abbrev here : List Entry
+  here = of_block (home_of geo) a ws
 
   -- with nothing on the stack no other may go
-  pub none_left : stack_at t.ready a ≡ [] → NoOtherMayGo queue a es
-  none_left empty e m may = elim ((takes.ties.ready a e m).1 (due_here e ∙ none_of_may_go queue.pending (has_id es) e may)) [
+  pub none_left : stack_at t.ready a ≡ [] → NoOtherMayGo queue a (of_block (home_of geo) a ws)
+  none_left empty e m may = elim ((takes.ties.ready a e m).1 (none_of_may_go queue.pending (has_id here) e may)) [
     | inl stack ↦ absurd (contains_none e.id (subst (λ l. Contains l e.id) empty stack))
-    | inr taken ↦ has_from es e.id (reverse_from (ids es) e.id (subst (λ l. Contains l e.id) takes.taken taken))
+    | inr taken ↦ own_of (home_of geo) queue q takes.ties.represents ws takes.each a e m (has_from ws e.id (reverse_from (ids ws) e.id (subst (λ l. Contains l e.id) takes.taken taken)))
   ]
 
   module _ (number : ℕ) (rest : List ℕ) (stack : stack_at t.ready a ≡ number ∷ rest) where
@@ -160,77 +159,115 @@ module _ (geo : Geometry) (t : Table) (queue : Queue) (q : List Pending) (a : �
     pub next_id : next_entry.id ≡ number
     next_id = (takes.ties.stacked a number top).2
 
-    not_yet : IsFalse (has_id es next_entry.id)
-    not_yet = elim (cases_Bool (has_id es next_entry.id)) [
+    pub next_home : home_of geo (cell_of next_entry.change) ≡ a
+    next_home = home_is (home_of geo) queue q takes.ties.represents a next_entry next_listed
+
+    pub next_low : number < length t.nodes.items
+    next_low = let l = id_low (home_of geo) queue q takes.ties.represents a next_entry next_listed in let n = takes.ties.next in let d = next_id in omega (arith, l, n, d)
+
+    not_yet : IsFalse (has_id ws next_entry.id)
+    not_yet = elim (cases_Bool (has_id ws next_entry.id)) [
       | inr f ↦ f
       | inl h ↦ absurd ((takes.ties.stacked a number top).3
-          (subst (λ l. Contains l number) (sym takes.taken) (reverse_to (ids es) number (subst (Contains (ids es)) next_id (has_to es next_entry.id h)))))
+          (subst (λ l. Contains l number) (sym takes.taken) (reverse_to (ids ws) number (subst (Contains (ids ws)) next_id (has_to ws next_entry.id h)))))
     ]
 
-    pub next_taken : AreTaken queue a (next_entry ∷ es)
+    due0 : due_after (home_of geo) queue ws a next_entry ≡ 0
+    due0 = (takes.ties.ready a next_entry next_listed).0 (inl (subst (Contains (stack_at t.ready a)) (sym next_id) top))
+
+    pub next_taken : WereTaken (home_of geo) queue (next_entry ∷ ws)
     next_taken = (
-      next_listed,
+      subst (λ k. Contains (queue.lists k) next_entry) (sym next_home) next_listed,
       not_yet,
-      may_go_of_none queue.pending (has_id es) next_entry
-          (sym (due_here next_entry) ∙ (takes.ties.ready a next_entry next_listed).0 (inl (subst (Contains (stack_at t.ready a)) (sym next_id) top))),
+      subst (λ k. IsTrue (may_go queue.pending (has_id (of_block (home_of geo) k ws)) next_entry)) (sym next_home) (may_go_of_none queue.pending (has_id here) next_entry due0),
       takes.each,
     )
+
+    -- the entries of the block that were taken, and it
+    pub one_taken : (es : List Entry) × AreTaken queue a es × IsTrue (has_id es next_entry.id)
+    one_taken = (
+      next_entry ∷ here,
+      (next_listed, not_of (home_of geo) a ws next_entry.id not_yet, may_go_of_none queue.pending (has_id here) next_entry due0, by_block (home_of geo) queue ws takes.each a),
+      or_left (eqb next_entry.id next_entry.id) (has_id here next_entry.id) (eq-eqb next_entry.id next_entry.id refl),
+    )
+
+    one_less : (xs : List ℕ) → count_in (λ i. queue.pending i && not (has_id (next_entry ∷ here) i)) xs + occurrences next_entry.id xs ≡ count_in (λ i. queue.pending i && not (has_id here i)) xs
+    one_less xs = taken_one queue.pending here next_entry (is_pending (home_of geo) queue q takes.ties.represents a next_entry next_listed) (not_of (home_of geo) a ws next_entry.id not_yet) xs
 
     -- ---- the table once its number is moved from the stack
 
     module _ (t1 : Table) (moved : IsMoved t t1 a number) where
-      pub moved_ties : Ties geo t1 queue q (due_after queue a es)
+      flag : IsFlagged t.nodes.items t1.nodes.items number true
+      flag = (moved.nodes, moved.low)
+
+      same_waiters : (i : ℕ) → waiters_of t1 i ≡ waiters_of t i
+      same_waiters i = ap₂ (λ (c : ChainLinks) w. numbers c w) moved.chains (same_chain t.nodes.items t1.nodes.items number true flag i)
+
+      pub moved_ties : Ties geo t1 queue q (due_after (home_of geo) queue ws)
       moved_ties = record {
         represents = takes.ties.represents;
-        shown = ap (λ v. shown_by v.items (length v.items)) moved.nodes ∙ takes.ties.shown;
+        shown = same_shown t1.nodes.items t.nodes.items (same_count t.nodes.items t1.nodes.items number true flag) (same_update t.nodes.items t1.nodes.items number true flag) ∙ takes.ties.shown;
         cells = takes.ties.cells;
-        next = takes.ties.next ∙ ap (λ v. length v.items) (sym moved.nodes);
+        next = takes.ties.next ∙ sym (same_count t.nodes.items t1.nodes.items number true flag);
         node = λ b e m. let n = takes.ties.node b e m in record {
-          home = ap (λ v. (node_at v.items e.id).home) moved.nodes ∙ n.home;
+          home = same_home t.nodes.items t1.nodes.items number true flag e.id ∙ n.home;
           on_volume = n.on_volume;
-          change = subst (λ c. Shows c e.change) (ap (λ v. (node_at v.items e.id).update) (sym moved.nodes)) n.change;
+          change = subst (λ c. Shows c e.change) (sym (same_update t.nodes.items t1.nodes.items number true flag e.id)) n.change;
           cell = n.cell;
           fits = n.fits;
-          waiting = ap (λ v. (node_at v.items e.id).waiting) moved.nodes ∙ n.waiting;
+          waiting = same_waiting t.nodes.items t1.nodes.items number true flag e.id ∙ n.waiting;
           few = n.few;
-          chain = subst2_chain t t1 moved.nodes moved.chains e.id n.chain;
+          chain = subst (λ w. IsChain t1.chains w) (sym (same_chain t.nodes.items t1.nodes.items number true flag e.id)) (subst (λ (c : ChainLinks). IsChain c (node_at t.nodes.items e.id).waiters) (sym moved.chains) n.chain);
         };
-        waiters = λ b c e f m o. ap (occurrences f.id) (same_waiters t t1 moved.nodes moved.chains e.id) ∙ takes.ties.waiters b c e f m o;
-        alive = λ b e i m o. takes.ties.alive b e i m (subst (λ l. Contains l i) (same_waiters t t1 moved.nodes moved.chains e.id) o);
+        waiters = λ b c e f m o. ap (occurrences f.id) (same_waiters e.id) ∙ takes.ties.waiters b c e f m o;
+        alive = λ b e i m o. takes.ties.alive b e i m (subst (λ l. Contains l i) (same_waiters e.id) o);
         ready = ready;
+        flags = flags;
         stacked = stacked;
         latest = λ c is. ap (λ v. slice_index_or v.items (place_of geo c) 0) moved.latest ∙ takes.ties.latest c is;
         places = ap (λ v. length v.items) moved.latest ∙ takes.ties.places;
         blocks = moved.count ∙ takes.ties.blocks;
         pending = moved.pending ∙ takes.ties.pending;
-        room = (let n = ap (λ v. length v.items) moved.nodes in let r = takes.ties.room in let s = moved.room in omega (arith, n, r, s));
-        spare = (let n = ap (λ v. length v.items) moved.nodes in let r = takes.ties.spare in let s = moved.capacity in omega (arith, n, r, s));
+        room = (let n = same_count t.nodes.items t1.nodes.items number true flag in let r = takes.ties.room in let s = moved.room in omega (arith, n, r, s));
+        spare = (let n = same_count t.nodes.items t1.nodes.items number true flag in let r = takes.ties.spare in let s = moved.capacity in omega (arith, n, r, s));
       }
         where
-          due0 : due_after queue a es a next_entry ≡ 0
-          due0 = (takes.ties.ready a next_entry next_listed).0 (inl (subst (Contains (stack_at t.ready a)) (sym next_id) top))
-
           same : (b : ℕ) (e : Entry) → Contains (queue.lists b) e → e.id ≡ number → (e ≡ next_entry) × (b ≡ a)
           same b e m d = same_entry (home_of geo) queue q takes.ties.represents b a e next_entry m next_listed (d ∙ sym next_id)
 
-          ready : (b : ℕ) (e : Entry) → Contains (queue.lists b) e → (Contains (stack_at t1.ready b) e.id ⊎ Contains t1.taken.items e.id) ↔ (due_after queue a es b e ≡ 0)
+          taken_now : Contains t1.taken.items number
+          taken_now = subst (λ l. Contains l number) (sym moved.taken) (Contains-append_right t.taken.items (number ∷ []) number (contains_head number []))
+
+          taken_before : (i : ℕ) → (i ≡ number → ⊥) → Contains t1.taken.items i → Contains t.taken.items i
+          taken_before i d m = elim (Contains-append_cases t.taken.items (number ∷ []) i (subst (λ l. Contains l i) moved.taken m)) [
+            | inl old ↦ old
+            | inr now ↦ elim (contains_cases number i [] now) [ inl is ↦ absurd (d (sym is)) | inr bad ↦ absurd (contains_none i bad) ]
+          ]
+
+          taken_still : (i : ℕ) → Contains t.taken.items i → Contains t1.taken.items i
+          taken_still i m = subst (λ l. Contains l i) (sym moved.taken) (Contains-append_left t.taken.items (number ∷ []) i m)
+
+          ready : (b : ℕ) (e : Entry) → Contains (queue.lists b) e → (Contains (stack_at t1.ready b) e.id ⊎ Contains t1.taken.items e.id) ↔ (due_after (home_of geo) queue ws b e ≡ 0)
           ready b e m = elim (cases_eq e.id number) [
             | inl d ↦ let s = same b e m d in (
-              (λ x. ap₂ (due_after queue a es) s.1 s.0 ∙ due0),
-              (λ z. inr (subst (Contains t1.taken.items) (sym d) (subst (λ l. Contains l number) (sym moved.taken) (Contains-append_right t.taken.items (number ∷ []) number (contains_head number []))))),
+              (λ x. ap₂ (due_after (home_of geo) queue ws) s.1 s.0 ∙ due0),
+              (λ z. inr (subst (Contains t1.taken.items) (sym d) taken_now)),
             )
             | inr d ↦ let r = takes.ties.ready b e m in (
-              (λ x. r.0 (elim x [
-                | inl stack ↦ inl (moved.was b e.id stack)
-                | inr taken ↦ elim (Contains-append_cases t.taken.items (number ∷ []) e.id (subst (λ l. Contains l e.id) moved.taken taken)) [
-                  | inl old ↦ inr old
-                  | inr now ↦ elim (contains_cases number e.id [] now) [ inl is ↦ absurd (d (sym is)) | inr bad ↦ absurd (contains_none e.id bad) ]
-                ]
-              ])),
-              (λ z. elim (r.1 z) [
-                | inl stack ↦ inl (moved.still b e.id stack d)
-                | inr taken ↦ inr (subst (λ l. Contains l e.id) (sym moved.taken) (Contains-append_left t.taken.items (number ∷ []) e.id taken))
-              ]),
+              (λ x. r.0 (elim x [ inl stack ↦ inl (moved.was b e.id stack) | inr taken ↦ inr (taken_before e.id d taken) ])),
+              (λ z. elim (r.1 z) [ inl stack ↦ inl (moved.still b e.id stack d) | inr taken ↦ inr (taken_still e.id taken) ]),
+            )
+          ]
+
+          flags : (b : ℕ) (e : Entry) → Contains (queue.lists b) e → IsTrue (node_at t1.nodes.items e.id).taken ↔ Contains t1.taken.items e.id
+          flags b e m = elim (cases_eq e.id number) [
+            | inl d ↦ (
+              (λ x. subst (Contains t1.taken.items) (sym d) taken_now),
+              (λ x. ap (λ j. (node_at t1.nodes.items j).taken) d ∙ ap (λ (y : Node). y.taken) (flagged_node t.nodes.items t1.nodes.items number true flag)),
+            )
+            | inr d ↦ let f = takes.ties.flags b e m in let o = ap (λ (y : Node). y.taken) (other_node t.nodes.items t1.nodes.items number true flag e.id d) in (
+              (λ x. taken_still e.id (f.0 (sym o ∙ x))),
+              (λ x. o ∙ f.1 (taken_before e.id d x)),
             )
           ]
 
@@ -239,28 +276,24 @@ module _ (geo : Geometry) (t : Table) (queue : Queue) (q : List Pending) (a : �
             s.0,
             s.1,
             s.2,
-            λ taken. elim (Contains-append_cases t.taken.items (number ∷ []) i (subst (λ l. Contains l i) moved.taken taken)) [
-              | inl old ↦ s.3 old
-              | inr now ↦ elim (contains_cases number i [] now) [ inl is ↦ moved.gone b (subst (Contains (stack_at t1.ready b)) (sym is) m) | inr bad ↦ contains_none i bad ]
-            ],
+            λ taken. elim (cases_eq i number) [ inl d ↦ moved.gone b (subst (Contains (stack_at t1.ready b)) d m) | inr d ↦ s.3 (taken_before i d taken) ],
           )
 
-      waiting : AreWaiting queue (due_after queue a es) a true next_entry.id
+      waiting : AreWaiting queue (due_after (home_of geo) queue ws) a true next_entry.id
       waiting b f m chosen =
-          let at = eqb-true b a chosen in
-          let count = taken_one queue.pending es next_entry (is_pending (home_of geo) queue q takes.ties.represents a next_entry next_listed) not_yet f.waits in
-          let due = ap (λ k. due_after queue a es k f) at ∙ due_here f in
+          let count = one_less f.waits in
+          let due = ap (λ k. due_after (home_of geo) queue ws k f) (eqb-true b a chosen) in
           omega (arith, count, due)
 
-      pub waits_next : AreWaiting queue (due_after queue a es) a true number
-      waits_next = subst (AreWaiting queue (due_after queue a es) a true) next_id waiting
+      pub waits_next : AreWaiting queue (due_after (home_of geo) queue ws) a true number
+      waits_next = subst (AreWaiting queue (due_after (home_of geo) queue ws) a true) next_id waiting
 
       pub may_be_released : MayBeReleased t1 number a true
       may_be_released = record {
         geo = geo;
         queue = queue;
         q = q;
-        due = due_after queue a es;
+        due = due_after (home_of geo) queue ws;
         block = a;
         entry = next_entry;
         ties = moved_ties;
@@ -269,43 +302,27 @@ module _ (geo : Geometry) (t : Table) (queue : Queue) (q : List Pending) (a : �
         waiting = waits_next;
       }
 
-      module _ (t2 : Table) (lowered : Ties geo t2 queue q (released a true number (due_after queue a es))) (same : t2.taken ≡ t1.taken) where
-        pub takes_more : Takes geo t2 queue q a (next_entry ∷ es)
+      module _ (t2 : Table) (lowered : Ties geo t2 queue q (released a true number (due_after (home_of geo) queue ws))) (same : t2.taken ≡ t1.taken) where
+        pub takes_more : Takes geo t2 queue q (next_entry ∷ ws)
         takes_more = record {
-          ties = ties_due geo t2 queue q (released a true number (due_after queue a es)) (due_after queue a (next_entry ∷ es)) due lowered;
-          taken = ap (λ v. v.items) same ∙ moved.taken ∙ ap (λ l. l ++ number ∷ []) takes.taken ∙ ap (λ i. reverse (ids es) ++ i ∷ []) (sym next_id) ∙ sym (reverse_cons next_entry.id (ids es));
+          ties = ties_due geo t2 queue q (released a true number (due_after (home_of geo) queue ws)) (due_after (home_of geo) queue (next_entry ∷ ws)) due lowered;
+          taken = ap (λ v. v.items) same ∙ moved.taken ∙ ap (λ l. l ++ number ∷ []) takes.taken ∙ ap (λ i. reverse (ids ws) ++ i ∷ []) (sym next_id) ∙ sym (reverse_cons next_entry.id (ids ws));
           each = next_taken;
         }
           where
-            due : (b : ℕ) (f : Entry) → Contains (queue.lists b) f → released a true number (due_after queue a es) b f ≡ due_after queue a (next_entry ∷ es) b f
-            due b f m = step (eqb b a)
+            with_it : (b : ℕ) (f : Entry) → of_block (home_of geo) b (next_entry ∷ ws) ≡ next_entry ∷ of_block (home_of geo) b ws → b ≡ a
+                → due_after (home_of geo) queue ws b f - occurrences number f.waits ≡ due_after (home_of geo) queue (next_entry ∷ ws) b f
+            with_it b f is at =
+                let count = one_less f.waits in
+                let o = ap (λ i. occurrences i f.waits) next_id in
+                let before = ap (λ k. due_after (home_of geo) queue ws k f) at in
+                let after = ap (λ l. count_in (λ i. queue.pending i && not (has_id l i)) f.waits) (is ∙ ap (λ k. next_entry ∷ of_block (home_of geo) k ws) at) in
+                omega (arith, count, o, before, after)
+
+            due : (b : ℕ) (f : Entry) → Contains (queue.lists b) f → released a true number (due_after (home_of geo) queue ws) b f ≡ due_after (home_of geo) queue (next_entry ∷ ws) b f
+            due b f m = step (eqb b a) refl
               where
-                step : (x : Bool)
-                    → (if x then (if x then count_in (λ i. queue.pending i && not (has_id es i)) f.waits else count_in queue.pending f.waits) - occurrences number f.waits
-                    else (if x then count_in (λ i. queue.pending i && not (has_id es i)) f.waits else count_in queue.pending f.waits))
-                    ≡ (if x then count_in (λ i. queue.pending i && not (has_id (next_entry ∷ es) i)) f.waits else count_in queue.pending f.waits)
-                step false = refl
-                step true =
-                    let count = taken_one queue.pending es next_entry (is_pending (home_of geo) queue q takes.ties.represents a next_entry next_listed) not_yet f.waits in
-                    let o = ap (λ i. occurrences i f.waits) next_id in
-                    omega (arith, count, o)
-
--- ---- a flush begins with nothing taken
-
-pub takes_nothing : (geo : Geometry) (t : Table) (queue : Queue) (q : List Pending) (a : ℕ) → Holds geo t queue q → Takes geo t queue q a []
-takes_nothing geo t queue q a holds = record {
-  ties = ties_due geo t queue q (λ b e. count_in queue.pending e.waits) (due_after queue a []) due holds.ties;
-  taken = holds.none;
-  each = tt;
-}
-  where
-    due : (b : ℕ) (e : Entry) → Contains (queue.lists b) e → count_in queue.pending e.waits ≡ due_after queue a [] b e
-    due b e m = step (eqb b a)
-      where
-        all : (x : Bool) → x ≡ (x && true)
-        all true = refl
-        all false = refl
-
-        step : (x : Bool) → count_in queue.pending e.waits ≡ (if x then count_in (λ i. queue.pending i && not (has_id [] i)) e.waits else count_in queue.pending e.waits)
-        step true = count_same queue.pending (λ i. queue.pending i && not (has_id [] i)) (λ i. all (queue.pending i)) e.waits
-        step false = refl
+                step : (x : Bool) → eqb b a ≡ x → (if x then due_after (home_of geo) queue ws b f - occurrences number f.waits else due_after (home_of geo) queue ws b f) ≡ due_after (home_of geo) queue (next_entry ∷ ws) b f
+                step true t = let at = eqb-true b a t in with_it b f (of_here (home_of geo) b next_entry ws (next_home ∙ sym at)) at
+                step false n = ap (λ l. count_in (λ i. queue.pending i && not (has_id l i)) f.waits)
+                    (sym (of_other (home_of geo) b next_entry ws (λ h. both_ways (eqb b a) n (eq-eqb b a (sym h ∙ next_home)))))

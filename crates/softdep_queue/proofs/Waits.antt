@@ -1,5 +1,5 @@
 -- A number among the waiters of others.
-use Rattle.std.proofs.Common.{◌≡◌, ℕ, zero, suc, ◌+◌, ◌-◌, ◌<◌, ◌≤◌, eqb, List, [], ◌∷◌, ◌++◌, ◌⊎◌, inl, inr, Option, Some, None, refl, sym, ap, ◌∙◌, subst, Contains, length, arith, slice_index_or, filter, length-append, eq-eqb, ne_eqb, map, take, add-one}
+use Rattle.std.proofs.Common.{◌≡◌, ℕ, zero, suc, ◌+◌, ◌-◌, ◌<◌, ◌≤◌, Bool, true, false, not, ◌&&◌, eqb, if◌then◌else◌, List, [], ◌∷◌, ◌++◌, ◌⊎◌, inl, inr, Option, Some, None, refl, sym, ap, ap₂, ◌∙◌, subst, Contains, length, arith, slice_index_or, filter, length-append, eq-eqb, ne_eqb, map, take, add-one}
 use Rattle.std.proofs.lemmas.Bool.{cond-true, cond-false}
 use Rattle.std.proofs.lemmas.List.{map-append, length-map, length-take, take_all, get_or-map}
 use Rattle.std.proofs.Math.Seq.{take-suc}
@@ -8,7 +8,7 @@ use Rattle.std.specs.List.{All, cons_option}
 use Rattle.model.specs.Layout.{Geometry}
 use Rattle.ordering.specs.Cuts.{Cell, Pending}
 use Rattle.queue_model.specs.Blocks.{home_of}
-use Rattle.queue_model.specs.Entries.{Queue}
+use Rattle.queue_model.specs.Entries.{Entry, Queue}
 use Rattle.queue_model.proofs.Lists.{contains_cases}
 use Rattle.queue_model.proofs.Standing.{last_entry}
 use Rattle.updates.specs.declared.cell.Cell.{Cell as OwnCell}
@@ -16,10 +16,11 @@ use Rattle.updates.specs.Values.{cell}
 use Rattle.updates.specs.Places.{IsCell, place_of}
 use Rattle.chains.specs.Chains.{IsChain}
 use Rattle.softdep_queue.specs.declared.table.Table.{Table}
-use Rattle.softdep_queue.specs.Counts.{occurrences, count_in, code}
-use Rattle.softdep_queue.specs.Ties.{Holds, node_at, waiters_of}
-use Rattle.softdep_queue.specs.Adding.{decode, last_in, lasts, in_front, MayWait, IsBehind}
+use Rattle.softdep_queue.specs.Counts.{occurrences, code}
+use Rattle.softdep_queue.specs.Ties.{Takes, due_after, node_at, waiters_of}
+use Rattle.softdep_queue.specs.Adding.{decode, last_in, lasts, is_own, counted, in_front, MayWait, IsBehind}
 use Rattle.softdep_queue.proofs.Steps.{number_low}
+use Rattle.softdep_queue.proofs.Counting.{count_same}
 
 -- ---- a number in front of a list
 
@@ -62,6 +63,7 @@ nothing_behind t number = record {
   home = λ i. refl;
   change = λ i. refl;
   waiting = λ i. refl;
+  flag = λ i. refl;
   chain = λ i is. is;
   waiters = λ i is. refl;
   room = omega arith;
@@ -78,11 +80,31 @@ behind_more t t' t'' number is js first next = record {
   home = λ i. next.home i ∙ first.home i;
   change = λ i. next.change i ∙ first.change i;
   waiting = λ i. next.waiting i ∙ first.waiting i;
+  flag = λ i. next.flag i ∙ first.flag i;
   chain = λ i c. next.chain i (first.chain i c);
   waiters = λ i c. next.waiters i (first.chain i c) ∙ ap (in_front (occurrences i js) number) (first.waiters i c)
       ∙ front_front (occurrences i js) (occurrences i is) (occurrences i (is ++ js)) number (waiters_of t i) (let o = occurrences_append i is js in omega (arith, o));
   room = let r = first.room in let s = next.room in let l = length-append is js in omega (arith, r, s, l);
 }
+
+-- ---- for how many an update waits
+
+pub own_same : (t t' : Table) (number home : ℕ) (ids : List ℕ) → IsBehind t t' number ids → (i : ℕ) → is_own t' home i ≡ is_own t home i
+own_same t t' number home ids behind i = ap₂ (λ x y. x && eqb y home) (behind.flag i) (behind.home i)
+
+pub counted_same : (t t' : Table) (number home : ℕ) (ids js : List ℕ) → IsBehind t t' number ids → counted t' home js ≡ counted t home js
+counted_same t t' number home ids js behind = count_same (λ i. not (is_own t' home i)) (λ i. not (is_own t home i)) (λ i. ap not (own_same t t' number home ids behind i)) js
+
+pub counted_append : (t : Table) (home : ℕ) (is js : List ℕ) → counted t home (is ++ js) ≡ counted t home is + counted t home js
+counted_append t home is js =
+    ap length (filter-append (λ i. not (is_own t home i)) is js) ∙ length-append (filter (λ i. not (is_own t home i)) is) (filter (λ i. not (is_own t home i)) js)
+
+pub counted_one : (t : Table) (home i : ℕ) (own : Bool) → own ≡ is_own t home i → counted t home (i ∷ []) ≡ (if own then 0 else 1)
+counted_one t home i own is = ap (λ x. length (if not x then i ∷ [] else [])) (sym is) ∙ step own
+  where
+    step : (x : Bool) → length (if not x then i ∷ [] else []) ≡ (if x then 0 else 1)
+    step true = refl
+    step false = refl
 
 -- ---- the last pending update of a cell
 
@@ -90,8 +112,8 @@ decode_code : (o : Option ℕ) → decode (code o) ≡ o
 decode_code None = refl
 decode_code (Some i) = refl
 
-pub last_is : (geo : Geometry) (t : Table) (queue : Queue) (q : List Pending) → Holds geo t queue q → (c : Cell) → IsCell geo c → last_in geo t c ≡ queue.last c
-last_is geo t queue q holds c is = ap decode (holds.ties.latest c is) ∙ decode_code (queue.last c)
+pub last_is : (geo : Geometry) (t : Table) (queue : Queue) (q : List Pending) (ws : List Entry) → Takes geo t queue q ws → (c : Cell) → IsCell geo c → last_in geo t c ≡ queue.last c
+last_is geo t queue q ws takes c is = ap decode (takes.ties.latest c is) ∙ decode_code (queue.last c)
 
 pub last_none : (geo : Geometry) (t : Table) (c : Cell) (k : ℕ) → slice_index_or t.latest.items (place_of geo c) 0 ≡ k → k ≡ 0 → lasts geo t (c ∷ []) ≡ []
 last_none geo t c k e z = ap (λ n. cons_option (decode n) []) (e ∙ z)
@@ -111,16 +133,16 @@ lasts_few geo t (c ∷ cells) = step (last_in geo t c) (lasts_few geo t cells)
     step None l = omega (arith, l)
     step (Some i) l = omega (arith, l)
 
-pub may_wait : (geo : Geometry) (t : Table) (queue : Queue) (q : List Pending) → Holds geo t queue q → (t' : Table) (number : ℕ) (ids : List ℕ) → IsBehind t t' number ids → length ids < t.chains.room
+pub may_wait : (geo : Geometry) (t : Table) (queue : Queue) (q : List Pending) (ws : List Entry) → Takes geo t queue q ws → (t' : Table) (number : ℕ) (ids : List ℕ) → IsBehind t t' number ids → length ids < t.chains.room
     → (c : Cell) → IsCell geo c → MayWait geo t' c
-may_wait geo t queue q holds t' number ids behind few c is = record {
-  places = ap (λ v. length v.items) behind.latest ∙ holds.ties.places;
+may_wait geo t queue q ws takes t' number ids behind few c is = record {
+  places = ap (λ v. length v.items) behind.latest ∙ takes.ties.places;
   last = λ i l.
-      let e = last_entry (home_of geo) queue q holds.ties.represents c i (sym (last_is geo t queue q holds c is) ∙ ap (λ v. decode (slice_index_or v.items (place_of geo c) 0)) (sym behind.latest) ∙ l) in
-      let low = number_low geo t queue q (λ b f. count_in queue.pending f.waits) (home_of geo c) e.0 i holds.ties e.1 e.2 in
+      let e = last_entry (home_of geo) queue q takes.ties.represents c i (sym (last_is geo t queue q ws takes c is) ∙ ap (λ v. decode (slice_index_or v.items (place_of geo c) 0)) (sym behind.latest) ∙ l) in
+      let low = number_low geo t queue q (due_after (home_of geo) queue ws) (home_of geo c) e.0 i takes.ties e.1 e.2 in
       let count = behind.count in (
         omega (arith, low, count),
-        behind.chain i (subst (λ j. IsChain t.chains (node_at t.nodes.items j).waiters) e.2 (holds.ties.node (home_of geo c) e.0 e.1).chain),
+        behind.chain i (subst (λ j. IsChain t.chains (node_at t.nodes.items j).waiters) e.2 (takes.ties.node (home_of geo c) e.0 e.1).chain),
       );
   room = let r = behind.room in omega (arith, r, few);
 }

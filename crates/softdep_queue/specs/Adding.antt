@@ -1,5 +1,5 @@
 -- How an update gets into the table.
-use Rattle.std.specs.Prelude.{◌≡◌, ℕ, zero, suc, ◌+◌, ◌<◌, List, ◌∷◌, Option, Some, None, length, slice_index_or}
+use Rattle.std.specs.Prelude.{◌≡◌, ℕ, zero, suc, ◌+◌, ◌<◌, Bool, not, ◌&&◌, ◌==◌, List, ◌∷◌, ◌⊎◌, Option, Some, None, length, slice_index_or}
 use Rattle.std.specs.List.{filter_map}
 use Rattle.std.specs.Vec.{vec_capacity}
 use Rattle.model.specs.Layout.{Geometry}
@@ -8,8 +8,9 @@ use Rattle.updates.specs.declared.change.Update.{Update}
 use Rattle.updates.specs.Values.{written}
 use Rattle.updates.specs.Places.{place_of, place_count}
 use Rattle.chains.specs.Chains.{IsChain}
+use Rattle.stacks.specs.Stacks.{stack_at}
 use Rattle.softdep_queue.specs.declared.table.Table.{Table}
-use Rattle.softdep_queue.specs.Counts.{occurrences}
+use Rattle.softdep_queue.specs.Counts.{occurrences, count_in}
 use Rattle.softdep_queue.specs.Ties.{node_at, waiters_of}
 
 -- the update of the model
@@ -29,10 +30,22 @@ last_in geo t c = decode (slice_index_or t.latest.items (place_of geo c) 0)
 abbrev pub lasts : Geometry → Table → List Cell → List ℕ
 lasts geo t cells = filter_map (last_in geo t) cells
 
+-- whether an update was taken, and is of this block
+abbrev pub is_own : Table → ℕ → ℕ → Bool
+is_own t home i = (node_at t.nodes.items i).taken && (node_at t.nodes.items i).home == home
+
+-- for how many of these an update of this block waits: not for those of its own block that were taken
+abbrev pub counted : Table → ℕ → List ℕ → ℕ
+counted t home ids = count_in (λ i. not (is_own t home i)) ids
+
 -- a list with a number so many times in front
 abbrev pub in_front : ℕ → ℕ → List ℕ → List ℕ
 in_front zero number ns = ns
 in_front (suc times) number ns = number ∷ in_front times number ns
+
+-- the new number stands on the top of its block's stack, or nothing new stands there
+abbrev pub MayStand : Table → Table → ℕ → Type 0
+MayStand t t' home = (stack_at t'.ready home ≡ stack_at t.ready home) ⊎ (stack_at t'.ready home ≡ length t.nodes.items ∷ stack_at t.ready home)
 
 -- an update can wait for the last one of this cell
 pub record MayWait (geo : Geometry) (t : Table) (c : Cell) : Type 0 where
@@ -51,6 +64,7 @@ pub record IsBehind (t t' : Table) (number : ℕ) (ids : List ℕ) : Type 0 wher
   pub home : (i : ℕ) → (node_at t'.nodes.items i).home ≡ (node_at t.nodes.items i).home
   pub change : (i : ℕ) → (node_at t'.nodes.items i).update ≡ (node_at t.nodes.items i).update
   pub waiting : (i : ℕ) → (node_at t'.nodes.items i).waiting ≡ (node_at t.nodes.items i).waiting
+  pub flag : (i : ℕ) → (node_at t'.nodes.items i).taken ≡ (node_at t.nodes.items i).taken
   pub chain : (i : ℕ) → IsChain t.chains (node_at t.nodes.items i).waiters → IsChain t'.chains (node_at t'.nodes.items i).waiters
   pub waiters : (i : ℕ) → IsChain t.chains (node_at t.nodes.items i).waiters → waiters_of t' i ≡ in_front (occurrences i ids) number (waiters_of t i)
   pub room : t.chains.room ≡ t'.chains.room + length ids

@@ -1,34 +1,37 @@
--- What was taken and written is struck out.
-use Rattle.std.specs.Prelude.{◌≡◌, ℕ, suc, not, ◌&&◌, ◌==◌, if◌then◌else◌, List, None, IsTrue, IsFalse, length, map, reverse, slice_set, slice_index_or}
+-- What was written is on the medium, and is struck out.
+use Rattle.std.specs.Prelude.{◌≡◌, ℕ, suc, not, ◌&&◌, ◌==◌, if◌then◌else◌, List, ◌++◌, None, IsTrue, IsFalse, length, map, reverse, slice_set, slice_index_or}
+use Rattle.std.specs.List.{filter}
 use Rattle.model.specs.Layout.{Geometry}
 use Rattle.ordering.specs.Cuts.{Cell, Pending}
-use Rattle.queue_model.specs.Entries.{Entry, Queue, has_id, unless, AreTaken, NoOtherMayGo}
+use Rattle.queue_model.specs.Entries.{Entry, Queue, has_id, unless}
 use Rattle.updates.specs.Places.{IsCell, place_of}
 use Rattle.softdep_queue.specs.declared.table.Table.{Table}
 use Rattle.softdep_queue.specs.Counts.{count_in, code}
-use Rattle.softdep_queue.specs.Ties.{Ties, Takes, node_at}
+use Rattle.softdep_queue.specs.Ties.{Ties, WereTaken, of_block, node_at}
+use Rattle.queue_model.specs.Blocks.{home_of}
 
 -- what entries still wait for where these are gone
 abbrev pub due_without : Queue → List Entry → ℕ → Entry → ℕ
-due_without queue es b e = count_in (λ i. queue.pending i && not (has_id es i)) e.waits
+due_without queue ws b e = count_in (λ i. queue.pending i && not (has_id ws i)) e.waits
 
--- what they wait for where these of block a were taken, and those of them are gone
-abbrev pub due_partly : Queue → ℕ → List Entry → List Entry → ℕ → Entry → ℕ
-due_partly queue a es gone b e = if b == a then count_in (λ i. queue.pending i && not (has_id es i)) e.waits else count_in (λ i. queue.pending i && not (has_id gone i)) e.waits
+-- what they wait for where these were taken, and those of them are gone
+abbrev pub due_partly : (Cell → ℕ) → Queue → List Entry → List Entry → ℕ → Entry → ℕ
+due_partly home queue ws gone b e = count_in (λ i. queue.pending i && not (has_id (of_block home b ws ++ gone) i)) e.waits
 
--- entries of a block were taken
-pub record HasTaken (t : Table) (a : ℕ) : Type 0 where
-  pub geo : Geometry
-  pub queue : Queue
-  pub q : List Pending
-  pub es : List Entry
-  pub takes : Takes geo t queue q a es
+-- the queue without these entries
+abbrev pub struck_out : List Entry → Queue → Queue
+struck_out ws queue = record {
+  next = queue.next;
+  lists = λ b. filter (λ (e : Entry). not (has_id ws e.id)) (queue.lists b);
+  pending = λ i. queue.pending i && not (has_id ws i);
+  last = λ c. unless (has_id ws) (queue.last c);
+}
 
 -- no entry waits for them any more
-pub record IsReleased (geo : Geometry) (t : Table) (queue : Queue) (q : List Pending) (a : ℕ) (es : List Entry) : Type 0 where
-  pub ties : Ties geo t queue q (due_without queue es)
-  pub taken : t.taken.items ≡ reverse (map (λ (e : Entry). e.id) es)
-  pub each : AreTaken queue a es
+pub record IsReleased (geo : Geometry) (t : Table) (queue : Queue) (q : List Pending) (ws : List Entry) : Type 0 where
+  pub ties : Ties geo t queue q (due_without queue ws)
+  pub taken : t.taken.items ≡ reverse (map (λ (e : Entry). e.id) ws)
+  pub each : WereTaken (home_of geo) queue ws
 
 -- the node of a number shows nothing any more, and the number is no cell's last one
 pub record IsStruck (geo : Geometry) (t t' : Table) (i : ℕ) (c : Cell) : Type 0 where
@@ -52,16 +55,8 @@ pub record AreStruck (geo : Geometry) (t t' : Table) (queue : Queue) (es : List 
   pub pending : t'.pending ≡ t.pending
 
 -- some entries were released
-pub record HasReleased (geo : Geometry) (t : Table) (a : ℕ) : Type 0 where
+pub record HasReleased (geo : Geometry) (t : Table) : Type 0 where
   pub queue : Queue
   pub q : List Pending
-  pub es : List Entry
-  pub released : IsReleased geo t queue q a es
-
--- entries of a block were taken until no other may go
-pub record MayBeRetired (geo : Geometry) (t : Table) (a : ℕ) : Type 0 where
-  pub queue : Queue
-  pub q : List Pending
-  pub es : List Entry
-  pub takes : Takes geo t queue q a es
-  pub all : NoOtherMayGo queue a es
+  pub ws : List Entry
+  pub released : IsReleased geo t queue q ws

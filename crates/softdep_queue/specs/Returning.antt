@@ -1,16 +1,17 @@
 -- What was taken goes back: updates of its block wait for it again.
-use Rattle.std.specs.Prelude.{◌≡◌, ℕ, ◌+◌, ◌<◌, ◌≤◌, ◌&&◌, ◌==◌, if◌then◌else◌, List, IsTrue, length, slice_index_or}
+use Rattle.std.specs.Prelude.{◌≡◌, ℕ, ◌+◌, ◌<◌, ◌≤◌, Bool, ◌&&◌, ◌==◌, if◌then◌else◌, List, IsTrue, length, slice_index_or}
 use Rattle.std.specs.List.{Contains}
 use Rattle.std.specs.Vec.{vec_capacity}
 use Rattle.model.specs.Layout.{Geometry, block_count}
 use Rattle.ordering.specs.Cuts.{Cell, Pending}
 use Rattle.queue_model.specs.Blocks.{home_of}
-use Rattle.queue_model.specs.Entries.{Entry, Queue, Represents, NoOtherMayGo}
+use Rattle.queue_model.specs.Entries.{Entry, Queue, Represents}
 use Rattle.updates.specs.Places.{IsCell, AreCells, place_of, place_count}
 use Rattle.stacks.specs.Stacks.{count_of, room_of}
 use Rattle.softdep_queue.specs.declared.table.Table.{Table}
 use Rattle.softdep_queue.specs.Counts.{occurrences, code}
-use Rattle.softdep_queue.specs.Ties.{IsNodeOf, Takes, shown_by, waiters_of}
+use Rattle.softdep_queue.specs.Ties.{IsNodeOf, shown_by, waiters_of}
+use Rattle.softdep_queue.specs.Taking.{HasTaken}
 
 -- The table shows the entries of a queue, of which each still waits for so many, whichever of them stand as ready.
 pub record ShowsAll (geo : Geometry) (t : Table) (queue : Queue) (q : List Pending) (due : ℕ → Entry → ℕ) : Type 0 where
@@ -66,11 +67,10 @@ pub record MayBeHeld (t : Table) (i a : ℕ) : Type 0 where
   pub id : entry.id ≡ i
   pub free : AreFree queue due a i
 
--- the table holds pending updates, of which a flush of the block took those that may go
-pub record MayBeGivenBack (t : Table) (a : ℕ) : Type 0 where
+-- the table holds pending updates, of which a flush of the block took so many, those that may go
+pub record MayBeGivenBack (t : Table) (a number : ℕ) : Type 0 where
   pub geo : Geometry
   pub queue : Queue
   pub q : List Pending
-  pub es : List Entry
-  pub takes : Takes geo t queue q a es
-  pub all : NoOtherMayGo queue a es
+  pub loose : List Bool
+  pub taken : HasTaken geo t queue q loose a number

@@ -1,5 +1,5 @@
 -- Room in the table.
-use Rattle.std.specs.Prelude.{ℕ, ◌+◌, ◌≤◌, ◌<◌, ◌^◌, List, length}
+use Rattle.std.specs.Prelude.{ℕ, ◌+◌, ◌≤◌, ◌<◌, ◌^◌, Bool, List, length}
 use Rattle.std.specs.Vec.{vec_capacity}
 use Rattle.model.specs.Layout.{Geometry}
 use Rattle.ordering.specs.Cuts.{Pending}
@@ -20,4 +20,5 @@ pub record HasRoom (t : Table) (updates cells : ℕ) : Type 0 where
 pub record IsTable (geo : Geometry) (t : Table) : Type 0 where
   pub queue : Queue
   pub q : List Pending
-  pub holds : Holds geo t queue q
+  pub loose : List Bool
+  pub holds : Holds geo t queue q loose

@@ -1,11 +1,11 @@
 -- How the table holds the pending updates: it shows the entries of a queue, each entry's id its place in the table.
-use Rattle.std.specs.Prelude.{◌≡◌, ℕ, zero, suc, ◌<◌, ◌≤◌, ◌^◌, not, ◌&&◌, ◌==◌, if◌then◌else◌, List, [], ◌⊎◌, ◌↔◌, Option, Some, None, IsTrue, length, map, reverse, slice_index_or}
-use Rattle.std.specs.List.{Contains, cons_option}
+use Rattle.std.specs.Prelude.{◌≡◌, ℕ, zero, suc, ◌<◌, ◌≤◌, ◌^◌, Bool, false, not, ◌&&◌, ◌==◌, List, [], ◌∷◌, ◌⊎◌, ◌↔◌, Option, Some, None, IsTrue, IsFalse, length, map, reverse, slice_index_or}
+use Rattle.std.specs.List.{Contains, cons_option, filter}
 use Rattle.std.specs.Vec.{vec_capacity}
 use Rattle.model.specs.Layout.{Geometry, block_count}
 use Rattle.ordering.specs.Cuts.{Cell, Pending, cell_of}
 use Rattle.queue_model.specs.Blocks.{home_of}
-use Rattle.queue_model.specs.Entries.{Entry, Queue, Represents, has_id, AreTaken}
+use Rattle.queue_model.specs.Entries.{Entry, Queue, Represents, has_id, marks, may_go}
 use Rattle.model.specs.Cells.{Update}
 use Rattle.updates.specs.declared.change.Update.{Update as OwnUpdate}
 use Rattle.updates.specs.Values.{change, written}
@@ -18,7 +18,7 @@ use Rattle.softdep_queue.specs.Counts.{occurrences, count_in, code}
 
 -- the node of an id
 abbrev pub node_at : List Node → ℕ → Node
-node_at nodes i = slice_index_or nodes i (record { home = 0; update = None; waiting = 0; waiters = 0 })
+node_at nodes i = slice_index_or nodes i (record { home = 0; update = None; waiting = 0; taken = false; waiters = 0 })
 
 -- the ids of those that wait for it
 abbrev pub waiters_of : Table → ℕ → List ℕ
@@ -50,7 +50,7 @@ pub record IsNodeOf (geo : Geometry) (t : Table) (b : ℕ) (e : Entry) (due : �
   pub few : length e.waits < 2 ^ 64
   pub chain : IsChain t.chains (node_at t.nodes.items e.id).waiters
 
--- The table shows the entries of a queue, of which each still waits for so many. Those that are ready stand in the stack of their block, or were taken from it.
+-- The table shows the entries of a queue, of which each still waits for so many. Those that are ready stand in the stack of their block, or were taken from it, which their nodes say.
 pub record TiesBy (geo : Geometry) (t : Table) (queue : Queue) (q : List Pending) (due : ℕ → Entry → ℕ) (IsReady : ℕ → Entry → Type 0) : Type 0 where
   pub represents : Represents (home_of geo) queue q
   pub shown : shown_by t.nodes.items (length t.nodes.items) ≡ q
@@ -60,6 +60,7 @@ pub record TiesBy (geo : Geometry) (t : Table) (queue : Queue) (q : List Pending
   pub waiters : (b c : ℕ) (e f : Entry) → Contains (queue.lists b) e → Contains (queue.lists c) f → occurrences f.id (waiters_of t e.id) ≡ occurrences e.id f.waits
   pub alive : (b : ℕ) (e : Entry) (i : ℕ) → Contains (queue.lists b) e → Contains (waiters_of t e.id) i → IsTrue (queue.pending i)
   pub ready : (b : ℕ) (e : Entry) → Contains (queue.lists b) e → (Contains (stack_at t.ready b) e.id ⊎ Contains t.taken.items e.id) ↔ IsReady b e
+  pub flags : (b : ℕ) (e : Entry) → Contains (queue.lists b) e → IsTrue (node_at t.nodes.items e.id).taken ↔ Contains t.taken.items e.id
   pub stacked : (b i : ℕ) → Contains (stack_at t.ready b) i → (e : Entry) × Contains (queue.lists b) e × (e.id ≡ i) × (Contains t.taken.items i → ⊥)
   pub latest : (c : Cell) → IsCell geo c → slice_index_or t.latest.items (place_of geo c) 0 ≡ code (queue.last c)
   pub places : length t.latest.items ≡ place_count geo
@@ -72,17 +73,35 @@ pub record TiesBy (geo : Geometry) (t : Table) (queue : Queue) (q : List Pending
 abbrev pub Ties : Geometry → Table → Queue → List Pending → (ℕ → Entry → ℕ) → Type 0
 Ties geo t queue q due = TiesBy geo t queue q due (λ b e. due b e ≡ 0)
 
--- nothing is taken, and each entry still waits for what is pending
-pub record Holds (geo : Geometry) (t : Table) (queue : Queue) (q : List Pending) : Type 0 where
-  pub ties : Ties geo t queue q (λ b e. count_in queue.pending e.waits)
-  pub none : t.taken.items ≡ []
+-- those of these entries that are of a block
+abbrev pub of_block : (Cell → ℕ) → ℕ → List Entry → List Entry
+of_block home a es = filter (λ (e : Entry). home (cell_of e.change) == a) es
 
--- what entries of a block still wait for, where these of block a were taken
-abbrev pub due_after : Queue → ℕ → List Entry → ℕ → Entry → ℕ
-due_after queue a es b e = if b == a then count_in (λ i. queue.pending i && not (has_id es i)) e.waits else count_in queue.pending e.waits
+-- Entries, the newest taken first, each taken once all that it waits for and that was pending was taken of its own block.
+abbrev pub WereTaken : (Cell → ℕ) → Queue → List Entry → Type 0
+WereTaken home queue [] = Unit {0}
+WereTaken home queue (e ∷ ws) = Contains (queue.lists (home (cell_of e.change))) e × IsFalse (has_id ws e.id)
+    × IsTrue (may_go queue.pending (has_id (of_block home (home (cell_of e.change)) ws)) e) × WereTaken home queue ws
 
--- these entries of a block were taken, the newest of them first
-pub record Takes (geo : Geometry) (t : Table) (queue : Queue) (q : List Pending) (a : ℕ) (es : List Entry) : Type 0 where
-  pub ties : Ties geo t queue q (due_after queue a es)
-  pub taken : t.taken.items ≡ reverse (map (λ (e : Entry). e.id) es)
-  pub each : AreTaken queue a es
+-- what an entry of a block still waits for, where these were taken: not for those of its own block
+abbrev pub due_after : (Cell → ℕ) → Queue → List Entry → ℕ → Entry → ℕ
+due_after home queue ws b e = count_in (λ i. queue.pending i && not (has_id (of_block home b ws) i)) e.waits
+
+-- these entries were taken, the newest of them first, and none of them is known to be on the medium
+pub record Takes (geo : Geometry) (t : Table) (queue : Queue) (q : List Pending) (ws : List Entry) : Type 0 where
+  pub ties : Ties geo t queue q (due_after (home_of geo) queue ws)
+  pub taken : t.taken.items ≡ reverse (map (λ (e : Entry). e.id) ws)
+  pub each : WereTaken (home_of geo) queue ws
+
+-- some entries were taken from the table
+pub record IsTaking (geo : Geometry) (t : Table) : Type 0 where
+  pub queue : Queue
+  pub q : List Pending
+  pub ws : List Entry
+  pub takes : Takes geo t queue q ws
+
+-- The table holds these pending updates, of which this cut was written and is not known to be on the medium.
+pub record Holds (geo : Geometry) (t : Table) (queue : Queue) (q : List Pending) (loose : List Bool) : Type 0 where
+  pub written : List Entry
+  pub takes : Takes geo t queue q written
+  pub cut : marks (has_id written) takes.ties.represents.entries ≡ loose

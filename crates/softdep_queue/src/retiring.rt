@@ -1,13 +1,13 @@
-ghost use Rattle.std.specs.Prelude.{◌≡◌, ℕ, ◌<◌, List, length};
+ghost use Rattle.std.specs.Prelude.{◌≡◌, ℕ, ◌<◌, Bool, List, length};
 ghost use Rattle.model.specs.Layout.{Geometry as Numbers};
 ghost use Rattle.model.specs.Cells.{Update};
 ghost use Rattle.updates.specs.Places.{place_of, place_count};
 ghost use Rattle.ordering.specs.Cuts.{Pending, cell_of, rest};
-ghost use Rattle.queue_model.specs.Entries.{Entry, Queue, NoOtherMayGo, flushed};
-ghost use Rattle.queue_model.specs.Flush.{ready};
-ghost use Rattle.queue_model.specs.Blocks.{home_of};
-ghost use Rattle.softdep_queue.specs.Ties.{Holds, Takes, Shows, node_at};
-ghost use Rattle.softdep_queue.specs.Retiring.{HasTaken, IsReleased, IsStruck, AreStruck, HasReleased, MayBeRetired};
+ghost use Rattle.queue_model.specs.Entries.{Entry, Queue};
+ghost use Rattle.queue_model.specs.History.{none_of};
+ghost use Rattle.softdep_queue.specs.Rooms.{IsTable};
+ghost use Rattle.softdep_queue.specs.Ties.{Holds, Takes, IsTaking, Shows, node_at};
+ghost use Rattle.softdep_queue.specs.Retiring.{IsReleased, IsStruck, AreStruck, HasReleased};
 ghost use Rattle.softdep_queue.specs.Taking.{ShowsCell};
 
 use crate::Table;
@@ -16,37 +16,38 @@ use spares::Spares;
 use updates::{Change, cells_have_places_of_their_own};
 
 impl Table {
-    /// Strikes out what was taken of a block, once the block is written; the bytes' memory is spare then.
-    pub fn retire(&mut self, geometry: &Geometry, address: u32, spares: &mut Spares)
-        requires { MayBeRetired geometry.now self.old address }
-        ensures { (queue : Queue) (q : List Pending) (es : List Entry) → Takes geometry.now self.old queue q address es → NoOtherMayGo queue address es
-            → Holds geometry.now self.new (flushed address queue) (rest q (ready (home_of geometry.now) address q)) }
+    /// Strikes out what was taken, once all that was written is on the medium: what waited for it may go now. The bytes'
+    /// memory is spare then.
+    pub fn settle(&mut self, geometry: &Geometry, spares: &mut Spares)
+        requires { IsTable geometry.now self.old }
+        ensures { (queue : Queue) (q : List Pending) (loose : List Bool) → Holds geometry.now self.old queue q loose
+            → (queue' : Queue) × Holds geometry.now self.new queue' (rest q loose) (none_of (rest q loose)) }
     {
-        self.release(address);
-        self.strike_all(geometry, address, spares);
+        self.release();
+        self.strike_all(geometry, spares);
         self.pending -= self.taken.len();
         self.taken.clear();
     }
 
-    /// Lets those of other blocks go on that wait for what was taken of this one.
-    fn release(&mut self, address: u32)
-        requires { HasTaken self.old address }
-        ensures released { (geo : Numbers) (queue : Queue) (q : List Pending) (es : List Entry) → Takes geo self.old queue q address es
-            → IsReleased geo self.new queue q address es }
+    /// Lets those go on that wait for what was taken of another block.
+    fn release(&mut self)
+        requires { (geo : Numbers) × IsTaking geo self.old }
+        ensures { (geo : Numbers) (queue : Queue) (q : List Pending) (ws : List Entry) → Takes geo self.old queue q ws → IsReleased geo self.new queue q ws }
     {
         let mut left = self.taken.len();
         while left > 0 {
             left -= 1;
             let number = self.taken[left];
-            self.lower(number, address, false);
+            let home = self.nodes[number as usize].home;
+            self.lower(number, home, false);
         }
     }
 
-    /// Strikes out what was taken: it is on the device. The bytes' memory is spare then.
-    fn strike_all(&mut self, geometry: &Geometry, address: u32, spares: &mut Spares)
-        requires { HasReleased geometry.now self.old address }
-        ensures struck { (queue : Queue) (q : List Pending) (es : List Entry) → IsReleased geometry.now self.old queue q address es
-            → AreStruck geometry.now self.old self.new queue es }
+    /// Strikes out what was taken: it is on the medium. The bytes' memory is spare then.
+    fn strike_all(&mut self, geometry: &Geometry, spares: &mut Spares)
+        requires { HasReleased geometry.now self.old }
+        ensures { (queue : Queue) (q : List Pending) (ws : List Entry) → IsReleased geometry.now self.old queue q ws
+            → AreStruck geometry.now self.old self.new queue ws }
     {
         geometry.blocks();
         cells_have_places_of_their_own();

@@ -1,28 +1,32 @@
-ghost use Rattle.std.specs.Prelude.{◌≡◌, ℕ, ◌<◌, ◌==◌, List, IsTrue, length};
+ghost use Rattle.std.specs.Prelude.{◌≡◌, ℕ, ◌<◌, ◌==◌, Bool, List, IsTrue, length};
 ghost use Rattle.std.specs.List.{Contains};
 ghost use Rattle.model.specs.Layout.{Geometry as Numbers};
 ghost use Rattle.ordering.specs.Cuts.{Pending};
-ghost use Rattle.queue_model.specs.Entries.{Entry, Queue, NoOtherMayGo};
-ghost use Rattle.softdep_queue.specs.Ties.{Holds, Takes};
+ghost use Rattle.queue_model.specs.Entries.{Entry, Queue};
+ghost use Rattle.softdep_queue.specs.Ties.{Holds, node_at};
+ghost use Rattle.softdep_queue.specs.Taking.{HasTaken};
 ghost use Rattle.softdep_queue.specs.Returning.{ShowsAll, more, held, AreFree, MayBeRaised, MayBeHeld, MayBeGivenBack};
 
 use crate::table::Table;
 
 impl Table {
-    /// Puts back what was taken from a block.
-    pub fn give_back(&mut self, address: u32)
-        requires { MayBeGivenBack self.old address }
-        ensures { (geo : Numbers) (queue : Queue) (q : List Pending) (es : List Entry) → Takes geo self.old queue q address es → NoOtherMayGo queue address es
-            → Holds geo self.new queue q }
+    /// Puts back so many updates, which were taken last, from this block: the block could not be written. What was taken
+    /// before is written, and stays so.
+    pub fn give_back(&mut self, address: u32, count: usize)
+        requires { MayBeGivenBack self.old address count }
+        ensures { (geo : Numbers) (queue : Queue) (q : List Pending) (loose : List Bool) → HasTaken geo self.old queue q loose address count
+            → Holds geo self.new queue q loose }
     {
-        for k in 0..self.taken.len() {
+        let first = self.taken.len() - count;
+        for k in first..self.taken.len() {
             let number = self.taken[k];
             if self.nodes[number as usize].waiting == 0 {
                 self.ready.push(address, number);
             }
             self.raise(number, address);
+            self.nodes[number as usize].taken = false;
         }
-        self.taken.clear();
+        self.taken.truncate(first);
     }
 
     /// Lets those of a block that were issued after an update wait for it again.
@@ -33,6 +37,7 @@ impl Table {
             → AreFree queue due address number → ShowsAll geo self.new queue q (held address number due) }
         ensures ready { self.new.ready ≡ self.old.ready }
         ensures taken { self.new.taken ≡ self.old.taken }
+        ensures flags { (i : ℕ) → (node_at self.new.nodes.items i).taken ≡ (node_at self.old.nodes.items i).taken }
     {
         let mut chain = self.nodes[number as usize].waiters;
         while let Some(link) = self.chains.first(chain) {
@@ -50,6 +55,7 @@ impl Table {
         ensures chains { self.new.chains ≡ self.old.chains }
         ensures ready { self.new.ready ≡ self.old.ready }
         ensures taken { self.new.taken ≡ self.old.taken }
+        ensures flags { (i : ℕ) → (node_at self.new.nodes.items i).taken ≡ (node_at self.old.nodes.items i).taken }
     {
         if self.nodes[waiter as usize].home == address {
             self.nodes[waiter as usize].waiting += 1;

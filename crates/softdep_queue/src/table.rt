@@ -4,6 +4,7 @@ ghost use Rattle.model.specs.Layout.{Geometry as Numbers};
 ghost use Rattle.ordering.specs.Cuts.{Pending};
 ghost use Rattle.queue_model.specs.Entries.{Entry, Queue};
 ghost use Rattle.softdep_queue.specs.Ties.{Ties, node_at};
+ghost use Rattle.softdep_queue.specs.Rooms.{HasRoom};
 ghost use Rattle.softdep_queue.specs.Lowering.{is_chosen, less, released, AreWaiting, MayBeLowered, MayBeReleased};
 
 use chains::{Chain, Chains};
@@ -17,8 +18,11 @@ pub(crate) struct Node {
     pub(crate) home: u32,
     /// The cells that it comes after are kept, too: they are needed where the pending updates get new places.
     pub(crate) update: Option<Update>,
-    /// How many pending updates it waits for. One that it was issued after twice counts twice.
+    /// How many pending updates it waits for. One that it was issued after twice counts twice; those of its own block that
+    /// were taken do not count.
     pub(crate) waiting: usize,
+    /// Whether it was taken: it is written, or about to be, and not known to be on the medium.
+    pub(crate) taken: bool,
     /// The updates that wait for it, each as often as it counts it.
     pub(crate) waiters: Chain,
 }
@@ -29,11 +33,11 @@ pub struct Table {
     /// Each update, in the order of issue. Its place is its number.
     pub(crate) nodes: Vec<Node>,
     pub(crate) chains: Chains,
-    /// For each block its updates that wait for nothing.
+    /// For each block its updates that wait for nothing and were not taken.
     pub(crate) ready: Ready,
     /// For each cell one more than the number of its last pending update, or 0.
     pub(crate) latest: Vec<u32>,
-    /// What a flush took and has not written yet, the first taken first.
+    /// What flushes took and wrote, and what is not known to be on the medium, the first taken first.
     pub(crate) taken: Vec<u32>,
     pub(crate) pending: usize,
 }
@@ -45,6 +49,7 @@ impl Table {
         ensures lowered { (geo : Numbers) (queue : Queue) (q : List Pending) (due : ℕ → Entry → ℕ) (b : ℕ) (e : Entry) → Ties geo self.old queue q due
             → Contains (queue.lists b) e → e.id ≡ number
             → AreWaiting queue due address here number → Ties geo self.new queue q (released address here number due) }
+        ensures room { (updates cells : ℕ) → HasRoom self.old updates cells → HasRoom self.new updates cells }
         ensures taken { self.new.taken ≡ self.old.taken }
         ensures changes { (i : ℕ) → (node_at self.new.nodes.items i).update ≡ (node_at self.old.nodes.items i).update }
     {
@@ -62,6 +67,7 @@ impl Table {
             → Contains (queue.lists b) f → f.id ≡ waiter
             → (IsTrue (is_chosen address here b) → 0 < due b f) → Ties geo self.new queue q (less address here waiter due) }
         ensures chains { self.new.chains ≡ self.old.chains }
+        ensures room { (updates cells : ℕ) → HasRoom self.old updates cells → HasRoom self.new updates cells }
         ensures taken { self.new.taken ≡ self.old.taken }
         ensures nodes { (i : ℕ)
             → ((node_at self.new.nodes.items i).waiters ≡ (node_at self.old.nodes.items i).waiters)

@@ -16,6 +16,7 @@ use std::sync::Arc;
 use std::test::Fail;
 
 mod cases;
+mod cuts;
 mod records;
 mod steady;
 

@@ -1,101 +1,115 @@
-use Rattle.std.proofs.Common.{◌≡◌, ◌+◌, ◌<◌, ◌≤◌, [], ◌∷◌, refl, sym, ap, ◌∙◌, subst, length, arith, length-append}
-use Rattle.std.proofs.lemmas.List.{length-set}
-use Rattle.model.specs.Layout.{block_count}
-use Rattle.model.specs.Image.{IsImage, image_view}
-use Rattle.ordering.specs.Cuts.{seen, rest}
-use Rattle.queue_model.specs.Blocks.{home_of}
-use Rattle.queue_model.specs.Flush.{ready, taken}
-use Rattle.queue_model.proofs.FlushLemmas.{ready_closed}
-use Rattle.softdep.specs.Queued.{Queued, pending_of}
-use Rattle.queue_model.specs.Sync.{IsLeastReady}
-use Rattle.softdep.specs.Syncing.{HasPut, IsHistory, AreFlushes}
-use Rattle.softdep.proofs.Flushed.{ready_of, pending_flushed}
-use Rattle.softdep.proofs.Synced.{put_nothing, put_more, history_nothing, history_more, history_done, flushes_nothing, flushes_more, fewer, rest_put}
-use Rattle.softdep.proofs.queue.Queue.sync.Given.{Over}
+use Rattle.std.proofs.Common.{◌≡◌, List, [], ◌∷◌, inl, inr, refl, ap, ◌∙◌, subst, length, arith}
+use Rattle.softdep.specs.Queued.{pending_of}
+use Rattle.softdep.specs.Syncing.{AreWrites, AreFlushes}
+use Rattle.softdep.proofs.Queues.{nothing_unsynced}
+use Rattle.softdep.proofs.Swept.{put_then, rest_put, held_then}
+use Rattle.softdep.proofs.Synced.{writes_append, writes_history, flushes_append, history_done}
 use Rattle.softdep.proofs.queue.Queue.sync.Goals as goal
 
-pub loop-address-init : goal.loop-address-init
-loop-address-init g c = record {
-  closed = c.pending.ensures.closed;
-  put = put_nothing c.args.self.now c.pending.ensures.closed;
-  count = c.requires;
-  few = omega arith;
-  failures = refl;
-  honest = λ h. h;
-  history = λ h. history_nothing c.args.self.now.geometry (g.D.Device.image c.args.device.now) (g.D.Device.held c.args.device.now) (pending_of c.args.self.now);
-  flushes = λ h. flushes_nothing c.args.self.now.geometry (g.D.Device.image c.args.device.now) (g.D.Device.held c.args.device.now) (pending_of c.args.self.now);
+pub loop-self-init : goal.loop-self-init
+loop-self-init g c = record {
+  closed = c.sweep.ensures.closed;
+  settled = c.in_ok-sweep.ensures.settled;
+  put = c.sweep.ensures.put;
+  count = c.sweep.ensures.count;
+  few = c.sweep.ensures.few;
+  failures = c.in_ok-sweep.ensures.calm;
+  honest = c.sweep.ensures.honest;
+  writes = c.sweep.ensures.writes;
+  flushes = c.sweep.ensures.flushes;
+  medium = c.sweep.ensures.medium;
+  held = c.sweep.ensures.held;
 }
 
--- ---- one flush
+pub loop-self-smaller : goal.loop-self-smaller
+loop-self-smaller g c = elim (c.in_ok-sweep-2.ensures.fewer c.loop-self.invariant.settled) [
+  | inl none ↦ (let some = c.loop-self-test.true in let count = c.pending.ensures.count in let n = ap length none in omega (arith, some, count, n))
+  | inr less ↦ less
+]
 
-module _ (g : Over) (c : goal.In_ok-flush g) where
-  abbrev v : Queued
-  v = c.loop-address.self
+pub loop-self-preserved : goal.loop-self-preserved
+loop-self-preserved g c = record {
+  closed = c.loop-self.invariant.closed;
+  settled = c.in_ok-sweep-2.ensures.settled;
+  put = put_then c.args.self.now c.loop-self.self c.sweep-in-loop-self.new.self c.loop-self.invariant.closed c.loop-self.invariant.put c.sweep-in-loop-self.ensures.put;
+  count = c.sweep-in-loop-self.ensures.count;
+  few = (let f = c.loop-self.invariant.few in let s = c.sweep-in-loop-self.ensures.few in omega (arith, f, s));
+  failures = c.in_ok-sweep-2.ensures.calm ∙ c.loop-self.invariant.failures;
+  honest = λ h. c.loop-self.invariant.honest (c.sweep-in-loop-self.ensures.honest h);
+  writes = λ h. writes_append c.args.self.now.geometry (g.D.Device.image c.args.device.now) (g.D.Device.held c.args.device.now) (pending_of c.args.self.now)
+      (g.D.Device.image c.loop-self.device) (g.D.Device.held c.loop-self.device) (pending_of c.loop-self.self) (g.D.Device.image c.sweep-in-loop-self.new.device) (g.D.Device.held c.sweep-in-loop-self.new.device) (pending_of c.sweep-in-loop-self.new.self)
+      (c.loop-self.invariant.writes (c.sweep-in-loop-self.ensures.honest h))
+      (subst (λ x. AreWrites x (g.D.Device.image c.loop-self.device) (g.D.Device.held c.loop-self.device) (pending_of c.loop-self.self) (g.D.Device.image c.sweep-in-loop-self.new.device) (g.D.Device.held c.sweep-in-loop-self.new.device) (pending_of c.sweep-in-loop-self.new.self))
+      c.loop-self.invariant.put.geometry (c.sweep-in-loop-self.ensures.writes h));
+  flushes = λ h keeps is. flushes_append c.args.self.now.geometry (g.D.Device.image c.args.device.now) (g.D.Device.held c.args.device.now) (pending_of c.args.self.now)
+      (g.D.Device.image c.loop-self.device) (g.D.Device.held c.loop-self.device) (pending_of c.loop-self.self) (g.D.Device.image c.sweep-in-loop-self.new.device) (g.D.Device.held c.sweep-in-loop-self.new.device) (pending_of c.sweep-in-loop-self.new.self)
+      (c.loop-self.invariant.flushes (c.sweep-in-loop-self.ensures.honest h) keeps is)
+      (subst (λ x. AreFlushes x (g.D.Device.image c.loop-self.device) (g.D.Device.held c.loop-self.device) (pending_of c.loop-self.self) (g.D.Device.image c.sweep-in-loop-self.new.device) (g.D.Device.held c.sweep-in-loop-self.new.device) (pending_of c.sweep-in-loop-self.new.self))
+      c.loop-self.invariant.put.geometry (c.sweep-in-loop-self.ensures.flushes h keeps c.loop-self.invariant.settled));
+  medium = λ h mounted on. c.sweep-in-loop-self.ensures.medium h mounted (c.loop-self.invariant.medium (c.sweep-in-loop-self.ensures.honest h) mounted on);
+  held = λ h mounted on. held_then mounted c.args.self.now c.loop-self.self (g.D.Device.held c.args.device.now) (g.D.Device.held c.loop-self.device) (g.D.Device.held c.sweep-in-loop-self.new.device) c.loop-self.invariant.closed c.loop-self.invariant.put
+      (c.loop-self.invariant.held (c.sweep-in-loop-self.ensures.honest h) mounted on) (c.sweep-in-loop-self.ensures.held h mounted (c.loop-self.invariant.medium (c.sweep-in-loop-self.ensures.honest h) mounted on));
+}
 
-  some : 1 ≤ taken (ready_of c.loop-address.self c.in-Some.address)
-  some = c.in-Some.ensures.least.has
+-- ---- the device refused something
 
-  less : length (pending_of c.flush.new.self) + taken (ready_of c.loop-address.self c.in-Some.address) ≡ length (pending_of c.loop-address.self)
-  less =
-      let f = fewer v c.in-Some.address c.in-Some.ensures.closed in
-      let same = ap (λ (w : Queued). length (pending_of w)) c.in_ok-flush.ensures.flushed in
-      omega (arith, f, same)
+pub returns-in_err-sweep-clause-rest : goal.returns-in_err-sweep-clause-rest
+returns-in_err-sweep-clause-rest g c = rest_put c.args.self.now c.sweep.new.self c.sweep.ensures.closed c.sweep.ensures.put
 
-pub loop-address-smaller : goal.loop-address-smaller
-loop-address-smaller g c = let l = less g c in let s = some g c in omega (arith, l, s)
+pub returns-in_err-sweep-clause-history : goal.returns-in_err-sweep-clause-history
+returns-in_err-sweep-clause-history g c h =
+    writes_history c.args.self.now.geometry (g.D.Device.image c.args.device.now) (g.D.Device.held c.args.device.now) (pending_of c.args.self.now) (g.D.Device.image c.sweep.new.device) (g.D.Device.held c.sweep.new.device) (pending_of c.sweep.new.self) (c.sweep.ensures.writes h)
 
-pub loop-address-preserved : goal.loop-address-preserved
-loop-address-preserved g c =
-    let i = c.loop-address.invariant in
-    let w = c.in_ok-flush.ensures.written (subst (λ n. 0 < n) (sym c.in_ok-flush.ensures.count) (some g c)) in
-    record {
-      closed = i.closed;
-      put = subst (HasPut c.args.self.now) (sym c.in_ok-flush.ensures.flushed) (put_more c.args.self.now c.loop-address.self c.in-Some.address i.closed i.put);
-      count = ap length w.1 ∙ length-set (g.D.Device.image c.loop-address.device) c.in-Some.address w.0 ∙ i.count ∙ ap (λ (x : Queued). block_count x.geometry) (sym c.in_ok-flush.ensures.flushed);
-      few = (
-          let f = i.few in
-          let l = less g c in
-          let s = some g c in
-          let h = ap length w.2 ∙ length-append (g.D.Device.held c.loop-address.device) (g.D.Device.image c.flush.new.device ∷ []) in
-          omega (arith, f, l, s, h)
-          );
-      failures = c.in_ok-flush.ensures.calm ∙ i.failures;
-      honest = λ h. i.honest (c.in_ok-flush.ensures.honest h);
-      history = λ h.
-          let geo = c.args.self.now.geometry in
-          let now = c.loop-address.self in
-          let before = i.history (c.in_ok-flush.ensures.honest h) in
-          let view = subst (λ x. image_view x (g.D.Device.image c.flush.new.device) ≡ seen (image_view x (g.D.Device.image c.loop-address.device)) (pending_of now) (ready (home_of now.geometry) c.in-Some.address (pending_of now))) i.put.geometry (c.in_ok-flush.ensures.view h) in
-          subst (IsHistory geo (g.D.Device.image c.args.device.now) (g.D.Device.held c.args.device.now) (pending_of c.args.self.now) (g.D.Device.image c.flush.new.device) (g.D.Device.held c.flush.new.device))
-          (sym (ap pending_of c.in_ok-flush.ensures.flushed ∙ pending_flushed now c.in-Some.address c.in-Some.ensures.closed))
-          (history_more geo (g.D.Device.image c.args.device.now) (g.D.Device.held c.args.device.now) (pending_of c.args.self.now) (g.D.Device.image c.loop-address.device) (g.D.Device.held c.loop-address.device) (pending_of now)
-          (g.D.Device.image c.flush.new.device) (g.D.Device.held c.flush.new.device) (ready_of now c.in-Some.address) before (ready_closed (home_of now.geometry) c.in-Some.address (pending_of now)) view w.2);
-      flushes = λ h.
-          let geo = c.args.self.now.geometry in
-          let now = c.loop-address.self in
-          let before = i.flushes (c.in_ok-flush.ensures.honest h) in
-          let view = subst (λ x. image_view x (g.D.Device.image c.flush.new.device) ≡ seen (image_view x (g.D.Device.image c.loop-address.device)) (pending_of now) (ready (home_of x) c.in-Some.address (pending_of now))) i.put.geometry (c.in_ok-flush.ensures.view h) in
-          let least = subst (λ x. IsLeastReady (home_of x) (pending_of now) c.in-Some.address) i.put.geometry c.in-Some.ensures.least in
-          let frame = subst (λ x. IsImage x (g.D.Device.image c.loop-address.device) → IsImage x (g.D.Device.image c.flush.new.device)) i.put.geometry (c.in_ok-flush.ensures.frame h) in
-          subst (AreFlushes geo (g.D.Device.image c.args.device.now) (g.D.Device.held c.args.device.now) (pending_of c.args.self.now) (g.D.Device.image c.flush.new.device) (g.D.Device.held c.flush.new.device))
-          (sym (ap pending_of c.in_ok-flush.ensures.flushed ∙ pending_flushed now c.in-Some.address c.in-Some.ensures.closed ∙ ap (λ x. rest (pending_of now) (ready (home_of x) c.in-Some.address (pending_of now))) i.put.geometry))
-          (flushes_more geo (g.D.Device.image c.args.device.now) (g.D.Device.held c.args.device.now) (pending_of c.args.self.now) (g.D.Device.image c.loop-address.device) (g.D.Device.held c.loop-address.device) (pending_of now)
-          (g.D.Device.image c.flush.new.device) (g.D.Device.held c.flush.new.device) c.in-Some.address before least view w.2 frame);
-    }
+pub returns-in_err-sweep-2-clause-put : goal.returns-in_err-sweep-2-clause-put
+returns-in_err-sweep-2-clause-put g c = put_then c.args.self.now c.loop-self.self c.sweep-in-loop-self.new.self c.loop-self.invariant.closed c.loop-self.invariant.put c.sweep-in-loop-self.ensures.put
+
+pub returns-in_err-sweep-2-clause-writes : goal.returns-in_err-sweep-2-clause-writes
+returns-in_err-sweep-2-clause-writes g c = λ h. writes_append c.args.self.now.geometry (g.D.Device.image c.args.device.now) (g.D.Device.held c.args.device.now) (pending_of c.args.self.now)
+    (g.D.Device.image c.loop-self.device) (g.D.Device.held c.loop-self.device) (pending_of c.loop-self.self) (g.D.Device.image c.sweep-in-loop-self.new.device) (g.D.Device.held c.sweep-in-loop-self.new.device) (pending_of c.sweep-in-loop-self.new.self)
+    (c.loop-self.invariant.writes (c.sweep-in-loop-self.ensures.honest h))
+    (subst (λ x. AreWrites x (g.D.Device.image c.loop-self.device) (g.D.Device.held c.loop-self.device) (pending_of c.loop-self.self) (g.D.Device.image c.sweep-in-loop-self.new.device) (g.D.Device.held c.sweep-in-loop-self.new.device) (pending_of c.sweep-in-loop-self.new.self))
+    c.loop-self.invariant.put.geometry (c.sweep-in-loop-self.ensures.writes h))
+
+pub returns-in_err-sweep-2-clause-flushes : goal.returns-in_err-sweep-2-clause-flushes
+returns-in_err-sweep-2-clause-flushes g c = λ h keeps is. flushes_append c.args.self.now.geometry (g.D.Device.image c.args.device.now) (g.D.Device.held c.args.device.now) (pending_of c.args.self.now)
+    (g.D.Device.image c.loop-self.device) (g.D.Device.held c.loop-self.device) (pending_of c.loop-self.self) (g.D.Device.image c.sweep-in-loop-self.new.device) (g.D.Device.held c.sweep-in-loop-self.new.device) (pending_of c.sweep-in-loop-self.new.self)
+    (c.loop-self.invariant.flushes (c.sweep-in-loop-self.ensures.honest h) keeps is)
+    (subst (λ x. AreFlushes x (g.D.Device.image c.loop-self.device) (g.D.Device.held c.loop-self.device) (pending_of c.loop-self.self) (g.D.Device.image c.sweep-in-loop-self.new.device) (g.D.Device.held c.sweep-in-loop-self.new.device) (pending_of c.sweep-in-loop-self.new.self))
+    c.loop-self.invariant.put.geometry (c.sweep-in-loop-self.ensures.flushes h keeps c.loop-self.invariant.settled))
+
+pub returns-in_err-sweep-2-clause-held : goal.returns-in_err-sweep-2-clause-held
+returns-in_err-sweep-2-clause-held g c = λ h mounted on. held_then mounted c.args.self.now c.loop-self.self (g.D.Device.held c.args.device.now) (g.D.Device.held c.loop-self.device) (g.D.Device.held c.sweep-in-loop-self.new.device) c.loop-self.invariant.closed c.loop-self.invariant.put
+    (c.loop-self.invariant.held (c.sweep-in-loop-self.ensures.honest h) mounted on) (c.sweep-in-loop-self.ensures.held h mounted (c.loop-self.invariant.medium (c.sweep-in-loop-self.ensures.honest h) mounted on))
+
+pub returns-in_err-sweep-2-clause-rest : goal.returns-in_err-sweep-2-clause-rest
+returns-in_err-sweep-2-clause-rest g c = rest_put c.args.self.now c.sweep-in-loop-self.new.self c.loop-self.invariant.closed (returns-in_err-sweep-2-clause-put g c)
+
+pub returns-in_err-sweep-2-clause-history : goal.returns-in_err-sweep-2-clause-history
+returns-in_err-sweep-2-clause-history g c h =
+    writes_history c.args.self.now.geometry (g.D.Device.image c.args.device.now) (g.D.Device.held c.args.device.now) (pending_of c.args.self.now) (g.D.Device.image c.sweep-in-loop-self.new.device) (g.D.Device.held c.sweep-in-loop-self.new.device)
+    (pending_of c.sweep-in-loop-self.new.self) (returns-in_err-sweep-2-clause-writes g c h)
+
+-- ---- nothing is left
+
+none : {A : Type 0} (xs : List A) → length xs ≡ 0 → xs ≡ []
+none [] e = refl
+none (x ∷ xs) e = absurd (omega (arith, e))
+
+pub returns-clause-pending : goal.returns-clause-pending
+returns-clause-pending g c = none (pending_of c.loop-self.self) (let count = c.pending.ensures.count in let few = c.loop-self-test.false in omega (arith, count, few))
+
+pub returns-clause-unsynced : goal.returns-clause-unsynced
+returns-clause-unsynced g c = nothing_unsynced c.loop-self.self c.pending.ensures.closed c.loop-self.invariant.settled (returns-clause-pending g c)
+
+pub returns-clause-history : goal.returns-clause-history
+returns-clause-history g c h =
+    writes_history c.args.self.now.geometry (g.D.Device.image c.args.device.now) (g.D.Device.held c.args.device.now) (pending_of c.args.self.now) (g.D.Device.image c.loop-self.device) (g.D.Device.held c.loop-self.device) (pending_of c.loop-self.self)
+    (c.loop-self.invariant.writes h)
 
 pub returns-clause-view : goal.returns-clause-view
 returns-clause-view g c h =
-    let geo = c.args.self.now.geometry in
-    let before = c.loop-address.invariant.history (c.in_ok-sync.ensures.honest h) in
-    ap (image_view geo) c.in_ok-sync.ensures.same
-    ∙ history_done geo (g.D.Device.image c.args.device.now) (g.D.Device.held c.args.device.now) (pending_of c.args.self.now) (g.D.Device.image c.loop-address.device) (g.D.Device.held c.loop-address.device) (pending_of c.loop-address.self) before c.in_default.ensures.least
+    history_done c.args.self.now.geometry (g.D.Device.image c.args.device.now) (g.D.Device.held c.args.device.now) (pending_of c.args.self.now) (g.D.Device.image c.loop-self.device) (g.D.Device.held c.loop-self.device) (pending_of c.loop-self.self)
+    (returns-clause-history g c h) (returns-clause-pending g c)
 
 pub returns-clause-rest : goal.returns-clause-rest
-returns-clause-rest g c = rest_put c.args.self.now c.loop-address.self c.loop-address.invariant.closed c.loop-address.invariant.put
-
-pub returns-in_err-sync-clause-rest : goal.returns-in_err-sync-clause-rest
-returns-in_err-sync-clause-rest g c = rest_put c.args.self.now c.loop-address.self c.loop-address.invariant.closed c.loop-address.invariant.put
-
-pub returns-in_err-flush-clause-rest : goal.returns-in_err-flush-clause-rest
-returns-in_err-flush-clause-rest g c =
-    rest_put c.args.self.now c.flush.new.self c.loop-address.invariant.closed (subst (HasPut c.args.self.now) (sym c.in_err-flush.ensures.refused) c.loop-address.invariant.put)
+returns-clause-rest g c = rest_put c.args.self.now c.loop-self.self c.loop-self.invariant.closed c.loop-self.invariant.put

@@ -1,22 +1,27 @@
-use Rattle.std.proofs.Common.{◌≡◌, ◌+◌, ◌≤◌, length}
+use Rattle.std.proofs.Common.{◌≡◌, ◌+◌, ◌≤◌, length, true}
 use Rattle.model.specs.Layout.{block_count}
-use Rattle.ordering.specs.Cuts.{IsClosed}
-use Rattle.queue_model.specs.Files.{updates}
-use Rattle.softdep.specs.Queued.{pending_of}
-use Rattle.softdep.specs.Syncing.{HasPut, IsHistory, AreFlushes}
+use Rattle.model.specs.View.{View}
+use Rattle.softdep.specs.Queued.{AreClosed, IsSettled, pending_of}
+use Rattle.softdep.specs.OnMedium.{IsOnMedium}
+use Rattle.softdep.specs.Syncing.{HasPut, HasHeld, AreWrites, AreFlushes}
+use Rattle.softdep.proofs.queue.Queue.sync.Given.{Over}
 use Rattle.softdep.proofs.queue.Queue.sync.Given as goal
 
-abbrev pub invariant-loop-address : goal.invariant-loop-address
-invariant-loop-address g l = record {
-  closed : IsClosed (updates l.fn.self.written) l.fn.self.cut;
+abbrev pub invariant-loop-self : goal.invariant-loop-self
+invariant-loop-self g l = record {
+  closed : AreClosed l.fn.self;
+  settled : IsSettled l.self;
   put : HasPut l.fn.self l.self;
   count : length (g.D.Device.image l.device) ≡ block_count l.self.geometry;
-  few : length (g.D.Device.held l.device) + length (pending_of l.self) ≤ length (g.D.Device.held l.fn.device) + length (pending_of l.fn.self);
+  few : length (g.D.Device.held l.device).media + length (pending_of l.self) ≤ length (g.D.Device.held l.fn.device).media + length (pending_of l.fn.self);
   failures : g.D.Device.failures l.device ≡ g.D.Device.failures l.fn.device;
   honest : g.D.Device.honest l.device → g.D.Device.honest l.fn.device;
-  history : g.D.Device.honest l.device → IsHistory l.fn.self.geometry (g.D.Device.image l.fn.device) (g.D.Device.held l.fn.device) (pending_of l.fn.self) (g.D.Device.image l.device) (g.D.Device.held l.device) (pending_of l.self);
-  flushes : g.D.Device.honest l.device → AreFlushes l.fn.self.geometry (g.D.Device.image l.fn.device) (g.D.Device.held l.fn.device) (pending_of l.fn.self) (g.D.Device.image l.device) (g.D.Device.held l.device) (pending_of l.self);
+  writes : g.D.Device.honest l.device → AreWrites l.fn.self.geometry (g.D.Device.image l.fn.device) (g.D.Device.held l.fn.device) (pending_of l.fn.self) (g.D.Device.image l.device) (g.D.Device.held l.device) (pending_of l.self);
+  flushes : g.D.Device.honest l.device → g.D.Device.KEEPS_ORDER ≡ true → IsSettled l.fn.self
+      → AreFlushes l.fn.self.geometry (g.D.Device.image l.fn.device) (g.D.Device.held l.fn.device) (pending_of l.fn.self) (g.D.Device.image l.device) (g.D.Device.held l.device) (pending_of l.self);
+  medium : g.D.Device.honest l.device → (mounted : View) → IsOnMedium mounted l.fn.self (g.D.Device.held l.fn.device).now → IsOnMedium mounted l.self (g.D.Device.held l.device).now;
+  held : g.D.Device.honest l.device → (mounted : View) → IsOnMedium mounted l.fn.self (g.D.Device.held l.fn.device).now → HasHeld mounted l.fn.self (g.D.Device.held l.fn.device) (g.D.Device.held l.device);
 }
 
-abbrev pub decreases-loop-address : goal.decreases-loop-address
-decreases-loop-address g l = length (pending_of l.self)
+abbrev pub decreases-loop-self : goal.decreases-loop-self
+decreases-loop-self g l = length (pending_of l.self)

@@ -27,6 +27,7 @@ loop-link-init c =
       chain = subst (λ (x : Node). IsChain t.chains x.waiters) (sym first) (subst (λ i. IsChain t.chains (node_at t.nodes.items i).waiters) c.requires.id node.chain);
       chains = refl;
       taken = refl;
+      room = λ updates cells has. has;
       changes = λ i. refl;
       ties = λ geo queue q due b e ties listed id waiting. ties_due geo t queue q due (less_all c.args.address c.args.here [] due) (λ k g m. less_nothing c.args.address c.args.here due k g) ties;
     }
@@ -67,6 +68,7 @@ loop-link-preserved c =
       chain = subst (λ (v : Links). IsChain v c.in-Some.link.rest) (sym c.lower_one.ensures.chains) c.in-Some.ensures.rest.0;
       chains = c.lower_one.ensures.chains ∙ i.chains;
       taken = c.lower_one.ensures.taken ∙ i.taken;
+      room = λ updates cells has. c.lower_one.ensures.room updates cells (i.room updates cells has);
       changes = λ k. (c.lower_one.ensures.nodes k).1 ∙ i.changes k;
       ties = λ geo queue q due b e ties listed id waiting.
           let enough = subst (AreWaiting queue due c.args.address c.args.here) (sym id) waiting in

@@ -54,7 +54,7 @@ returns-then-waiting-eq0-clause-lowered c geo queue q due b f ties listed id wai
     let chosen : IsTrue (is_chosen c.args.address c.args.here b) = subst (λ k. IsTrue (is_chosen c.args.address c.args.here k)) home (is_chosen_one c.args.address c.index.result.now.home c.args.here c.if-home-address.false) in
     let none : due b f - 1 ≡ 0 = ap (λ n. n - 1) (sym waiting) ∙ c.if-waiting-eq0.true in
     lowered geo t queue q due b f c.args.waiter ties listed id c.args.address c.args.here _ chosen (waits chosen) (record {
-      nodes = ap₂ (λ (y : Node) n. slice_set t.nodes.items c.args.waiter (record { home = y.home; update = y.update; waiting = n - 1; waiters = y.waiters })) written waiting;
+      nodes = ap₂ (λ (y : Node) n. slice_set t.nodes.items c.args.waiter (record { home = y.home; update = y.update; waiting = n - 1; taken = y.taken; waiters = y.waiters })) written waiting;
       chains = refl;
       taken = refl;
       latest = refl;
@@ -88,7 +88,7 @@ returns-else-waiting-eq0-clause-lowered c geo queue q due b f ties listed id wai
     let chosen : IsTrue (is_chosen c.args.address c.args.here b) = subst (λ k. IsTrue (is_chosen c.args.address c.args.here k)) home (is_chosen_one c.args.address c.index.result.now.home c.args.here c.if-home-address.false) in
     let some : due b f - 1 ≡ 0 → ⊥ = λ z. c.if-waiting-eq0.false (ap (λ n. n - 1) waiting ∙ z) in
     lowered geo t queue q due b f c.args.waiter ties listed id c.args.address c.args.here _ chosen (waits chosen) (record {
-      nodes = ap₂ (λ (y : Node) n. slice_set t.nodes.items c.args.waiter (record { home = y.home; update = y.update; waiting = n - 1; waiters = y.waiters })) written waiting;
+      nodes = ap₂ (λ (y : Node) n. slice_set t.nodes.items c.args.waiter (record { home = y.home; update = y.update; waiting = n - 1; taken = y.taken; waiters = y.waiters })) written waiting;
       chains = refl;
       taken = refl;
       latest = refl;

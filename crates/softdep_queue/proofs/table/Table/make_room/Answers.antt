@@ -6,10 +6,10 @@ use Rattle.softdep_queue.proofs.table.Table.make_room.Goals as goal
 use Rattle.softdep_queue.proofs.table.Table.make_room.Goals.{then-is_sparse+in_ok-move_together, else-is_sparse}
 
 pub returns-clause-held : goal.returns-clause-held
-returns-clause-held c queue q holds =
+returns-clause-held c queue q loose holds =
     let geo = c.args.geometry.now in
-    let moved : (queue' : Queue) × Holds geo c.if-is_sparse.self queue' q = elim c.if-is_sparse.branch [
-      | then-is_sparse+in_ok-move_together w ↦ subst (λ (t : Table). (queue' : Queue) × Holds geo t queue' q) (sym w.self-is) (w.in_ok-move_together.ensures.held queue q holds)
-      | else-is_sparse w ↦ subst (λ (t : Table). (queue' : Queue) × Holds geo t queue' q) (sym w.self-is) (queue, holds)
+    let moved : (queue' : Queue) × Holds geo c.if-is_sparse.self queue' q loose = elim c.if-is_sparse.branch [
+      | then-is_sparse+in_ok-move_together w ↦ subst (λ (t : Table). (queue' : Queue) × Holds geo t queue' q loose) (sym w.self-is) (w.in_ok-move_together.ensures.held queue q loose holds)
+      | else-is_sparse w ↦ subst (λ (t : Table). (queue' : Queue) × Holds geo t queue' q loose) (sym w.self-is) (queue, holds)
     ] in
-    (moved.0, c.reserve.ensures.held geo moved.0 q moved.1)
+    (moved.0, c.reserve.ensures.held geo moved.0 q loose moved.1)

@@ -29,6 +29,7 @@ loop-link-init c =
       chains = refl;
       ready = refl;
       taken = refl;
+      flags = λ i. refl;
       shows = λ geo queue q due b e shows listed id free. shows_due geo t queue q due (more_all c.args.address [] due) (λ k g m. more_nothing c.args.address due k g) shows;
     }
 
@@ -70,6 +71,7 @@ loop-link-preserved c =
       chains = c.raise_one.ensures.chains ∙ i.chains;
       ready = c.raise_one.ensures.ready ∙ i.ready;
       taken = c.raise_one.ensures.taken ∙ i.taken;
+      flags = λ k. c.raise_one.ensures.flags k ∙ i.flags k;
       shows = λ geo queue q due b e shows listed id free.
           let now = subst (AreFree queue due c.args.address) (sym id) free in
           let rest = numbers c.loop-link.self.chains c.in-Some.link.rest in

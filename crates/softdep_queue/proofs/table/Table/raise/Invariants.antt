@@ -3,7 +3,7 @@ use Rattle.model.specs.Layout.{Geometry as Numbers}
 use Rattle.ordering.specs.Cuts.{Pending}
 use Rattle.queue_model.specs.Entries.{Entry, Queue}
 use Rattle.chains.specs.Chains.{numbers, IsChain}
-use Rattle.softdep_queue.specs.Ties.{waiters_of}
+use Rattle.softdep_queue.specs.Ties.{node_at, waiters_of}
 use Rattle.softdep_queue.specs.Returning.{ShowsAll, AreFree}
 use Rattle.softdep_queue.proofs.Raising.{more_all}
 use Rattle.softdep_queue.proofs.table.Table.raise.Given as goal
@@ -16,6 +16,7 @@ invariant-loop-link l = record {
   chains : l.self.chains ≡ l.fn.self.chains;
   ready : l.self.ready ≡ l.fn.self.ready;
   taken : l.self.taken ≡ l.fn.self.taken;
+  flags : (i : ℕ) → (node_at l.self.nodes.items i).taken ≡ (node_at l.fn.self.nodes.items i).taken;
   shows : (geo : Numbers) (queue : Queue) (q : List Pending) (due : ℕ → Entry → ℕ) (b : ℕ) (e : Entry) → ShowsAll geo l.fn.self queue q due → Contains (queue.lists b) e → e.id ≡ l.fn.number
       → AreFree queue due l.fn.address l.fn.number → ShowsAll geo l.self queue q (more_all l.fn.address done due);
 }

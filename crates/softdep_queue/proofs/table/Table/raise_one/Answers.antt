@@ -15,7 +15,7 @@ returns-then-index-address-clause-raised c geo queue q due b f shows listed id l
     let home : c.index.result.now.home ≡ b = ap (λ (y : Node). y.home) here ∙ ap (λ i. (node_at t.nodes.items i).home) (sym id) ∙ node.home in
     let waiting : c.index_mut.result.now.waiting ≡ due b f = ap (λ (y : Node). y.waiting) written ∙ ap (λ i. (node_at t.nodes.items i).waiting) (sym id) ∙ node.waiting in
     raised geo t queue q due b f c.args.waiter shows listed id c.args.address _ (eq-eqb b c.args.address (sym home ∙ c.if-index-address.true)) (record {
-      nodes = ap₂ (λ (y : Node) n. slice_set t.nodes.items c.args.waiter (record { home = y.home; update = y.update; waiting = n + 1; waiters = y.waiters })) written waiting;
+      nodes = ap₂ (λ (y : Node) n. slice_set t.nodes.items c.args.waiter (record { home = y.home; update = y.update; waiting = n + 1; taken = y.taken; waiters = y.waiters })) written waiting;
       chains = refl;
       taken = refl;
       latest = refl;

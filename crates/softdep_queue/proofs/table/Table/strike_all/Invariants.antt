@@ -6,10 +6,10 @@ use Rattle.softdep_queue.proofs.table.Table.strike_all.Given as goal
 
 abbrev pub invariant-loop-left : goal.invariant-loop-left
 invariant-loop-left l = record {
-  held : HasReleased l.geometry l.fn.self l.address;
+  held : HasReleased l.geometry l.fn.self;
   taken : l.self.taken ≡ l.fn.self.taken;
-  struck : (queue : Queue) (q : List Pending) (es : List Entry) → IsReleased l.geometry l.fn.self queue q l.address es
-      → (done : List Entry) × (rest : List Entry) × (es ≡ done ++ rest) × (length rest ≡ l.left) × AreStruck l.geometry l.fn.self l.self queue done;
+  struck : (queue : Queue) (q : List Pending) (ws : List Entry) → IsReleased l.geometry l.fn.self queue q ws
+      → (done : List Entry) × (rest : List Entry) × (ws ≡ done ++ rest) × (length rest ≡ l.left) × AreStruck l.geometry l.fn.self l.self queue done;
 }
 
 abbrev pub decreases-loop-left : goal.decreases-loop-left
