@@ -142,7 +142,7 @@ module _ (geo : Geometry) (disk : View) (q : List Pending) (rules : ObeysRules g
             j (reach_parts geo (blocks_of (start.inode n).size) j had).0 (untouched j here had) (h ∙ ap Some of.1)
     linked_on (KeptInNew m x table up) k b p new s fresh holds size mode address low kept apart untouched =
         linked_on up m x p2 (Or new (Is x))
-        (given_on geo disk q p1 new (block_on geo disk q p new s x true []) x table (BlockBit x ∷ Block b ∷ Record n ∷ []) (Is x) (λ l a e. e)
+        (given_on geo disk q p1 new (block_on geo disk q p new s x true []) x table (BlockBit x ∷ Block b ∷ []) (Is x) (λ l a e. e)
         (no_table geo disk q p1 new (block_on geo disk q p new s x true []) x (unmarked_no_table geo start rules x kept.2.free.unmarked) (λ l at c. (fresh l x at c).1.0 refl)))
         (λ l c at n. elim n [
           | inl old ↦ ((fresh l c at old).0, (fresh l c at old).1.1)
@@ -155,7 +155,7 @@ module _ (geo : Geometry) (disk : View) (q : List Pending) (rules : ObeysRules g
         p1 = record { change = SetBlock x true; after = [] } ∷ p
 
         p2 : List Pending
-        p2 = record { change = SetBytes x table; after = BlockBit x ∷ Block b ∷ Record n ∷ [] } ∷ p1
+        p2 = record { change = SetBytes x table; after = BlockBit x ∷ Block b ∷ [] } ∷ p1
 
   -- the whole: the block is filled and linked, and the record follows
   module _ (p : List Pending) (new : ℕ → ℕ → Type 0) (s : Since geo disk q p new) (no_tables : (l c : ℕ) → IsTrue (is_table geo l) → new l c → ⊥)

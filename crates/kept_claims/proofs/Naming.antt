@@ -46,7 +46,7 @@ linked_records : (geo : Geometry) (disk : View) (n k b : ℕ) (h : Holder) (p : 
 linked_records geo disk n k b KeptInRecord p = refl
 linked_records geo disk n k b (KeptInTable m x table over) p = refl
 linked_records geo disk n k b (KeptInNew m x table up) p =
-    linked_records geo disk n m x up (record { change = SetBytes x table; after = BlockBit x ∷ Block b ∷ Record n ∷ [] } ∷ record { change = SetBlock x true; after = [] } ∷ p)
+    linked_records geo disk n m x up (record { change = SetBytes x table; after = BlockBit x ∷ Block b ∷ [] } ∷ record { change = SetBlock x true; after = [] } ∷ p)
 
 -- clearing bits leaves the records
 cleared_records : (disk : View) (n : ℕ) (blocks : List ℕ) (p : List Pending) → (users_view disk (cleared n blocks p)).inode ≡ (users_view disk p).inode

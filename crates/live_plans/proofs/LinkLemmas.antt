@@ -140,7 +140,7 @@ module _ (geo : Geometry) (v : View) (n : ℕ) (inode : Inode) where
 
   -- a new table, to which the inode then points likewise
   pub links_new : (k b m x : ℕ) (xs : List ℕ) (old mid new : Draft) (given : Inode) (cells : List Cell) → table_of geo k ≡ Some m → IsTrue (is_data_address geo b)
-      → GoesOn old mid (λ q. record { change = SetBytes x (with_pointer (replicate 1024 0) 0 b); after = BlockBit x ∷ Block b ∷ Record n ∷ [] } ∷ record { change = SetBlock x true; after = [] } ∷ q)
+      → GoesOn old mid (λ q. record { change = SetBytes x (with_pointer (replicate 1024 0) 0 b); after = BlockBit x ∷ Block b ∷ [] } ∷ record { change = SetBlock x true; after = [] } ∷ q)
       → IsLinked geo n inode m x (holder_of geo v n m x xs) mid new given cells
       → IsLinked geo n inode k b (holder_of geo v n k b (x ∷ xs)) old new given (cells ++ Block b ∷ [])
   links_new k b m x xs old mid new given cells one address starts up =

@@ -1,7 +1,7 @@
 -- A position of an inode gets a pointer to a new block.
 use Rattle.std.specs.Prelude.{◌≡◌, ℕ, List, [], ◌∷◌, Some, IsTrue}
 use Rattle.std.specs.List.{All}
-use Rattle.model.specs.Layout.{Geometry, is_data_address}
+use Rattle.model.specs.Layout.{Geometry, is_data_address, is_number}
 use Rattle.model.specs.View.{Fits, Inode}
 use Rattle.model.specs.Shape.{is_table, table_of}
 use Rattle.model.specs.Uses.{IsClaim, has_position}
@@ -15,6 +15,12 @@ use Rattle.live_states.specs.Drafts.{Draft, GoesOn}
 abbrev pub HasPointers : Kept → ℕ → Type 0
 HasPointers kept n =
     (m : ℕ) → IsTrue (is_table kept.geometry m) → IsTrue (has_position kept.geometry ((frozen_view kept).inode n) m) → (x : ℕ) × IsClaim kept.geometry (frozen_view kept) n m x
+
+-- Inode n has this record, and claims the table at position m.
+pub record HasTable (kept : Kept) (inode : Inode) (m n : ℕ) : Type 0 where
+  pub number : IsTrue (is_number kept.geometry n)
+  pub same : (frozen_view kept).inode n ≡ inode
+  pub claimed : (x : ℕ) × IsClaim kept.geometry (frozen_view kept) n m x
 
 -- The pointer of position k of inode n can be put into the record or into a table that n claims; with new tables that is so of the pointer to the last of them.
 abbrev pub CanLink : Kept → ℕ → ℕ → List ℕ → Type 0

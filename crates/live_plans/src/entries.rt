@@ -89,7 +89,7 @@ pub fn add_blocks(
 }
 
 /// The block that the inodes of this record claim at a position, as `Frozen::claim_at` has it.
-fn claim_of(frozen: &Frozen, inode: &Record, position: u32) -> Option<u32>
+pub(crate) fn claim_of(frozen: &Frozen, inode: &Record, position: u32) -> Option<u32>
     ensures { (i : ℕ) → IsTrue (is_number frozen.now.geometry i) → (frozen_view frozen.now).inode i ≡ inode.now
         → result ≡ claim_at frozen.now.geometry (frozen_view frozen.now) i position }
 {

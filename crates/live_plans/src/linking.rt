@@ -13,9 +13,10 @@ ghost use Rattle.plans_data.specs.Plans.{holder_of};
 ghost use Rattle.updates.specs.Places.{IsCell};
 ghost use Rattle.updates.specs.Values.{cell};
 ghost use Rattle.live_states.specs.Drafts.{GoesOn};
-ghost use Rattle.live_plans.specs.Linked.{CanLink, IsLinked};
+ghost use Rattle.live_plans.specs.Linked.{CanLink, HasTable, IsLinked};
 
 use crate::Plan;
+use crate::entries::claim_of;
 use frozen::Frozen;
 use inode::Record;
 use layout::{BLOCK_BYTES, Block, Geometry, u32_at};
@@ -74,7 +75,7 @@ pub fn link(
     let Some(place) = metadata.frozen().geometry().pointer_place(position) else {
         unreachable!()
     };
-    start_table(alloc, plan, number, block, table)?;
+    start_table(alloc, plan, block, table)?;
     let mut linked = link(
         alloc,
         metadata,
@@ -118,11 +119,12 @@ fn link_there(
         let record = owner.with_field(&geometry, position, block);
         return Ok(Linked { record, after });
     };
-    let Some(table) = frozen.claim_at(number, place.table) else {
+    let inode = frozen.record(number);
+    let Some(table) = claim_of(frozen, &inode, place.table) else {
         unreachable!()
     };
     let pointers = pointers_of(frozen, number, place.table, table);
-    let over = table_over(frozen, number, place.table);
+    let over = table_over(frozen, &inode, place.table);
     put_at(
         alloc,
         plan,
@@ -154,16 +156,16 @@ fn pointers_of(frozen: &Frozen, number: u32, position: u32, block: u32) -> &Bloc
     }
 }
 
-/// The table over a table of an inode, where there is one.
-fn table_over(frozen: &Frozen, number: u32, table: u32) -> Option<u32>
+/// The table over a table of the inodes of this record, which claim it, where there is one.
+fn table_over(frozen: &Frozen, inode: &Record, table: u32) -> Option<u32>
     requires inside { table < position_count frozen.now.geometry }
     requires table { (k : ℕ) × (table_of frozen.now.geometry k ≡ Some table) }
-    requires claimed { (x : ℕ) × IsClaim frozen.now.geometry (frozen_view frozen.now) number table x }
-    ensures over { option_to_list result ≡ map (block_of frozen.now.geometry (frozen_view frozen.now) number) (above frozen.now.geometry table) }
-    ensures address { IfSome result (λ a. IsTrue (is_data_address frozen.now.geometry a)) }
+    ensures over { (i : ℕ) → HasTable frozen.now inode.now table i
+        → option_to_list result ≡ map (block_of frozen.now.geometry (frozen_view frozen.now) i) (above frozen.now.geometry table) }
+    ensures address { (i : ℕ) → HasTable frozen.now inode.now table i → IfSome result (λ a. IsTrue (is_data_address frozen.now.geometry a)) }
 {
     let place = frozen.geometry().pointer_place(table)?;
-    frozen.claim_at(number, place.table)
+    claim_of(frozen, inode, place.table)
 }
 
 /// Adds the update that puts the pointer to a new block into a table of an inode, which has these pointers and this table
@@ -241,19 +243,12 @@ fn cells_of(
 }
 
 /// Adds the updates that mark a new table of an inode, and put the pointer to a new block into it.
-fn start_table(
-    alloc: Global,
-    plan: &mut Plan,
-    number: u32,
-    block: u32,
-    table: u32,
-) -> Result<(), AllocError>
-    requires number { IsTrue (is_number plan.old.geometry number) }
+fn start_table(alloc: Global, plan: &mut Plan, block: u32, table: u32) -> Result<(), AllocError>
     requires block { IsTrue (is_data_address plan.old.geometry block) }
     requires table { IsTrue (is_data_address plan.old.geometry table) }
     ensures { OnOk result (GoesOn plan.old plan.new (λ q. record {
       change = SetBytes table (with_pointer (replicate 1024 0) 0 block);
-      after = BlockBit table ∷ BlockCell block ∷ RecordCell number ∷ [];
+      after = BlockBit table ∷ BlockCell block ∷ [];
     }
         ∷ record { change = SetBlock table true; after = [] } ∷ q)) }
 {
@@ -261,11 +256,7 @@ fn start_table(
     let mut pointers = [0; BLOCK_BYTES];
     put_pointer(&mut pointers, 0, block);
     let bytes = Arc::new(alloc, pointers)?;
-    let after = vec![in alloc;
-        Cell::BlockBit(table),
-        Cell::Block(block),
-        Cell::Record(number),
-    ]?;
+    let after = vec![in alloc; Cell::BlockBit(table), Cell::Block(block)]?;
     plan.push(Change::SetBytes(table, bytes), after)
 }
 

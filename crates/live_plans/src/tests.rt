@@ -241,7 +241,7 @@ fn a_directory_grows_by_its_record(rt: HostRuntime) -> Result<(), Refusal> {
 fn add_an_indirect_block(updates: &[Update]) -> bool {
     let mut pointers = [0; BLOCK_BYTES];
     pointers[0] = 7;
-    let behind = [Cell::BlockBit(8), Cell::Block(7), Cell::Record(4)];
+    let behind = [Cell::BlockBit(8), Cell::Block(7)];
     let blocks = [Cell::Block(8), Cell::Block(7)];
     let mut after = [Cell::Block(5); 13];
     after[0] = Cell::Record(9);

@@ -81,11 +81,11 @@ pub fn aim(
     if index >= metadata.frozen().geometry().most_blocks() {
         return Err(Refusal::TooBig);
     }
-    let size = metadata.frozen().record(file).size;
-    if size / (BLOCK_BYTES as u32) < index {
+    let inode = metadata.frozen().record(file);
+    if inode.size / (BLOCK_BYTES as u32) < index {
         return Err(Refusal::BadIndex);
     }
-    let place = if index < metadata.frozen().record(file).blocks() {
+    let place = if index < inode.blocks() {
         place_over(metadata, holdings, file, index)?
     } else {
         place_behind(metadata, index)?

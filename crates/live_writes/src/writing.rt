@@ -54,11 +54,11 @@ pub fn write(
         → (other : List ℕ) × IsPlannedWith metadata.now holdings.now [] (Write h k other) Done planned.plan (with_held holdings.now planned.holds.items)) }
     ensures holds { IfOk result (λ planned. All (λ a. a < block_count metadata.now.geometry) planned.holds.items) }
 {
-    let size = metadata.frozen().record(target.file).size;
+    let owner = metadata.frozen().record(target.file);
     let end = BLOCK_BYTES as u32 * target.index + piece.len() as u32;
-    let size = if end > size { end } else { size };
+    let size = if end > owner.size { end } else { owner.size };
     let bytes = overwritten(alloc, &target.place, before, piece, spares)?;
-    let plan = updates(alloc, metadata, target, bytes, size, spares)?;
+    let plan = updates(alloc, metadata, target, &owner, bytes, size, spares)?;
     let holds = held_blocks(alloc, &target.place)?;
     Ok(Planned { plan, holds })
 }
@@ -111,15 +111,17 @@ fn overwritten_in_part(
     spares.share(alloc, &bytes)
 }
 
-/// The updates by which the block that is written gets its bytes, and the file this size.
+/// The updates by which the block that is written gets its bytes, and the file, which has this record, this size.
 fn updates(
     alloc: Global,
     metadata: &Metadata,
     target: &Target,
+    owner: &Record,
     bytes: Arc<Block>,
     size: u32,
     spares: &mut Spares,
 ) -> Result<Plan, AllocError>
+    requires owner { owner.now ≡ (frozen_view metadata.now).inode target.now.file }
     requires pointers { HasPointers metadata.now target.now.file }
     requires fits { (holdings : Held) × Fits metadata.now holdings target.now }
     ensures { IfOk result (λ plan. GoesOn (record { geometry = metadata.now.geometry; file = target.now.file; updates = [] }) plan (updates_at metadata.now target.now (arc_value bytes) size)) }
@@ -128,14 +130,13 @@ fn updates(
     match target.place {
         Place::InPlace { block } => {
             replace(alloc, &mut plan, block, bytes)?;
-            let owner = metadata.frozen().record(target.file);
             let after = vec![in alloc; Cell::Block(block)]?;
-            enlarge(&mut plan, target.file, &owner, size, after)?;
+            enlarge(&mut plan, target.file, owner, size, after)?;
         }
         Place::Behind { block, tables } => {
             fill(alloc, &mut plan, block, bytes)?;
             repoint(
-                alloc, metadata, &mut plan, target, block, tables, size, spares,
+                alloc, metadata, &mut plan, target, owner, block, tables, size, spares,
             )?;
         }
         Place::Elsewhere { block, .. } => {
@@ -145,6 +146,7 @@ fn updates(
                 metadata,
                 &mut plan,
                 target,
+                owner,
                 block,
                 Tables::none(),
                 size,
@@ -184,20 +186,22 @@ fn enlarge(
     plan.push(Change::SetInode(number, larger), after)
 }
 
-/// Adds the updates by which a file points to a new block at the position that is written, and gets this size. The pointer
-/// goes into the record, into a table that is there, or into the nearest of these new ones; the record is written only
-/// where it changes.
+/// Adds the updates by which a file with this record points to a new block at the position that is written, and gets this
+/// size. The pointer goes into the record, into a table that is there, or into the nearest of these new ones; the record is
+/// written only where it changes.
 fn repoint(
     alloc: Global,
     metadata: &Metadata,
     plan: &mut Plan,
     target: &Target,
+    owner: &Record,
     block: u32,
     tables: Tables,
     size: u32,
     spares: &mut Spares,
 ) -> Result<(), AllocError>
     requires geometry { plan.old.geometry ≡ metadata.now.geometry }
+    requires owner { owner.now ≡ (frozen_view metadata.now).inode target.now.file }
     requires sound { IsTrue (is_sound_at metadata.now.geometry (frozen_view metadata.now) target.now.file) }
     requires room { target.now.index < most_blocks metadata.now.geometry }
     requires block { IsTrue (is_data_address metadata.now.geometry block) }
@@ -206,21 +210,20 @@ fn repoint(
         (repointed metadata.now.geometry target.now.file ((frozen_view metadata.now).inode target.now.file) target.now.index block size
         (holder_at metadata.now target.now.file target.now.index block tables))) }
 {
-    let frozen = metadata.frozen();
-    let owner = frozen.record(target.file);
     let linked = link(
         alloc,
         metadata,
         plan,
         spares,
         target.file,
-        &owner,
+        owner,
         target.index,
         block,
         tables,
     )?;
-    if tables.is_empty() && frozen.geometry().pointer_place(target.index).is_some() {
-        return enlarge(plan, target.file, &owner, size, linked.after);
+    let geometry = metadata.frozen().geometry();
+    if tables.is_empty() && geometry.pointer_place(target.index).is_some() {
+        return enlarge(plan, target.file, owner, size, linked.after);
     }
     let mut changed = linked.record;
     changed.size = size;

@@ -154,7 +154,7 @@ module _ (geo : Geometry) (disk : View) (q : List Pending) (ghost : Ghost) (n : 
       bit_of_x = record { change = SetBlock x true; after = [] }
 
       abbrev cells_of_x : List Cell
-      cells_of_x = BlockBit x ∷ Block b ∷ Record n ∷ []
+      cells_of_x = BlockBit x ∷ Block b ∷ []
 
       abbrev contents_of_x : Pending
       contents_of_x = record { change = SetBytes x table; after = cells_of_x }
@@ -163,7 +163,7 @@ module _ (geo : Geometry) (disk : View) (q : List Pending) (ghost : Ghost) (n : 
       founded = contents_of_x ∷ bit_of_x ∷ p
 
       own : Contains cells_of_x (BlockBit x)
-      own = first_of (BlockBit x) (Block b ∷ Record n ∷ [])
+      own = first_of (BlockBit x) (Block b ∷ [])
 
       not_held : IsFalse (ghost.held x)
       not_held = (spare x unused.unmarked).0
@@ -199,7 +199,7 @@ module _ (geo : Geometry) (disk : View) (q : List Pending) (ghost : Ghost) (n : 
 
     -- ---- wherever it belongs
     pub further : (k b m x : ℕ) (table : List ℕ) (up : Holder) (p : List Pending) → At k b (KeptInNew m x table up) p
-        → At m x up (record { change = SetBytes x table; after = BlockBit x ∷ Block b ∷ Record n ∷ [] } ∷ record { change = SetBlock x true; after = [] } ∷ p)
+        → At m x up (record { change = SetBytes x table; after = BlockBit x ∷ Block b ∷ [] } ∷ record { change = SetBlock x true; after = [] } ∷ p)
     further k b m x table up p at =
         let unused = (at.kept.2).free in
         let unmarked = at.fresh x (first_of x (new_blocks up)) in

@@ -51,7 +51,7 @@ linked geo n k b (KeptInTable m x table over) q =
     record { change = SetBytes x (with_pointer table (place_in_table geo k) b); after = pointer_after n (place_in_table geo k) b table over } ∷ q
 linked geo n k b (KeptInNew m x table up) q =
     linked geo n m x up
-    (record { change = SetBytes x table; after = BlockBit x ∷ Block b ∷ Record n ∷ [] }
+    (record { change = SetBytes x table; after = BlockBit x ∷ Block b ∷ [] }
     ∷ record { change = SetBlock x true; after = [] } ∷ q)
 
 -- the cells that change so, the first one first

@@ -212,8 +212,8 @@ after_linked : (geo : Geometry) (disk : View) (n k b : ℕ) (h : Holder) (p : Li
 after_linked geo disk n k b KeptInRecord p c a none other h = h
 after_linked geo disk n k b (KeptInTable m x table over) p c a none other h = bytes_after disk p x (with_pointer table (place_in_table geo k) b) (pointer_after n (place_in_table geo k) b table over) c a other h
 after_linked geo disk n k b (KeptInNew m x table up) p c a none other h =
-    after_linked geo disk n m x up (record { change = SetBytes x table; after = BlockBit x ∷ Block b ∷ Record n ∷ [] } ∷ bit_set x p) c a none.1 other
-    (bytes_after disk (bit_set x p) x table (BlockBit x ∷ Block b ∷ Record n ∷ []) c a none.0 (bit_after disk p x c a h))
+    after_linked geo disk n m x up (record { change = SetBytes x table; after = BlockBit x ∷ Block b ∷ [] } ∷ bit_set x p) c a none.1 other
+    (bytes_after disk (bit_set x p) x table (BlockBit x ∷ Block b ∷ []) c a none.0 (bit_after disk p x c a h))
 
 pub after_grown : (geo : Geometry) (disk : View) (p : List Pending) (d : ℕ) (x : Inode) (b : ℕ) (holder : Holder) (c : Cell) (a : ℕ) → AreOther a b holder → IsOtherTable a holder → IsAfter disk p c (Block a)
     → IsAfter disk (grown geo d x b holder p) c (Block a)

@@ -1,5 +1,6 @@
-ghost use Rattle.std.specs.Prelude.{◌≡◌, ◌+◌, ◌-◌, ◌^◌, min};
-ghost use Rattle.device.specs.Writes.{CountsFaults, image_after, images_held};
+ghost use Rattle.std.specs.Prelude.{◌≡◌, ◌+◌, ◌-◌, ◌^◌, min, true};
+ghost use Rattle.device.specs.Cached.{held_in_memory, memory_answers, memory_in_order};
+ghost use Rattle.device.specs.Writes.{CountsFaults, image_after};
 
 use crate::expect::{holds, same};
 use device::{Byte, Device, DeviceFault, MemDevice, set_byte, set_bytes};
@@ -87,13 +88,17 @@ impl FakeDevice {
 }
 
 impl Device for FakeDevice {
+    ghost KEEPS_ORDER = { true };
+
     ghost honest = { λ _. Unit {0} };
 
     ghost image = { λ device. image_after device.memory.first device.memory.writes };
 
-    ghost held = { λ device. images_held device.memory.first device.memory.writes };
+    ghost held = { λ device. held_in_memory device.memory };
 
     ghost failures = { λ device. device.failures };
+
+    const KEEPS_ORDER: bool = true;
 
     fn blocks(&self) -> u32 {
         self.memory.blocks()
@@ -119,8 +124,15 @@ impl Device for FakeDevice {
     }
 
     fn sync(&mut self) -> Result<(), DeviceFault> {
-        Ok(())
+        match self.memory.sync() {
+            Ok(()) => Ok(()),
+            Err(_) => Err(self.fault()),
+        }
     }
+
+    ghost answers = { λ device. memory_answers device.memory };
+
+    ghost in_order = { λ _ device. memory_in_order device.memory };
 }
 
 /// A device in memory with a fresh image of so many groups, each of 16 blocks and 16 inodes.

@@ -1,5 +1,5 @@
 -- The table that holds the pointer is claimed, and gets it.
-use Rattle.std.specs.Prelude.{option_to_list}
+use Rattle.std.specs.Prelude.{IfSome, option_to_list}
 use Rattle.std.proofs.Common.{◌≡◌, ◌∷◌, ℕ, sym, ap, ◌∙◌, subst, map, IsTrue, List, [], ◌++◌, None}
 use Rattle.std.proofs.lemmas.Bool.{le-leb}
 use Rattle.std.proofs.lemmas.Option.{none-some}
@@ -15,15 +15,17 @@ use Rattle.updates.specs.declared.cell.Cell.{Cell}
 use Rattle.updates.specs.declared.cell.Cell.TheVariants as cells
 use Rattle.updates.specs.Values.{cell}
 use Rattle.live_states.specs.Drafts.{GoesOn}
+use Rattle.live_plans.specs.Linked.{HasTable}
 use Rattle.live_plans.proofs.LinkLemmas.{links_record, links_table}
 use Rattle.live_plans.proofs.linking.link_there.Goals as goal
 
 pub unreachable-requires : goal.unreachable-requires
 unreachable-requires c =
     let kept = c.args.frozen.now in
+    let claims = c.claim_of.ensures c.args.number c.requires.number (sym c.record-inode.ensures) in
     let one = sym (ap (λ (g : Geometry). table_of g c.args.position) c.geometry-geometry.ensures.geometry) ∙ sym c.in-Some.ensures.table in
     let claim = c.requires.tables c.in-Some.place.table one in
-    none-some claim.0 (sym c.in_default-claim_at.is ∙ c.claim_at.ensures ∙ claim_from kept.geometry (frozen_view kept) c.args.number c.in-Some.place.table claim.0 claim.1)
+    none-some claim.0 (sym c.in_default-claim_of.is ∙ claims ∙ claim_from kept.geometry (frozen_view kept) c.args.number c.in-Some.place.table claim.0 claim.1)
 
 pub pointers_of-pointers-requires-clause-table : goal.pointers_of-pointers-requires-clause-table
 pointers_of-pointers-requires-clause-table c =
@@ -34,13 +36,24 @@ pointers_of-pointers-requires-clause-table c =
 pub pointers_of-pointers-requires-clause-claim : goal.pointers_of-pointers-requires-clause-claim
 pointers_of-pointers-requires-clause-claim c =
     let kept = c.args.frozen.now in
-    claim_parts kept.geometry (frozen_view kept) c.args.number c.in-Some.place.table c.in-Some-claim_at.table (sym c.claim_at.ensures ∙ c.in-Some-claim_at.is)
+    let claims = c.claim_of.ensures c.args.number c.requires.number (sym c.record-inode.ensures) in
+    claim_parts kept.geometry (frozen_view kept) c.args.number c.in-Some.place.table c.in-Some-claim_of.table (sym claims ∙ c.in-Some-claim_of.is)
 
 pub put_at-requires-clause-table : goal.put_at-requires-clause-table
 put_at-requires-clause-table c =
     let kept = c.args.frozen.now in
-    subst (λ (g : Geometry). IsTrue (is_data_address g c.in-Some-claim_at.table)) (sym c.requires.geometry)
-    (claim_parts kept.geometry (frozen_view kept) c.args.number c.in-Some.place.table c.in-Some-claim_at.table (sym c.claim_at.ensures ∙ c.in-Some-claim_at.is)).1
+    let claims = c.claim_of.ensures c.args.number c.requires.number (sym c.record-inode.ensures) in
+    subst (λ (g : Geometry). IsTrue (is_data_address g c.in-Some-claim_of.table)) (sym c.requires.geometry)
+    (claim_parts kept.geometry (frozen_view kept) c.args.number c.in-Some.place.table c.in-Some-claim_of.table (sym claims ∙ c.in-Some-claim_of.is)).1
+
+pub put_at-requires-clause-over : goal.put_at-requires-clause-over
+put_at-requires-clause-over c =
+    let kept = c.args.frozen.now in
+    let claims = c.claim_of.ensures c.args.number c.requires.number (sym c.record-inode.ensures) in
+    let x = c.in-Some-claim_of.table in
+    let claim = claim_parts kept.geometry (frozen_view kept) c.args.number c.in-Some.place.table x (sym claims ∙ c.in-Some-claim_of.is) in
+    subst (λ (g : Geometry). IfSome c.table_over-over.result (λ a. IsTrue (is_data_address g a))) (sym c.requires.geometry)
+    (c.table_over-over.ensures.address c.args.number (record { number = c.requires.number; same = sym c.record-inode.ensures; claimed = (x, claim) }))
 
 -- the record holds the pointer
 pub returns-in_default-clause-links : goal.returns-in_default-clause-links
@@ -56,15 +69,17 @@ returns-in_default-clause-links c =
 pub returns-clause-links : goal.returns-clause-links
 returns-clause-links c =
     let kept = c.args.frozen.now in
+    let claims = c.claim_of.ensures c.args.number c.requires.number (sym c.record-inode.ensures) in
     let k = c.args.position in
     let b = c.args.block in
-    let x = c.in-Some-claim_at.table in
+    let x = c.in-Some-claim_of.table in
     let over = c.table_over-over.result in
     let pointers = c.pointers_of-pointers.result.now in
     let one = sym (ap (λ (g : Geometry). table_of g k) c.geometry-geometry.ensures.geometry) ∙ sym c.in-Some.ensures.table in
+    let claim = claim_parts kept.geometry (frozen_view kept) c.args.number c.in-Some.place.table x (sym claims ∙ c.in-Some-claim_of.is) in
+    let has : HasTable kept c.record-inode.result c.in-Some.place.table c.args.number = record { number = c.requires.number; same = sym c.record-inode.ensures; claimed = (x, claim) } in
     let place : c.in-Some.place.place ≡ place_in_table kept.geometry k = c.in-Some.ensures.place ∙ ap (λ (g : Geometry). place_in_table g k) c.geometry-geometry.ensures.geometry in
     links_table kept.geometry (frozen_view kept) c.args.number c.args.owner.now k b c.in-Some.place.table x pointers over c.args.plan.now c.put_at.new.plan (map cell c.in_ok-after.after.items) one
-    (claim_parts kept.geometry (frozen_view kept) c.args.number c.in-Some.place.table x (sym c.claim_at.ensures ∙ c.in-Some-claim_at.is))
-    c.pointers_of-pointers.ensures c.table_over-over.ensures.over c.table_over-over.ensures.address c.requires.block
+    claim c.pointers_of-pointers.ensures (c.table_over-over.ensures.over c.args.number has) (c.table_over-over.ensures.address c.args.number has) c.requires.block
     (subst (λ (p : ℕ). GoesOn c.args.plan.now c.put_at.new.plan (λ q. record { change = SetBytes x (with_pointer pointers p b); after = pointer_after c.args.number p b pointers (option_to_list over) } ∷ q)) place c.in_ok-put_at.ensures)
     c.in_ok-after.ensures

@@ -36,34 +36,28 @@ returns-then-index-most_blocks-clause-refused c =
     position_refused c.args.metadata.now c.args.holdings.now c.args.handle c.args.index c.args.piece.now c.in-Some.file (sym c.file_of.ensures ∙ c.in-Some.is)
     (good_if c.args.piece.now some c.if-piece-gt-BLOCK_BYTES.false) past
 
-pub record-requires : goal.record-requires
-record-requires c =
+pub record-inode-requires : goal.record-inode-requires
+record-inode-requires c =
     let kept = c.args.metadata.now in
     let sound = opened_sound kept c.args.holdings.now c.requires.volume c.args.handle c.in-Some.file (sym c.file_of.ensures ∙ c.in-Some.is) in
     subst (λ (f : Kept). IsTrue (is_number f.geometry c.in-Some.file)) (sym c.frozen-2.ensures.same) (numbered kept c.requires.volume.volume c.in-Some.file sound)
 
-pub record-requires-2 : goal.record-requires-2
-record-requires-2 c =
-    let kept = c.args.metadata.now in
-    let sound = opened_sound kept c.args.holdings.now c.requires.volume c.args.handle c.in-Some.file (sym c.file_of.ensures ∙ c.in-Some.is) in
-    subst (λ (f : Kept). IsTrue (is_number f.geometry c.in-Some.file)) (sym c.frozen-3.ensures.same) (numbered kept c.requires.volume.volume c.in-Some.file sound)
-
-pub returns-then-size-index-clause-refused : goal.returns-then-size-index-clause-refused
-returns-then-size-index-clause-refused c =
+pub returns-then-inode-index-clause-refused : goal.returns-then-inode-index-clause-refused
+returns-then-inode-index-clause-refused c =
     let kept = c.args.metadata.now in
     let low = subst (λ n. c.args.index < n) (limit c.most_blocks.ensures.count c.geometry.ensures.geometry c.frozen.ensures.same) c.if-index-most_blocks.false in
     let some : 1 ≤ length c.args.piece.now = some_from (length c.args.piece.now) c.is_empty.result c.is_empty.ensures c.if-is_empty.false in
-    let same = c.size.view_is ∙ c.record.ensures ∙ ap (λ (f : Kept). (frozen_view f).inode c.in-Some.file) c.frozen-2.ensures.same in
+    let same = c.record-inode.ensures ∙ ap (λ (f : Kept). (frozen_view f).inode c.in-Some.file) c.frozen-2.ensures.same in
     index_refused kept c.args.holdings.now c.args.handle c.args.index c.args.piece.now c.in-Some.file (sym c.file_of.ensures ∙ c.in-Some.is)
     (good_if c.args.piece.now some c.if-piece-gt-BLOCK_BYTES.false) low
-    (subst (λ (n : Inode). n.size / 1024 < c.args.index) same c.if-size-index.true)
+    (subst (λ (n : Inode). n.size / 1024 < c.args.index) (c.inode.view_is ∙ same) c.if-inode-index.true)
 
 pub place_over-requires-clause-claimed : goal.place_over-requires-clause-claimed
 place_over-requires-clause-claimed c =
     let kept = c.args.metadata.now in
     let i = c.in-Some.file in
     let sound = opened_sound kept c.args.holdings.now c.requires.volume c.args.handle i (sym c.file_of.ensures ∙ c.in-Some.is) in
-    let same = c.record-2.ensures ∙ ap (λ (f : Kept). (frozen_view f).inode i) c.frozen-3.ensures.same in
+    let same = c.record-inode.ensures ∙ ap (λ (f : Kept). (frozen_view f).inode i) c.frozen-2.ensures.same in
     claimed kept c.requires.volume.volume i sound c.frozen.ensures.metadata c.args.index
     (subst (λ (n : Inode). c.args.index < blocks_of n.size) same (subst (λ n. c.args.index < n) c.blocks-2.ensures c.if-index-blocks.true))
 
@@ -72,12 +66,12 @@ returns-in_err-place-clause-refused c =
     let kept = c.args.metadata.now in
     let low = subst (λ n. c.args.index < n) (limit c.most_blocks.ensures.count c.geometry.ensures.geometry c.frozen.ensures.same) c.if-index-most_blocks.false in
     let some : 1 ≤ length c.args.piece.now = some_from (length c.args.piece.now) c.is_empty.result c.is_empty.ensures c.if-is_empty.false in
-    let same = c.size.view_is ∙ c.record.ensures ∙ ap (λ (f : Kept). (frozen_view f).inode c.in-Some.file) c.frozen-2.ensures.same in
+    let same = c.record-inode.ensures ∙ ap (λ (f : Kept). (frozen_view f).inode c.in-Some.file) c.frozen-2.ensures.same in
     let p = err_from_is_err_and c.from_residual.result c.from_residual.ensures.1 in
     rw (p.1, p.2)
     (room_refused kept c.args.holdings.now c.args.handle c.args.index c.args.piece.now c.in-Some.file (sym c.file_of.ensures ∙ c.in-Some.is)
     (good_if c.args.piece.now some c.if-piece-gt-BLOCK_BYTES.false) low
-    (subst (λ (n : Inode). c.args.index ≤ n.size / 1024) same c.if-size-index.false) c.frozen.ensures.metadata
+    (subst (λ (n : Inode). c.args.index ≤ n.size / 1024) (c.inode.view_is ∙ same) c.if-inode-index.false) c.frozen.ensures.metadata
     c.in_err-place.field-0.0 c.in_err-place.ensures.refused.0 c.in_err-place.ensures.refused.1)
 
 pub returns-in_err-place-2-clause-refused : goal.returns-in_err-place-2-clause-refused
@@ -86,10 +80,9 @@ returns-in_err-place-2-clause-refused c =
     let low = subst (λ n. c.args.index < n) (limit c.most_blocks.ensures.count c.geometry.ensures.geometry c.frozen.ensures.same) c.if-index-most_blocks.false in
     let i = c.in-Some.file in
     let some : 1 ≤ length c.args.piece.now = some_from (length c.args.piece.now) c.is_empty.result c.is_empty.ensures c.if-is_empty.false in
-    let same = c.size.view_is ∙ c.record.ensures ∙ ap (λ (f : Kept). (frozen_view f).inode i) c.frozen-2.ensures.same in
-    let same_record = c.record-2.ensures ∙ ap (λ (f : Kept). (frozen_view f).inode i) c.frozen-3.ensures.same in
-    let near = subst (λ (n : Inode). c.args.index ≤ n.size / 1024) same c.if-size-index.false in
-    let past = subst (λ (n : Inode). blocks_of n.size ≤ c.args.index) same_record (subst (λ n. n ≤ c.args.index) c.blocks-2.ensures c.if-index-blocks.false) in
+    let same = c.record-inode.ensures ∙ ap (λ (f : Kept). (frozen_view f).inode i) c.frozen-2.ensures.same in
+    let near = subst (λ (n : Inode). c.args.index ≤ n.size / 1024) (c.inode.view_is ∙ same) c.if-inode-index.false in
+    let past = subst (λ (n : Inode). blocks_of n.size ≤ c.args.index) same (subst (λ n. n ≤ c.args.index) c.blocks-2.ensures c.if-index-blocks.false) in
     let next = next_is ((frozen_view kept).inode i).size c.args.index near past in
     let p = err_from_is_err_and c.from_residual-in_err-place-2.result c.from_residual-in_err-place-2.ensures.1 in
     rw (p.1, p.2)
@@ -108,13 +101,12 @@ returns-clause-aimed c =
     let holdings = c.args.holdings.now in
     let i = c.in-Some.file in
     let low = subst (λ n. c.args.index < n) (limit c.most_blocks.ensures.count c.geometry.ensures.geometry c.frozen.ensures.same) c.if-index-most_blocks.false in
-    let same = c.size.view_is ∙ c.record.ensures ∙ ap (λ (f : Kept). (frozen_view f).inode i) c.frozen-2.ensures.same in
-    let same_record = c.record-2.ensures ∙ ap (λ (f : Kept). (frozen_view f).inode i) c.frozen-3.ensures.same in
-    let near = subst (λ (n : Inode). c.args.index ≤ n.size / 1024) same c.if-size-index.false in
+    let same = c.record-inode.ensures ∙ ap (λ (f : Kept). (frozen_view f).inode i) c.frozen-2.ensures.same in
+    let near = subst (λ (n : Inode). c.args.index ≤ n.size / 1024) (c.inode.view_is ∙ same) c.if-inode-index.false in
     let placed : IsPlaced kept holdings i c.args.index c.if-index-blocks.place × (blocks_needed kept holdings i c.args.index ≤ unmarked_blocks kept.geometry (frozen_view kept)) = elim c.if-index-blocks.branch [
       | then-index-blocks+in_ok-place w ↦ rw (w.place-is) (w.in_ok-place.ensures.placed, w.in_ok-place.ensures.enough)
       | else-index-blocks+in_ok-place-2 w ↦
-          let past = subst (λ (n : Inode). blocks_of n.size ≤ c.args.index) same_record (subst (λ n. n ≤ c.args.index) c.blocks-2.ensures w.if-index-blocks.false) in
+          let past = subst (λ (n : Inode). blocks_of n.size ≤ c.args.index) same (subst (λ n. n ≤ c.args.index) c.blocks-2.ensures w.if-index-blocks.false) in
           let next = next_is ((frozen_view kept).inode i).size c.args.index near past in
           rw (w.place-is) (w.in_ok-place-2.ensures.placed holdings i next, omega (arith, w.in_ok-place-2.ensures.enough, behind_needed kept holdings i c.args.index next))
     ] in
@@ -137,12 +129,11 @@ returns-clause-seen c =
     let kept = c.args.metadata.now in
     let holdings = c.args.holdings.now in
     let i = c.in-Some.file in
-    let same = c.size.view_is ∙ c.record.ensures ∙ ap (λ (f : Kept). (frozen_view f).inode i) c.frozen-2.ensures.same in
-    let same_record = c.record-2.ensures ∙ ap (λ (f : Kept). (frozen_view f).inode i) c.frozen-3.ensures.same in
-    let near = subst (λ (n : Inode). c.args.index ≤ n.size / 1024) same c.if-size-index.false in
+    let same = c.record-inode.ensures ∙ ap (λ (f : Kept). (frozen_view f).inode i) c.frozen-2.ensures.same in
+    let near = subst (λ (n : Inode). c.args.index ≤ n.size / 1024) (c.inode.view_is ∙ same) c.if-inode-index.false in
     elim c.if-index-blocks.branch [
       | then-index-blocks+in_ok-place w ↦ rw (w.place-is) (placed_seen kept holdings i c.args.index w.in_ok-place.place w.in_ok-place.ensures.placed)
       | else-index-blocks+in_ok-place-2 w ↦
-          let past = subst (λ (n : Inode). blocks_of n.size ≤ c.args.index) same_record (subst (λ n. n ≤ c.args.index) c.blocks-2.ensures w.if-index-blocks.false) in
+          let past = subst (λ (n : Inode). blocks_of n.size ≤ c.args.index) same (subst (λ n. n ≤ c.args.index) c.blocks-2.ensures w.if-index-blocks.false) in
           rw (w.place-is) (placed_seen kept holdings i c.args.index w.in_ok-place-2.place (w.in_ok-place-2.ensures.placed holdings i (next_is ((frozen_view kept).inode i).size c.args.index near past)))
     ]

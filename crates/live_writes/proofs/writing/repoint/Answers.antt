@@ -28,22 +28,22 @@ link-requires-clause-position c = omega (arith, c.requires.room, some_table c.ar
 
 pub pointer_place-requires : goal.pointer_place-requires
 pointer_place-requires c =
-    let here = ap position_count (c.geometry.ensures.geometry ∙ ap (λ (f : Kept). f.geometry) c.frozen-frozen.ensures.same) in
+    let here = ap position_count (c.geometry-geometry.ensures.geometry ∙ ap (λ (f : Kept). f.geometry) c.frozen.ensures.same) in
     omega (arith, c.requires.room, some_table c.args.metadata.now.geometry, here)
 
 -- the record that is kept fits, and with the pointer too
 pub enlarge-requires-clause-fits : goal.enlarge-requires-clause-fits
 enlarge-requires-clause-fits c =
     let i = c.args.target.now.file in
-    written_fits c.args.metadata.now c.link.new.plan.geometry i c.record-owner.result c.record-owner.result (c.in_ok-linked.ensures.geometry ∙ c.requires.geometry)
-    (c.record-owner.ensures ∙ ap (λ (f : Kept). (frozen_view f).inode i) c.frozen-frozen.ensures.same) refl
+    written_fits c.args.metadata.now c.link.new.plan.geometry i c.args.owner.now c.args.owner.now (c.in_ok-linked.ensures.geometry ∙ c.requires.geometry)
+    c.requires.owner refl
 
 pub push-requires-clause-fits : goal.push-requires-clause-fits
 push-requires-clause-fits c =
     let kept = c.args.metadata.now in
     let i = c.args.target.now.file in
-    let same = c.record-owner.ensures ∙ ap (λ (f : Kept). (frozen_view f).inode i) c.frozen-frozen.ensures.same in
-    let owner : Fits kept.geometry.version c.record-owner.result = subst (Fits kept.geometry.version) (sym same) (record_fits kept.geometry (kept_bytes kept.blocks) i) in
+    let same = c.requires.owner in
+    let owner : Fits kept.geometry.version c.args.owner.now = subst (Fits kept.geometry.version) (sym same) (record_fits kept.geometry (kept_bytes kept.blocks) i) in
     let before : Inode = record { mode = c.changed.inside.mode; links = c.changed.inside.links; size = c.changed.inside.size; direct = c.changed.inside.direct; indirect = c.changed.inside.indirect; double = c.changed.inside.double } in
     let given : Inode = record before { size = c.args.size } in
     let fits : Fits kept.geometry.version given = λ one. ap (λ (n : Inode). n.double) c.changed.view_is ∙ c.in_ok-linked.ensures.links.record_fits owner one in
@@ -64,13 +64,13 @@ returns-then-is_some c =
     let k = c.args.target.now.index in
     let b = c.args.block in
     let tables = c.args.tables in
-    let same = c.record-owner.ensures ∙ ap (λ (f : Kept). (frozen_view f).inode i) c.frozen-frozen.ensures.same in
+    let same = c.requires.owner in
     let one : is_some (table_of kept.geometry k) ≡ true =
-    sym (ap (λ (g : Geometry). is_some (table_of g k)) (c.geometry.ensures.geometry ∙ ap (λ (f : Kept). f.geometry) c.frozen-frozen.ensures.same))
+    sym (ap (λ (g : Geometry). is_some (table_of g k)) (c.geometry-geometry.ensures.geometry ∙ ap (λ (f : Kept). f.geometry) c.frozen.ensures.same))
     ∙ ap is_some (sym c.pointer_place.ensures.table) ∙ mapped c.pointer_place.result ∙ sym c.is_some.ensures ∙ c.if-is_some.true in
     let none : not (eqb (length tables) 0) ≡ false = ap not (sym c.is_empty.ensures ∙ c.if-is_empty.true) in
     on_ok_weaker c.enlarge.result
-    (λ sets. in_table kept.geometry i ((frozen_view kept).inode i) k b c.args.size c.args.plan.now c.link.new.plan c.enlarge.new.plan (holder_at kept i k b tables) c.in_ok-linked.linked.record c.record-owner.result
+    (λ sets. in_table kept.geometry i ((frozen_view kept).inode i) k b c.args.size c.args.plan.now c.link.new.plan c.enlarge.new.plan (holder_at kept i k b tables) c.in_ok-linked.linked.record c.args.owner.now
     (map cell c.in_ok-linked.linked.after.items) (which_record kept i k b tables c.requires.tables ∙ ap₂ (λ s t. s || not t) none one) same c.in_ok-linked.ensures.links sets)
     c.enlarge.ensures
 
@@ -81,7 +81,7 @@ returns c =
     let k = c.args.target.now.index in
     let b = c.args.block in
     let tables = c.args.tables in
-    let same = c.record-owner.ensures ∙ ap (λ (f : Kept). (frozen_view f).inode i) c.frozen-frozen.ensures.same in
+    let same = c.requires.owner in
     let before : Inode = record { mode = c.changed.inside.mode; links = c.changed.inside.links; size = c.changed.inside.size; direct = c.changed.inside.direct; indirect = c.changed.inside.indirect; double = c.changed.inside.double } in
     let given : Inode = record before { size = c.args.size } in
     let sized_so = ap (λ (n : Inode). record n { size = c.args.size }) c.changed.view_is in
@@ -89,7 +89,7 @@ returns c =
       | else-is_empty-via-then-is_empty+else-is_some w ↦
           let none : not (eqb (length tables) 0) ≡ false = ap not (sym c.is_empty.ensures ∙ w.if-is_empty.true) in
           let nowhere : is_some (table_of kept.geometry k) ≡ false =
-          sym (ap (λ (g : Geometry). is_some (table_of g k)) (w.geometry.ensures.geometry ∙ ap (λ (f : Kept). f.geometry) c.frozen-frozen.ensures.same))
+          sym (ap (λ (g : Geometry). is_some (table_of g k)) (c.geometry-geometry.ensures.geometry ∙ ap (λ (f : Kept). f.geometry) c.frozen.ensures.same))
           ∙ ap is_some (sym w.pointer_place.ensures.table) ∙ mapped w.pointer_place.result ∙ sym w.is_some.ensures ∙ w.if-is_some.false in
           which_record kept i k b tables c.requires.tables ∙ ap₂ (λ s t. s || not t) none nowhere
       | else-is_empty-via-else-is_empty w ↦
@@ -97,6 +97,6 @@ returns c =
           which_record kept i k b tables c.requires.tables ∙ ap (λ s. s || not (is_some (table_of kept.geometry k))) some
     ] in
     on_ok_weaker c.push.result
-    (λ sets. in_record kept.geometry i ((frozen_view kept).inode i) k b c.args.size c.args.plan.now c.link.new.plan c.push.new.self (holder_at kept i k b tables) c.in_ok-linked.linked.record given c.record-owner.result
+    (λ sets. in_record kept.geometry i ((frozen_view kept).inode i) k b c.args.size c.args.plan.now c.link.new.plan c.push.new.self (holder_at kept i k b tables) c.in_ok-linked.linked.record given c.args.owner.now
     (map cell c.in_ok-linked.linked.after.items) of_record same c.in_ok-linked.ensures.links sized_so sets)
     c.push.ensures

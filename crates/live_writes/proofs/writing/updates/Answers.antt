@@ -29,9 +29,9 @@ pub enlarge-requires-clause-fits : goal.enlarge-requires-clause-fits
 enlarge-requires-clause-fits c =
     let kept = c.args.metadata.now in
     let i = c.args.target.now.file in
-    written_fits kept c.replace.new.plan.geometry i c.record-owner.result c.record-owner.result
+    written_fits kept c.replace.new.plan.geometry i c.args.owner.now c.args.owner.now
     (c.in_ok-replace-in-InPlace.ensures.geometry ∙ ap (λ (d : Draft). d.geometry) c.new-plan.ensures ∙ c.geometry.ensures.geometry ∙ ap (λ (f : Kept). f.geometry) c.frozen.ensures.same)
-    (c.record-owner.ensures ∙ ap (λ (f : Kept). (frozen_view f).inode i) c.frozen-in-InPlace.ensures.same) refl
+    c.requires.owner refl
 
 pub enlarge-requires-clause-after : goal.enlarge-requires-clause-after
 enlarge-requires-clause-after c =
@@ -72,10 +72,9 @@ returns c =
     subst (λ (d : Draft). GoesOn d c.match-target.plan (updates_at kept target bytes size)) begun
     (elim c.match-target.branch [
       | in-InPlace+in_ok-replace-in-InPlace+in_ok-after-in-InPlace+in_ok-enlarge-in-InPlace w ↦
-          let same = w.record-owner.ensures ∙ ap (λ (f : Kept). (frozen_view f).inode target.file) w.frozen-in-InPlace.ensures.same in
           subst (λ (d : Draft). GoesOn c.new-plan.result d (updates_at kept target bytes size)) (sym w.plan-is)
-          (goes_in_place kept target bytes size c.new-plan.result w.replace.new.plan w.enlarge.new.plan w.in-InPlace.block w.record-owner.result (map cell w.in_ok-after-in-InPlace.after.items) w.in-InPlace.is
-          same (ap (map cell) w.in_ok-after-in-InPlace.ensures.items) w.in_ok-replace-in-InPlace.ensures w.in_ok-enlarge-in-InPlace.ensures)
+          (goes_in_place kept target bytes size c.new-plan.result w.replace.new.plan w.enlarge.new.plan w.in-InPlace.block c.args.owner.now (map cell w.in_ok-after-in-InPlace.after.items) w.in-InPlace.is
+          c.requires.owner (ap (map cell) w.in_ok-after-in-InPlace.ensures.items) w.in_ok-replace-in-InPlace.ensures w.in_ok-enlarge-in-InPlace.ensures)
       | in-Behind+in_ok-fill-in-Behind+in_ok-repoint-in-Behind w ↦
           subst (λ (d : Draft). GoesOn c.new-plan.result d (updates_at kept target bytes size)) (sym w.plan-is)
           (goes_behind kept target bytes size c.new-plan.result w.fill.new.plan w.repoint.new.plan w.in-Behind.block w.in-Behind.tables w.in-Behind.is w.in_ok-fill-in-Behind.ensures w.in_ok-repoint-in-Behind.ensures)

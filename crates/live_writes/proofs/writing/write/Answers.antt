@@ -10,7 +10,7 @@ use Rattle.live_states.specs.Drafts.{GoesOn}
 use Rattle.live_plans.proofs.GrowLemmas.{volume_claims}
 use Rattle.live_writes.specs.Written.{grown_size, updates_at}
 use Rattle.live_writes.proofs.Sights.{held_below, planned, planned_anyhow, size_from, size_stays}
-use Rattle.live_writes.proofs.writing.write.Goals.{then-end-size, else-end-size}
+use Rattle.live_writes.proofs.writing.write.Goals.{then-end-owner, else-end-owner}
 use Rattle.live_writes.proofs.writing.write.Goals as goal
 
 pub returns-clause-planned : goal.returns-clause-planned
@@ -18,10 +18,10 @@ returns-clause-planned c = λ h k aimed.
     let kept = c.args.metadata.now in
     let target = c.args.target.now in
     let piece = c.args.piece.now in
-    let same = c.size.view_is ∙ c.record.ensures ∙ ap (λ (f : Kept). (frozen_view f).inode target.file) c.frozen.ensures.same in
-    let size : c.if-end-size.size ≡ grown_size kept target.file target.index piece = elim c.if-end-size.branch [
-      | then-end-size w ↦ w.size-is ∙ size_from kept target.file target.index piece c.size.inside.size (1024 * target.index + length piece) (ap (λ (n : Inode). n.size) same) refl w.if-end-size.true
-      | else-end-size w ↦ w.size-is ∙ size_stays kept target.file target.index piece c.size.inside.size (1024 * target.index + length piece) (ap (λ (n : Inode). n.size) same) refl w.if-end-size.false
+    let same = c.owner.view_is ∙ c.record-owner.ensures ∙ ap (λ (f : Kept). (frozen_view f).inode target.file) c.frozen.ensures.same in
+    let size : c.if-end-owner.size ≡ grown_size kept target.file target.index piece = elim c.if-end-owner.branch [
+      | then-end-owner w ↦ w.size-is ∙ size_from kept target.file target.index piece c.owner.inside.size (1024 * target.index + length piece) (ap (λ (n : Inode). n.size) same) refl w.if-end-owner.true
+      | else-end-owner w ↦ w.size-is ∙ size_stays kept target.file target.index piece c.owner.inside.size (1024 * target.index + length piece) (ap (λ (n : Inode). n.size) same) refl w.if-end-owner.false
     ] in
     planned kept c.args.holdings.now c.frozen.ensures.metadata c.requires.volume c.requires.wide h k piece (arc_value c.in_ok-bytes.bytes) target aimed c.in_ok-plan.plan
     (subst (λ s. GoesOn (record { geometry = kept.geometry; file = target.file; updates = [] }) c.in_ok-plan.plan (updates_at kept target (arc_value c.in_ok-bytes.bytes) s)) (size ∙ ap (λ j. grown_size kept target.file j piece) aimed.index) c.in_ok-plan.ensures)
@@ -32,10 +32,10 @@ returns-clause-planned_anyhow c = λ h k aimed.
     let kept = c.args.metadata.now in
     let target = c.args.target.now in
     let piece = c.args.piece.now in
-    let same = c.size.view_is ∙ c.record.ensures ∙ ap (λ (f : Kept). (frozen_view f).inode target.file) c.frozen.ensures.same in
-    let size : c.if-end-size.size ≡ grown_size kept target.file target.index piece = elim c.if-end-size.branch [
-      | then-end-size w ↦ w.size-is ∙ size_from kept target.file target.index piece c.size.inside.size (1024 * target.index + length piece) (ap (λ (n : Inode). n.size) same) refl w.if-end-size.true
-      | else-end-size w ↦ w.size-is ∙ size_stays kept target.file target.index piece c.size.inside.size (1024 * target.index + length piece) (ap (λ (n : Inode). n.size) same) refl w.if-end-size.false
+    let same = c.owner.view_is ∙ c.record-owner.ensures ∙ ap (λ (f : Kept). (frozen_view f).inode target.file) c.frozen.ensures.same in
+    let size : c.if-end-owner.size ≡ grown_size kept target.file target.index piece = elim c.if-end-owner.branch [
+      | then-end-owner w ↦ w.size-is ∙ size_from kept target.file target.index piece c.owner.inside.size (1024 * target.index + length piece) (ap (λ (n : Inode). n.size) same) refl w.if-end-owner.true
+      | else-end-owner w ↦ w.size-is ∙ size_stays kept target.file target.index piece c.owner.inside.size (1024 * target.index + length piece) (ap (λ (n : Inode). n.size) same) refl w.if-end-owner.false
     ] in
     planned_anyhow kept c.args.holdings.now c.frozen.ensures.metadata c.requires.volume c.requires.wide h k piece (arc_value c.in_ok-bytes.bytes) target aimed c.in_ok-plan.plan
     (subst (λ s. GoesOn (record { geometry = kept.geometry; file = target.file; updates = [] }) c.in_ok-plan.plan (updates_at kept target (arc_value c.in_ok-bytes.bytes) s)) (size ∙ ap (λ j. grown_size kept target.file j piece) aimed.index) c.in_ok-plan.ensures)
