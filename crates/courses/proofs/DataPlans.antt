@@ -97,9 +97,9 @@ module _ (geo : Geometry) (disk : View) (q : List Pending) (rules : ObeysRules g
           }
       link_fits k b (KeptInNew m x table up) p at ws here f =
           let before : List Pending = record { change = SetBlock x true; after = [] } ∷ p in
-          let founded : List Pending = record { change = SetBytes x table; after = BlockBit x ∷ Block b ∷ Record n ∷ [] } ∷ before in
+          let founded : List Pending = record { change = SetBytes x table; after = BlockBit x ∷ Block b ∷ [] } ∷ before in
           let rest = link_fits m x up founded (further geo disk q ghost n whole.geometry whole.blocks rules spare k b m x table up p at) (x ∷ ws) (first_of x ws)
-          (bytes_fits geo disk n q x table (BlockBit x ∷ Block b ∷ Record n ∷ []) before ws (unmarked_no_files geo start rules x ((at.kept).2).free.unmarked) (bit_fits geo disk n q x true [] p ws f)) in
+          (bytes_fits geo disk n q x table (BlockBit x ∷ Block b ∷ []) before ws (unmarked_no_files geo start rules x ((at.kept).2).free.unmarked) (bit_fits geo disk n q x true [] p ws f)) in
           record {
             calm = rest.calm;
             written = rest.written;

@@ -15,7 +15,7 @@ mod AcceptedPlans
 mod AcceptedWrites
 mod SafeModes
 mod Doing
-mod Serving
+pub mod Serving
 pub mod ServiceLemmas
 pub mod Leaving
 mod OwnBytes

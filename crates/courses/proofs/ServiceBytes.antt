@@ -1,13 +1,11 @@
 -- A service shows in the blocks of files what users asked for.
-use Rattle.std.proofs.Common.{◌≡◌, ℕ, Bool, List, [], ◌∷◌, ◌++◌, ◌⊎◌, inl, inr, refl, sym, ◌∙◌, subst, slice_index}
+use Rattle.std.proofs.Common.{◌≡◌, ℕ, Bool, List, [], ◌∷◌, ◌++◌, ◌⊎◌, inl, inr, refl, sym, subst, slice_index, reverse}
 use Rattle.model.specs.Layout.{Geometry}
 use Rattle.model.specs.View.{View}
-use Rattle.ordering.specs.Cuts.{Cell, Pending, seen, rest}
+use Rattle.ordering.specs.Cuts.{IsClosed, Cell, Pending, seen, rest}
 use Rattle.queue_model.specs.Blocks.{home_of}
 use Rattle.queue_model.specs.Files.{Written, generation, shown, IsFileBlock}
-use Rattle.queue_model.specs.Flush.{ready}
-use Rattle.queue_model.specs.Sync.{Flushes, Stops, Goes}
-use Rattle.queue_model.proofs.FlushLemmas.{ready_closed}
+use Rattle.queue_model.specs.Sync.{Writes, WritesNone, WritesNext}
 use Rattle.machine.specs.Snapshot.{held_still}
 use Rattle.machine.specs.State.{State}
 use Rattle.machine.specs.Command.{Command, Answer, Reply}
@@ -19,12 +17,12 @@ use Rattle.plans_data.proofs.Plans.{plan_release}
 use Rattle.plans_naming.proofs.UnlinkLast.{now_is}
 use Rattle.courses.specs.Bytes.{AsksWrite, IsOwnService, Recorded, WasWritten, IsOwnByte}
 use Rattle.courses.specs.Life.{Life, Begins, Carries, Puts, Releases as EndsSnapshot, Wrote}
-use Rattle.courses.specs.Serves.{flush_images, Serves, ByPlan, Quietly, FlushesNone, FlushesSome, SyncsAll, Freezes, Releases, IsBeginning, Service, Starts, CarriesOut, Refuses, Flushed}
+use Rattle.courses.specs.Serves.{Serves, ByPlan, Quietly, FlushesNone, FlushesSome, SyncsAll, Freezes, Releases, IsBeginning, Service, Starts, CarriesOut, Refuses, Flushed}
 use Rattle.courses.proofs.BytesHeld.{life_shows}
 use Rattle.courses.proofs.Doing.{steps}
 use Rattle.courses.proofs.LifeCourses.{life_lived}
 use Rattle.courses.proofs.ServiceLemmas.{service_safe, service_session}
-use Rattle.courses.proofs.Serving.{images_last, quiet_keeps, session_stands, stores}
+use Rattle.courses.proofs.Serving.{one_before, quiet_keeps, session_stands, stores}
 use Rattle.courses.proofs.LifeBytes.{AllLeave, WasPut}
 
 module _ (geo : Geometry) (mounted : View) (h : List Written) (cut : List Bool) (disk0 : View) (q0 : List Pending) (old0 : State) (safe0 : ℕ → Bool) (begin : IsBeginning geo mounted h cut disk0 q0 old0 safe0) where
@@ -35,18 +33,17 @@ module _ (geo : Geometry) (mounted : View) (h : List Written) (cut : List Bool) 
       × ((h' : List Written) (wrote : Wrote mounted h h' life) → (b : B h') × ((n g k : ℕ) (piece : List ℕ) → WasPut mounted h h' n g k piece life wrote → A h' b n g k piece))
 
   module _ (B : List Written → Type 0) (A : (h' : List Written) → B h' → ℕ → ℕ → ℕ → List ℕ → Type 0) where
-    puts : (disk : View) (q : List Pending) (held safe : ℕ → Bool) (images : List View) (home : Cell → ℕ) (a : ℕ) → Lives B A disk q held safe images
-        → Lives B A (seen disk q (ready home a q)) (rest q (ready home a q)) held safe (seen disk q (ready home a q) ∷ images)
-    puts disk q held safe images home a l = (Puts (ready home a q) l.0 (ready_closed home a q), l.1, l.2)
+    puts : (disk : View) (q : List Pending) (held safe : ℕ → Bool) (images : List View) (cut : List Bool) → IsClosed q cut → Lives B A disk q held safe images
+        → Lives B A (seen disk q cut) (rest q cut) held safe (seen disk q cut ∷ images)
+    puts disk q held safe images cut closed l = (Puts cut l.0 closed, l.1, l.2)
 
-    flushes : (home : Cell → ℕ) (disk : View) (q : List Pending) (blocks : List ℕ) (disk' : View) (q' : List Pending) → Flushes home disk q blocks disk' q' → (held safe : ℕ → Bool) (images : List View)
-        → Lives B A disk q held safe images → Lives B A disk' q' held safe (flush_images home disk q blocks [] ++ images)
-    flushes home disk q blocks disk' q' Stops held safe images l = l
-    flushes home disk q blocks disk' q' (Goes {blocks = others} a least more) held safe images l =
-        let v = seen disk q (ready home a q) in
-        let p = rest q (ready home a q) in
-        subst (λ x. Lives B A disk' q' held safe x) (images_last home v p others [] (v ∷ images) ∙ sym (images_last home v p others (v ∷ []) images))
-        (flushes home v p others disk' q' more held safe (v ∷ images) (puts disk q held safe images home a l))
+    writes : (home : Cell → ℕ) (disk : View) (q : List Pending) (blocks : List ℕ) (views : List View) (disk' : View) (q' : List Pending) → Writes home disk q blocks views disk' q' → (held safe : ℕ → Bool) (images : List View)
+        → Lives B A disk q held safe images → Lives B A disk' q' held safe (reverse views ++ images)
+    writes home disk q blocks views disk' q' WritesNone held safe images l = l
+    writes home disk q blocks views disk' q' (WritesNext {blocks = others} {views = more} a cut closed of_block some after) held safe images l =
+        let v = seen disk q cut in
+        subst (λ x. Lives B A disk' q' held safe x) (one_before v more images)
+        (writes home v (rest q cut) others more disk' q' after held safe (v ∷ images) (puts disk q held safe images cut closed l))
 
   -- of a service
   abbrev ServiceLives : {disk : View} {q : List Pending} {new : State} {safe : ℕ → Bool} {commands : List Command} {replies : List Reply} {images : List View} → Service geo disk0 q0 old0 safe0 disk q new safe commands replies images
@@ -82,16 +79,16 @@ module _ (geo : Geometry) (mounted : View) (h : List Written) (cut : List Bool) 
               ),
         )
     serving command answer disk' q' new safe' later accepts (Quietly c a n quiet effect) l = subst (λ x. Nothing c disk q x safe images) (sym (quiet_keeps geo old c a n quiet effect).1) (nothing c l)
-    serving command answer disk' q' new safe' later accepts (FlushesNone a none) l = nothing command l
-    serving command answer disk' q' new safe' later accepts (FlushesSome a some) l = puts _ _ disk q old.held safe images (home_of geo) a (nothing command l)
-    serving command answer disk' q' new safe' later accepts (SyncsAll blocks d syncs) l = flushes _ _ (home_of geo) disk q blocks d [] syncs old.held safe images (nothing command l)
-    serving command answer disk' q' new safe' later accepts (Freezes blocks d syncs) l = flushes _ _ (home_of geo) disk q blocks d [] syncs old.held safe images (nothing command l)
-    serving command answer disk' q' new safe' later accepts (Releases r blocks d n syncs few) l =
-        let session = stores geo disk0 q0 old0 safe0 (home_of geo) disk q blocks d [] syncs old safe commands replies images (service_session geo mounted h cut disk0 q0 old0 safe0 begin disk q old safe commands replies images service) in
+    serving command answer disk' q' new safe' later accepts (FlushesNone a) l = nothing command l
+    serving command answer disk' q' new safe' later accepts (FlushesSome a cut closed of_block some) l = puts _ _ disk q old.held safe images cut closed (nothing command l)
+    serving command answer disk' q' new safe' later accepts (SyncsAll blocks views d all) l = writes _ _ (home_of geo) disk q blocks views d [] all old.held safe images (nothing command l)
+    serving command answer disk' q' new safe' later accepts (Freezes blocks views d all) l = writes _ _ (home_of geo) disk q blocks views d [] all old.held safe images (nothing command l)
+    serving command answer disk' q' new safe' later accepts (Releases r blocks views d n all few) l =
+        let session = stores geo disk0 q0 old0 safe0 (home_of geo) disk q blocks views d [] all old safe commands replies images (service_session geo mounted h cut disk0 q0 old0 safe0 begin disk q old safe commands replies images service) in
         let s = session_stands geo mounted h cut disk0 q0 old0 safe0 begin d [] old safe commands replies _ session in
         let is : now d [] old ≡ old = now_is d [] old s.same in
         let t = subst (λ x. Stands geo d [] x safe) (sym is) s in
-        let f = flushes (λ h'. Recorded mounted h h' service) (λ h' b n g k piece. WasWritten mounted h h' n g k piece service b) (home_of geo) disk q blocks d [] syncs old.held safe images l in (
+        let f = writes (λ h'. Recorded mounted h h' service) (λ h' b n g k piece. WasWritten mounted h h' n g k piece service b) (home_of geo) disk q blocks views d [] all old.held safe images l in (
           EndsSnapshot old (held_still old r) (let_go_below old r n) f.0 refl (plan_release geo t.geometry (now d [] old) t.balance r n few),
           f.1,
           λ h' wrote. let r = f.2 wrote.0 wrote.1 in ((wrote.0, r.0, wrote.2), λ m g k piece w. inl (r.1 m g k piece w)),
@@ -103,8 +100,8 @@ module _ (geo : Geometry) (mounted : View) (h : List Written) (cut : List Bool) 
   service_lives disk q new safe cs rs im (CarriesOut {disk = d} {q = p} {old = old} {safe = s} {commands = commands} {replies = replies} {images = images} command answer d' p' new' s' later service accepts serves) =
       serving d p old s commands replies images service command answer d' p' new' s' later accepts serves (service_lives d p old s commands replies images service)
   service_lives disk q new safe cs rs im (Refuses {disk = d} {q = p} {old = old} {safe = s} {commands = commands} {replies = replies} {images = images} command r service step) = service_lives d p old s commands replies images service
-  service_lives disk q new safe cs rs im (Flushed {disk = d} {q = p} {old = old} {safe = s} {commands = commands} {replies = replies} {images = images} a service) =
-      puts _ _ d p old.held s images (home_of geo) a (service_lives d p old s commands replies images service)
+  service_lives disk q new safe cs rs im (Flushed {disk = d} {q = p} {old = old} {safe = s} {commands = commands} {replies = replies} {images = images} a put service closed of_block) =
+      puts _ _ d p old.held s images put closed (service_lives d p old s commands replies images service)
 
   pub service_owns : (disk : View) (q : List Pending) (new : State) (safe : ℕ → Bool) (commands : List Command) (replies : List Reply) (images : List View) (service : Service geo disk0 q0 old0 safe0 disk q new safe commands replies images)
       → IsOwnService mounted h cut service

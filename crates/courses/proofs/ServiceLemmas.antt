@@ -8,10 +8,7 @@ use Rattle.model.specs.Rules.{ObeysRules}
 use Rattle.ordering.specs.Cuts.{Pending, users_view}
 use Rattle.ordering.specs.Ghosts.{at_rest}
 use Rattle.plans_data.proofs.Stands.{stands_mounted}
-use Rattle.queue_model.specs.Blocks.{home_of}
 use Rattle.queue_model.specs.Files.{Written}
-use Rattle.queue_model.specs.Flush.{ready}
-use Rattle.queue_model.proofs.FlushLemmas.{ready_closed}
 use Rattle.machine.specs.State.{State, mounted}
 use Rattle.machine.specs.Command.{Command, Answer, Reply}
 use Rattle.machine.specs.Causes.{Accepts}
@@ -47,8 +44,8 @@ module _ (geo : Geometry) (mounted : View) (h : List Written) (cut : List Bool) 
       serves geo mounted h cut disk0 q0 old0 safe0 begin d p old s commands replies images (service_session d p old s commands replies images service) command answer d' p' new' s' later accepts done
   service_session disk q new safe cs rs im (Refuses {disk = d} {q = p} {old = old} {safe = s} {commands = commands} {replies = replies} {images = images} command r service step) =
       Answers command (Err r) old (service_session d p old s commands replies images service) step refl refl
-  service_session disk q new safe cs rs im (Flushed {disk = d} {q = p} {old = old} {safe = s} {commands = commands} {replies = replies} {images = images} a service) =
-      Stores (ready (home_of geo) a p) (service_session d p old s commands replies images service) (ready_closed (home_of geo) a p)
+  service_session disk q new safe cs rs im (Flushed {disk = d} {q = p} {old = old} {safe = s} {commands = commands} {replies = replies} {images = images} a put service closed of_block) =
+      Stores put (service_session d p old s commands replies images service) closed
 
   -- ---- files that lose no name
 
@@ -78,11 +75,11 @@ module _ (geo : Geometry) (mounted : View) (h : List Written) (cut : List Bool) 
       → Serves geo disk q old safe command answer disk' q' new safe' later → (f : ℕ) → (TakesNameOf geo old command f → ⊥) → IsTrue (safe f) → IsTrue (safe' f)
   serving_spares disk q old safe command answer disk' q' new safe' later same (ByPlan c a file plan n s done rest) f spares t = done_spares disk q old safe c a file plan n s same done f spares t
   serving_spares disk q old safe command answer disk' q' new safe' later same (Quietly c a n quiet effect) f spares t = t
-  serving_spares disk q old safe command answer disk' q' new safe' later same (FlushesNone a none) f spares t = t
-  serving_spares disk q old safe command answer disk' q' new safe' later same (FlushesSome a some) f spares t = t
-  serving_spares disk q old safe command answer disk' q' new safe' later same (SyncsAll blocks d syncs) f spares t = t
-  serving_spares disk q old safe command answer disk' q' new safe' later same (Freezes blocks d syncs) f spares t = t
-  serving_spares disk q old safe command answer disk' q' new safe' later same (Releases r blocks d n syncs few) f spares t = t
+  serving_spares disk q old safe command answer disk' q' new safe' later same (FlushesNone a) f spares t = t
+  serving_spares disk q old safe command answer disk' q' new safe' later same (FlushesSome a put closed of_block some) f spares t = t
+  serving_spares disk q old safe command answer disk' q' new safe' later same (SyncsAll blocks views d writes) f spares t = t
+  serving_spares disk q old safe command answer disk' q' new safe' later same (Freezes blocks views d writes) f spares t = t
+  serving_spares disk q old safe command answer disk' q' new safe' later same (Releases r blocks views d n writes few) f spares t = t
 
   service_served : (disk : View) (q : List Pending) (new : State) (safe : ℕ → Bool) (commands : List Command) (replies : List Reply) (images : List View) → Service geo disk0 q0 old0 safe0 disk q new safe commands replies images
       → IsServed geo disk0 q0 old0 safe0 disk q new safe commands replies images
@@ -94,7 +91,7 @@ module _ (geo : Geometry) (mounted : View) (h : List Written) (cut : List Bool) 
   stays_safe disk q new safe cs rs im (CarriesOut {disk = d} {q = p} {old = old} {safe = s} {commands = commands} {replies = replies} {images = images} command answer d' p' new' s' later service accepts done) f spared t =
       serving_spares d p old s command answer d' p' new' s' later (service_served d p old s commands replies images service).same done f spared.1 (stays_safe d p old s commands replies images service f spared.0 t)
   stays_safe disk q new safe cs rs im (Refuses {disk = d} {q = p} {old = old} {safe = s} {commands = commands} {replies = replies} {images = images} command r service step) f spared t = stays_safe d p old s commands replies images service f spared t
-  stays_safe disk q new safe cs rs im (Flushed {disk = d} {q = p} {old = old} {safe = s} {commands = commands} {replies = replies} {images = images} a service) f spared t = stays_safe d p old s commands replies images service f spared t
+  stays_safe disk q new safe cs rs im (Flushed {disk = d} {q = p} {old = old} {safe = s} {commands = commands} {replies = replies} {images = images} a put service closed of_block) f spared t = stays_safe d p old s commands replies images service f spared t
 
   -- ---- stops, and a new beginning
 

@@ -1,5 +1,5 @@
 -- A command that is carried out extends a session.
-use Rattle.std.proofs.Common.{◌≡◌, ◌<◌, ℕ, Bool, false, List, [], ◌∷◌, ◌++◌, refl, sym, ◌∙◌, ap, subst, IsTrue, Ok}
+use Rattle.std.proofs.Common.{◌≡◌, ◌<◌, ℕ, Bool, false, List, [], ◌∷◌, ◌++◌, refl, sym, ◌∙◌, ap, subst, IsTrue, Ok, reverse}
 use Rattle.std.proofs.lemmas.Bool.{both_ways}
 use Rattle.model.specs.Layout.{Geometry}
 use Rattle.model.specs.View.{View}
@@ -8,9 +8,7 @@ use Rattle.ordering.specs.Ghosts.{at_rest}
 use Rattle.ordering.specs.Agrees.{AllAgree}
 use Rattle.queue_model.specs.Blocks.{home_of}
 use Rattle.queue_model.specs.Files.{Written, updates}
-use Rattle.queue_model.specs.Flush.{ready}
-use Rattle.queue_model.specs.Sync.{Flushes, Stops, Goes}
-use Rattle.queue_model.proofs.FlushLemmas.{ready_closed}
+use Rattle.queue_model.specs.Sync.{Writes, WritesNone, WritesNext}
 use Rattle.machine.specs.State.{State}
 use Rattle.machine.specs.Command.{Command, Open, Read, ListNames, Stat, Freeze, SnapRead, Release, Install, Flush, Sync, Answer, Done, Number, Bytes, Listed, Reply}
 use Rattle.machine.specs.Causes.{Accepts}
@@ -27,11 +25,12 @@ use Rattle.plans_naming.proofs.UnlinkLast.{now_is}
 use Rattle.courses.specs.Leads.{IsMoment}
 use Rattle.courses.specs.Session.{Session, Performs, Answers, Forgets, Stores}
 use Rattle.courses.specs.Done.{IsDoneBy}
-use Rattle.courses.specs.Serves.{is_quiet, flush_images, Serves, ByPlan, Quietly, FlushesNone, FlushesSome, SyncsAll, Freezes, Releases, IsBeginning}
+use Rattle.courses.specs.Serves.{is_quiet, Serves, ByPlan, Quietly, FlushesNone, FlushesSome, SyncsAll, Freezes, Releases, IsBeginning}
 use Rattle.courses.proofs.LifeCourses.{life_lived}
 use Rattle.courses.proofs.SafeModes.{still_files}
 use Rattle.courses.proofs.Runs.{served}
 use Rattle.courses.proofs.Doing.{steps}
+use Rattle.std.proofs.lemmas.List.{append_assoc, reverse-append}
 
 -- ---- quiet commands
 
@@ -50,24 +49,21 @@ quiet_keeps geo old (Install check) Done new t e = (ap (λ (s : State). s.view) 
 quiet_keeps geo old (Install check) _ new t e = absurd e
 quiet_keeps geo old _ answer new t e = absurd (both_ways false refl t)
 
--- ---- flushes
+-- ---- writes
 
--- what was held before stays last
-pub images_last : (home : Cell → ℕ) (disk : View) (q : List Pending) (blocks : List ℕ) (images older : List View) → flush_images home disk q blocks images ++ older ≡ flush_images home disk q blocks (images ++ older)
-images_last home disk q [] images older = refl
-images_last home disk q (a ∷ blocks) images older = images_last home (seen disk q (ready home a q)) (rest q (ready home a q)) blocks (seen disk q (ready home a q) ∷ images) older
+-- one more image before others, which are the newest first
+pub one_before : (image : View) (views older : List View) → reverse views ++ (image ∷ older) ≡ reverse (image ∷ views) ++ older
+one_before image views older = sym (append_assoc (reverse views) (image ∷ []) older) ∙ ap (λ xs. xs ++ older) (sym (reverse-append (image ∷ []) views))
 
 module _ (geo : Geometry) (disk0 : View) (q0 : List Pending) (old0 : State) (safe0 : ℕ → Bool) where
-  -- flushes extend a session
-  pub stores : (home : Cell → ℕ) (disk : View) (q : List Pending) (blocks : List ℕ) (disk' : View) (q' : List Pending) → Flushes home disk q blocks disk' q' → (old : State) (safe : ℕ → Bool) (commands : List Command) (replies : List Reply) (images : List View)
-      → Session geo disk0 q0 old0 safe0 disk q old safe commands replies images → Session geo disk0 q0 old0 safe0 disk' q' old safe commands replies (flush_images home disk q blocks [] ++ images)
-  stores home disk q blocks disk' q' Stops old safe commands replies images session = session
-  stores home disk q blocks disk' q' (Goes {blocks = others} a least flushes) old safe commands replies images session =
-      let v = seen disk q (ready home a q) in
-      let p = rest q (ready home a q) in
-      subst (λ x. Session geo disk0 q0 old0 safe0 disk' q' old safe commands replies x)
-      (images_last home v p others [] (v ∷ images) ∙ sym (images_last home v p others (v ∷ []) images))
-      (stores home v p others disk' q' flushes old safe commands replies (v ∷ images) (Stores (ready home a q) session (ready_closed home a q)))
+  -- writes extend a session
+  pub stores : (home : Cell → ℕ) (disk : View) (q : List Pending) (blocks : List ℕ) (views : List View) (disk' : View) (q' : List Pending) → Writes home disk q blocks views disk' q' → (old : State) (safe : ℕ → Bool) (commands : List Command) (replies : List Reply) (images : List View)
+      → Session geo disk0 q0 old0 safe0 disk q old safe commands replies images → Session geo disk0 q0 old0 safe0 disk' q' old safe commands replies (reverse views ++ images)
+  stores home disk q blocks views disk' q' WritesNone old safe commands replies images session = session
+  stores home disk q blocks views disk' q' (WritesNext {blocks = others} {views = more} a cut closed of_block some writes) old safe commands replies images session =
+      let v = seen disk q cut in
+      subst (λ x. Session geo disk0 q0 old0 safe0 disk' q' old safe commands replies x) (one_before v more images)
+      (stores home v (rest q cut) others more disk' q' writes old safe commands replies (v ∷ images) (Stores cut session closed))
 
 -- ---- at the end of a session
 
@@ -121,11 +117,11 @@ module _ (geo : Geometry) (mounted : View) (h : List Written) (cut : List Bool) 
     serves command answer disk' q' new safe' later accepts (Quietly c a n quiet effect) =
         let k = quiet_keeps geo old c a n quiet effect in
         Answers c (Ok a) n session (accepts, effect) k.0 k.1
-    serves command answer disk' q' new safe' later accepts (FlushesNone a none) = Answers (Flush a) (Ok (Number 0)) old session (accepts, refl) refl refl
-    serves command answer disk' q' new safe' later accepts (FlushesSome a some) = Answers (Flush a) _ old (Stores (ready (home_of geo) a q) session (ready_closed (home_of geo) a q)) (accepts, refl) refl refl
-    serves command answer disk' q' new safe' later accepts (SyncsAll blocks d syncs) =
-        Answers Sync (Ok Done) old (stores geo disk0 q0 old0 safe0 (home_of geo) disk q blocks d [] syncs old safe commands replies images session) (accepts, refl) refl refl
-    serves command answer disk' q' new safe' later accepts (Freezes blocks d syncs) =
-        Answers Freeze _ (frozen geo old) (stores geo disk0 q0 old0 safe0 (home_of geo) disk q blocks d [] syncs old safe commands replies images session) (accepts, (refl, refl)) refl refl
-    serves command answer disk' q' new safe' later accepts (Releases r blocks d n syncs few) =
-        forgets d (flush_images (home_of geo) disk q blocks [] ++ images) r n (stores geo disk0 q0 old0 safe0 (home_of geo) disk q blocks d [] syncs old safe commands replies images session) accepts few
+    serves command answer disk' q' new safe' later accepts (FlushesNone a) = Answers (Flush a) (Ok (Number 0)) old session (accepts, refl) refl refl
+    serves command answer disk' q' new safe' later accepts (FlushesSome a cut closed of_block some) = Answers (Flush a) _ old (Stores cut session closed) (accepts, refl) refl refl
+    serves command answer disk' q' new safe' later accepts (SyncsAll blocks views d writes) =
+        Answers Sync (Ok Done) old (stores geo disk0 q0 old0 safe0 (home_of geo) disk q blocks views d [] writes old safe commands replies images session) (accepts, refl) refl refl
+    serves command answer disk' q' new safe' later accepts (Freezes blocks views d writes) =
+        Answers Freeze _ (frozen geo old) (stores geo disk0 q0 old0 safe0 (home_of geo) disk q blocks views d [] writes old safe commands replies images session) (accepts, (refl, refl)) refl refl
+    serves command answer disk' q' new safe' later accepts (Releases r blocks views d n writes few) =
+        forgets d (reverse views ++ images) r n (stores geo disk0 q0 old0 safe0 (home_of geo) disk q blocks views d [] writes old safe commands replies images session) accepts few

@@ -158,7 +158,7 @@ module _ (geo : Geometry) (i k : ℕ) (bytes : List ℕ) where
           let one : ((users_view disk p).inode i).mode ≡ 1 = ap (λ (y : Inode). y.mode) turn.stage.inode ∙ file in
           let marked : View = updated (users_view disk p) (SetBlock x true) in
           link_firm m x up _ (further geo disk q ghost i whole.geometry whole.blocks rules spare l c m x table up p turn)
-          (Further (record { change = SetBytes x table; after = BlockBit x ∷ Block c ∷ Record i ∷ [] })
+          (Further (record { change = SetBytes x table; after = BlockBit x ∷ Block c ∷ [] })
           (Further (record { change = SetBlock x true; after = [] }) f (bit_keep (users_view disk p) x true) (quiet (users_view disk p) (SetBlock x true) one))
           (other_keep marked x table (λ n j d single. let r = bit_fewer geo (users_view disk p) x true n j x d single in unclaimed_new geo disk q ghost i whole.geometry whole.blocks rules spare l c m x table up p turn n j r.0))
           (quiet marked (SetBytes x table) one))

@@ -20,7 +20,7 @@ use Rattle.courses.specs.Serves.{Serves, ByPlan, Releases, Service, Starts, Carr
 abbrev pub Records : {geo : Geometry} {disk : View} {q : List Pending} {old : State} {safe : ℕ → Bool} {command : Command} {answer : Answer} {disk' : View} {q' : List Pending} {new : State} {safe' : ℕ → Bool} {later : List View}
     → View → List Written → List Written → Serves geo disk q old safe command answer disk' q' new safe' later → Type 0
 Records {geo = geo} {q = q} mounted before h' (ByPlan command answer file plan new safe' done rest) = Named geo mounted file before q h' plan
-Records {geo = geo} {old = old} mounted before h' (Releases s blocks disk' n syncs few) = Named geo mounted 0 before [] h' (releasing (let_go_below old s n) [])
+Records {geo = geo} {old = old} mounted before h' (Releases s blocks views disk' n writes few) = Named geo mounted 0 before [] h' (releasing (let_go_below old s n) [])
 Records mounted before h' _ = h' ≡ before
 
 -- What was written in a service, after what was written before it.
@@ -29,7 +29,7 @@ abbrev pub Recorded : {geo : Geometry} {disk0 : View} {q0 : List Pending} {old0 
 Recorded mounted h h' Starts = h' ≡ h
 Recorded mounted h h' (CarriesOut command answer disk' q' new safe' later service accepts serves) = (before : List Written) × Recorded mounted h before service × Records mounted before h' serves
 Recorded mounted h h' (Refuses command r service step) = Recorded mounted h h' service
-Recorded mounted h h' (Flushed a service) = Recorded mounted h h' service
+Recorded mounted h h' (Flushed a cut service closed of_block) = Recorded mounted h h' service
 
 -- The command writes this piece at position k of file n.
 abbrev pub AsksWrite : State → Command → ℕ → ℕ → List ℕ → Type 0
@@ -43,7 +43,7 @@ WasWritten mounted h h' n g k piece Starts recorded = ⊥
 WasWritten mounted h h' n g k piece (CarriesOut {old = old} command answer disk' q' new safe' later service accepts serves) recorded =
     WasWritten mounted h recorded.0 n g k piece service recorded.1 ⊎ (AsksWrite old command n k piece × (generation mounted recorded.0 n ≡ g))
 WasWritten mounted h h' n g k piece (Refuses command r service step) recorded = WasWritten mounted h h' n g k piece service recorded
-WasWritten mounted h h' n g k piece (Flushed a service) recorded = WasWritten mounted h h' n g k piece service recorded
+WasWritten mounted h h' n g k piece (Flushed a cut service closed of_block) recorded = WasWritten mounted h h' n g k piece service recorded
 
 -- ---- bytes
 

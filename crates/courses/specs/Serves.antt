@@ -1,10 +1,10 @@
 -- How each command that no cause refuses is carried out, and what a volume goes through that carries out commands so.
-use Rattle.std.specs.Prelude.{◌≡◌, ℕ, ◌<◌, ◌≤◌, Bool, true, false, List, [], ◌∷◌, ◌++◌, Ok, Err, IsTrue}
+use Rattle.std.specs.Prelude.{◌≡◌, ℕ, ◌<◌, ◌≤◌, Bool, true, false, List, [], ◌∷◌, ◌++◌, Ok, Err, IsTrue, reverse}
 use Rattle.std.specs.List.{Contains}
 use Rattle.model.specs.Layout.{Geometry}
 use Rattle.model.specs.View.{View}
 use Rattle.layout.specs.declared.refusal.Refusal.{Refusal}
-use Rattle.ordering.specs.Cuts.{Cell, Pending, seen, rest}
+use Rattle.ordering.specs.Cuts.{Pending, IsClosed, seen, rest}
 use Rattle.ordering.specs.Ghosts.{at_rest}
 use Rattle.machine.specs.State.{State}
 use Rattle.machine.specs.Command.{Command, Unlink, Open, Read, ListNames, Stat, Freeze, SnapRead, Release, Install, Flush, Sync, Answer, Done, Number, Image, Reply}
@@ -18,8 +18,8 @@ use Rattle.plans_data.specs.Lists.{let_go_below}
 use Rattle.queue_model.specs.Blocks.{home_of}
 use Rattle.queue_model.specs.Course.{IsSafeImage}
 use Rattle.queue_model.specs.Files.{Written, updates}
-use Rattle.queue_model.specs.Flush.{ready, taken}
-use Rattle.queue_model.specs.Sync.{Syncs}
+use Rattle.queue_model.specs.Flush.{taken, IsOfBlock}
+use Rattle.queue_model.specs.Sync.{Writes}
 use Rattle.courses.specs.Leads.{IsMoment}
 use Rattle.courses.specs.Life.{Life, IsLived}
 use Rattle.courses.specs.Done.{IsDoneBy, LeavesTheRest}
@@ -34,12 +34,6 @@ is_quiet (SnapRead s i k) = true
 is_quiet (Install check) = true
 is_quiet _ = false
 
--- what the device holds after each flush of these blocks, newest first, with what it held before
-abbrev pub flush_images : (Cell → ℕ) → View → List Pending → List ℕ → List View → List View
-flush_images home disk q [] images = images
-flush_images home disk q (a ∷ blocks) images =
-    flush_images home (seen disk q (ready home a q)) (rest q (ready home a q)) blocks (seen disk q (ready home a q) ∷ images)
-
 -- Over a device with this pending, in this state and with these safe files, a command is answered so: the device and what is pending then, the state and the safe files, and what the device held after each write of the command, newest first.
 pub data Serves (geo : Geometry) (disk : View) (q : List Pending) (old : State) (safe : ℕ → Bool) : Command → Answer → View → List Pending → State → (ℕ → Bool) → List View → Type 0 where
   -- by updates, which stay pending; a write leaves what stands behind its piece
@@ -47,17 +41,17 @@ pub data Serves (geo : Geometry) (disk : View) (q : List Pending) (old : State) 
       → Serves geo disk q old safe command answer disk plan new safe' []
   -- with no change of the image
   Quietly : (command : Command) (answer : Answer) (new : State) → IsTrue (is_quiet command) → Effect geo old command answer new → Serves geo disk q old safe command answer disk q new safe []
-  -- by the flush of a block, which touches the device only where something is ready
-  FlushesNone : (a : ℕ) → taken (ready (home_of geo) a q) ≡ 0 → Serves geo disk q old safe (Flush a) (Number 0) disk q old safe []
-  FlushesSome : (a : ℕ) → 1 ≤ taken (ready (home_of geo) a q)
-      → Serves geo disk q old safe (Flush a) (Number (taken (ready (home_of geo) a q))) (seen disk q (ready (home_of geo) a q)) (rest q (ready (home_of geo) a q)) old safe (seen disk q (ready (home_of geo) a q) ∷ [])
-  -- by flushes of the least block with a ready update, until nothing is pending
-  SyncsAll : (blocks : List ℕ) (disk' : View) → Syncs (home_of geo) disk q blocks disk' → Serves geo disk q old safe Sync Done disk' [] old safe (flush_images (home_of geo) disk q blocks [])
+  -- by the write of a block with a closed cut of what is pending there, or by nothing, where none may go there yet
+  FlushesNone : (a : ℕ) → Serves geo disk q old safe (Flush a) (Number 0) disk q old safe []
+  FlushesSome : (a : ℕ) (cut : List Bool) → IsClosed q cut → IsOfBlock (home_of geo) a q cut → 1 ≤ taken cut
+      → Serves geo disk q old safe (Flush a) (Number (taken cut)) (seen disk q cut) (rest q cut) old safe (seen disk q cut ∷ [])
+  -- by such writes of blocks, until nothing is pending
+  SyncsAll : (blocks : List ℕ) (views : List View) (disk' : View) → Writes (home_of geo) disk q blocks views disk' [] → Serves geo disk q old safe Sync Done disk' [] old safe (reverse views)
   -- and then by a snapshot, or by the end of one, which clears the bits of what is let go
-  Freezes : (blocks : List ℕ) (disk' : View) → Syncs (home_of geo) disk q blocks disk'
-      → Serves geo disk q old safe Freeze (Image old.snapshots.freezes (settled geo old)) disk' [] (frozen geo old) safe (flush_images (home_of geo) disk q blocks [])
-  Releases : (s : ℕ) (blocks : List ℕ) (disk' : View) (n : ℕ) → Syncs (home_of geo) disk q blocks disk' → ((a : ℕ) → IsTrue (old.held a) → a < n)
-      → Serves geo disk q old safe (Release s) Done disk' (releasing (let_go_below old s n) []) (released old s) safe (flush_images (home_of geo) disk q blocks [])
+  Freezes : (blocks : List ℕ) (views : List View) (disk' : View) → Writes (home_of geo) disk q blocks views disk' []
+      → Serves geo disk q old safe Freeze (Image old.snapshots.freezes (settled geo old)) disk' [] (frozen geo old) safe (reverse views)
+  Releases : (s : ℕ) (blocks : List ℕ) (views : List View) (disk' : View) (n : ℕ) → Writes (home_of geo) disk q blocks views disk' [] → ((a : ℕ) → IsTrue (old.held a) → a < n)
+      → Serves geo disk q old safe (Release s) Done disk' (releasing (let_go_below old s n) []) (released old s) safe (reverse views)
 
 -- Where a volume may begin: it stands, at a good moment since mount.
 pub record IsBeginning (geo : Geometry) (mounted : View) (h : List Written) (cut : List Bool) (disk : View) (q : List Pending) (old : State) (safe : ℕ → Bool) : Type 0 where
@@ -75,9 +69,9 @@ pub data Service (geo : Geometry) (disk0 : View) (q0 : List Pending) (old0 : Sta
   Refuses : {disk : View} {q : List Pending} {old : State} {safe : ℕ → Bool} {commands : List Command} {replies : List Reply} {images : List View} (command : Command) (r : Refusal)
       → Service geo disk0 q0 old0 safe0 disk q old safe commands replies images → Step geo old command (Err r) old
       → Service geo disk0 q0 old0 safe0 disk q old safe (commands ++ command ∷ []) (replies ++ Err r ∷ []) images
-  Flushed : {disk : View} {q : List Pending} {old : State} {safe : ℕ → Bool} {commands : List Command} {replies : List Reply} {images : List View} (a : ℕ)
-      → Service geo disk0 q0 old0 safe0 disk q old safe commands replies images
-      → Service geo disk0 q0 old0 safe0 (seen disk q (ready (home_of geo) a q)) (rest q (ready (home_of geo) a q)) old safe commands replies (seen disk q (ready (home_of geo) a q) ∷ images)
+  Flushed : {disk : View} {q : List Pending} {old : State} {safe : ℕ → Bool} {commands : List Command} {replies : List Reply} {images : List View} (a : ℕ) (cut : List Bool)
+      → Service geo disk0 q0 old0 safe0 disk q old safe commands replies images → IsClosed q cut → IsOfBlock (home_of geo) a q cut
+      → Service geo disk0 q0 old0 safe0 (seen disk q cut) (rest q cut) old safe commands replies (seen disk q cut ∷ images)
 
 -- the command takes a name of file f; unlinks alone do
 abbrev pub TakesNameOf : Geometry → State → Command → ℕ → Type 0
@@ -90,7 +84,7 @@ abbrev pub IsSpared : {geo : Geometry} {disk0 : View} {q0 : List Pending} {old0 
 IsSpared f Starts = Unit {0}
 IsSpared {geo = geo} f (CarriesOut {old = old} command answer disk' q' new safe' later service accepts serves) = IsSpared f service × (TakesNameOf geo old command f → ⊥)
 IsSpared f (Refuses command r service step) = IsSpared f service
-IsSpared f (Flushed a service) = IsSpared f service
+IsSpared f (Flushed a cut service closed of_block) = IsSpared f service
 
 -- Users see a run of the machine, the volume stands as at its beginning, and its device goes through a life. Each image that the device held is that of a closed cut of what that life wrote, after what was written before it; it obeys the rules, reaches the files that are safe at the end, and holds in each block of a file what that very file wrote.
 pub record IsSafeService (geo : Geometry) (mounted : View) (h : List Written) (cut : List Bool) (disk0 : View) (q0 : List Pending) (old0 : State) (safe0 : ℕ → Bool) (disk : View) (q : List Pending) (new : State) (safe : ℕ → Bool) (commands : List Command) (replies : List Reply) (images : List View) : Type 0 where

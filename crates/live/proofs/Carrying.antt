@@ -74,7 +74,7 @@ held_within n m holds few all = λ k d low. let here : slice_index_or holds k d 
 
 pub issued_geometry : (queue : Queued) (ws : List Written) → (issued queue ws).geometry ≡ queue.geometry
 issued_geometry queue [] = refl
-issued_geometry queue (w ∷ ws) = issued_geometry (record queue { written = w ∷ queue.written; cut = false ∷ queue.cut }) ws
+issued_geometry queue (w ∷ ws) = issued_geometry (record queue { written = w ∷ queue.written; durable = false ∷ queue.durable; loose = false ∷ queue.loose }) ws
 
 module _ (honest : Type 0) (image : List (List ℕ)) (queue : Queued) (kept : Kept) (holdings : Holdings) (live : IsLive honest image queue kept holdings)
     (draft : Draft) (holdings' : Holdings) (staged : Staged) (is : IsStaged kept (changes draft.updates) staged) where

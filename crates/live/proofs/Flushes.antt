@@ -1,30 +1,31 @@
 -- Flushes of a volume: what stays, and how they are answered.
-use Rattle.std.proofs.Common.{◌≡◌, ◌<◌, ◌≤◌, ℕ, zero, suc, Bool, false, leb, List, [], ◌∷◌, ◌++◌, length, Some, None, Ok, refl, sym, ap, ◌∙◌, subst, arith}
-use Rattle.std.specs.Prelude.{reverse, slice_set}
+use Rattle.std.proofs.Common.{◌≡◌, ◌<◌, ◌≤◌, ◌==◌, ◌||◌, if◌then◌else◌, ℕ, zero, suc, Bool, true, false, leb, List, [], ◌∷◌, ◌++◌, length, Some, None, Ok, refl, sym, ap, ◌∙◌, subst, arith}
+use Rattle.std.specs.Prelude.{map, reverse, slice_set}
 use Rattle.std.specs.Bool.{then_some}
 use Rattle.std.specs.Option.{option_or}
 use Rattle.std.proofs.lemmas.Bool.{le-leb}
 use Rattle.std.proofs.lemmas.Bool.Decides.{nat_tests}
 use Rattle.std.proofs.lemmas.List.Elements.{All-cons, All-nil}
-use Rattle.std.proofs.lemmas.List.{append-nil, append_assoc, length-set, reverse-append}
+use Rattle.std.proofs.lemmas.List.{append-nil, length-set}
 use Rattle.layout.specs.declared.refusal.Refusal.TheVariants.{BadIndex}
 use Rattle.model.specs.Image.{IsImage, image_view}
 use Rattle.model.specs.Layout.{Geometry, block_count}
 use Rattle.model.specs.View.{View}
-use Rattle.ordering.specs.Cuts.{Cell, Pending, IsClosed, rest, seen, users_view}
+use Rattle.device.specs.Media.{Held, images_held}
+use Rattle.ordering.specs.Cuts.{Pending, IsClosed, rest, seen, users_view}
 use Rattle.ordering.proofs.Flushes.{users_flushed}
 use Rattle.queue_model.specs.Blocks.{home_of}
-use Rattle.queue_model.specs.Flush.{ready, taken}
-use Rattle.queue_model.specs.Sync.{Flushes, Stops, Goes}
-use Rattle.queue_model.proofs.FlushLemmas.{none_taken, ready_closed}
+use Rattle.queue_model.specs.Flush.{taken, IsOfBlock}
+use Rattle.queue_model.specs.Sync.{Writes, WritesNone, WritesNext}
+use Rattle.queue_model.proofs.FlushLemmas.{none_taken}
 use Rattle.machine.specs.Causes.{Accepts, causes, refusal_of}
 use Rattle.machine.specs.Command.{Done, Flush, Number, Sync}
 use Rattle.machine.specs.State.{State}
 use Rattle.machine.specs.Step.{Step}
-use Rattle.courses.specs.Serves.{FlushesNone, FlushesSome, Serves, SyncsAll, flush_images}
+use Rattle.courses.specs.Serves.{FlushesNone, FlushesSome, Serves, SyncsAll}
 use Rattle.frozen.specs.Kept.{Kept}
-use Rattle.softdep.specs.Queued.{Queued, pending_of}
-use Rattle.softdep.specs.Syncing.{AreFlushes, images_of}
+use Rattle.softdep.specs.Queued.{Queued, after_flush, flushed, next_cut, pending_of, settled}
+use Rattle.softdep.specs.Syncing.{AreWrites}
 use Rattle.live_states.specs.Holdings.{Beside, Holdings, held_by, opened_by, plan_by}
 use Rattle.live_states.specs.Volume.{IsVolume, state_over}
 use Rattle.live_states.proofs.Standing.{put}
@@ -91,17 +92,19 @@ pub same_length : (image image' : List (List ℕ)) (a n : ℕ) → (n ≡ 0 → 
 same_length image image' a zero none some = ap length (none refl)
 same_length image image' a (suc n) none some = let is = some (omega arith) in ap length is.1 ∙ length-set image a is.0
 
+-- a flush leaves the geometry
+pub flush_geometry : (keeps_order : Bool) (queue : Queued) (a : ℕ) → (after_flush keeps_order queue a).geometry ≡ queue.geometry
+flush_geometry keeps_order queue a = either (keeps_order || taken (next_cut queue a) == 0)
+  where
+    either : (b : Bool) → (if b then settled (flushed queue a) else flushed queue a).geometry ≡ queue.geometry
+    either true = refl
+    either false = refl
+
 -- ---- a flush
 
-module _ (kept : Kept) (holdings : Holdings) (disk : View) (q : List Pending) (a : ℕ) where
+module _ (kept : Kept) (holdings : Holdings) (disk : View) (q : List Pending) (a : ℕ) (cut : List Bool) (closed : IsClosed q cut) (of_block : IsOfBlock (home_of kept.geometry) a q cut) where
   abbrev geo : Geometry
   geo = kept.geometry
-
-  abbrev cut : List Bool
-  cut = ready (home_of geo) a q
-
-  closed : IsClosed q cut
-  closed = ready_closed (home_of geo) a q
 
   pub flush_keeps : (disk' : View) (q' : List Pending) → disk' ≡ seen disk q cut → q' ≡ rest q cut → IsVolume kept holdings q disk → IsVolume kept holdings q' disk'
   flush_keeps disk' q' view pending volume =
@@ -122,30 +125,28 @@ module _ (kept : Kept) (holdings : Holdings) (disk : View) (q : List Pending) (a
     serves_some n count safe =
         subst (λ m. Serves geo disk q old safe (Flush a) (Number m) (seen disk q cut) (rest q cut) (state_over (seen disk q cut) (rest q cut) holdings beside) safe (seen disk q cut ∷ [])) (sym count)
         (subst (λ st. Serves geo disk q old safe (Flush a) (Number (taken cut)) (seen disk q cut) (rest q cut) st safe (seen disk q cut ∷ [])) (sym same_state)
-        (FlushesSome a (omega (arith, count))))
+        (FlushesSome a cut closed of_block (omega (arith, count))))
 
     serves_none : 0 ≡ taken cut → (safe : ℕ → Bool)
         → Serves geo disk q old safe (Flush a) (Number 0) (seen disk q cut) (rest q cut) (state_over (seen disk q cut) (rest q cut) holdings beside) safe []
     serves_none none safe =
         let is = none_taken disk q cut closed (sym none) in
         subst (λ d. Serves geo disk q old safe (Flush a) (Number 0) d (rest q cut) (state_over d (rest q cut) holdings beside) safe []) (sym is.0)
-        (subst (λ p. Serves geo disk q old safe (Flush a) (Number 0) disk p (state_over disk p holdings beside) safe []) (sym is.1) (FlushesNone a (sym none)))
+        (subst (λ p. Serves geo disk q old safe (Flush a) (Number 0) disk p (state_over disk p holdings beside) safe []) (sym is.1) (FlushesNone a))
 
   -- what is said of the device and of what is pending then
   said : (disk' : View) (q' : List Pending) → disk' ≡ seen disk q cut → q' ≡ rest q cut → (P : View → List Pending → Type 0) → P (seen disk q cut) (rest q cut) → P disk' q'
   said disk' q' view pending P p = subst (λ d. P d q') (sym view) (subst (P (seen disk q cut)) (sym pending) p)
 
-module _ {D : Type 0} (device device' : D) (image image' : List (List ℕ)) (held held' : List (List (List ℕ))) (queue queue' : Queued) (kept : Kept) (holdings : Holdings) (a : ℕ) (low : a < block_count kept.geometry)
-    (view : image_view kept.geometry image' ≡ seen (image_view kept.geometry image) (pending_of queue) (ready (home_of kept.geometry) a (pending_of queue)))
-    (pending : pending_of queue' ≡ rest (pending_of queue) (ready (home_of kept.geometry) a (pending_of queue))) where
+module _ {D : Type 0} (device device' : D) (image image' : List (List ℕ)) (held held' : Held) (queue queue' : Queued) (kept : Kept) (holdings : Holdings) (a : ℕ) (low : a < block_count kept.geometry)
+    (taken_now : List Bool) (closed : IsClosed (pending_of queue) taken_now) (of_block : IsOfBlock (home_of kept.geometry) a (pending_of queue) taken_now)
+    (view : image_view kept.geometry image' ≡ seen (image_view kept.geometry image) (pending_of queue) taken_now)
+    (pending : pending_of queue' ≡ rest (pending_of queue) taken_now) where
   abbrev d : View
   d = image_view kept.geometry image
 
   abbrev p : List Pending
   p = pending_of queue
-
-  abbrev taken_now : List Bool
-  taken_now = ready (home_of kept.geometry) a p
 
   abbrev before : Alive D
   before = record { device = device; queue = queue; kept = kept; holdings = holdings }
@@ -163,68 +164,57 @@ module _ {D : Type 0} (device device' : D) (image image' : List (List ℕ)) (hel
   answered n later serves beside belongs = record {
     geometry = refl;
     snapshots = refl;
-    step = λ stands. said kept holdings d p a (image_view kept.geometry image') (pending_of queue') view pending
+    step = λ stands. said kept holdings d p a taken_now closed of_block (image_view kept.geometry image') (pending_of queue') view pending
         (λ e r. Step kept.geometry (state_over d p holdings beside) (Flush a) (Ok (Number n)) (state_over e r holdings beside))
-        (accepts_flush kept.geometry (state_over d p holdings beside) a low, same_state kept holdings d p a beside);
-    serves = λ safe stands. said kept holdings d p a (image_view kept.geometry image') (pending_of queue') view pending
+        (accepts_flush kept.geometry (state_over d p holdings beside) a low, same_state kept holdings d p a taken_now closed of_block beside);
+    serves = λ safe stands. said kept holdings d p a taken_now closed of_block (image_view kept.geometry image') (pending_of queue') view pending
         (λ e r. Serves kept.geometry d p (state_over d p holdings beside) safe (Flush a) (Number n) e r (state_over e r holdings beside) safe later) (serves beside safe);
   }
 
-  pub flush_answers : (n : ℕ) → IsImage kept.geometry image' → n ≡ taken taken_now → (n ≡ 0 → held' ≡ held) → (0 < n → held' ≡ held ++ image' ∷ []) → IsAnswered n
+  pub flush_answers : (n : ℕ) → IsImage kept.geometry image' → n ≡ taken taken_now → (n ≡ 0 → images_held held' ≡ images_held held) → (0 < n → images_held held' ≡ images_held held ++ image' ∷ []) → IsAnswered n
   flush_answers zero is count none some = (
     [],
-    record { more = []; held_now = none refl ∙ sym (append-nil held); views = refl; framed = All-nil (IsImage kept.geometry) },
-    answered 0 [] (λ beside. serves_none kept holdings d p a beside count),
+    record { more = []; held_now = none refl ∙ sym (append-nil (images_held held)); views = refl; framed = All-nil (IsImage kept.geometry) },
+    answered 0 [] (λ beside. serves_none kept holdings d p a taken_now closed of_block beside count),
   )
   flush_answers (suc n) is count none some = (
     seen d p taken_now ∷ [],
     record { more = image' ∷ []; held_now = some (omega arith); views = ap (λ v. v ∷ []) view; framed = All-cons (IsImage kept.geometry) image' [] is (All-nil (IsImage kept.geometry)) },
-    answered (suc n) (seen d p taken_now ∷ []) (λ beside. serves_some kept holdings d p a beside n count),
+    answered (suc n) (seen d p taken_now ∷ []) (λ beside. serves_some kept holdings d p a taken_now closed of_block beside n count),
   )
 
 -- ---- a sync
 
-flushes_keep : (kept : Kept) (holdings : Holdings) (disk : View) (q : List Pending) (blocks : List ℕ) (disk' : View) (q' : List Pending) → Flushes (home_of kept.geometry) disk q blocks disk' q' → IsVolume kept holdings q disk → IsVolume kept holdings q' disk'
-flushes_keep kept holdings disk q blocks disk' q' Stops volume = volume
-flushes_keep kept holdings disk q blocks disk' q' (Goes {blocks = more} a least rest_of) volume =
-    flushes_keep kept holdings (seen disk q (ready (home_of kept.geometry) a q)) (rest q (ready (home_of kept.geometry) a q)) more disk' q' rest_of
-    (put kept holdings q disk volume (ready (home_of kept.geometry) a q) (ready_closed (home_of kept.geometry) a q))
+writes_keep : (kept : Kept) (holdings : Holdings) (disk : View) (q : List Pending) (blocks : List ℕ) (views : List View) (disk' : View) (q' : List Pending) → Writes (home_of kept.geometry) disk q blocks views disk' q' → IsVolume kept holdings q disk → IsVolume kept holdings q' disk'
+writes_keep kept holdings disk q blocks views disk' q' WritesNone volume = volume
+writes_keep kept holdings disk q blocks views disk' q' (WritesNext {blocks = others} {views = more} a cut closed of_block some writes) volume =
+    writes_keep kept holdings (seen disk q cut) (rest q cut) others more disk' q' writes (put kept holdings q disk volume cut closed)
 
-newest_first : (home : Cell → ℕ) (disk : View) (q : List Pending) (blocks : List ℕ) (images : List View) → flush_images home disk q blocks images ≡ reverse (images_of home disk q blocks) ++ images
-newest_first home disk q [] images = refl
-newest_first home disk q (a ∷ blocks) images =
-    let image = seen disk q (ready home a q) in
-    let more = images_of home image (rest q (ready home a q)) blocks in
-    newest_first home image (rest q (ready home a q)) blocks (image ∷ images)
-    ∙ sym (append_assoc (reverse more) (image ∷ []) images) ∙ ap (λ xs. xs ++ images) (sym (reverse-append (image ∷ []) more))
+module _ (image image' : List (List ℕ)) (held held' : Held) (queue queue' : Queued) (kept : Kept) (holdings : Holdings) (same : queue.geometry ≡ kept.geometry)
+    (wrote : AreWrites queue.geometry image held (pending_of queue) image' held' (pending_of queue')) where
+  are : AreWrites kept.geometry image held (pending_of queue) image' held' (pending_of queue')
+  are = subst (λ geo. AreWrites geo image held (pending_of queue) image' held' (pending_of queue')) same wrote
 
-module _ (image image' : List (List ℕ)) (held held' : List (List (List ℕ))) (queue queue' : Queued) (kept : Kept) (holdings : Holdings) (same : queue.geometry ≡ kept.geometry)
-    (flushed : AreFlushes queue.geometry image held (pending_of queue) image' held' (pending_of queue')) where
-  are : AreFlushes kept.geometry image held (pending_of queue) image' held' (pending_of queue')
-  are = subst (λ geo. AreFlushes geo image held (pending_of queue) image' held' (pending_of queue')) same flushed
+  abbrev views : List View
+  views = map (image_view kept.geometry) are.more
 
   pub sync_keeps : IsVolume kept holdings (pending_of queue) (image_view kept.geometry image) → IsVolume kept holdings (pending_of queue') (image_view kept.geometry image')
-  sync_keeps = flushes_keep kept holdings (image_view kept.geometry image) (pending_of queue) are.blocks (image_view kept.geometry image') (pending_of queue') are.flushes
+  sync_keeps = writes_keep kept holdings (image_view kept.geometry image) (pending_of queue) are.blocks views (image_view kept.geometry image') (pending_of queue') are.writes
 
   pub sync_answers : {D : Type 0} (device device' : D) → IsImage kept.geometry image → pending_of queue' ≡ [] → image_view queue.geometry image' ≡ users_view (image_view queue.geometry image) (pending_of queue)
       → (later : List View) × HeldMore kept.geometry held held' later
       × Answers image (record { device = device; queue = queue; kept = kept; holdings = holdings }) Sync Done image' (record { device = device'; queue = queue'; kept = kept; holdings = holdings }) later
   sync_answers device device' is none view = (
-    flush_images (home_of kept.geometry) disk (pending_of queue) are.blocks [],
-    record {
-      more = are.more;
-      held_now = are.held_now;
-      views = ap reverse are.images ∙ sym (append-nil (reverse (images_of (home_of kept.geometry) disk (pending_of queue) are.blocks))) ∙ sym (newest_first (home_of kept.geometry) disk (pending_of queue) are.blocks []);
-      framed = (are.framed is).1;
-    },
+    reverse views,
+    record { more = are.more; held_now = are.held_now; views = refl; framed = (are.framed is).1 },
     λ beside belongs. record {
       geometry = refl;
       snapshots = refl;
       step = λ stands. (accepts_sync kept.geometry (old beside), ap (λ p. state_over disk' p holdings beside) none ∙ state_none beside);
       serves = λ safe stands.
-          subst (λ p. Serves kept.geometry disk (pending_of queue) (old beside) safe Sync Done disk' p (state_over disk' p holdings beside) safe (flush_images (home_of kept.geometry) disk (pending_of queue) are.blocks [])) (sym none)
-          (subst (λ st. Serves kept.geometry disk (pending_of queue) (old beside) safe Sync Done disk' [] st safe (flush_images (home_of kept.geometry) disk (pending_of queue) are.blocks [])) (sym (state_none beside))
-          (SyncsAll are.blocks disk' (subst (Flushes (home_of kept.geometry) disk (pending_of queue) are.blocks disk') none are.flushes)));
+          subst (λ p. Serves kept.geometry disk (pending_of queue) (old beside) safe Sync Done disk' p (state_over disk' p holdings beside) safe (reverse views)) (sym none)
+          (subst (λ st. Serves kept.geometry disk (pending_of queue) (old beside) safe Sync Done disk' [] st safe (reverse views)) (sym (state_none beside))
+          (SyncsAll are.blocks views disk' (subst (Writes (home_of kept.geometry) disk (pending_of queue) are.blocks views disk') none are.writes)));
     },
   )
     where

@@ -1,27 +1,24 @@
 -- What a mounted volume goes through is a service.
-use Rattle.std.proofs.Common.{◌≡◌, ℕ, Bool, List, [], ◌∷◌, ◌++◌, reverse, Ok, Err, IsTrue, refl, sym, ap, ◌∙◌, subst}
-use Rattle.std.proofs.lemmas.List.{append_assoc, reverse-append}
+use Rattle.std.proofs.Common.{◌≡◌, ℕ, Bool, List, [], ◌∷◌, ◌++◌, map, reverse, Ok, Err, IsTrue, refl, sym, ap, ◌∙◌, subst}
 use Rattle.model.specs.Image.{image_view}
 use Rattle.model.specs.Layout.{Geometry}
 use Rattle.model.specs.Reach.{IsReachable}
 use Rattle.model.specs.View.{View}
 use Rattle.layout.specs.declared.refusal.Refusal.{Refusal}
-use Rattle.ordering.specs.Cuts.{Pending, rest, seen, users_view}
+use Rattle.ordering.specs.Cuts.{Pending, IsClosed, rest, seen, users_view}
 use Rattle.machine.specs.Command.{Answer, Command, Reply}
 use Rattle.machine.specs.State.{State}
 use Rattle.machine.specs.Step.{Step}
 use Rattle.plans_data.specs.Carried.{Stands}
 use Rattle.queue_model.specs.Blocks.{home_of}
 use Rattle.queue_model.specs.Files.{Written}
-use Rattle.queue_model.specs.Flush.{ready}
-use Rattle.queue_model.specs.Sync.{Flushes as FlushesOf, Stops, Goes}
-use Rattle.queue_model.proofs.FlushLemmas.{ready_closed}
+use Rattle.queue_model.specs.Sync.{Writes, WritesNone, WritesNext}
 use Rattle.ordering.proofs.Flushes.{users_flushed}
 use Rattle.frozen.specs.Kept.{Kept}
 use Rattle.softdep.specs.Queued.{Queued, pending_of}
-use Rattle.softdep.specs.Syncing.{images_of}
 use Rattle.courses.specs.Serves.{IsBeginning, IsSafeService, Serves, Service, Starts, CarriesOut as ServesOne, Refuses as RefusesOne, Flushed}
 use Rattle.courses.proofs.ServiceLemmas.{image_begins, service_safe}
+use Rattle.courses.proofs.Serving.{one_before}
 use Rattle.live_states.specs.Holdings.{AreImagesOf, Beside, Holdings, IsIdle, nothing_beside}
 use Rattle.live_states.specs.Planned.{safe_after}
 use Rattle.live_states.specs.Volume.{state_over}
@@ -122,29 +119,27 @@ module _ {D : Type 0} (beside : Beside) (image0 : List (List ℕ)) (live0 : Aliv
             safely = RefusesOne command r so_far.safely here;
           }
 
-    -- ---- flushes
+    -- ---- writes
 
     module _ (safe1 : ℕ → Bool) (holdings : Holdings) (commands : List Command) (replies : List Reply) where
       abbrev Since : (ℕ → Bool) → View → List Pending → List View → Type 0
       Since safe disk q images =
           Service geo (disk_at image0) (pending_of live0.queue) (state_at image0 live0) safe1 disk q (state_over disk q holdings beside) safe commands replies images
 
-    same_users : (disk : View) (q : List Pending) (holdings : Holdings) (a : ℕ)
-        → state_over (seen disk q (ready (home_of geo) a q)) (rest q (ready (home_of geo) a q)) holdings beside ≡ state_over disk q holdings beside
-    same_users disk q holdings a = ap (λ view. record { view = view; opened = (state_over disk q holdings beside).opened; held = (state_over disk q holdings beside).held; snapshots = beside.snapshots; plan = (state_over disk q holdings beside).plan })
-        (users_flushed disk q (ready (home_of geo) a q) (ready_closed (home_of geo) a q))
+    same_users : (disk : View) (q : List Pending) (holdings : Holdings) (cut : List Bool) → IsClosed q cut → state_over (seen disk q cut) (rest q cut) holdings beside ≡ state_over disk q holdings beside
+    same_users disk q holdings cut closed = ap (λ view. record { view = view; opened = (state_over disk q holdings beside).opened; held = (state_over disk q holdings beside).held; snapshots = beside.snapshots; plan = (state_over disk q holdings beside).plan })
+        (users_flushed disk q cut closed)
 
-    flushed_all : (safe1 : ℕ → Bool) (safe : ℕ → Bool) (holdings : Holdings) (commands : List Command) (replies : List Reply) (blocks : List ℕ) (disk : View) (q : List Pending) (images : List View) (disk' : View) (q' : List Pending)
-        → FlushesOf (home_of geo) disk q blocks disk' q' → Since safe1 holdings commands replies safe disk q images
-        → Since safe1 holdings commands replies safe disk' q' (reverse (images_of (home_of geo) disk q blocks) ++ images)
-    flushed_all safe1 safe holdings commands replies blocks disk q images disk' q' Stops service = service
-    flushed_all safe1 safe holdings commands replies blocks disk q images disk' q' (Goes {blocks = more} a least rest_of) service =
-        let image = seen disk q (ready (home_of geo) a q) in
-        let left = rest q (ready (home_of geo) a q) in
-        subst (λ is. Since safe1 holdings commands replies safe disk' q' is)
-        (sym (append_assoc (reverse (images_of (home_of geo) image left more)) (image ∷ []) images) ∙ ap (λ xs. xs ++ images) (sym (reverse-append (image ∷ []) (images_of (home_of geo) image left more))))
-        (flushed_all safe1 safe holdings commands replies more image left (image ∷ images) disk' q' rest_of
-        (subst (λ st. Service geo (disk_at image0) (pending_of live0.queue) (state_at image0 live0) safe1 image left st safe commands replies (image ∷ images)) (sym (same_users disk q holdings a)) (Flushed a service)))
+    wrote_all : (safe1 : ℕ → Bool) (safe : ℕ → Bool) (holdings : Holdings) (commands : List Command) (replies : List Reply) (blocks : List ℕ) (views : List View) (disk : View) (q : List Pending) (images : List View) (disk' : View) (q' : List Pending)
+        → Writes (home_of geo) disk q blocks views disk' q' → Since safe1 holdings commands replies safe disk q images
+        → Since safe1 holdings commands replies safe disk' q' (reverse views ++ images)
+    wrote_all safe1 safe holdings commands replies blocks views disk q images disk' q' WritesNone service = service
+    wrote_all safe1 safe holdings commands replies blocks views disk q images disk' q' (WritesNext {blocks = others} {views = more} a cut closed of_block some writes) service =
+        let image = seen disk q cut in
+        let left = rest q cut in
+        subst (λ is. Since safe1 holdings commands replies safe disk' q' is) (one_before image more images)
+        (wrote_all safe1 safe holdings commands replies others more image left (image ∷ images) disk' q' writes
+        (subst (λ st. Service geo (disk_at image0) (pending_of live0.queue) (state_at image0 live0) safe1 image left st safe commands replies (image ∷ images)) (sym (same_users disk q holdings cut closed)) (Flushed a cut service closed of_block)))
 
     -- the same service, of a volume that is as it was but for its device
     abbrev Within : (ℕ → Bool) → (ℕ → Bool) → List (List ℕ) → Queued → Holdings → List Command → List Reply → List View → Type 0
@@ -162,24 +157,24 @@ module _ {D : Type 0} (beside : Beside) (image0 : List (List ℕ)) (live0 : Aliv
     }
 
     module _ (image : List (List ℕ)) (live : Alive D) (commands : List Command) (replies : List Reply) (images : List View) (so_far : Served image live commands replies images)
-        (blocks : List ℕ) (image' : List (List ℕ)) (live' : Alive D)
-        (flushes : FlushesOf (home_of live.kept.geometry) (image_view live.kept.geometry image) (pending_of live.queue) blocks (image_view live.kept.geometry image') (pending_of live'.queue)) where
+        (blocks : List ℕ) (more : List (List (List ℕ))) (image' : List (List ℕ)) (live' : Alive D)
+        (writes : Writes (home_of live.kept.geometry) (image_view live.kept.geometry image) (pending_of live.queue) blocks (map (image_view live.kept.geometry) more) (image_view live.kept.geometry image') (pending_of live'.queue)) where
       since : (safe1 safe : ℕ → Bool) → Within safe1 safe image live.queue live.holdings commands replies images
-          → Within safe1 safe image' live'.queue live.holdings commands replies (reverse (images_of (home_of live.kept.geometry) (image_view live.kept.geometry image) (pending_of live.queue) blocks) ++ images)
+          → Within safe1 safe image' live'.queue live.holdings commands replies (reverse (map (image_view live.kept.geometry) more) ++ images)
       since safe1 safe service =
-          subst (λ g. FlushesOf (home_of g) (image_view g image) (pending_of live.queue) blocks (image_view g image') (pending_of live'.queue)
-          → Within safe1 safe image' live'.queue live.holdings commands replies (reverse (images_of (home_of g) (image_view g image) (pending_of live.queue) blocks) ++ images)) (sym so_far.geometry)
-          (λ f. flushed_all safe1 safe live.holdings commands replies blocks (disk_at image) (pending_of live.queue) images (disk_at image') (pending_of live'.queue) f service) flushes
+          subst (λ g. Writes (home_of g) (image_view g image) (pending_of live.queue) blocks (map (image_view g) more) (image_view g image') (pending_of live'.queue)
+          → Within safe1 safe image' live'.queue live.holdings commands replies (reverse (map (image_view g) more) ++ images)) (sym so_far.geometry)
+          (λ f. wrote_all safe1 safe live.holdings commands replies blocks (map (image_view geo) more) (disk_at image) (pending_of live.queue) images (disk_at image') (pending_of live'.queue) f service) writes
 
-      flushed_on : live'.kept ≡ live.kept → live'.holdings ≡ live.holdings
-          → Served image' live' commands replies (reverse (images_of (home_of live.kept.geometry) (image_view live.kept.geometry image) (pending_of live.queue) blocks) ++ images)
-      flushed_on kept holdings = record {
+      wrote_on : live'.kept ≡ live.kept → live'.holdings ≡ live.holdings
+          → Served image' live' commands replies (reverse (map (image_view live.kept.geometry) more) ++ images)
+      wrote_on kept holdings = record {
         geometry = ap (λ (k : Kept). k.geometry) kept ∙ so_far.geometry;
         snapshots = ap (λ (held : Holdings). held.snapshots) holdings ∙ so_far.snapshots;
-        quiet = subst (λ held. Within nothing_safe nothing_safe image' live'.queue held commands replies (reverse (images_of (home_of live.kept.geometry) (image_view live.kept.geometry image) (pending_of live.queue) blocks) ++ images))
+        quiet = subst (λ held. Within nothing_safe nothing_safe image' live'.queue held commands replies (reverse (map (image_view live.kept.geometry) more) ++ images))
             (sym holdings) (since nothing_safe nothing_safe so_far.quiet);
         safe = so_far.safe;
-        safely = subst (λ held. Within safe0 so_far.safe image' live'.queue held commands replies (reverse (images_of (home_of live.kept.geometry) (image_view live.kept.geometry image) (pending_of live.queue) blocks) ++ images))
+        safely = subst (λ held. Within safe0 so_far.safe image' live'.queue held commands replies (reverse (map (image_view live.kept.geometry) more) ++ images))
             (sym holdings) (since safe0 so_far.safe so_far.safely);
       }
 
@@ -196,8 +191,8 @@ module _ {D : Type 0} (beside : Beside) (image0 : List (List ℕ)) (live0 : Aliv
         subst (λ x. Served x live' (commands ++ command ∷ []) (replies ++ Err r ∷ []) images) (sym same.same_image)
         (as_it_was i l live' (commands ++ command ∷ []) (replies ++ Err r ∷ []) images same.queue same.kept same.holdings
         (refused i l commands replies images so_far command r (refuses beside (there i l commands replies images so_far))))
-    served image live cs rs im (Flushes {image = i} {live = l} {commands = commands} {replies = replies} {images = images} held held' image' live' lives flushed kept holdings) =
-        flushed_on i l commands replies images (served i l commands replies images lives) flushed.blocks image' live' flushed.flushes kept holdings
+    served image live cs rs im (Flushes {image = i} {live = l} {commands = commands} {replies = replies} {images = images} held held' image' live' lives wrote kept holdings) =
+        wrote_on i l commands replies images (served i l commands replies images lives) wrote.blocks wrote.more image' live' wrote.writes kept holdings
 
     pub safe_run : (image : List (List ℕ)) (live : Alive D) (commands : List Command) (replies : List Reply) (images : List View) → Lives beside image0 live0 image live commands replies images
         → (safe : ℕ → Bool) × Safe image live commands replies images safe

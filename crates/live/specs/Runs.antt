@@ -1,12 +1,12 @@
 -- What a mounted volume goes through.
-use Rattle.std.specs.Prelude.{◌≡◌, ℕ, List, [], ◌∷◌, ◌++◌, Ok, Err, reverse}
+use Rattle.std.specs.Prelude.{◌≡◌, ℕ, List, [], ◌∷◌, ◌++◌, Ok, Err, map, reverse}
 use Rattle.model.specs.Image.{image_view}
 use Rattle.model.specs.View.{View}
 use Rattle.layout.specs.declared.refusal.Refusal.{Refusal}
+use Rattle.device.specs.Media.{Held}
 use Rattle.machine.specs.Command.{Answer, Command, Reply}
-use Rattle.queue_model.specs.Blocks.{home_of}
 use Rattle.softdep.specs.Queued.{pending_of}
-use Rattle.softdep.specs.Syncing.{AreFlushes, images_of}
+use Rattle.softdep.specs.Syncing.{AreWrites}
 use Rattle.live_states.specs.Holdings.{Beside}
 use Rattle.live.specs.Alive.{Alive, Answers, MayRefuse}
 
@@ -29,7 +29,7 @@ pub data Lives {D : Type 0} (beside : Beside) (image0 : List (List ℕ)) (live0 
       → Lives beside image0 live0 image live commands replies images → MayRefuse image live command r → IsAsItWas image live image' live'
       → Lives beside image0 live0 image' live' (commands ++ command ∷ []) (replies ++ Err r ∷ []) images
   Flushes : {image : List (List ℕ)} {live : Alive D} {commands : List Command} {replies : List Reply} {images : List View}
-      (held held' : List (List (List ℕ))) (image' : List (List ℕ)) (live' : Alive D)
+      (held held' : Held) (image' : List (List ℕ)) (live' : Alive D)
       → Lives beside image0 live0 image live commands replies images
-      → (flushed : AreFlushes live.kept.geometry image held (pending_of live.queue) image' held' (pending_of live'.queue)) → live'.kept ≡ live.kept → live'.holdings ≡ live.holdings
-      → Lives beside image0 live0 image' live' commands replies (reverse (images_of (home_of live.kept.geometry) (image_view live.kept.geometry image) (pending_of live.queue) flushed.blocks) ++ images)
+      → (wrote : AreWrites live.kept.geometry image held (pending_of live.queue) image' held' (pending_of live'.queue)) → live'.kept ≡ live.kept → live'.holdings ≡ live.holdings
+      → Lives beside image0 live0 image' live' commands replies (reverse (map (image_view live.kept.geometry) wrote.more) ++ images)

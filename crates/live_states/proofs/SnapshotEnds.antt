@@ -12,7 +12,7 @@ use Rattle.machine.proofs.Tests.{and_false, and_true}
 use Rattle.ordering.specs.Cuts.{Pending, users_view}
 use Rattle.updates.specs.declared.change.Update.{Update}
 use Rattle.layout.specs.declared.refusal.Refusal.TheVariants.{NoSnapshot}
-use Rattle.queue_model.specs.Sync.{Stops}
+use Rattle.queue_model.specs.Sync.{WritesNone}
 use Rattle.machine.specs.Below.{when}
 use Rattle.machine.specs.Causes.{Accepts, causes}
 use Rattle.machine.specs.Command.{Done, Release}
@@ -116,7 +116,7 @@ module _ (kept : Kept) (holdings : Holdings) (disk : View) (keeps : KeepsMetadat
 
   safely : IsSafeService geo volume.mount volume.history volume.cut disk [] old nothing_safe disk q' (released old s) nothing_safe (Release s ∷ []) (Ok Done ∷ []) []
   safely = service_safe geo volume.mount volume.history volume.cut disk [] old nothing_safe volume.beginning disk q' (released old s) nothing_safe (Release s ∷ []) (Ok Done ∷ []) []
-      (CarriesOut (Release s) Done disk q' (released old s) nothing_safe [] Starts accepts (Releases s [] disk n Stops few))
+      (CarriesOut (Release s) Done disk q' (released old s) nothing_safe [] Starts accepts (Releases s [] [] disk n WritesNone few))
 
   begins : IsBeginning geo volume.mount safely.lived.h' safely.lived.cut' disk q' (released old s) nothing_safe
   begins = record { stands = safely.stands; moment = safely.lived.moment }

@@ -4,7 +4,7 @@ use Rattle.std.specs.Option.{option_or}
 use Rattle.model.specs.Layout.{Geometry}
 use Rattle.model.specs.View.{View}
 use Rattle.layout.specs.declared.refusal.Refusal.TheVariants.{TooManySnapshots}
-use Rattle.queue_model.specs.Sync.{Stops}
+use Rattle.queue_model.specs.Sync.{WritesNone}
 use Rattle.machine.specs.Below.{when}
 use Rattle.machine.specs.Causes.{Accepts, causes}
 use Rattle.machine.specs.Command.{Freeze, Image}
@@ -46,7 +46,7 @@ module _ (kept : Kept) (holdings : Holdings) (disk : View) (volume : IsVolume ke
 
   safely : IsSafeService geo volume.mount volume.history volume.cut disk [] old nothing_safe disk [] new nothing_safe (Freeze ∷ []) (Ok (Image old.snapshots.freezes (settled geo old)) ∷ []) []
   safely = service_safe geo volume.mount volume.history volume.cut disk [] old nothing_safe volume.beginning disk [] new nothing_safe (Freeze ∷ []) (Ok (Image old.snapshots.freezes (settled geo old)) ∷ []) []
-      (CarriesOut Freeze (Image old.snapshots.freezes (settled geo old)) disk [] new nothing_safe [] Starts accepts (Freezes [] disk Stops))
+      (CarriesOut Freeze (Image old.snapshots.freezes (settled geo old)) disk [] new nothing_safe [] Starts accepts (Freezes [] [] disk WritesNone))
 
   pub kept_volume : IsVolume kept (keeping holdings snapshot) [] disk
   kept_volume = record {

@@ -5,6 +5,7 @@ use Rattle.frozen.specs.Kept.{IsKeptOf, Kept, frozen_view}
 use Rattle.fsck.specs.Checked.{CheckedImage, IsChecked}
 use Rattle.model.specs.Image.{image_view}
 use Rattle.model.specs.View.{View}
+use Rattle.device.specs.Media.{Held}
 use Rattle.machine.specs.Command.{Check}
 use Rattle.machine.specs.Snapshot.{settled}
 use Rattle.softdep.specs.Queued.{pending_of}
@@ -17,14 +18,14 @@ use Rattle.mending.proofs.Joining.{Cycle, Joins, whole_cycle}
 use Rattle.mending.proofs.Seen.{image_checked, other_view, settled_disk}
 
 -- it stood alone, went through a cycle with snapshot s of all repairs of a check, and the check is that of its image
-pub record Ended {D : Type 0} (held : List (List (List ℕ))) (image : List (List ℕ)) (old : Alive D) (s : ℕ) (check : Check) (n : ℕ) (checked : CheckedImage) (held' : List (List (List ℕ))) (image' : List (List ℕ)) (new : Alive D) : Type 0 where
+pub record Ended {D : Type 0} (held : Held) (image : List (List ℕ)) (old : Alive D) (s : ℕ) (check : Check) (n : ℕ) (checked : CheckedImage) (held' : Held) (image' : List (List ℕ)) (new : Alive D) : Type 0 where
   pub is : IsBeside image old nothing_beside
   pub cycle : Cycle held image old s check n held' image' new
   pub is_settled : IsChecked old.kept.geometry (settled old.kept.geometry (state_of image old nothing_beside)) checked
   pub is_checked : IsChecked old.kept.geometry (disk_of image old) checked
   pub count : length (repairs_of checked.findings) ≡ n
 
-module _ {D : Type 0} (joins : Joins D) (held0 held1 held2 : List (List (List ℕ))) (image0 image1 image2 : List (List ℕ)) (v0 v1 v2 : Alive D) where
+module _ {D : Type 0} (joins : Joins D) (held0 held1 held2 : Held) (image0 image1 image2 : List (List ℕ)) (v0 v1 v2 : Alive D) where
   pub ends : (s : ℕ) (snapshot : Kept) (checked : CheckedImage) → pending_of v0.queue ≡ [] → IsIdle v0.holdings → IsBeside image0 v0 nothing_beside
       → IsChecked v0.kept.geometry (settled v0.kept.geometry (state_of image0 v0 nothing_beside)) checked → Freezes held0 image0 v0 s snapshot held1 image1 v1
       → ((beside : Beside) → IsBeside image1 v1 beside → Mends beside held1 image1 v1 s (check_of v1.kept.geometry checked) (length checked.repairs) held2 image2 v2)

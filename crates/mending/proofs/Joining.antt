@@ -3,6 +3,7 @@ use Rattle.std.proofs.Common.{◌≡◌, ℕ, suc, List, [], ◌∷◌, ◌++◌
 use Rattle.std.proofs.lemmas.List.Elements.{All-nil}
 use Rattle.std.proofs.lemmas.List.{append-nil}
 use Rattle.model.specs.Image.{IsImage}
+use Rattle.device.specs.Media.{Held, images_held}
 use Rattle.frozen.specs.Kept.{Kept}
 use Rattle.machine.specs.Command.{Answer, Check, Command, Done, Freeze, Image, Install, Release, RepairAt, Reply, Sync}
 use Rattle.machine.specs.Snapshot.{settled}
@@ -17,19 +18,19 @@ use Rattle.snapshot.specs.Stages.{LeadsTo, Stage}
 use Rattle.mending.specs.Repairs.{Mends, Repairs, all_done, one_beside, repairs_below, then_asked, then_replied}
 
 -- no call at all
-pub starts : {D : Type 0} (beside : Beside) (held : List (List (List ℕ))) (image : List (List ℕ)) (old : Alive D) → IsBeside image old beside → Goes beside held image old [] [] beside held image old
+pub starts : {D : Type 0} (beside : Beside) (held : Held) (image : List (List ℕ)) (old : Alive D) → IsBeside image old beside → Goes beside held image old [] [] beside held image old
 starts beside held image old is = record {
   geometry = refl;
   is = is;
   run = refl;
   later = [];
-  since = record { more = []; held_now = sym (append-nil held); views = refl; framed = All-nil (IsImage old.kept.geometry) };
+  since = record { more = []; held_now = sym (append-nil (images_held held)); views = refl; framed = All-nil (IsImage old.kept.geometry) };
   service = λ mount h cut safe begins. (safe, Starts);
 }
 
 -- that calls join
 abbrev pub Joins : Type 0 → Type 0
-Joins D = (beside beside' beside'' : Beside) (held held' held'' : List (List (List ℕ))) (image image' image'' : List (List ℕ)) (old mid new : Alive D) (commands more : List Command) (replies others : List Reply)
+Joins D = (beside beside' beside'' : Beside) (held held' held'' : Held) (image image' image'' : List (List ℕ)) (old mid new : Alive D) (commands more : List Command) (replies others : List Reply)
     → Goes beside held image old commands replies beside' held' image' mid → Goes beside' held' image' mid more others beside'' held'' image'' new
     → Goes beside held image old (commands ++ more) (replies ++ others) beside'' held'' image'' new
 
@@ -38,7 +39,7 @@ pub joins_of : {D : Type 0} → ((s t u : Stage D) (commands more : List Command
 joins_of join beside beside' beside'' held held' held'' image image' image'' old mid new =
     join (record { volume = old; beside = beside; held = held; image = image }) (record { volume = mid; beside = beside'; held = held'; image = image' }) (record { volume = new; beside = beside''; held = held''; image = image'' })
 
-pub one_more : {D : Type 0} → Joins D → (held held' held'' : List (List (List ℕ))) (image image' image'' : List (List ℕ)) (old mid new : Alive D) (n : ℕ)
+pub one_more : {D : Type 0} → Joins D → (held held' held'' : Held) (image image' image'' : List (List ℕ)) (old mid new : Alive D) (n : ℕ)
     → Repairs held image old n held' image' mid → Replies held' image' mid (RepairAt n) (Ok Done) held'' image'' new → Repairs held image old (suc n) held'' image'' new
 one_more joins held held' held'' image image' image'' old mid new n before last = λ beside is.
     let first = before beside is in
@@ -50,13 +51,13 @@ answered given (Ok answer) is = (answer, refl)
 answered given (Err r) is = absurd is
 
 -- from a volume without a snapshot: snapshot s, its check, so many repairs, the snapshot's end and a sync
-pub record Cycle {D : Type 0} (held : List (List (List ℕ))) (image : List (List ℕ)) (old : Alive D) (s : ℕ) (check : Check) (n : ℕ) (held' : List (List (List ℕ))) (image' : List (List ℕ)) (new : Alive D) : Type 0 where
+pub record Cycle {D : Type 0} (held : Held) (image : List (List ℕ)) (old : Alive D) (s : ℕ) (check : Check) (n : ℕ) (held' : Held) (image' : List (List ℕ)) (new : Alive D) : Type 0 where
   pub beside : Beside
   pub answer : Answer
   pub goes : Goes nothing_beside held image old
       (Freeze ∷ Install check ∷ then_asked s n) (Ok (Image s (settled old.kept.geometry (state_of image old nothing_beside))) ∷ Ok Done ∷ then_replied n answer) beside held' image' new
 
-module _ {D : Type 0} (joins : Joins D) (held1 held2 held3 held4 held5 : List (List (List ℕ))) (image1 image2 image3 image4 image5 : List (List ℕ)) (v1 v2 v3 v4 v5 : Alive D) where
+module _ {D : Type 0} (joins : Joins D) (held1 held2 held3 held4 held5 : Held) (image1 image2 image3 image4 image5 : List (List ℕ)) (v1 v2 v3 v4 v5 : Alive D) where
   pub then_mends : (beside : Beside) (s : ℕ) (check : Check) (n : ℕ) (given : Given) → IsBeside image1 v1 beside → Replies held1 image1 v1 (Install check) (Ok Done) held2 image2 v2
       → Repairs held2 image2 v2 n held3 image3 v3 → Releases held3 image3 v3 s held4 image4 v4 → Applies held4 image4 v4 Sync (Ok given) held5 image5 v5 → Mends beside held1 image1 v1 s check n held5 image5 v5
   then_mends b s check n given is installs repairs releases syncs =
@@ -76,7 +77,7 @@ module _ {D : Type 0} (joins : Joins D) (held1 held2 held3 held4 held5 : List (L
             (Install check ∷ (repairs_below n ++ Release s ∷ [])) (Sync ∷ []) (Ok Done ∷ (all_done n ++ Ok Done ∷ [])) (Ok said.0 ∷ []) to_release last;
       }
 
-module _ {D : Type 0} (joins : Joins D) (held0 held1 held2 : List (List (List ℕ))) (image0 image1 image2 : List (List ℕ)) (v0 v1 v2 : Alive D) where
+module _ {D : Type 0} (joins : Joins D) (held0 held1 held2 : Held) (image0 image1 image2 : List (List ℕ)) (v0 v1 v2 : Alive D) where
   pub whole_cycle : (s : ℕ) (snapshot : Kept) (check : Check) (n : ℕ) → IsBeside image0 v0 nothing_beside → Freezes held0 image0 v0 s snapshot held1 image1 v1
       → Mends (one_beside 0 (settled v0.kept.geometry (state_of image0 v0 nothing_beside))) held1 image1 v1 s check n held2 image2 v2 → Cycle held0 image0 v0 s check n held2 image2 v2
   whole_cycle s snapshot check n is freezes mends =

@@ -12,6 +12,7 @@ use Rattle.model.specs.Layout.{Geometry}
 use Rattle.model.specs.Metadata.{SameMetadata}
 use Rattle.model.specs.Rules.{ObeysRules}
 use Rattle.model.specs.View.{View}
+use Rattle.device.specs.Media.{Held}
 use Rattle.frozen.specs.Kept.{IsKeptOf, Kept, frozen_view}
 use Rattle.fsck.specs.Checked.{CheckedImage, IsChecked}
 use Rattle.metadata.proofs.ShownLemmas.{shows_metadata}
@@ -68,7 +69,7 @@ no_plan geo old new answer run = ap (λ (s : State). s.plan) (run.2 ∙ run.1.1.
 abbrev pub Damages : Type 0
 Damages = (geo : Geometry) (view : View) (fs : List Finding) → AreFindings geo view fs → (verdict_of fs ≡ Damaged) ↔ (ObeysRules geo view → ⊥)
 
-module _ {D : Type 0} (image_of : D → List (List ℕ)) (damages : Damages) (held0 held1 : List (List (List ℕ))) (image0 : List (List ℕ)) (v0 v1 : Alive D) (s : ℕ) (snapshot : Kept) (checked : CheckedImage) (none : pending_of v0.queue ≡ []) (idle : IsIdle v0.holdings)
+module _ {D : Type 0} (image_of : D → List (List ℕ)) (damages : Damages) (held0 held1 : Held) (image0 : List (List ℕ)) (v0 v1 : Alive D) (s : ℕ) (snapshot : Kept) (checked : CheckedImage) (none : pending_of v0.queue ≡ []) (idle : IsIdle v0.holdings)
     (mountable : IsMountable v0.kept.geometry image0) (is : IsBeside image0 v0 nothing_beside) (freezes : Freezes held0 image0 v0 s snapshot held1 (image_of v1.device) v1)
     (found : IsChecked v0.kept.geometry (settled v0.kept.geometry (state_of image0 v0 nothing_beside)) checked) where
   abbrev pub view : View

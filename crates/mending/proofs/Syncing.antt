@@ -3,8 +3,6 @@ use Rattle.std.proofs.Common.{◌≡◌, ℕ, Bool, true, false, List, [], ◌�
 use Rattle.model.specs.Layout.{Geometry}
 use Rattle.model.specs.View.{View}
 use Rattle.ordering.specs.Cuts.{Pending, rest}
-use Rattle.queue_model.specs.Blocks.{home_of}
-use Rattle.queue_model.specs.Flush.{ready}
 use Rattle.machine.specs.Command.{Answer, Command, Reply, Sync}
 use Rattle.machine.specs.State.{State}
 use Rattle.courses.specs.Done.{IsDoneBy, CreatesInSlot, CreatesInNewBlock, MakesInSlot, MakesInNewBlock, LinksInSlot, LinksInNewBlock, RenamesInSlot, MovesToSlot, MovesToNewBlock, UnlinksName, UnlinksFile, RemovesName, RemovesDirectory, WritesInPlace, WritesBehind, WritesElsewhere, TruncatesFile, ClosesHandle, CarriesOutRepair}
@@ -64,11 +62,11 @@ module _ (geo : Geometry) where
       quiet_is_none : (c : Command) → IsTrue (is_quiet c) → is_sync c ≡ true → q ≡ []
       quiet_is_none Sync quiet t = cc
       quiet_is_none _ quiet t = cc
-  sync_leaves disk q old safe command answer disk' q' new safe' later (FlushesNone a none) t = cc
-  sync_leaves disk q old safe command answer disk' q' new safe' later (FlushesSome a some) t = cc
-  sync_leaves disk q old safe command answer disk' q' new safe' later (SyncsAll blocks d syncs) t = refl
-  sync_leaves disk q old safe command answer disk' q' new safe' later (Freezes blocks d syncs) t = cc
-  sync_leaves disk q old safe command answer disk' q' new safe' later (Releases s blocks d n syncs held) t = cc
+  sync_leaves disk q old safe command answer disk' q' new safe' later (FlushesNone a) t = cc
+  sync_leaves disk q old safe command answer disk' q' new safe' later (FlushesSome a cut closed of_block some) t = cc
+  sync_leaves disk q old safe command answer disk' q' new safe' later (SyncsAll blocks views d writes) t = refl
+  sync_leaves disk q old safe command answer disk' q' new safe' later (Freezes blocks views d writes) t = cc
+  sync_leaves disk q old safe command answer disk' q' new safe' later (Releases s blocks views d n writes held) t = cc
 
   module _ (disk0 : View) (q0 : List Pending) (old0 : State) (safe0 : ℕ → Bool) where
     pub none_left : (disk : View) (q : List Pending) (new : State) (safe : ℕ → Bool) (commands cs : List Command) (replies rs : List Reply) (answer : Answer) (images : List View)
@@ -79,5 +77,5 @@ module _ (geo : Geometry) where
         sync_leaves d p s g command a d' q' t g' later serves (ap is_sync (same_last before cs command Sync e))
     none_left disk q new safe commands cs replies rs answer images (Refuses {replies = before} command r service step) e f =
         let bad : Err r ≡ Ok answer = same_last before rs (Err r) (Ok answer) f in absurd cc
-    none_left disk q new safe commands cs replies rs answer images (Flushed {disk = d} {q = p} {old = s} {safe = g} {images = before} a service) e f =
-        ap (λ pending. rest pending (ready (home_of geo) a pending)) (none_left d p s g commands cs replies rs answer before service e f)
+    none_left disk q new safe commands cs replies rs answer images (Flushed {disk = d} {q = p} {old = s} {safe = g} {images = before} a cut service closed of_block) e f =
+        ap (λ pending. rest pending cut) (none_left d p s g commands cs replies rs answer before service e f)

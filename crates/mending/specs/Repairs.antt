@@ -7,6 +7,7 @@ use Rattle.frozen.specs.Kept.{Kept, KeepsMetadata, frozen_view}
 use Rattle.fsck.specs.Checked.{CheckedImage, IsChecked}
 use Rattle.model.specs.Metadata.{SameMetadata}
 use Rattle.model.specs.View.{View}
+use Rattle.device.specs.Media.{Held}
 use Rattle.machine.specs.Command.{Answer, Check, Command, Done, Install, Release, RepairAt, Reply, Sync}
 use Rattle.machine.specs.Standing.{begun, latest_at}
 use Rattle.machine.specs.State.{Plan, State}
@@ -26,11 +27,11 @@ all_done zero = []
 all_done (suc n) = all_done n ++ Ok Done ∷ []
 
 -- A volume went through these repairs, each of which was carried out; what stands beside it stays, whatever it is.
-abbrev pub Repairs : {D : Type 0} → List (List (List ℕ)) → List (List ℕ) → Alive D → ℕ → List (List (List ℕ)) → List (List ℕ) → Alive D → Type 0
+abbrev pub Repairs : {D : Type 0} → Held → List (List ℕ) → Alive D → ℕ → Held → List (List ℕ) → Alive D → Type 0
 Repairs held image old n held' image' new = (beside : Beside) → IsBeside image old beside → Goes beside held image old (repairs_below n) (all_done n) beside held' image' new
 
 -- The same, where held_of and image_of tell what its device held and holds.
-abbrev pub Repaired : {D : Type 0} → (D → List (List (List ℕ))) → (D → List (List ℕ)) → Alive D → ℕ → Alive D → Type 0
+abbrev pub Repaired : {D : Type 0} → (D → Held) → (D → List (List ℕ)) → Alive D → ℕ → Alive D → Type 0
 Repaired held_of image_of old n new = Repairs (held_of old.device) (image_of old.device) old n (held_of new.device) (image_of new.device) new
 
 -- what is asked of a volume with snapshot s once that is checked, and the replies, for a check of n repairs
@@ -41,13 +42,13 @@ abbrev pub then_replied : ℕ → Answer → List Reply
 then_replied n answer = (all_done n ++ Ok Done ∷ []) ++ Ok answer ∷ []
 
 -- From a volume with this beside it: a check was installed, so many repairs were carried out, snapshot s ended, and all was written.
-pub record Mends {D : Type 0} (beside : Beside) (held : List (List (List ℕ))) (image : List (List ℕ)) (old : Alive D) (s : ℕ) (check : Check) (n : ℕ) (held' : List (List (List ℕ))) (image' : List (List ℕ)) (new : Alive D) : Type 0 where
+pub record Mends {D : Type 0} (beside : Beside) (held : Held) (image : List (List ℕ)) (old : Alive D) (s : ℕ) (check : Check) (n : ℕ) (held' : Held) (image' : List (List ℕ)) (new : Alive D) : Type 0 where
   pub beside' : Beside
   pub answer : Answer
   pub goes : Goes beside held image old (Install check ∷ then_asked s n) (Ok Done ∷ then_replied n answer) beside' held' image' new
 
 -- So it was with all repairs of a check, whatever stands beside the volume.
-abbrev pub MendsFrozen : {D : Type 0} → (D → List (List (List ℕ))) → (D → List (List ℕ)) → Alive D → ℕ → CheckedImage → Alive D → Type 0
+abbrev pub MendsFrozen : {D : Type 0} → (D → Held) → (D → List (List ℕ)) → Alive D → ℕ → CheckedImage → Alive D → Type 0
 MendsFrozen held_of image_of old s checked new = (beside : Beside) → IsBeside (image_of old.device) old beside
     → Mends beside (held_of old.device) (image_of old.device) old s (check_of old.kept.geometry checked) (length checked.repairs) (held_of new.device) (image_of new.device) new
 

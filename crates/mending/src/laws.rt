@@ -6,6 +6,7 @@ ghost use Rattle.findings.specs.Report.{repairs_of};
 ghost use Rattle.findings.specs.declared.finding.Finding.{Finding};
 ghost use Rattle.machine.specs.Command.{Answer, Check, Done, Freeze, Image, Install, Release, Sync};
 ghost use Rattle.model.specs.View.{View};
+ghost use Rattle.device.specs.Media.{Held};
 ghost use Rattle.softdep.specs.Queued.{pending_of};
 ghost use Rattle.live_states.specs.Holdings.{Beside, IsIdle, nothing_beside};
 ghost use Rattle.snapshot.specs.Alive.{Alive, disk_of};
@@ -18,7 +19,7 @@ use device::Device;
 /// From a volume that was just mounted: a snapshot, its check, each of the repairs, the snapshot's end and a sync, and nothing
 /// else, leave a device on whose image a check finds nothing.
 pub fn mended_images_are_clean<D: Device>()
-    ensures { (beside' : Beside) (held held' : List (List (List ℕ))) (image image' : List (List ℕ)) (old new : Alive D)
+    ensures { (beside' : Beside) (held held' : Held) (image image' : List (List ℕ)) (old new : Alive D)
         → (number : ℕ) (frozen : View) (check : Check) (findings : List Finding) (n : ℕ) (answer : Answer)
         → IsMountable old.kept.geometry image → pending_of old.queue ≡ [] → IsIdle old.holdings → IsBeside image old nothing_beside
         → AreFindings old.kept.geometry frozen findings → length (repairs_of findings) ≡ n

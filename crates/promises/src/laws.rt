@@ -9,6 +9,7 @@ ghost use Rattle.machine.specs.Balance.{Exact, OwesNothing};
 ghost use Rattle.machine.specs.Command.{Command, Reply};
 ghost use Rattle.model.specs.Layout.{Geometry};
 ghost use Rattle.model.specs.View.{View};
+ghost use Rattle.device.specs.Media.{images_held};
 ghost use Rattle.snapshot.specs.Alive.{Alive};
 ghost use Rattle.snapshot.specs.Cycles.{HasCycle};
 ghost use Rattle.snapshot.specs.Stages.{LeadsTo, Stage, StandsAt, geometry_at, state_at};
@@ -33,7 +34,7 @@ pub fn the_check_is_right()
 /// check finds only what repairs give back, and they leave an exact volume.
 pub fn every_stop_is_only_leaky<D: Device>()
     ensures { (s t : Stage D) (commands : List Command) (replies : List Reply) → StandsAt s → LeadsTo s commands replies t
-        → (more : List (List (List ℕ))) × (t.held ≡ s.held ++ more) × All (IsOnlyLeaky (geometry_at s)) more }
+        → (more : List (List (List ℕ))) × (images_held t.held ≡ images_held s.held ++ more) × All (IsOnlyLeaky (geometry_at s)) more }
 {
     snapshot::each_image_held_is_mountable::<D>();
     findings::rules_hold_where_findings_are_soft();

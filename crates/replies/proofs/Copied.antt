@@ -76,11 +76,11 @@ module _ (geo : Geometry) (disk0 : View) (q0 : List Pending) (old0 : State) (saf
   refused_instead disk q old safe images command answer disk' q' new safe' later refused accepts copied (ByPlan c a file plan n s done rest) = absurd (plan_not_copied geo disk q old safe c a file plan n s done copied)
   refused_instead disk q old safe images command answer disk' q' new safe' later refused accepts copied (Quietly c a n quiet effect) =
       subst (λ (s : State). Refused disk q s safe c images) (sym (copied_keeps geo old n c (Ok a) copied (accepts, effect))) refused
-  refused_instead disk q old safe images command answer disk' q' new safe' later refused accepts copied (FlushesNone a none) = absurd copied
-  refused_instead disk q old safe images command answer disk' q' new safe' later refused accepts copied (FlushesSome a some) = absurd copied
-  refused_instead disk q old safe images command answer disk' q' new safe' later refused accepts copied (SyncsAll blocks d syncs) = absurd copied
-  refused_instead disk q old safe images command answer disk' q' new safe' later refused accepts copied (Freezes blocks d syncs) = absurd copied
-  refused_instead disk q old safe images command answer disk' q' new safe' later refused accepts copied (Releases r blocks d n syncs below) = absurd copied
+  refused_instead disk q old safe images command answer disk' q' new safe' later refused accepts copied (FlushesNone a) = absurd copied
+  refused_instead disk q old safe images command answer disk' q' new safe' later refused accepts copied (FlushesSome a cut closed of_block some) = absurd copied
+  refused_instead disk q old safe images command answer disk' q' new safe' later refused accepts copied (SyncsAll blocks views d writes) = absurd copied
+  refused_instead disk q old safe images command answer disk' q' new safe' later refused accepts copied (Freezes blocks views d writes) = absurd copied
+  refused_instead disk q old safe images command answer disk' q' new safe' later refused accepts copied (Releases r blocks views d n writes below) = absurd copied
 
   lone_refused : (command : Command) (reply : Reply) → IsCopied reply → (disk : View) (q : List Pending) (new : State) (safe : ℕ → Bool) (commands : List Command) (replies : List Reply) (images : List View)
       → Service geo disk0 q0 old0 safe0 disk q new safe commands replies images → commands ≡ command ∷ [] → replies ≡ reply ∷ [] → Refused disk q new safe command images
@@ -92,8 +92,8 @@ module _ (geo : Geometry) (disk0 : View) (q0 : List Pending) (old0 : State) (saf
       (refused_instead d p old s images c answer d' p' n s' later (refused_after d p old s commands replies images service first.0 only.0 c) accepts (subst IsCopied (sym only.1) copied) serves)
   lone_refused command reply copied disk q new safe cs rs is (Refuses {disk = d} {q = p} {old = old} {safe = s} {commands = commands} {replies = replies} {images = images} c r service step) one answered =
       absurd (subst IsCopied (sym (lone_last replies (Err r) reply answered).1) copied)
-  lone_refused command reply copied disk q new safe cs rs is (Flushed {disk = d} {q = p} {old = old} {safe = s} {commands = commands} {replies = replies} {images = images} a service) one answered =
-      Flushed a (lone_refused command reply copied d p old s commands replies images service one answered)
+  lone_refused command reply copied disk q new safe cs rs is (Flushed {disk = d} {q = p} {old = old} {safe = s} {commands = commands} {replies = replies} {images = images} a cut service closed of_block) one answered =
+      Flushed a cut (lone_refused command reply copied d p old s commands replies images service one answered) closed of_block
 
 pub service_refused : (geo : Geometry) (disk0 : View) (q0 : List Pending) (old0 : State) (safe0 : ℕ → Bool) (disk : View) (q : List Pending) (new : State) (safe : ℕ → Bool) (command : Command) (reply : Reply) (images : List View) → IsCopied reply
     → Service geo disk0 q0 old0 safe0 disk q new safe (command ∷ []) (reply ∷ []) images → Service geo disk0 q0 old0 safe0 disk q new safe (command ∷ []) (Err NoMemory ∷ []) images

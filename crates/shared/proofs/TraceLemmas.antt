@@ -6,13 +6,12 @@ use Rattle.std.proofs.lemmas.List.Sums.{sum_by-append, sum_by-cons}
 use Rattle.layout.specs.declared.refusal.Refusal.{Refusal}
 use Rattle.layout.specs.declared.refusal.Refusal.TheVariants.{Device, NoMemory, NoSnapshot, TooManySnapshots, TraceFull}
 use Rattle.model.specs.Layout.{Geometry}
+use Rattle.device.specs.Media.{Held}
 use Rattle.machine.specs.Command.{Command as Request, Reply as Response, Done as IsDone, Number as IsNumber, Bytes as AreBytes, Listed, Status as IsStatus, Image as IsImage}
 use Rattle.replies.specs.Replies.{IsCopied}
 use Rattle.replies.proofs.Copied.{run_refused, service_refused}
-use Rattle.ordering.specs.Cuts.{Pending}
-use Rattle.queue_model.specs.Blocks.{home_of}
-use Rattle.queue_model.specs.Flush.{ready, taken}
-use Rattle.softdep.specs.Queued.{pending_of}
+use Rattle.queue_model.specs.Flush.{taken}
+use Rattle.softdep.specs.Queued.{pending_of, NothingNext, Queued, next_cut}
 use Rattle.snapshot.specs.Alive.{Alive, disk_of, state_of}
 use Rattle.live_states.specs.Holdings.{Beside}
 use Rattle.snapshot.specs.declared.command.Command.{Command}
@@ -83,7 +82,7 @@ pub untouched_so : {P : Type 0} (reply answer : Result Answer Refusal) → OnErr
 untouched_so {P = P} reply answer untouched reading (inl same) = subst (λ r. OnErr r P) (sym same) untouched
 untouched_so {P = P} reply answer untouched reading (inr (copied, none)) = subst (λ r. OnErr r P) (sym none) (reading copied)
 
-module _ {D : Type 0} (held held' : List (List (List ℕ))) (image image' : List (List ℕ)) (old new : Alive D) where
+module _ {D : Type 0} (held held' : Held) (image image' : List (List ℕ)) (old new : Alive D) where
   -- bytes and names may be refused
   goes_refused : (beside beside' : Beside) (command : Request) (response : Response) → IsCopied response → Goes beside held image old (command ∷ []) (response ∷ []) beside' held' image' new
       → Goes beside held image old (command ∷ []) (Err NoMemory ∷ []) beside' held' image' new
@@ -109,7 +108,7 @@ module _ {D : Type 0} (held held' : List (List (List ℕ))) (image image' : List
       (a.0, Err NoMemory, refl, goes_refused beside a.0 command a.1 (copied_so reply a.1 copied a.2) a.3))
 
 -- what was written does not hang on a copy of bytes or names
-module _ {D : Type 0} (honest : D → Type 0) (held_of : D → List (List (List ℕ))) (image_of : D → List (List ℕ)) (old new : Alive D) where
+module _ {D : Type 0} (honest : D → Type 0) (held_of : D → Held) (image_of : D → List (List ℕ)) (old new : Alive D) where
   copied_writes : (command : Command) (reply : Result Answer Refusal) → HasBytesOrNames reply → Writes honest held_of image_of old command reply new → Writes honest held_of image_of old command (Err NoMemory) new
   copied_writes (Create path) reply c w = w
   copied_writes (Mkdir path) reply c w = w
@@ -142,7 +141,7 @@ module _ {D : Type 0} (honest : D → Type 0) (held_of : D → List (List (List 
 -- ---- traces
 
 -- an empty trace begins where it ends
-pub begins : {D : Type 0} (held : List (List (List ℕ))) (image : List (List ℕ)) (now : Alive D) → HasBeside image now → HasOpening held image [] now
+pub begins : {D : Type 0} (held : Held) (image : List (List ℕ)) (now : Alive D) → HasBeside image now → HasOpening held image [] now
 begins held image now has = record {
   opening = now;
   opening_beside = has.beside;
@@ -156,7 +155,7 @@ begins held image now has = record {
 }
 
 -- one more call
-pub noted_on : {D : Type 0} (held held' : List (List (List ℕ))) (image image' : List (List ℕ)) (trace : List Entry) (old new : Alive D) (command : Command) (reply noted : Result Answer Refusal)
+pub noted_on : {D : Type 0} (held held' : Held) (image image' : List (List ℕ)) (trace : List Entry) (old new : Alive D) (command : Command) (reply noted : Result Answer Refusal)
     → HasOpening held image trace old → Applies held image old (asked old.kept.geometry command) reply held' image' new → Notes reply noted
     → HasOpening held' image' (trace ++ record { command = command; reply = noted } ∷ []) new
 noted_on held held' image image' trace old new command reply noted o applied notes =
@@ -208,7 +207,7 @@ repairs_asked geo (e ∷ es) =
     ∙ ap₂ (λ m n. m + n) (ap (λ b. cond b 1 0) (asks_so geo e.command)) (repairs_asked geo es)
     ∙ sym (sum_by-cons (λ (e : Entry). cond (is_repair_entry e) 1 0) e es)
 
-module _ {D : Type 0} (held_of : D → List (List (List ℕ))) (image_of : D → List (List ℕ)) (opens : Opened → Type 0) where
+module _ {D : Type 0} (held_of : D → Held) (image_of : D → List (List ℕ)) (opens : Opened → Type 0) where
   -- a volume that is shared has no calls before it
   pub opened : (now : Alive D) → opens (opened_of held_of image_of now) → HasBeside (image_of now.device) now → HasHistory held_of image_of opens no_calls [] now
   unfolding begins
@@ -276,7 +275,7 @@ pub if_ok : (P Q : Answer → Type 0) (reply : Result Answer Refusal) → ((answ
 if_ok P Q (Ok answer) so holds = so answer holds
 if_ok P Q (Err r) so holds = tt
 
--- what a flush counts where none was pending, and where its block was ready
-pub counts_some : (geo : Geometry) (q : List Pending) (a : ℕ) → IsNext geo q a → (answer : Answer) → answer ≡ Number (taken (ready (home_of geo) a q)) → (n : ℕ) × (answer ≡ Number n) × ((n ≡ 0) ↔ (q ≡ []))
-counts_some geo q a (inl least) answer is = (taken (ready (home_of geo) a q), is, (λ none. absurd (omega (arith, none, least.has)), λ empty. absurd (let none : taken (ready (home_of geo) a q) ≡ 0 = subst (λ p. taken (ready (home_of geo) a p) ≡ 0) (sym empty) refl in omega (arith, none, least.has))))
-counts_some geo q a (inr (empty, zero)) answer is = (taken (ready (home_of geo) a q), is, (λ none. empty, λ e. subst (λ p. taken (ready (home_of geo) a p) ≡ 0) (sym empty) refl))
+-- what a flush of the next block counts
+pub counts_some : (queue : Queued) (a : ℕ) → IsNext queue a → (answer : Answer) → answer ≡ Number (taken (next_cut queue a)) → (n : ℕ) × (answer ≡ Number n) × ((n ≡ 0) ↔ NothingNext queue)
+counts_some queue a (inl least) answer is = (taken (next_cut queue a), is, (λ none. absurd (omega (arith, none, least.has)), λ nothing. nothing a))
+counts_some queue a (inr (nothing, zero)) answer is = (taken (next_cut queue a), is, (λ none. nothing, λ again. nothing a))

@@ -3,7 +3,8 @@ use Rattle.std.specs.Prelude.{◌≡◌, ◌≢◌, ◌↔◌, ◌+◌, ◌<◌,
 use Rattle.std.specs.List.{count_by}
 use Rattle.layout.specs.declared.refusal.Refusal.{Refusal}
 use Rattle.layout.specs.declared.refusal.Refusal.TheVariants.{TraceFull}
-use Rattle.softdep.specs.Queued.{pending_of}
+use Rattle.device.specs.Media.{Held}
+use Rattle.softdep.specs.Queued.{NothingNext}
 use Rattle.snapshot.specs.Alive.{Alive}
 use Rattle.snapshot.specs.Between.{Applied, could_go}
 use Rattle.snapshot.specs.Refusing.{IsCause}
@@ -25,7 +26,7 @@ abbrev pub no_calls : Counts
 no_calls = record { repairs = 0; others = 0 }
 
 -- A call of a command did this to a volume with its trace, over devices that tell so whether they were honest, what they held and what they hold; and it got this reply.
-pub record IsCall {D : Type 0} (honest : D → Type 0) (held_of : D → List (List (List ℕ))) (image_of : D → List (List ℕ)) (old : Shown D) (command : Command) (reply : Result Answer Refusal) (new : Shown D) : Type 0 where
+pub record IsCall {D : Type 0} (honest : D → Type 0) (held_of : D → Held) (image_of : D → List (List ℕ)) (old : Shown D) (command : Command) (reply : Result Answer Refusal) (new : Shown D) : Type 0 where
   -- it is refused exactly if the trace has no room, and then nothing changes
   pub full : (reply ≡ Err TraceFull) ↔ (length old.trace ≡ old.limit)
   pub unchanged : reply ≡ Err TraceFull → new ≡ old
@@ -43,12 +44,12 @@ pub record IsCall {D : Type 0} (honest : D → Type 0) (held_of : D → List (Li
   pub limit : new.limit ≡ old.limit
 
 -- a flush of the next block got this reply
-abbrev pub FlushesNext : {D : Type 0} → (D → Type 0) → (D → List (List (List ℕ))) → (D → List (List ℕ)) → Shown D → Result Answer Refusal → Shown D → Type 0
-FlushesNext honest held_of image_of old reply new = (a : ℕ) × IsNext old.volume.kept.geometry (pending_of old.volume.queue) a × IsCall honest held_of image_of old (Flush a) reply new
+abbrev pub FlushesNext : {D : Type 0} → (D → Type 0) → (D → Held) → (D → List (List ℕ)) → Shown D → Result Answer Refusal → Shown D → Type 0
+FlushesNext honest held_of image_of old reply new = (a : ℕ) × IsNext old.volume.queue a × IsCall honest held_of image_of old (Flush a) reply new
 
--- an answer counts updates, and some exactly where some are pending
+-- an answer counts updates that were written, and none exactly where none could be
 abbrev pub CountsSome : {D : Type 0} → Alive D → Answer → Type 0
-CountsSome live answer = (n : ℕ) × (answer ≡ Number n) × ((n ≡ 0) ↔ (pending_of live.queue ≡ []))
+CountsSome live answer = (n : ℕ) × (answer ≡ Number n) × ((n ≡ 0) ↔ NothingNext live.queue)
 
 -- The trace was emptied, and its calls count among those before it; or a count would have become too large, and nothing changed.
 pub record IsRotation {D : Type 0} (old : Shown D) (result : Result (Unit {0}) Refusal) (new : Shown D) : Type 0 where
@@ -63,13 +64,13 @@ pub record IsRotation {D : Type 0} (old : Shown D) (result : Result (Unit {0}) R
 -- ---- under a lock, which hides the volume: calls of some volume of one sharing
 
 -- A volume with its trace is of a sharing: the trace has this limit, and its calls and those before it led to the volume from one that was opened so.
-pub record IsOfSharing {D : Type 0} (honest : D → Type 0) (held_of : D → List (List (List ℕ))) (image_of : D → List (List ℕ)) (limit : ℕ) (opens : Opened → Type 0) (b : Shown D) : Type 0 where
+pub record IsOfSharing {D : Type 0} (honest : D → Type 0) (held_of : D → Held) (image_of : D → List (List ℕ)) (limit : ℕ) (opens : Opened → Type 0) (b : Shown D) : Type 0 where
   pub limit_is : b.limit ≡ limit
   pub short : length b.trace ≤ limit
   pub history : honest b.volume.device → HasHistory held_of image_of opens b.before b.trace b.volume
 
 -- a command got this reply
-pub record IsCallOf {D : Type 0} (honest : D → Type 0) (held_of : D → List (List (List ℕ))) (image_of : D → List (List ℕ)) (limit : ℕ) (opens : Opened → Type 0) (command : Command) (reply : Result Answer Refusal) : Type 0 where
+pub record IsCallOf {D : Type 0} (honest : D → Type 0) (held_of : D → Held) (image_of : D → List (List ℕ)) (limit : ℕ) (opens : Opened → Type 0) (command : Command) (reply : Result Answer Refusal) : Type 0 where
   pub some : 1 ≤ limit
   pub old : Shown D
   pub new : Shown D
@@ -77,17 +78,17 @@ pub record IsCallOf {D : Type 0} (honest : D → Type 0) (held_of : D → List (
   pub call : IsCall honest held_of image_of old command reply new
 
 -- a flush of the next block did
-pub record IsFlushOf {D : Type 0} (honest : D → Type 0) (held_of : D → List (List (List ℕ))) (image_of : D → List (List ℕ)) (limit : ℕ) (opens : Opened → Type 0) (reply : Result Answer Refusal) : Type 0 where
+pub record IsFlushOf {D : Type 0} (honest : D → Type 0) (held_of : D → Held) (image_of : D → List (List ℕ)) (limit : ℕ) (opens : Opened → Type 0) (reply : Result Answer Refusal) : Type 0 where
   pub some : 1 ≤ limit
   pub old : Shown D
   pub new : Shown D
   pub shared : IsOfSharing honest held_of image_of limit opens old
   pub address : ℕ
-  pub next : IsNext old.volume.kept.geometry (pending_of old.volume.queue) address
+  pub next : IsNext old.volume.queue address
   pub call : IsCall honest held_of image_of old (Flush address) reply new
 
 -- the trace was emptied, or not
-pub record IsRotationOf {D : Type 0} (honest : D → Type 0) (held_of : D → List (List (List ℕ))) (image_of : D → List (List ℕ)) (limit : ℕ) (opens : Opened → Type 0) (result : Result (Unit {0}) Refusal) : Type 0 where
+pub record IsRotationOf {D : Type 0} (honest : D → Type 0) (held_of : D → Held) (image_of : D → List (List ℕ)) (limit : ℕ) (opens : Opened → Type 0) (result : Result (Unit {0}) Refusal) : Type 0 where
   pub some : 1 ≤ limit
   pub old : Shown D
   pub new : Shown D
@@ -95,5 +96,5 @@ pub record IsRotationOf {D : Type 0} (honest : D → Type 0) (held_of : D → Li
   pub rotation : IsRotation old result new
 
 -- the repair of a place got this reply
-abbrev pub IsRepairOf : {D : Type 0} → (D → Type 0) → (D → List (List (List ℕ))) → (D → List (List ℕ)) → ℕ → (Opened → Type 0) → ℕ → Result Answer Refusal → Type 0
+abbrev pub IsRepairOf : {D : Type 0} → (D → Type 0) → (D → Held) → (D → List (List ℕ)) → ℕ → (Opened → Type 0) → ℕ → Result Answer Refusal → Type 0
 IsRepairOf honest held_of image_of limit opens place reply = IsCallOf honest held_of image_of limit opens (Repair place) reply

@@ -1,10 +1,7 @@
 -- Which block is flushed next.
-use Rattle.std.specs.Prelude.{◌≡◌, ◌⊎◌, ℕ, List, []}
-use Rattle.model.specs.Layout.{Geometry}
-use Rattle.ordering.specs.Cuts.{Pending}
-use Rattle.queue_model.specs.Blocks.{home_of}
-use Rattle.queue_model.specs.Sync.{IsLeastReady}
+use Rattle.std.specs.Prelude.{◌≡◌, ◌⊎◌, ℕ}
+use Rattle.softdep.specs.Queued.{IsLeastNext, NothingNext, Queued}
 
--- the least one with an update that may go to the device, or block 0 where nothing is pending
-abbrev pub IsNext : Geometry → List Pending → ℕ → Type 0
-IsNext geo q a = IsLeastReady (home_of geo) q a ⊎ ((q ≡ []) × (a ≡ 0))
+-- the least one of which a flush writes something, or block 0 where there is none
+abbrev pub IsNext : Queued → ℕ → Type 0
+IsNext queue a = IsLeastNext queue a ⊎ (NothingNext queue × (a ≡ 0))

@@ -4,6 +4,7 @@ use Rattle.std.specs.List.{AllZip, count_by}
 use Rattle.machine.specs.Command.{Command, Reply as Response}
 use Rattle.model.specs.Layout.{Geometry}
 use Rattle.model.specs.View.{View}
+use Rattle.device.specs.Media.{Held}
 use Rattle.queue_model.specs.Files.{Written}
 use Rattle.courses.specs.Serves.{IsSafeService, Service}
 use Rattle.softdep.specs.Queued.{pending_of}
@@ -28,11 +29,11 @@ abbrev pub AreNoted : List Entry → List Response → Type 0
 AreNoted trace responses = AllZip (λ (entry : Entry) response. IsNoted entry.reply response) trace responses
 
 -- From a volume in balance, the commands of the trace led here, one after another, with replies of which all is noted but images; and so here is balance too.
-pub record HasOpening {D : Type 0} (held : List (List (List ℕ))) (image : List (List ℕ)) (trace : List Entry) (now : Alive D) : Type 0 where
+pub record HasOpening {D : Type 0} (held : Held) (image : List (List ℕ)) (trace : List Entry) (now : Alive D) : Type 0 where
   -- the volume before the first of these calls, what stood beside it, and what its device held and had held
   pub opening : Alive D
   pub opening_beside : Beside
-  pub opening_held : List (List (List ℕ))
+  pub opening_held : Held
   pub opening_image : List (List ℕ)
   pub opens : IsBeside opening_image opening opening_beside
   pub responses : List Response
@@ -41,15 +42,15 @@ pub record HasOpening {D : Type 0} (held : List (List (List ℕ))) (image : List
   pub goes : Goes opening_beside opening_held opening_image opening (asked_by opening.kept.geometry trace) responses beside held image now
 
 -- the volume before the first of these calls, and the present one
-abbrev pub opening_at : {D : Type 0} {held : List (List (List ℕ))} {image : List (List ℕ)} {trace : List Entry} {now : Alive D} → HasOpening held image trace now → Stage D
+abbrev pub opening_at : {D : Type 0} {held : Held} {image : List (List ℕ)} {trace : List Entry} {now : Alive D} → HasOpening held image trace now → Stage D
 opening_at o = record { volume = o.opening; beside = o.opening_beside; held = o.opening_held; image = o.opening_image }
 
-abbrev pub now_at : {D : Type 0} {held : List (List (List ℕ))} {image : List (List ℕ)} {trace : List Entry} {now : Alive D} → HasOpening held image trace now → Stage D
+abbrev pub now_at : {D : Type 0} {held : Held} {image : List (List ℕ)} {trace : List Entry} {now : Alive D} → HasOpening held image trace now → Stage D
 now_at {held = held} {image = image} {now = now} o = record { volume = now; beside = o.beside; held = held; image = image }
 
 -- Before a trace, so many repairs and other calls led to its opening from a volume of which this was known.
-pub record HasPast {D : Type 0} (held_of : D → List (List (List ℕ))) (image_of : D → List (List ℕ)) (opens : Opened → Type 0) (before : Counts)
-    {held : List (List (List ℕ))} {image : List (List ℕ)} {trace : List Entry} {now : Alive D} (o : HasOpening held image trace now) : Type 0 where
+pub record HasPast {D : Type 0} (held_of : D → Held) (image_of : D → List (List ℕ)) (opens : Opened → Type 0) (before : Counts)
+    {held : Held} {image : List (List ℕ)} {trace : List Entry} {now : Alive D} (o : HasOpening held image trace now) : Type 0 where
   pub first : Alive D
   pub known : opens (opened_of held_of image_of first)
   pub beside : Beside
@@ -61,16 +62,16 @@ pub record HasPast {D : Type 0} (held_of : D → List (List (List ℕ))) (image_
   pub goes : Goes beside (held_of first.device) (image_of first.device) first commands responses o.opening_beside o.opening_held o.opening_image o.opening
 
 -- A volume with its trace has a history: the calls before the trace and those in it led here, one after another, from a volume of which this was known.
-pub record HasHistory {D : Type 0} (held_of : D → List (List (List ℕ))) (image_of : D → List (List ℕ)) (opens : Opened → Type 0) (before : Counts) (trace : List Entry) (now : Alive D) : Type 0 where
+pub record HasHistory {D : Type 0} (held_of : D → Held) (image_of : D → List (List ℕ)) (opens : Opened → Type 0) (before : Counts) (trace : List Entry) (now : Alive D) : Type 0 where
   pub opening : HasOpening (held_of now.device) (image_of now.device) trace now
   pub past : HasPast held_of image_of opens before opening
 
 -- the volume that was shared
-abbrev pub first_at : {D : Type 0} {held_of : D → List (List (List ℕ))} {image_of : D → List (List ℕ)} {opens : Opened → Type 0} {before : Counts} {trace : List Entry} {now : Alive D} → HasHistory held_of image_of opens before trace now → Stage D
+abbrev pub first_at : {D : Type 0} {held_of : D → Held} {image_of : D → List (List ℕ)} {opens : Opened → Type 0} {before : Counts} {trace : List Entry} {now : Alive D} → HasHistory held_of image_of opens before trace now → Stage D
 first_at {held_of = held_of} {image_of = image_of} h = record { volume = h.past.first; beside = h.past.beside; held = held_of h.past.first.device; image = image_of h.past.first.device }
 
 -- From its opening, which is such a beginning, with these files that no stop is to lose, the volume went through a service of the trace's commands, and each image that the device held since is safe.
-pub record IsSafeTrace {D : Type 0} {held : List (List (List ℕ))} {image : List (List ℕ)} {trace : List Entry} {now : Alive D} (o : HasOpening held image trace now) (mount : View) (h : List Written) (cut : List Bool) (safe : ℕ → Bool) : Type 0 where
+pub record IsSafeTrace {D : Type 0} {held : Held} {image : List (List ℕ)} {trace : List Entry} {now : Alive D} (o : HasOpening held image trace now) (mount : View) (h : List Written) (cut : List Bool) (safe : ℕ → Bool) : Type 0 where
   pub later : List View
   pub since : HeldMore o.opening.kept.geometry o.opening_held held later
   pub safe' : ℕ → Bool

@@ -1,7 +1,6 @@
 //! The volume under the lock, with the trace of what was called.
 ghost use Rattle.std.specs.Prelude.{◌≡◌, ◌≢◌, ◌⊎◌, ◌+◌, ◌<◌, ◌^◌, if◌then◌else◌, [], Err, IfOk, IsErrOf, IsOkUnless, Ok, vec_len};
 ghost use Rattle.device.specs.Writes.{HasFailed};
-ghost use Rattle.softdep.specs.Queued.{pending_of};
 ghost use Rattle.shared.specs.Calls.{CountsSome, FlushesNext, IsCall, IsOfSharing, IsRotation, no_calls};
 ghost use Rattle.shared.specs.Next.{IsNext};
 ghost use Rattle.snapshot.specs.Asked.{HasBytesOrNames};
@@ -136,13 +135,13 @@ impl<D: Device + Drop, L: Sharing, M: Ledger> Booked<D, L, M> {
         reply
     }
 
-    /// Flushes the least block with an update that may go to the device, or block 0 where nothing is pending. Refused as
-    /// `call` is.
+    /// Flushes the least block of which that writes something, or block 0 where there is none: then nothing is pending, or the
+    /// device, which does not keep order, is waited for, so that more may be written next. Refused as `call` is.
     pub fn flush_some(&mut self, alloc: Global, seat: &mut Seat<L, M>) -> Reply
         ensures known { IsOfSharing D.honest D.held D.image L.limit L.opens self.old }
         ensures call { FlushesNext D.honest D.held D.image self.old result self.new }
         ensures unchanged { result ≡ Err Refusal.TraceFull → seat.new ≡ seat.old }
-        // The answer counts the updates that were written: 0 exactly where none was pending.
+        // The answer counts the updates that were written: 0 exactly where none could be.
         ensures wrote { D.honest self.new.volume.device → IfOk result (CountsSome self.old.volume) }
         ensures cause { IsErrOf result Refusal.Device → HasFailed (D.failures self.old.volume.device) (D.failures self.new.volume.device) }
         ensures honest { D.honest self.new.volume.device → D.honest self.old.volume.device }
@@ -236,9 +235,9 @@ fn count<L: Ledger, M: Ledger>(
     }
 }
 
-/// The least block with an update that may go to the device, or block 0.
+/// The least block of which a flush writes something, or block 0.
 fn next_block<D: Device>(volume: &Volume<D>) -> u32
-    ensures { IsNext volume.now.kept.geometry (pending_of volume.now.queue) result }
+    ensures { IsNext volume.now.queue result }
 {
     volume.live().least_ready().unwrap_or(0)
 }

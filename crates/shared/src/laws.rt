@@ -2,6 +2,7 @@
 ghost use Rattle.std.specs.List.{All};
 ghost use Rattle.std.specs.Prelude.{◌≡◌, ◌++◌, ℕ, Bool, false, List};
 ghost use Rattle.model.specs.View.{View};
+ghost use Rattle.device.specs.Media.{Held, images_held};
 ghost use Rattle.machine.specs.Balance.{Balance, Exact, OwesNothing};
 ghost use Rattle.machine.specs.Step.{Run};
 ghost use Rattle.queue_model.specs.Files.{Written};
@@ -19,10 +20,10 @@ use device::Device;
 /// A trace is a run of the machine from a state in balance, replies included, to the present one, which is in balance too.
 /// So where nothing is owed, the maps mark exactly what is reachable, open or held, and each link count equals its entries.
 pub fn traces_lead_to_balance<D: Device>()
-    ensures run { (held : List (List (List ℕ))) (image : List (List ℕ)) (trace : List Entry) (now : Alive D) → (o : HasOpening held image trace now)
+    ensures run { (held : Held) (image : List (List ℕ)) (trace : List Entry) (now : Alive D) → (o : HasOpening held image trace now)
         → Run now.kept.geometry (state_at (opening_at o)) (asked_by now.kept.geometry trace) o.responses (state_at (now_at o))
         × Balance now.kept.geometry (state_at (opening_at o)) }
-    ensures balance { (held : List (List (List ℕ))) (image : List (List ℕ)) (trace : List Entry) (now : Alive D) → (o : HasOpening held image trace now)
+    ensures balance { (held : Held) (image : List (List ℕ)) (trace : List Entry) (now : Alive D) → (o : HasOpening held image trace now)
         → Balance now.kept.geometry (state_at (now_at o))
         × (OwesNothing now.kept.geometry (state_at (now_at o)) → Exact now.kept.geometry (state_at (now_at o))) }
 {
@@ -54,8 +55,8 @@ pub fn repairs_of_a_history_end_exact<D: Device, L: Sharing>()
 /// Whatever the threads did and in whatever order, each image that the device held since the trace began is mountable: an image of
 /// this geometry that obeys the rules.
 pub fn each_image_of_a_trace_is_mountable<D: Device>()
-    ensures { (held : List (List (List ℕ))) (image : List (List ℕ)) (trace : List Entry) (now : Alive D) → (o : HasOpening held image trace now)
-        → (more : List (List (List ℕ))) × (held ≡ o.opening_held ++ more) × All (IsMountable o.opening.kept.geometry) more }
+    ensures { (held : Held) (image : List (List ℕ)) (trace : List Entry) (now : Alive D) → (o : HasOpening held image trace now)
+        → (more : List (List (List ℕ))) × (images_held held ≡ images_held o.opening_held ++ more) × All (IsMountable o.opening.kept.geometry) more }
 {
     snapshot::each_image_held_is_mountable::<D>();
 }
@@ -65,9 +66,9 @@ pub fn each_image_of_a_trace_is_mountable<D: Device>()
 /// or had at first. And of a beginning that is known (`beginning`), a file that no stop was to lose, and of which no unlink among
 /// the calls of the trace took a name, is reachable in each.
 pub fn each_stop_of_a_trace_is_safe<D: Device>()
-    ensures stops { (held : List (List (List ℕ))) (image : List (List ℕ)) (trace : List Entry) (now : Alive D) → (o : HasOpening held image trace now)
+    ensures stops { (held : Held) (image : List (List ℕ)) (trace : List Entry) (now : Alive D) → (o : HasOpening held image trace now)
         → (mount : View) × (h : List Written) × (cut : List Bool) × IsSafeTrace o mount h cut (λ f. false) }
-    ensures beginning { (held : List (List (List ℕ))) (image : List (List ℕ)) (trace : List Entry) (now : Alive D) → (o : HasOpening held image trace now)
+    ensures beginning { (held : Held) (image : List (List ℕ)) (trace : List Entry) (now : Alive D) → (o : HasOpening held image trace now)
         → (mount : View) (h : List Written) (cut : List Bool) (safe : ℕ → Bool) → BeginsAt (opening_at o) mount h cut safe
         → IsSafeTrace o mount h cut safe }
 {

@@ -4,6 +4,7 @@ use Rattle.std.specs.List.{AllZip}
 use Rattle.std.proofs.lemmas.List.{map-append, take_more}
 use Rattle.layout.specs.declared.refusal.Refusal.{Refusal}
 use Rattle.model.specs.View.{View}
+use Rattle.device.specs.Media.{Held}
 use Rattle.machine.specs.Command.{Answer as Answered, Command as Request, Done as IsDone, Freeze, Image as IsImage, Release, Reply as Response}
 use Rattle.machine.specs.Snapshot.{settled}
 use Rattle.machine.specs.Standing.{begun as more, ended as fewer}
@@ -22,7 +23,7 @@ use Rattle.snapshot.proofs.Joining.{joined}
 
 -- ---- one command
 
-module _ {D : Type 0} (honest : D → Type 0) (held_of : D → List (List (List ℕ))) (image_of : D → List (List ℕ)) (old new : Alive D) (command request : Request) (asks : command ≡ request) where
+module _ {D : Type 0} (honest : D → Type 0) (held_of : D → Held) (image_of : D → List (List ℕ)) (old new : Alive D) (command request : Request) (asks : command ≡ request) where
   abbrev Told : Result Answer Refusal → Type 0
   Told reply = Applies (held_of old.device) (image_of old.device) old command reply (held_of new.device) (image_of new.device) new
 
@@ -52,7 +53,7 @@ module _ {D : Type 0} (honest : D → Type 0) (held_of : D → List (List (List 
 
 -- a snapshot begins
 pub freezing : {D T : Type 0} (as_given : T → Answer) (number_of : T → ℕ) (kept_of : T → Kept) (stands_for : (t : T) (view : View) → Shows (kept_of t) view → StandsFor (as_given t) (IsImage (number_of t) view))
-    (honest : D → Type 0) (held_of : D → List (List (List ℕ))) (image_of : D → List (List ℕ)) (old new : Alive D) (command : Request) → command ≡ Freeze
+    (honest : D → Type 0) (held_of : D → Held) (image_of : D → List (List ℕ)) (old new : Alive D) (command : Request) → command ≡ Freeze
     → (outcome : Result T Refusal) (reply : Result Answer Refusal) → MatchResult outcome (λ t. reply ≡ Ok (as_given t)) (λ r. reply ≡ Err r)
     → IfOk outcome (λ t. honest new.device → Freezes (held_of old.device) (image_of old.device) old (number_of t) (kept_of t) (held_of new.device) (image_of new.device) new)
     → IfErr outcome (λ r. honest new.device → Replies (held_of old.device) (image_of old.device) old Freeze (Err r) (held_of new.device) (image_of new.device) new)
@@ -67,7 +68,7 @@ freezing as_given number_of kept_of stands_for honest held_of image_of old new c
     refuses honest held_of image_of old new command Freeze asks r reply told (refused h)
 
 -- and ends
-pub releasing : {D T : Type 0} (honest : D → Type 0) (held_of : D → List (List (List ℕ))) (image_of : D → List (List ℕ)) (old new : Alive D) (command : Request) (s : ℕ) → command ≡ Release s
+pub releasing : {D T : Type 0} (honest : D → Type 0) (held_of : D → Held) (image_of : D → List (List ℕ)) (old new : Alive D) (command : Request) (s : ℕ) → command ≡ Release s
     → (outcome : Result T Refusal) (reply : Result Answer Refusal) → MatchResult outcome (λ _. reply ≡ Ok Done) (λ r. reply ≡ Err r)
     → OnOk outcome (honest new.device → Releases (held_of old.device) (image_of old.device) old s (held_of new.device) (image_of new.device) new)
     → IfErr outcome (λ r. honest new.device → Replies (held_of old.device) (image_of old.device) old (Release s) (Err r) (held_of new.device) (image_of new.device) new)
@@ -84,7 +85,7 @@ zip_push R (a ∷ xs) (b ∷ ys) x y all here = (all.0, zip_push R xs ys x y all
 zip_push R [] (b ∷ ys) x y all here = absurd all
 zip_push R (a ∷ xs) [] x y all here = absurd all
 
-module _ {D : Type 0} (held held' held'' : List (List (List ℕ))) (image image' image'' : List (List ℕ)) (old mid new : Alive D) where
+module _ {D : Type 0} (held held' held'' : Held) (image image' image'' : List (List ℕ)) (old mid new : Alive D) where
   -- after some commands, another one
   pub runs_on : (commands : List Command) (replies : List (Result Answer Refusal)) (command : Command) (reply : Result Answer Refusal)
       → Runs held image old (map (asked old.kept.geometry) commands) replies held' image' mid
@@ -116,7 +117,7 @@ module _ {D : Type 0} (held held' held'' : List (List (List ℕ))) (image image'
       (runs_on (take i items) replies command reply ran applied))
 
 -- and before the first one
-module _ {D : Type 0} (held : List (List (List ℕ))) (image : List (List ℕ)) (live : Alive D) where
+module _ {D : Type 0} (held : Held) (image : List (List ℕ)) (live : Alive D) where
   pub goes_nowhere : (beside : Beside) → IsBeside image live beside → Goes beside held image live [] [] beside held image live
   goes_nowhere beside is = record {
     geometry = refl;

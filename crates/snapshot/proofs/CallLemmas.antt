@@ -2,13 +2,14 @@
 use Rattle.std.proofs.Common.{◌≡◌, ◌⊎◌, ℕ, List, [], ◌∷◌, Ok, Err, Result, IfErr, OnErr, OnOk, inl, refl, sym, ap, subst}
 use Rattle.layout.specs.declared.refusal.Refusal.{Refusal}
 use Rattle.layout.specs.declared.refusal.Refusal.TheVariants.{NoMemory, Device}
+use Rattle.device.specs.Media.{Held, begun, settled_on}
 use Rattle.machine.specs.Causes.{FirstRefusal}
 use Rattle.machine.specs.Command.{Answer as Answered, Command as Request, Freeze, Reply as Response}
 use Rattle.machine.specs.State.{State}
 use Rattle.machine.specs.Step.{Step}
 use Rattle.frozen.specs.Kept.{Kept}
 use Rattle.softdep.specs.Queued.{pending_of}
-use Rattle.softdep.specs.Syncing.{AreFlushes}
+use Rattle.softdep.specs.Syncing.{AreWrites}
 use Rattle.live_states.specs.Holdings.{Beside, Holdings}
 use Rattle.live.specs.Alive.{Alive, Answers, StandsSo, state_of}
 use Rattle.snapshot.specs.declared.answer.Answer.{Answer}
@@ -17,8 +18,8 @@ use Rattle.snapshot.specs.Replied.{Replied}
 use Rattle.snapshot.proofs.Going.{answered, flushed, flushed_state, held_nothing, refused}
 use Rattle.snapshot.proofs.Joining.{joined}
 
-module _ {D : Type 0} (held held' : List (List (List ℕ))) (image image' : List (List ℕ)) (old new : Alive D) (so : StandsSo image' new)
-    (flushes : AreFlushes old.kept.geometry image held (pending_of old.queue) image' held' (pending_of new.queue)) (kept : new.kept ≡ old.kept) (holdings : new.holdings ≡ old.holdings) where
+module _ {D : Type 0} (held held' : Held) (image image' : List (List ℕ)) (old new : Alive D) (so : StandsSo image' new)
+    (flushes : AreWrites old.kept.geometry image held (pending_of old.queue) image' held' (pending_of new.queue)) (kept : new.kept ≡ old.kept) (holdings : new.holdings ≡ old.holdings) where
   -- the volume with what it keeps and has as before
   abbrev Mid : Kept → Holdings → Alive D
   Mid k h = record { device = new.device; queue = new.queue; kept = k; holdings = h }
@@ -47,12 +48,12 @@ module _ {D : Type 0} (held held' : List (List (List ℕ))) (image image' : List
     pub refused_after : Refuses new
     refused_after = subst (λ k. Refuses (Mid k new.holdings)) (sym kept) (subst (λ h. Refuses (Mid old.kept h)) (sym holdings) then_refused)
 
-module _ {D : Type 0} (held held' : List (List (List ℕ))) (image image' : List (List ℕ)) (old new : Alive D) (so : StandsSo image' new) where
+module _ {D : Type 0} (held held' : Held) (image image' : List (List ℕ)) (old new : Alive D) (so : StandsSo image' new) where
   pub applies : (command : Request) (reply : Result Answer Refusal) → Replied held image old command reply held' image' new → Applies held image old command reply held' image' new
   applies command (Ok given) r beside is = (beside, Ok r.answer, r.stands_for, answered held held' image image' old new beside command r.answer r.later r.since r.answers so is)
   applies command (Err e) r beside is = (beside, Err e, refl, refused_after held held' image image' old new so r.flushes r.kept r.holdings beside is command e (r.refuses beside is.belongs).0)
 
-pub beside_kept : {D : Type 0} (held held' : List (List (List ℕ))) (image image' : List (List ℕ)) (old new : Alive D) (command : Request) (reply : Result Answer Refusal)
+pub beside_kept : {D : Type 0} (held held' : Held) (image image' : List (List ℕ)) (old new : Alive D) (command : Request) (reply : Result Answer Refusal)
     → HasBeside image old → Applies held image old command reply held' image' new → HasBeside image' new
 beside_kept held held' image image' old new command reply has applied = let a = applied has.beside has.is in record { beside = a.0; is = a.3.is }
 
@@ -66,7 +67,7 @@ pub if_err : {T E : Type 0} {P Q : E → Type 0} {U : Type 0} → ((e : E) → P
 if_err f (Ok t) p u = p
 if_err f (Err e) p u = f e p u
 
-module _ {D : Type 0} (honest : D → Type 0) (held_of : D → List (List (List ℕ))) (image_of : D → List (List ℕ)) (old new : Alive D) where
+module _ {D : Type 0} (honest : D → Type 0) (held_of : D → Held) (image_of : D → List (List ℕ)) (old new : Alive D) where
   abbrev Replying : Request → Response → Type 0
   Replying command reply = Replies (held_of old.device) (image_of old.device) old command reply (held_of new.device) (image_of new.device) new
 
@@ -99,7 +100,7 @@ same_device old new holdings (Err x) e u = ap (λ (l : Alive _). l.device) u
 -- a volume that is as it was but for its device has the same beside it
 pub same_beside : {D : Type 0} (image image' : List (List ℕ)) (old new : Alive D) → image' ≡ image → new.queue ≡ old.queue → new.kept ≡ old.kept → new.holdings ≡ old.holdings → HasBeside image old → HasBeside image' new
 same_beside image image' old new same_image queue kept holdings has =
-    let goes = refused [] [] image old has.beside has.is refl image' new Freeze NoMemory same_image queue kept holdings (inl refl, refl) in
+    let goes = refused (begun (settled_on [])) (begun (settled_on [])) image old has.beside has.is refl image' new Freeze NoMemory same_image queue kept holdings (inl refl, refl) in
     record { beside = has.beside; is = goes.is }
 
 pub nothing : {T E : Type 0} (r : Result T E) → OnErr r (Unit {0})

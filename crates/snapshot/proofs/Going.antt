@@ -1,35 +1,35 @@
 -- What a volume goes through by a call.
-use Rattle.std.proofs.Common.{◌≡◌, ℕ, Bool, true, false, List, [], ◌∷◌, ◌++◌, reverse, Ok, Err, IsTrue, refl, sym, ap, ◌∙◌, subst}
+use Rattle.std.proofs.Common.{◌≡◌, ℕ, Bool, true, false, List, [], ◌∷◌, ◌++◌, reverse, Ok, Err, IsTrue, refl, sym, ap, ◌∙◌, subst, map}
 use Rattle.std.proofs.lemmas.List.Elements.{All-nil}
-use Rattle.std.proofs.lemmas.List.{append_assoc, append-nil, reverse-append}
+use Rattle.std.proofs.lemmas.List.{append-nil}
 use Rattle.layout.specs.declared.refusal.Refusal.{Refusal}
 use Rattle.model.specs.Image.{IsImage, image_view}
 use Rattle.model.specs.Layout.{Geometry}
 use Rattle.model.specs.View.{View}
+use Rattle.device.specs.Media.{Held, images_held}
 use Rattle.ordering.specs.Cuts.{Cell, Pending, rest, seen, users_view}
 use Rattle.ordering.proofs.Flushes.{users_flushed}
 use Rattle.queue_model.specs.Blocks.{home_of}
-use Rattle.queue_model.specs.Flush.{ready}
-use Rattle.queue_model.specs.Sync.{Flushes, Stops, Goes as GoesOn}
-use Rattle.queue_model.proofs.FlushLemmas.{ready_closed}
+use Rattle.queue_model.specs.Sync.{Writes, WritesNone, WritesNext}
 use Rattle.machine.specs.Balance.{Balance}
 use Rattle.machine.specs.Command.{Answer, Command, Reply}
 use Rattle.machine.specs.State.{State}
 use Rattle.machine.specs.Step.{Step}
 use Rattle.machine.proofs.AllSteps.{step_keeps}
 use Rattle.plans_data.specs.Carried.{Stands}
-use Rattle.courses.specs.Serves.{Service, Starts, CarriesOut, Quietly, Refuses, Flushed, flush_images, is_quiet}
+use Rattle.courses.specs.Serves.{Service, Starts, CarriesOut, Quietly, Refuses, Flushed, is_quiet}
 use Rattle.frozen.specs.Kept.{Kept}
 use Rattle.frozen_files.specs.Standing.{KeepsFiles}
 use Rattle.frozen_files.proofs.Laws.{step_keeps_files}
 use Rattle.softdep.specs.Queued.{Queued, pending_of}
-use Rattle.softdep.specs.Syncing.{AreFlushes, images_of}
+use Rattle.softdep.specs.Syncing.{AreWrites}
 use Rattle.live_states.specs.Holdings.{Beside, Holdings, AreImagesOf}
 use Rattle.live_states.specs.Planned.{safe_after}
 use Rattle.live_states.specs.Volume.{state_over}
 use Rattle.live.specs.Alive.{Alive, Answers, MayRefuse, StandsSo, disk_of, state_of}
 use Rattle.live.specs.Held.{HeldMore}
 use Rattle.snapshot.specs.Goes.{Goes, IsBeside}
+use Rattle.courses.proofs.Serving.{one_before}
 
 -- ---- what stands beside a volume
 
@@ -69,12 +69,12 @@ module _ {D : Type 0} (image' : List (List ℕ)) (new : Alive D) (so : StandsSo 
   }
 
 -- the device held nothing else
-pub held_nothing : (geo : Geometry) (held held' : List (List (List ℕ))) → held' ≡ held → HeldMore geo held held' []
-held_nothing geo held held' e = record { more = []; held_now = e ∙ sym (append-nil held); views = refl; framed = All-nil (IsImage geo) }
+pub held_nothing : (geo : Geometry) (held held' : Held) → held' ≡ held → HeldMore geo held held' []
+held_nothing geo held held' e = record { more = []; held_now = ap images_held e ∙ sym (append-nil (images_held held)); views = refl; framed = All-nil (IsImage geo) }
 
 -- ---- a command that is carried out
 
-module _ {D : Type 0} (held held' : List (List (List ℕ))) (image image' : List (List ℕ)) (old new : Alive D) (beside : Beside) where
+module _ {D : Type 0} (held held' : Held) (image image' : List (List ℕ)) (old new : Alive D) (beside : Beside) where
   pub answered : (command : Command) (answer : Answer) (later : List View) → HeldMore old.kept.geometry held held' later → Answers image old command answer image' new later → StandsSo image' new → IsBeside image old beside
       → Goes beside held image old (command ∷ []) (Ok answer ∷ []) beside held' image' new
   answered command answer later since answers so is =
@@ -101,7 +101,7 @@ module _ {D : Type 0} (held held' : List (List (List ℕ))) (image image' : List
 
 -- ---- a command that is refused
 
-module _ {D : Type 0} (held held' : List (List (List ℕ))) (image : List (List ℕ)) (old : Alive D) (beside : Beside) (is : IsBeside image old beside) (same_held : held' ≡ held) where
+module _ {D : Type 0} (held held' : Held) (image : List (List ℕ)) (old : Alive D) (beside : Beside) (is : IsBeside image old beside) (same_held : held' ≡ held) where
   refused_here : (device : D) (command : Command) (r : Refusal) → Step old.kept.geometry (state_of image old beside) command (Err r) (state_of image old beside)
       → Goes beside held image old (command ∷ []) (Err r ∷ []) beside held' image (record { device = device; queue = old.queue; kept = old.kept; holdings = old.holdings })
   refused_here device command r step = record {
@@ -129,7 +129,7 @@ module _ {D : Type 0} (held held' : List (List (List ℕ))) (image : List (List 
 
 -- ---- a command that changes nothing
 
-module _ {D : Type 0} (held held' : List (List (List ℕ))) (image : List (List ℕ)) (old : Alive D) (beside : Beside) (is : IsBeside image old beside) (same_held : held' ≡ held) where
+module _ {D : Type 0} (held held' : Held) (image : List (List ℕ)) (old : Alive D) (beside : Beside) (is : IsBeside image old beside) (same_held : held' ≡ held) where
   quiet_here : (device : D) (command : Command) (answer : Answer) → IsTrue (is_quiet command) → Step old.kept.geometry (state_of image old beside) command (Ok answer) (state_of image old beside)
       → Goes beside held image old (command ∷ []) (Ok answer ∷ []) beside held' image (record { device = device; queue = old.queue; kept = old.kept; holdings = old.holdings })
   quiet_here device command answer quiet step =
@@ -156,32 +156,23 @@ module _ {D : Type 0} (held held' : List (List (List ℕ))) (image : List (List 
       (subst (λ (h : Holdings). Goes beside held image old (command ∷ []) (Ok answer ∷ []) beside held' image (record { device = new.device; queue = old.queue; kept = old.kept; holdings = h })) (sym holdings)
       (quiet_here new.device command answer quiet step))))
 
--- ---- flushes
+-- ---- writes
 
-flushed_users : (home : Cell → ℕ) (disk : View) (q : List Pending) (blocks : List ℕ) (disk' : View) (q' : List Pending) → Flushes home disk q blocks disk' q' → users_view disk' q' ≡ users_view disk q
-flushed_users home disk q blocks disk' q' Stops = refl
-flushed_users home disk q blocks disk' q' (GoesOn {blocks = more} a least goes) =
-    flushed_users home (seen disk q (ready home a q)) (rest q (ready home a q)) more disk' q' goes ∙ users_flushed disk q (ready home a q) (ready_closed home a q)
-
--- newest first they are those of the flushes
-pub same_images : (home : Cell → ℕ) (disk : View) (q : List Pending) (blocks : List ℕ) (images : List View) → flush_images home disk q blocks images ≡ reverse (images_of home disk q blocks) ++ images
-same_images home disk q [] images = refl
-same_images home disk q (a ∷ blocks) images =
-    let image = seen disk q (ready home a q) in
-    let left = rest q (ready home a q) in
-    same_images home image left blocks (image ∷ images)
-    ∙ sym (append_assoc (reverse (images_of home image left blocks)) (image ∷ []) images)
-    ∙ ap (λ xs. xs ++ images) (sym (reverse-append (image ∷ []) (images_of home image left blocks)))
+wrote_users : (home : Cell → ℕ) (disk : View) (q : List Pending) (blocks : List ℕ) (views : List View) (disk' : View) (q' : List Pending) → Writes home disk q blocks views disk' q' → users_view disk' q' ≡ users_view disk q
+wrote_users home disk q blocks views disk' q' WritesNone = refl
+wrote_users home disk q blocks views disk' q' (WritesNext {blocks = others} {views = more} a cut closed of_block some writes) =
+    wrote_users home (seen disk q cut) (rest q cut) others more disk' q' writes ∙ users_flushed disk q cut closed
 
 module _ (geo : Geometry) (disk0 : View) (q0 : List Pending) (s : State) (safe : ℕ → Bool) where
-  flushed_service : (disk : View) (q : List Pending) (blocks : List ℕ) (images : List View) (disk' : View) (q' : List Pending) → Flushes (home_of geo) disk q blocks disk' q'
-      → Service geo disk0 q0 s safe disk q s safe [] [] images → Service geo disk0 q0 s safe disk' q' s safe [] [] (flush_images (home_of geo) disk q blocks images)
-  flushed_service disk q blocks images disk' q' Stops service = service
-  flushed_service disk q blocks images disk' q' (GoesOn {blocks = more} a least goes) service =
-      flushed_service (seen disk q (ready (home_of geo) a q)) (rest q (ready (home_of geo) a q)) more (seen disk q (ready (home_of geo) a q) ∷ images) disk' q' goes (Flushed a service)
+  wrote_service : (disk : View) (q : List Pending) (blocks : List ℕ) (views images : List View) (disk' : View) (q' : List Pending) → Writes (home_of geo) disk q blocks views disk' q'
+      → Service geo disk0 q0 s safe disk q s safe [] [] images → Service geo disk0 q0 s safe disk' q' s safe [] [] (reverse views ++ images)
+  wrote_service disk q blocks views images disk' q' WritesNone service = service
+  wrote_service disk q blocks views images disk' q' (WritesNext {blocks = others} {views = more} a cut closed of_block some writes) service =
+      subst (λ xs. Service geo disk0 q0 s safe disk' q' s safe [] [] xs) (one_before (seen disk q cut) more images)
+      (wrote_service (seen disk q cut) (rest q cut) others more (seen disk q cut ∷ images) disk' q' writes (Flushed a cut service closed of_block))
 
-module _ {D : Type 0} (held held' : List (List (List ℕ))) (image image' : List (List ℕ)) (old : Alive D) (beside : Beside) (is : IsBeside image old beside) (queue : Queued)
-    (flushes : AreFlushes old.kept.geometry image held (pending_of old.queue) image' held' (pending_of queue)) where
+module _ {D : Type 0} (held held' : Held) (image image' : List (List ℕ)) (old : Alive D) (beside : Beside) (is : IsBeside image old beside) (queue : Queued)
+    (flushes : AreWrites old.kept.geometry image held (pending_of old.queue) image' held' (pending_of queue)) where
   abbrev geo : Geometry
   geo = old.kept.geometry
 
@@ -190,14 +181,14 @@ module _ {D : Type 0} (held held' : List (List (List ℕ))) (image image' : List
 
   -- what the device held since, newest first
   abbrev pub images : List View
-  images = reverse (images_of (home_of geo) disk (pending_of old.queue) flushes.blocks)
+  images = reverse (map (image_view geo) flushes.more)
 
   pub flushed_since : HeldMore geo held held' images
-  flushed_since = record { more = flushes.more; held_now = flushes.held_now; views = ap reverse flushes.images; framed = (flushes.framed is.framed).1 }
+  flushed_since = record { more = flushes.more; held_now = flushes.held_now; views = refl; framed = (flushes.framed is.framed).1 }
 
   pub flushed_state : (holdings : Holdings) → state_over (image_view geo image') (pending_of queue) holdings beside ≡ state_over disk (pending_of old.queue) holdings beside
   flushed_state holdings =
-      ap (λ (view : View). record (state_over disk (pending_of old.queue) holdings beside) { view = view }) (flushed_users (home_of geo) disk (pending_of old.queue) flushes.blocks (image_view geo image') (pending_of queue) flushes.flushes)
+      ap (λ (view : View). record (state_over disk (pending_of old.queue) holdings beside) { view = view }) (wrote_users (home_of geo) disk (pending_of old.queue) flushes.blocks (map (image_view geo) flushes.more) (image_view geo image') (pending_of queue) flushes.writes)
 
   pub flushed : (device : D) → StandsSo image' (record { device = device; queue = queue; kept = old.kept; holdings = old.holdings })
       → Goes beside held image old [] [] beside held' image' (record { device = device; queue = queue; kept = old.kept; holdings = old.holdings })
@@ -215,7 +206,7 @@ module _ {D : Type 0} (held held' : List (List (List ℕ))) (image image' : List
           safe,
           subst (λ t. Service geo disk q s safe (image_view geo image') (pending_of queue) t safe [] [] images) (sym (flushed_state old.holdings))
               (subst (λ xs. Service geo disk q s safe (image_view geo image') (pending_of queue) s safe [] [] xs)
-              (same_images (home_of geo) disk q flushes.blocks [] ∙ append-nil images)
-              (flushed_service geo disk q s safe disk q flushes.blocks [] (image_view geo image') (pending_of queue) flushes.flushes Starts)),
+              (append-nil images)
+              (wrote_service geo disk q s safe disk q flushes.blocks (map (image_view geo) flushes.more) [] (image_view geo image') (pending_of queue) flushes.writes Starts)),
         );
       }

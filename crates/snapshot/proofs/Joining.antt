@@ -5,6 +5,7 @@ use Rattle.std.proofs.lemmas.List.{append_assoc, append-nil, reverse-append, map
 use Rattle.model.specs.Image.{IsImage, image_view}
 use Rattle.model.specs.Layout.{Geometry}
 use Rattle.model.specs.View.{View}
+use Rattle.device.specs.Media.{Held, images_held}
 use Rattle.ordering.specs.Cuts.{Pending}
 use Rattle.machine.specs.Command.{Command, Reply}
 use Rattle.machine.specs.State.{State}
@@ -47,22 +48,22 @@ module _ (geo : Geometry) (disk0 : View) (q0 : List Pending) (old0 : State) (saf
       subst (λ cs. From d p s f cs (replies ++ (others ++ Err r ∷ [])) (later ++ images)) (append_assoc commands more (command ∷ []))
       (subst (λ rs. From d p s f ((commands ++ more) ++ command ∷ []) rs (later ++ images)) (append_assoc replies others (Err r ∷ []))
       (Refuses command r (services_join d p s f more others later service) step))
-  services_join disk q new safe ms os ls (Flushed {disk = d} {q = p} {old = s} {safe = f} {commands = more} {replies = others} {images = later} a service) =
-      Flushed a (services_join d p s f more others later service)
+  services_join disk q new safe ms os ls (Flushed {disk = d} {q = p} {old = s} {safe = f} {commands = more} {replies = others} {images = later} a cut service closed of_block) =
+      Flushed a cut (services_join d p s f more others later service) closed of_block
 
 -- ---- what the device held
 
-held_joins : (geo : Geometry) (held held' held'' : List (List (List ℕ))) (later latest : List View) → HeldMore geo held held' later → HeldMore geo held' held'' latest → HeldMore geo held held'' (latest ++ later)
+held_joins : (geo : Geometry) (held held' held'' : Held) (later latest : List View) → HeldMore geo held held' later → HeldMore geo held' held'' latest → HeldMore geo held held'' (latest ++ later)
 held_joins geo held held' held'' later latest one two = record {
   more = one.more ++ two.more;
-  held_now = two.held_now ∙ ap (λ xs. xs ++ two.more) one.held_now ∙ append_assoc held one.more two.more;
+  held_now = two.held_now ∙ ap (λ xs. xs ++ two.more) one.held_now ∙ append_assoc (images_held held) one.more two.more;
   views = ap reverse (map-append (image_view geo) one.more two.more) ∙ reverse-append (map (image_view geo) one.more) (map (image_view geo) two.more) ∙ ap₂ (λ xs ys. xs ++ ys) two.views one.views;
   framed = All-append (IsImage geo) one.more two.more one.framed two.framed;
 }
 
 -- ---- all of it
 
-module _ {D : Type 0} (beside beside' beside'' : Beside) (held held' held'' : List (List (List ℕ))) (image image' image'' : List (List ℕ)) (old mid new : Alive D)
+module _ {D : Type 0} (beside beside' beside'' : Beside) (held held' held'' : Held) (image image' image'' : List (List ℕ)) (old mid new : Alive D)
     (commands more : List Command) (replies others : List Reply)
     (one : Goes beside held image old commands replies beside' held' image' mid) (two : Goes beside' held' image' mid more others beside'' held'' image'' new) where
   abbrev geo : Geometry

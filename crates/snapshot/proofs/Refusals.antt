@@ -6,6 +6,7 @@ use Rattle.layout.specs.declared.refusal.Refusal.TheVariants.{Device, NoMemory, 
 use Rattle.findings.specs.Findings.{is_soft}
 use Rattle.model.specs.Layout.{Geometry}
 use Rattle.model.specs.View.{View}
+use Rattle.device.specs.Media.{Held}
 use Rattle.frozen.specs.Loading.{GivesOut}
 use Rattle.machine.specs.Below.{first_of, when}
 use Rattle.machine.specs.Causes.{Belongs, FirstRefusal, causes, refusal_of}
@@ -24,7 +25,7 @@ given_out geo old command r none belongs (inr (inl device)) = inr device
 given_out geo old command r none belongs (inr (inr (inl first))) = let bad : None ≡ Some r = sym none ∙ first in cc
 given_out geo old command r none belongs (inr (inr (inr foreign))) = absurd (foreign.1 belongs)
 
-module _ {D : Type 0} (held : List (List (List ℕ))) (image : List (List ℕ)) (old : Alive D) (held' : List (List (List ℕ))) (image' : List (List ℕ)) (new : Alive D) (beside : Beside) (is : IsBeside image old beside) (command : Command)
+module _ {D : Type 0} (held : Held) (image : List (List ℕ)) (old : Alive D) (held' : Held) (image' : List (List ℕ)) (new : Alive D) (beside : Beside) (is : IsBeside image old beside) (command : Command)
     (none : refusal_of old.kept.geometry (state_of image old beside) command ≡ None) (belongs : Belongs old.kept.geometry (state_of image old beside) command) where
   pub refused_so : (r : Refusal) → Replies held image old command (Err r) held' image' new → GivesOut r
   refused_so r replies = given_out old.kept.geometry (state_of image old beside) command r none belongs (replies beside is).run.1.0

@@ -1,5 +1,5 @@
 -- A snapshot begins, is read, and ends.
-use Rattle.std.proofs.Common.{◌≡◌, ◌<◌, ℕ, zero, suc, arith, Bool, true, false, not, ◌&&◌, List, [], ◌∷◌, ◌++◌, Ok, Option, Some, None, IsTrue, refl, sym, ap, ◌∙◌, subst}
+use Rattle.std.proofs.Common.{◌≡◌, ◌<◌, ℕ, zero, suc, arith, Bool, true, false, not, ◌&&◌, List, [], ◌∷◌, ◌++◌, Ok, Option, Some, None, IsTrue, refl, sym, ap, ◌∙◌, subst, map}
 use Rattle.std.specs.Prelude.{is_none, is_some, length, slice_index_or}
 use Rattle.std.proofs.lemmas.List.{append-nil}
 use mathlib.Core.Path.{fun_ext}
@@ -8,9 +8,10 @@ use Rattle.layout.specs.declared.refusal.Refusal.TheVariants.{NoSnapshot, TooMan
 use Rattle.model.specs.Image.{image_view}
 use Rattle.model.specs.Layout.{Geometry}
 use Rattle.model.specs.View.{View}
+use Rattle.device.specs.Media.{Held}
 use Rattle.ordering.specs.Cuts.{Pending}
 use Rattle.queue_model.specs.Blocks.{home_of}
-use Rattle.queue_model.specs.Sync.{Flushes}
+use Rattle.queue_model.specs.Sync.{Writes}
 use Rattle.machine.specs.Below.{first_of, when}
 use Rattle.machine.specs.Causes.{Accepts, causes, refusal_of}
 use Rattle.machine.specs.Command.{Done, Freeze, Image, Release}
@@ -20,18 +21,18 @@ use Rattle.machine.specs.State.{State, snapshot_at}
 use Rattle.machine.specs.Step.{Step}
 use Rattle.plans_data.specs.Lists.{let_go_below}
 use Rattle.plans_data.specs.Release.{releasing}
-use Rattle.courses.specs.Serves.{CarriesOut, Freezes, Releases, Service, Starts, flush_images}
+use Rattle.courses.specs.Serves.{CarriesOut, Freezes, Releases, Service, Starts}
 use Rattle.frozen.specs.Kept.{Kept}
 use Rattle.metadata.specs.Shown.{Shows}
 use Rattle.softdep.specs.Queued.{Queued, pending_of}
-use Rattle.softdep.specs.Syncing.{AreFlushes}
+use Rattle.softdep.specs.Syncing.{AreWrites}
 use Rattle.live_states.specs.Holdings.{Beside, IsImageOf, held_by}
 use Rattle.live_states.specs.Snapshots.{keeping, let_go, let_go_blocks}
 use Rattle.live_states.proofs.Images.{images_begun, images_ended, same_at, same_kept, same_room}
 use Rattle.live_states.specs.Volume.{state_over}
 use Rattle.live.specs.Alive.{Alive, StandsSo, disk_of, state_of}
 use Rattle.snapshot.specs.Goes.{Goes, IsBeside}
-use Rattle.snapshot.proofs.Going.{beside_then, flushed_since, flushed_state, images, same_images}
+use Rattle.snapshot.proofs.Going.{beside_then, flushed_since, flushed_state, images}
 
 -- ---- whether one may begin, and whether one stands
 
@@ -71,8 +72,8 @@ within [] a t = let bad : false ≡ true = t in cc
 within (m ∷ marks) zero t = omega arith
 within (m ∷ marks) (suc a) t = omega (arith, within marks a t)
 
-module _ {D : Type 0} (held held' : List (List (List ℕ))) (image image' : List (List ℕ)) (old : Alive D) (beside : Beside) (is : IsBeside image old beside) (queue : Queued)
-    (flushes : AreFlushes old.kept.geometry image held (pending_of old.queue) image' held' (pending_of queue)) (none : pending_of queue ≡ []) where
+module _ {D : Type 0} (held held' : Held) (image image' : List (List ℕ)) (old : Alive D) (beside : Beside) (is : IsBeside image old beside) (queue : Queued)
+    (flushes : AreWrites old.kept.geometry image held (pending_of old.queue) image' held' (pending_of queue)) (none : pending_of queue ≡ []) where
   abbrev geo : Geometry
   geo = old.kept.geometry
 
@@ -95,8 +96,8 @@ module _ {D : Type 0} (held held' : List (List (List ℕ))) (image image' : List
   abbrev later : List View
   later = images held held' image image' old beside is queue flushes
 
-  same_later : flush_images (home_of geo) disk q flushes.blocks [] ++ [] ≡ later
-  same_later = append-nil (flush_images (home_of geo) disk q flushes.blocks []) ∙ same_images (home_of geo) disk q flushes.blocks [] ∙ append-nil later
+  same_later : later ++ [] ≡ later
+  same_later = append-nil later
 
   -- ---- it begins
 
@@ -132,8 +133,8 @@ module _ {D : Type 0} (held held' : List (List (List ℕ))) (image image' : List
             subst (λ x. Service geo disk q s safe disk' (pending_of queue) x safe (Freeze ∷ []) (Ok (Image s.snapshots.freezes (settled geo s)) ∷ []) later) (sym frozen_now)
                 (subst (λ p. Service geo disk q s safe disk' p (frozen geo s) safe (Freeze ∷ []) (Ok (Image s.snapshots.freezes (settled geo s)) ∷ []) later) (sym none)
                 (subst (λ xs. Service geo disk q s safe disk' [] (frozen geo s) safe (Freeze ∷ []) (Ok (Image s.snapshots.freezes (settled geo s)) ∷ []) xs) same_later
-                (CarriesOut Freeze (Image s.snapshots.freezes (settled geo s)) disk' [] (frozen geo s) safe (flush_images (home_of geo) disk q flushes.blocks []) Starts accepted
-                (Freezes flushes.blocks disk' (subst (λ p. Flushes (home_of geo) disk q flushes.blocks disk' p) none flushes.flushes))))),
+                (CarriesOut Freeze (Image s.snapshots.freezes (settled geo s)) disk' [] (frozen geo s) safe later Starts accepted
+                (Freezes flushes.blocks (map (image_view geo) flushes.more) disk' (subst (λ p. Writes (home_of geo) disk q flushes.blocks (map (image_view geo) flushes.more) disk' p) none flushes.writes))))),
           );
         }
 
@@ -174,7 +175,7 @@ module _ {D : Type 0} (held held' : List (List (List ℕ))) (image image' : List
                 (subst (λ x. Service geo disk q s safe disk' (pending_of queue') x safe (Release n ∷ []) (Ok Done ∷ []) later) (sym released_now)
                 (subst (λ p. Service geo disk q s safe disk' p (released s n) safe (Release n ∷ []) (Ok Done ∷ []) later) same_pending
                 (subst (λ xs. Service geo disk q s safe disk' (releasing (let_go_below s n m) []) (released s n) safe (Release n ∷ []) (Ok Done ∷ []) xs) same_later
-                (CarriesOut (Release n) Done disk' (releasing (let_go_below s n m) []) (released s n) safe (flush_images (home_of geo) disk q flushes.blocks []) Starts ends_accepted
-                (Releases n flushes.blocks disk' m (subst (λ p. Flushes (home_of geo) disk q flushes.blocks disk' p) none flushes.flushes) few))))),
+                (CarriesOut (Release n) Done disk' (releasing (let_go_below s n m) []) (released s n) safe later Starts ends_accepted
+                (Releases n flushes.blocks (map (image_view geo) flushes.more) disk' m (subst (λ p. Writes (home_of geo) disk q flushes.blocks (map (image_view geo) flushes.more) disk' p) none flushes.writes) few))))),
           );
         }

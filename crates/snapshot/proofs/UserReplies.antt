@@ -5,13 +5,14 @@ use Rattle.std.proofs.lemmas.List.{append-nil}
 use Rattle.layout.specs.declared.refusal.Refusal.{Refusal}
 use Rattle.model.specs.Image.{IsImage}
 use Rattle.model.specs.View.{View}
+use Rattle.device.specs.Media.{Held, images_held}
 use Rattle.ordering.specs.Cuts.{users_view}
 use Rattle.machine.specs.Command.{Answer as Answered, Command as Request, Done as IsDone}
 use Rattle.machine.specs.Step.{Step}
-use Rattle.queue_model.specs.Sync.{Stops}
+use Rattle.queue_model.specs.Sync.{WritesNone}
 use Rattle.courses.specs.Serves.{Quietly, Serves, is_quiet}
 use Rattle.softdep.specs.Queued.{Queued, pending_of}
-use Rattle.softdep.specs.Syncing.{AreFlushes}
+use Rattle.softdep.specs.Syncing.{AreWrites}
 use Rattle.live_states.specs.Holdings.{Beside}
 use Rattle.live_states.specs.Planned.{safe_after}
 use Rattle.live.specs.Alive.{Alive, Answers, MayRefuse, disk_of, state_of}
@@ -23,20 +24,20 @@ use Rattle.snapshot.specs.Replied.{Replied}
 use Rattle.snapshot.proofs.Going.{held_nothing}
 
 -- nothing is flushed
-pub no_flushes : {D : Type 0} (held held' : List (List (List ℕ))) (image image' : List (List ℕ)) (old new : Alive D) → image' ≡ image → held' ≡ held → new.queue ≡ old.queue
-    → AreFlushes old.kept.geometry image held (pending_of old.queue) image' held' (pending_of new.queue)
+pub no_flushes : {D : Type 0} (held held' : Held) (image image' : List (List ℕ)) (old new : Alive D) → image' ≡ image → held' ≡ held → new.queue ≡ old.queue
+    → AreWrites old.kept.geometry image held (pending_of old.queue) image' held' (pending_of new.queue)
 no_flushes held held' image image' old new same_image same_held queue =
-    subst (λ i. AreFlushes old.kept.geometry image held (pending_of old.queue) i held' (pending_of new.queue)) (sym same_image)
-    (subst (λ (q : Queued). AreFlushes old.kept.geometry image held (pending_of old.queue) image held' (pending_of q)) (sym queue)
-    (record { blocks = []; flushes = Stops; more = []; held_now = same_held ∙ sym (append-nil held); images = refl; framed = λ is. (is, All-nil (IsImage old.kept.geometry)) }))
+    subst (λ i. AreWrites old.kept.geometry image held (pending_of old.queue) i held' (pending_of new.queue)) (sym same_image)
+    (subst (λ (q : Queued). AreWrites old.kept.geometry image held (pending_of old.queue) image held' (pending_of q)) (sym queue)
+    (record { blocks = []; more = []; writes = WritesNone; held_now = ap images_held same_held ∙ sym (append-nil (images_held held)); framed = λ is. (is, All-nil (IsImage old.kept.geometry)) }))
 
-module _ {D : Type 0} (held held' : List (List (List ℕ))) (image image' : List (List ℕ)) (old new : Alive D) (command : Request) {T : Type 0} (as_given : T → Answer) (as_answer : T → Answered)
+module _ {D : Type 0} (held held' : Held) (image image' : List (List ℕ)) (old new : Alive D) (command : Request) {T : Type 0} (as_given : T → Answer) (as_answer : T → Answered)
     (stands_for : (t : T) → StandsFor (as_given t) (as_answer t)) where
   -- by what the call of the volume promises
   pub replied : (outcome : Result T Refusal) (reply : Result Answer Refusal) → MatchResult outcome (λ t. reply ≡ Ok (as_given t)) (λ r. reply ≡ Err r)
       → IfOk outcome (λ t. (later : List View) × HeldMore old.kept.geometry held held' later × Answers image old command (as_answer t) image' new later)
       → IfErr outcome (λ r. MayRefuse image old command r)
-      → OnErr outcome (AreFlushes old.kept.geometry image held (pending_of old.queue) image' held' (pending_of new.queue) × (new.kept ≡ old.kept) × (new.holdings ≡ old.holdings))
+      → OnErr outcome (AreWrites old.kept.geometry image held (pending_of old.queue) image' held' (pending_of new.queue) × (new.kept ≡ old.kept) × (new.holdings ≡ old.holdings))
       → Replied held image old command reply held' image' new
   replied (Ok t) reply told done refused left =
       subst (λ x. Replied held image old command x held' image' new) (sym told) (record { answer = as_answer t; stands_for = stands_for t; later = done.0; since = done.1; answers = done.2 })
@@ -45,7 +46,7 @@ module _ {D : Type 0} (held held' : List (List (List ℕ))) (image image' : List
 
 -- ---- by each kind of call
 
-module _ {D : Type 0} (honest : D → Type 0) (held_of : D → List (List (List ℕ))) (image_of : D → List (List ℕ)) (old new : Alive D) (command request : Request) (asks : command ≡ request) where
+module _ {D : Type 0} (honest : D → Type 0) (held_of : D → Held) (image_of : D → List (List ℕ)) (old new : Alive D) (command request : Request) (asks : command ≡ request) where
   abbrev Told : Result Answer Refusal → Type 0
   Told reply = Replied (held_of old.device) (image_of old.device) old command reply (held_of new.device) (image_of new.device) new
 
@@ -55,15 +56,15 @@ module _ {D : Type 0} (honest : D → Type 0) (held_of : D → List (List (List 
   abbrev May : Refusal → Type 0
   May r = MayRefuse (image_of old.device) old request r
 
-  abbrev Held : List View → Type 0
-  Held later = HeldMore old.kept.geometry (held_of old.device) (held_of new.device) later
+  abbrev Since : List View → Type 0
+  Since later = HeldMore old.kept.geometry (held_of old.device) (held_of new.device) later
 
   abbrev Flushes : Type 0
-  Flushes = AreFlushes old.kept.geometry (image_of old.device) (held_of old.device) (pending_of old.queue) (image_of new.device) (held_of new.device) (pending_of new.queue)
+  Flushes = AreWrites old.kept.geometry (image_of old.device) (held_of old.device) (pending_of old.queue) (image_of new.device) (held_of new.device) (pending_of new.queue)
 
   module _ {T : Type 0} (as_given : T → Answer) (as_answer : T → Answered) (stands_for : (t : T) → StandsFor (as_given t) (as_answer t)) where
     by_call : (outcome : Result T Refusal) (reply : Result Answer Refusal) → MatchResult outcome (λ t. reply ≡ Ok (as_given t)) (λ r. reply ≡ Err r)
-        → IfOk outcome (λ t. (later : List View) × Held later × Does (as_answer t) later) → IfErr outcome (λ r. May r) → OnErr outcome (Flushes × (new.kept ≡ old.kept) × (new.holdings ≡ old.holdings))
+        → IfOk outcome (λ t. (later : List View) × Since later × Does (as_answer t) later) → IfErr outcome (λ r. May r) → OnErr outcome (Flushes × (new.kept ≡ old.kept) × (new.holdings ≡ old.holdings))
         → Told reply
     by_call outcome reply told done refused left =
         subst (λ x. Replied (held_of old.device) (image_of old.device) old x reply (held_of new.device) (image_of new.device) new) (sym asks)
@@ -100,7 +101,7 @@ module _ {D : Type 0} (honest : D → Type 0) (held_of : D → List (List (List 
 
     -- one that writes to it
     pub writing : (outcome : Result T Refusal) (reply : Result Answer Refusal) → MatchResult outcome (λ t. reply ≡ Ok (as_given t)) (λ r. reply ≡ Err r)
-        → IfOk outcome (λ t. honest new.device → (later : List View) × Held later × Does (as_answer t) later) → IfErr outcome (λ r. honest new.device → May r)
+        → IfOk outcome (λ t. honest new.device → (later : List View) × Since later × Does (as_answer t) later) → IfErr outcome (λ r. honest new.device → May r)
         → OnErr outcome (honest new.device → Flushes) → new.kept ≡ old.kept → new.holdings ≡ old.holdings
         → honest new.device → Told reply
     writing (Ok t) reply told done refused flushes kept holdings h = by_call (Ok t) reply told (done h) refused flushes
@@ -126,7 +127,7 @@ module _ {D : Type 0} (honest : D → Type 0) (held_of : D → List (List (List 
     reading_done (Err r) reply told same_image same_held done refused left = reading (λ (t : T). Done) (λ (t : T). IsDone) (λ t. refl) (Err r) reply told same_image same_held done refused left
 
     pub writing_done : (outcome : Result T Refusal) (reply : Result Answer Refusal) → Nothing outcome reply
-        → OnOk outcome (honest new.device → (later : List View) × Held later × Does IsDone later) → IfErr outcome (λ r. honest new.device → May r)
+        → OnOk outcome (honest new.device → (later : List View) × Since later × Does IsDone later) → IfErr outcome (λ r. honest new.device → May r)
         → OnErr outcome (honest new.device → Flushes) → new.kept ≡ old.kept → new.holdings ≡ old.holdings
         → honest new.device → Told reply
     writing_done (Ok t) reply told done refused flushes kept holdings = writing (λ (t : T). Done) (λ (t : T). IsDone) (λ t. refl) (Ok t) reply told done refused flushes kept holdings
@@ -137,15 +138,15 @@ on_err_always P (Ok t) p = tt
 on_err_always P (Err e) p = p
 
 -- a flush that is refused wrote nothing
-pub unflushed : {D T : Type 0} (honest : D → Type 0) (held_of : D → List (List (List ℕ))) (image_of : D → List (List ℕ)) (old new : Alive D) (r : Result T Refusal)
+pub unflushed : {D T : Type 0} (honest : D → Type 0) (held_of : D → Held) (image_of : D → List (List ℕ)) (old new : Alive D) (r : Result T Refusal)
     → OnErr r ((new.queue ≡ old.queue) × (image_of new.device ≡ image_of old.device) × (held_of new.device ≡ held_of old.device))
-    → OnErr r (honest new.device → AreFlushes old.kept.geometry (image_of old.device) (held_of old.device) (pending_of old.queue) (image_of new.device) (held_of new.device) (pending_of new.queue))
+    → OnErr r (honest new.device → AreWrites old.kept.geometry (image_of old.device) (held_of old.device) (pending_of old.queue) (image_of new.device) (held_of new.device) (pending_of new.queue))
 unflushed honest held_of image_of old new (Ok t) left = left
 unflushed honest held_of image_of old new (Err e) left = λ h. no_flushes (held_of old.device) (held_of new.device) (image_of old.device) (image_of new.device) old new left.1 left.2 left.0
 
 -- ---- a look at the volume
 
-module _ {D : Type 0} (honest : D → Type 0) (held_of : D → List (List (List ℕ))) (image_of : D → List (List ℕ)) (live : Alive D) (command request : Request) (asks : command ≡ request)
+module _ {D : Type 0} (honest : D → Type 0) (held_of : D → Held) (image_of : D → List (List ℕ)) (live : Alive D) (command request : Request) (asks : command ≡ request)
     (quiet : IsTrue (is_quiet request)) (safely : (view : View) (safe : ℕ → Bool) → safe_after live.kept.geometry view request safe ≡ safe) where
   abbrev Shown : Answered → Type 0
   Shown answer = (beside : Beside) → Step live.kept.geometry (state_of (image_of live.device) live beside) request (Ok answer) (state_of (image_of live.device) live beside)

@@ -3,6 +3,7 @@ use Rattle.std.proofs.Common.{◌≡◌, ◌⊎◌, ◌∙◌, ℕ, true, false,
 use Rattle.std.specs.Option.{option_copied, option_map}
 use Rattle.layout.specs.declared.refusal.Refusal.{Refusal}
 use Rattle.layout.specs.declared.refusal.Refusal.TheVariants.{NoMemory, Device}
+use Rattle.device.specs.Media.{Held}
 use Rattle.machine.specs.Causes.{FirstRefusal}
 use Rattle.machine.specs.Command.{Command as Request, Freeze, Image, Release}
 use Rattle.machine.specs.Snapshot.{frozen, released, settled}
@@ -11,7 +12,7 @@ use Rattle.plans_data.specs.Release.{releasing}
 use Rattle.frozen.specs.Kept.{Kept}
 use Rattle.metadata.specs.Shown.{Shows}
 use Rattle.softdep.specs.Queued.{pending_of}
-use Rattle.softdep.specs.Syncing.{AreFlushes}
+use Rattle.softdep.specs.Syncing.{AreWrites}
 use Rattle.live_states.specs.Holdings.{Beside, Holdings, AreImagesOf}
 use Rattle.live_states.specs.Snapshots.{let_go_blocks, keeping, let_go}
 use Rattle.live.specs.Alive.{Alive, StandsSo, state_of}
@@ -32,8 +33,8 @@ pub some_stands : {X : Type 0} (o : Option X) → is_some o ≡ true → o ≡ N
 some_stands None t none = let bad : false ≡ true = t in cc
 some_stands (Some x) t none = let bad : Some x ≡ None = none in cc
 
-module _ {D : Type 0} (honest : D → Type 0) (held_of : D → List (List (List ℕ))) (image_of : D → List (List ℕ)) (old mid : Alive D) (kept : mid.kept ≡ old.kept) (holdings : mid.holdings ≡ old.holdings)
-    (flushes : honest mid.device → AreFlushes old.kept.geometry (image_of old.device) (held_of old.device) (pending_of old.queue) (image_of mid.device) (held_of mid.device) (pending_of mid.queue))
+module _ {D : Type 0} (honest : D → Type 0) (held_of : D → Held) (image_of : D → List (List ℕ)) (old mid : Alive D) (kept : mid.kept ≡ old.kept) (holdings : mid.holdings ≡ old.holdings)
+    (flushes : honest mid.device → AreWrites old.kept.geometry (image_of old.device) (held_of old.device) (pending_of old.queue) (image_of mid.device) (held_of mid.device) (pending_of mid.queue))
     (stands : honest mid.device → StandsSo (image_of mid.device) mid) where
   -- ---- a refusal
 

@@ -3,6 +3,7 @@ use Rattle.std.specs.Prelude.{◌≡◌, ℕ, Bool, false, List, [], ◌∷◌, 
 use Rattle.layout.specs.declared.refusal.Refusal.{Refusal}
 use Rattle.model.specs.Image.{IsImage}
 use Rattle.model.specs.View.{View}
+use Rattle.device.specs.Media.{Held}
 use Rattle.machine.specs.Command.{Command, Done, Freeze, Image, Release, Reply}
 use Rattle.machine.specs.Snapshot.{settled}
 use Rattle.machine.specs.Standing.{begun, ended}
@@ -35,8 +36,8 @@ pub record HasBeside {D : Type 0} (image : List (List ℕ)) (live : Alive D) : T
 
 -- From a volume over an image of its device, with this beside it, these commands got these replies, one after another. It leads to a volume, with something beside it, over another image, and to what the device held since.
 -- Users see a run of the machine; and from wherever a volume may begin, whichever files no stop is to lose, what it goes through is a service of these commands.
-pub record Goes {D : Type 0} (beside : Beside) (held : List (List (List ℕ))) (image : List (List ℕ)) (old : Alive D) (commands : List Command) (replies : List Reply)
-    (beside' : Beside) (held' : List (List (List ℕ))) (image' : List (List ℕ)) (new : Alive D) : Type 0 where
+pub record Goes {D : Type 0} (beside : Beside) (held : Held) (image : List (List ℕ)) (old : Alive D) (commands : List Command) (replies : List Reply)
+    (beside' : Beside) (held' : Held) (image' : List (List ℕ)) (new : Alive D) : Type 0 where
   pub geometry : new.kept.geometry ≡ old.kept.geometry
   pub is : IsBeside image' new beside'
   pub run : Run old.kept.geometry (state_of image old beside) commands replies (state_of image' new beside')
@@ -47,27 +48,27 @@ pub record Goes {D : Type 0} (beside : Beside) (held : List (List (List ℕ))) (
       → (safe' : ℕ → Bool) × Service old.kept.geometry (disk_of image old) (pending_of old.queue) (state_of image old beside) safe (disk_of image' new) (pending_of new.queue) (state_of image' new beside') safe' commands replies later
 
 -- A command got this reply, and what stands beside the volume stays, whatever it is.
-abbrev pub Replies : {D : Type 0} → List (List (List ℕ)) → List (List ℕ) → Alive D → Command → Reply → List (List (List ℕ)) → List (List ℕ) → Alive D → Type 0
+abbrev pub Replies : {D : Type 0} → Held → List (List ℕ) → Alive D → Command → Reply → Held → List (List ℕ) → Alive D → Type 0
 Replies held image old command reply held' image' new = (beside : Beside) → IsBeside image old beside → Goes beside held image old (command ∷ []) (reply ∷ []) beside held' image' new
 
 -- A snapshot began with this number, and this is the metadata of its image, which then stands beside the volume too.
-abbrev pub Freezes : {D : Type 0} → List (List (List ℕ)) → List (List ℕ) → Alive D → ℕ → Kept → List (List (List ℕ)) → List (List ℕ) → Alive D → Type 0
+abbrev pub Freezes : {D : Type 0} → Held → List (List ℕ) → Alive D → ℕ → Kept → Held → List (List ℕ) → Alive D → Type 0
 Freezes held image old s snapshot held' image' new = (beside : Beside) → IsBeside image old beside
     → let view = settled old.kept.geometry (state_of image old beside) in
     (s ≡ old.holdings.snapshots.freezes) × Shows snapshot view
     × Goes beside held image old (Freeze ∷ []) (Ok (Image s view) ∷ []) (record { snapshots = begun beside.snapshots view }) held' image' new
 
 -- The snapshot of this number ended, and its image stands beside the volume no more.
-abbrev pub Releases : {D : Type 0} → List (List (List ℕ)) → List (List ℕ) → Alive D → ℕ → List (List (List ℕ)) → List (List ℕ) → Alive D → Type 0
+abbrev pub Releases : {D : Type 0} → Held → List (List ℕ) → Alive D → ℕ → Held → List (List ℕ) → Alive D → Type 0
 Releases held image old s held' image' new = (beside : Beside) → IsBeside image old beside
     → Goes beside held image old (Release s ∷ []) (Ok Done ∷ []) (record { snapshots = ended beside.snapshots s }) held' image' new
 
 -- A command got this reply, whatever stands beside the volume then.
-abbrev pub Applies : {D : Type 0} → List (List (List ℕ)) → List (List ℕ) → Alive D → Command → Result Given Refusal → List (List (List ℕ)) → List (List ℕ) → Alive D → Type 0
+abbrev pub Applies : {D : Type 0} → Held → List (List ℕ) → Alive D → Command → Result Given Refusal → Held → List (List ℕ) → Alive D → Type 0
 Applies held image old command reply held' image' new = (beside : Beside) → IsBeside image old beside
     → (beside' : Beside) × (response : Reply) × IsReply reply response × Goes beside held image old (command ∷ []) (response ∷ []) beside' held' image' new
 
 -- and so did commands, one after another
-abbrev pub Runs : {D : Type 0} → List (List (List ℕ)) → List (List ℕ) → Alive D → List Command → List (Result Given Refusal) → List (List (List ℕ)) → List (List ℕ) → Alive D → Type 0
+abbrev pub Runs : {D : Type 0} → Held → List (List ℕ) → Alive D → List Command → List (Result Given Refusal) → Held → List (List ℕ) → Alive D → Type 0
 Runs held image old commands replies held' image' new = (beside : Beside) → IsBeside image old beside
     → (beside' : Beside) × (responses : List Reply) × AreReplies replies responses × Goes beside held image old commands responses beside' held' image' new

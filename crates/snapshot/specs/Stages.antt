@@ -2,6 +2,7 @@
 use Rattle.std.specs.Prelude.{ℕ, Bool, List}
 use Rattle.model.specs.Layout.{Geometry}
 use Rattle.model.specs.View.{View}
+use Rattle.device.specs.Media.{Held}
 use Rattle.machine.specs.Command.{Command, Reply}
 use Rattle.machine.specs.State.{State}
 use Rattle.queue_model.specs.Files.{Written}
@@ -15,7 +16,7 @@ use Rattle.snapshot.specs.Goes.{Goes, IsBeside}
 pub record Stage (D : Type 0) : Type 0 where
   pub volume : Alive D
   pub beside : Beside
-  pub held : List (List (List ℕ))
+  pub held : Held
   pub image : List (List ℕ)
 
 abbrev pub geometry_at : {D : Type 0} → Stage D → Geometry

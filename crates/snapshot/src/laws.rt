@@ -8,6 +8,7 @@ ghost use Rattle.findings.specs.Report.{repairs_of};
 ghost use Rattle.findings.specs.declared.finding.Finding.{Finding};
 ghost use Rattle.findings.specs.declared.repair.Repair.{Repair};
 ghost use Rattle.model.specs.View.{View};
+ghost use Rattle.device.specs.Media.{images_held};
 ghost use Rattle.machine.specs.Balance.{Balance, Exact, OwesNothing};
 ghost use Rattle.machine.specs.Command.{Check, Command, Done, Freeze, Image, Install, RepairAt, Reply};
 ghost use Rattle.machine.specs.Debts.{MakesNoDebt};
@@ -52,7 +53,7 @@ pub fn volumes_begin<D: Device>()
 /// Each image that the device held during any calls is mountable: an image of this geometry that obeys the rules.
 pub fn each_image_held_is_mountable<D: Device>()
     ensures { (s t : Stage D) (commands : List Command) (replies : List Reply) → StandsAt s → LeadsTo s commands replies t
-        → (more : List (List (List ℕ))) × (t.held ≡ s.held ++ more) × All (IsMountable (geometry_at s)) more }
+        → (more : List (List (List ℕ))) × (images_held t.held ≡ images_held s.held ++ more) × All (IsMountable (geometry_at s)) more }
 {}
 
 /// A volume is in balance: everything that is marked or counted is in use, held for a snapshot, or owed a repair. Where

@@ -8,8 +8,8 @@ ghost use Rattle.machine.specs.Standing.{image_at, too_many};
 ghost use Rattle.softdep.specs.Queued.{pending_of};
 ghost use Rattle.live_states.specs.Snapshots.{IsSettled, keeping};
 ghost use Rattle.live.specs.Alive.{StandsSo};
-ghost use Rattle.live.specs.Seen.{Flushed};
-ghost use Rattle.snapshot.specs.Between.{Froze, GotReply, Released, WroteLeast};
+ghost use Rattle.live.specs.Seen.{Wrote};
+ghost use Rattle.snapshot.specs.Between.{Froze, GotReply, Released, WroteBlocks};
 ghost use Rattle.snapshot.specs.Pieces.{IsPieceOfSnapshot};
 ghost use Rattle.snapshot.specs.Refusing.{IsCauseOf, IsWhyUnread};
 
@@ -32,7 +32,7 @@ impl<D: Device> Volume<D> {
         ensures frozen { IfOk result (λ made. D.honest self.new.device → Froze D.held D.image self.old made.0 (arc_value made.1) self.new) }
         ensures refused { IfErr result (λ r. D.honest self.new.device → GotReply D.held D.image self.old Freeze (Err r) self.new) }
         ensures untouched { OnErr result ((self.new.kept ≡ self.old.kept) × (self.new.holdings ≡ self.old.holdings)) }
-        ensures writes { D.honest self.new.device → WroteLeast D.held D.image self.old self.new }
+        ensures writes { D.honest self.new.device → WroteBlocks D.held D.image self.old self.new }
         ensures many { IsErrOf result Refusal.TooManySnapshots ↔ IsTrue (too_many self.old.holdings.snapshots) }
         ensures unchanged { IsErrOf result Refusal.TooManySnapshots → self.new ≡ self.old }
         ensures full { IsErrOf result Refusal.NoMemory → self.new ≡ self.old }
@@ -60,7 +60,7 @@ impl<D: Device> Volume<D> {
             × (self.new.holdings ≡ keeping self.old.holdings (arc_value snapshot))) }
         ensures refused { IfErr result (λ r. D.honest self.new.device → GotReply D.held D.image self.old Freeze (Err r) self.new) }
         ensures untouched { OnErr result ((self.new.kept ≡ self.old.kept) × (self.new.holdings ≡ self.old.holdings)) }
-        ensures writes { D.honest self.new.device → WroteLeast D.held D.image self.old self.new }
+        ensures writes { D.honest self.new.device → WroteBlocks D.held D.image self.old self.new }
         ensures many { IsErrOf result Refusal.TooManySnapshots ↔ IsTrue (too_many self.old.holdings.snapshots) }
         ensures unchanged { IsErrOf result Refusal.TooManySnapshots → self.new ≡ self.old }
         ensures error { IfErr result (λ r. (r ≡ Refusal.TooManySnapshots) ⊎ (r ≡ Refusal.Device)) }
@@ -110,7 +110,7 @@ impl<D: Device> Volume<D> {
         ensures released { OnOk result (D.honest self.new.device → Released D.held D.image self.old number self.new) }
         ensures refused { IfErr result (λ r. D.honest self.new.device → GotReply D.held D.image self.old (Release number) (Err r) self.new) }
         ensures untouched { OnErr result ((self.new.kept ≡ self.old.kept) × (self.new.holdings ≡ self.old.holdings)) }
-        ensures writes { D.honest self.new.device → WroteLeast D.held D.image self.old self.new }
+        ensures writes { D.honest self.new.device → WroteBlocks D.held D.image self.old self.new }
         ensures stands { IsErrOf result Refusal.NoSnapshot ↔ (image_at self.old.holdings.snapshots.standing number ≡ None) }
         ensures none { IsErrOf result Refusal.NoSnapshot → self.new ≡ self.old }
         ensures error { IfErr result (λ r. (r ≡ Refusal.NoSnapshot) ⊎ ((r ≡ Refusal.NoMemory) ⊎ (r ≡ Refusal.Device))) }
@@ -139,7 +139,7 @@ fn write_all<D: Device>(live: &mut Live<D>) -> Result<(), Refusal>
     ensures pending { OnOk result (pending_of live.new.queue ≡ []) }
     ensures metadata { live.new.kept ≡ live.old.kept }
     ensures holdings { live.new.holdings ≡ live.old.holdings }
-    ensures flushes { D.honest live.new.device → Flushed D.held D.image live.old live.new }
+    ensures writes { D.honest live.new.device → Wrote D.held D.image live.old live.new }
     ensures stands { D.honest live.new.device → StandsSo (D.image live.new.device) live.new }
     ensures error { IsOkUnless result Refusal.Device }
     ensures cause { IsErrOf result Refusal.Device → HasFailed (D.failures live.old.device) (D.failures live.new.device) }

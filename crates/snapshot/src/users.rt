@@ -1,13 +1,13 @@
 //! The commands of users, carried out on the mounted volume.
-ghost use Rattle.std.specs.Prelude.{◌≡◌, true, IfErr, IsErrOf, OnErr};
+ghost use Rattle.std.specs.Prelude.{◌≡◌, ℕ, true, IfErr, IfOk, IsErrOf, OnErr};
 ghost use Rattle.device.specs.Writes.{HasFailed};
 ghost use Rattle.snapshot.specs.Asked.{HasBytesOrNames, is_users};
-ghost use Rattle.snapshot.specs.Between.{RepliedSo};
+ghost use Rattle.snapshot.specs.Between.{RepliedSo, could_go};
 ghost use Rattle.snapshot.specs.Refusing.{IsCause};
 ghost use Rattle.snapshot.specs.Writes.{Writes};
 
 use crate::answer::{bytes, count, done, names, number, status};
-use crate::{Command, Reply};
+use crate::{Answer, Command, Reply};
 use device::Device;
 use layout::Refusal;
 use live::Live;
@@ -20,6 +20,7 @@ pub(crate) fn user_reply<D: Device>(live: &mut Live<D>, alloc: Global, command: 
     ensures untouched { OnErr result ((live.new.kept ≡ live.old.kept) × (live.new.holdings ≡ live.old.holdings)) }
     // An answer of bytes or names leaves all of that too.
     ensures reading { HasBytesOrNames result → (live.new.kept ≡ live.old.kept) × (live.new.holdings ≡ live.old.holdings) }
+    ensures flushed { (a : ℕ) → command.now ≡ Command.Flush a → IfOk result (λ answer. answer ≡ Answer.Number (could_go live.old a)) }
     ensures writes { Writes D.honest D.held D.image live.old command.now result live.new }
     ensures cause { IsErrOf result Refusal.Device → HasFailed (D.failures live.old.device) (D.failures live.new.device) }
     ensures error { IfErr result (IsCause live.old command.now) }

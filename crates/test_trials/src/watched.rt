@@ -65,6 +65,8 @@ impl<D> Watched<D> {
 }
 
 impl<D: Device> Device for Watched<D> {
+    ghost KEEPS_ORDER = { D.KEEPS_ORDER };
+
     ghost honest = { λ watched. D.honest watched.device };
 
     ghost image = { λ watched. D.image watched.device };
@@ -72,6 +74,8 @@ impl<D: Device> Device for Watched<D> {
     ghost held = { λ watched. D.held watched.device };
 
     ghost failures = { λ watched. D.failures watched.device };
+
+    const KEEPS_ORDER: bool = D::KEEPS_ORDER;
 
     fn blocks(&self) -> u32 {
         self.device.blocks()
@@ -94,4 +98,8 @@ impl<D: Device> Device for Watched<D> {
         self.count(&outcome);
         outcome
     }
+
+    ghost answers = { λ watched. D.answers watched.device };
+
+    ghost in_order = { λ keeps watched. D.in_order keeps watched.device };
 }

@@ -9,6 +9,7 @@ use Rattle.model.specs.Image.{IsImage, block_at, image_view}
 use Rattle.model.specs.Rules.{ObeysRules}
 use Rattle.model.proofs.Addresses.{count_in_group, inode_below}
 use Rattle.model.proofs.Same.{same_rules}
+use Rattle.device.specs.Media.{Held, images_held}
 use Rattle.device.specs.Writes.{HasFailed}
 use Rattle.frozen.specs.Kept.{IsKeptOf, KeepsFrame, Kept, frozen_view, kept_at, kept_bytes}
 use Rattle.frozen.proofs.FrozenLemmas.{first_is_frame, records_are_frame}
@@ -152,23 +153,35 @@ has_failed old new counted = elim (cases_lt (old + 1) (2 ^ 64 - 1)) [
 ]
 
 -- ---- while records are cleared
-pub none_cleared : (kept : Kept) (start : List (List ℕ)) (before : List (List (List ℕ))) → HasCleared kept start before 0 start before 0
+pub none_cleared : (kept : Kept) (start : List (List ℕ)) (before : Held) → HasCleared kept start before 0 start before 0
 none_cleared kept start before = record {
   more = [];
-  held_now = sym (append-nil before);
+  held_now = sym (append-nil (images_held before));
   image_now = refl;
   counted = refl;
   stage = no_stage kept start;
   of_volume = none_held kept start;
 }
 
-pub more_cleared : (kept : Kept) (start : List (List ℕ)) (before : List (List (List ℕ))) (n : ℕ) (image : List (List ℕ)) (held : List (List (List ℕ))) (writes : ℕ)
-    (image' : List (List ℕ)) (held' : List (List (List ℕ))) (w : ℕ) → HasCleared kept start before n image held writes → 8 * n < inode_count kept.geometry
+-- the device answers the same image, and what it held are the same images
+pub cleared_stays : (kept : Kept) (start : List (List ℕ)) (before : Held) (n : ℕ) (image : List (List ℕ)) (held : Held) (writes : ℕ) (image' : List (List ℕ)) (held' : Held)
+    → HasCleared kept start before n image held writes → image' ≡ image → images_held held' ≡ images_held held → HasCleared kept start before n image' held' writes
+cleared_stays kept start before n image held writes image' held' h same_image same_held = record {
+  more = h.more;
+  held_now = same_held ∙ h.held_now;
+  image_now = same_image ∙ h.image_now;
+  counted = h.counted;
+  stage = λ up. subst (IsStage kept.geometry start n) (sym same_image) (h.stage up);
+  of_volume = h.of_volume;
+}
+
+pub more_cleared : (kept : Kept) (start : List (List ℕ)) (before : Held) (n : ℕ) (image : List (List ℕ)) (held : Held) (writes : ℕ)
+    (image' : List (List ℕ)) (held' : Held) (w : ℕ) → HasCleared kept start before n image held writes → 8 * n < inode_count kept.geometry
     → Clears (inode_block kept.geometry (8 * n)) (kept_bytes kept.blocks (inode_block kept.geometry (8 * n))) image held image' held' w
     → HasCleared kept start before (n + 1) image' held' (writes + w)
 more_cleared kept start before n image held writes image' held' w h inside (Leaves clear same_image same_held) = record {
   more = h.more;
-  held_now = same_held ∙ h.held_now;
+  held_now = ap images_held same_held ∙ h.held_now;
   image_now = same_image ∙ h.image_now;
   counted = omega (arith, h.counted);
   stage = λ up.
@@ -178,7 +191,7 @@ more_cleared kept start before n image held writes image' held' w h inside (Leav
 }
 more_cleared kept start before n image held writes image' held' w h inside (Writes differs image_is held_is) = record {
   more = h.more ++ image' ∷ [];
-  held_now = held_is ∙ ap (λ x. x ++ image' ∷ []) h.held_now ∙ append_assoc before h.more (image' ∷ []);
+  held_now = held_is ∙ ap (λ x. x ++ image' ∷ []) h.held_now ∙ append_assoc (images_held before) h.more (image' ∷ []);
   image_now = sym (last_of_more start h.more image');
   counted = let more = length-append h.more (image' ∷ []) in omega (arith, h.counted, more);
   stage = λ up. subst (IsStage kept.geometry start (n + 1)) (sym (same up)) (written_stage kept start up n image (h.stage up) inside);
@@ -205,11 +218,11 @@ module _ (kept : Kept) (start : List (List ℕ)) (frame : KeepsFrame kept) (of_i
     obeys = image_obeys;
   }
 
-  pub upgraded_before : (before : List (List (List ℕ))) (image : List (List ℕ)) (held : List (List (List ℕ))) → kept.geometry.version ≡ 2 → image ≡ start → held ≡ before
+  pub upgraded_before : (before : Held) (image : List (List ℕ)) (held : Held) → kept.geometry.version ≡ 2 → image ≡ start → held ≡ before
       → IsUpgraded start before image held 0
   upgraded_before before image held double same_image same_held = record {
     more = [];
-    held_now = same_held ∙ sym (append-nil before);
+    held_now = ap images_held same_held ∙ sym (append-nil (images_held before));
     counted = refl;
     geometry = kept.geometry;
     was_image = of_image.is_image;
@@ -219,18 +232,18 @@ module _ (kept : Kept) (start : List (List ℕ)) (frame : KeepsFrame kept) (of_i
   }
 
 -- ---- the end
-pub nothing_written : (honest : Type 0) (start : List (List ℕ)) (before : List (List (List ℕ))) (image : List (List ℕ)) (held : List (List (List ℕ))) → image ≡ start → held ≡ before
+pub nothing_written : (honest : Type 0) (start : List (List ℕ)) (before : Held) (image : List (List ℕ)) (held : Held) → image ≡ start → held ≡ before
     → Upgrades honest start before image held
 nothing_written honest start before image held same_image same_held = record {
   more = [];
-  held_now = same_held ∙ sym (append-nil before);
+  held_now = ap images_held same_held ∙ sym (append-nil (images_held before));
   image_now = same_image;
   of_volume = λ h. inl refl;
 }
 
-module _ (honest : Type 0) (kept : Kept) (start : List (List ℕ)) (before : List (List (List ℕ))) (up : honest → IsUpgradable kept start) where
+module _ (honest : Type 0) (kept : Kept) (start : List (List ℕ)) (before : Held) (up : honest → IsUpgradable kept start) where
   -- a write of a block of records failed, or that of the superblock
-  pub stopped : (n : ℕ) (image : List (List ℕ)) (held : List (List (List ℕ))) (writes : ℕ) → HasCleared kept start before n image held writes → Upgrades honest start before image held
+  pub stopped : (n : ℕ) (image : List (List ℕ)) (held : Held) (writes : ℕ) → HasCleared kept start before n image held writes → Upgrades honest start before image held
   stopped n image held writes h = record {
     more = h.more;
     held_now = h.held_now;
@@ -238,13 +251,13 @@ module _ (honest : Type 0) (kept : Kept) (start : List (List ℕ)) (before : Lis
     of_volume = λ is. inr (kept.geometry, h.of_volume (up is));
   }
 
-  module _ (image : List (List ℕ)) (held : List (List (List ℕ))) (writes : ℕ) (h : HasCleared kept start before (inode_count kept.geometry / 8) image held writes)
-      (image' : List (List ℕ)) (held' : List (List (List ℕ))) (tells : TellsVersion (kept_bytes kept.blocks 0) image held image' held') where
+  module _ (image : List (List ℕ)) (held : Held) (writes : ℕ) (h : HasCleared kept start before (inode_count kept.geometry / 8) image held writes)
+      (image' : List (List ℕ)) (held' : Held) (tells : TellsVersion (kept_bytes kept.blocks 0) image held image' held') where
     abbrev all_held : List (List (List ℕ))
     all_held = h.more ++ image' ∷ []
 
-    held_all : held' ≡ before ++ all_held
-    held_all = tells.held_is ∙ ap (λ x. x ++ image' ∷ []) h.held_now ∙ append_assoc before h.more (image' ∷ [])
+    held_all : images_held held' ≡ images_held before ++ all_held
+    held_all = tells.held_is ∙ ap (λ x. x ++ image' ∷ []) h.held_now ∙ append_assoc (images_held before) h.more (image' ∷ [])
 
     module _ (is : honest) where
       ready : IsUpgradable kept start

@@ -4,6 +4,7 @@ use Rattle.model.specs.Layout.{Geometry, inode_block, inode_count}
 use Rattle.model.specs.Image.{block_at, image_view}
 use Rattle.model.specs.Rules.{ObeysRules}
 use Rattle.layout.specs.Fresh.{put_u32}
+use Rattle.device.specs.Media.{Held, images_held}
 use Rattle.frozen.specs.Kept.{IsKeptOf, KeepsFrame, Kept}
 use Rattle.upgrading.specs.Upgraded.{AreOfVolume, last_held}
 
@@ -21,14 +22,14 @@ abbrev pub doubled : List ℕ → List ℕ
 doubled block = put_u32 4 2 block
 
 -- A block is written with its records cleared, or left where they are clear; so many writes were made.
-pub data Clears (a : ℕ) (block : List ℕ) (image : List (List ℕ)) (held : List (List (List ℕ))) (image' : List (List ℕ)) (held' : List (List (List ℕ))) : ℕ → Type 0 where
-  Writes : cleared block ≢ block → image' ≡ slice_set image a (cleared block) → held' ≡ held ++ image' ∷ [] → Clears a block image held image' held' 1
+pub data Clears (a : ℕ) (block : List ℕ) (image : List (List ℕ)) (held : Held) (image' : List (List ℕ)) (held' : Held) : ℕ → Type 0 where
+  Writes : cleared block ≢ block → image' ≡ slice_set image a (cleared block) → images_held held' ≡ images_held held ++ image' ∷ [] → Clears a block image held image' held' 1
   Leaves : cleared block ≡ block → image' ≡ image → held' ≡ held → Clears a block image held image' held' 0
 
 -- The superblock is written with version 2.
-pub record TellsVersion (block : List ℕ) (image : List (List ℕ)) (held : List (List (List ℕ))) (image' : List (List ℕ)) (held' : List (List (List ℕ))) : Type 0 where
+pub record TellsVersion (block : List ℕ) (image : List (List ℕ)) (held : Held) (image' : List (List ℕ)) (held' : Held) : Type 0 where
   pub image_is : image' ≡ slice_set image 0 (doubled block)
-  pub held_is : held' ≡ held ++ image' ∷ []
+  pub held_is : images_held held' ≡ images_held held ++ image' ∷ []
 
 -- the records of the numbers below 8 n are cleared, and all other blocks are those of the first image
 pub record IsStage (geo : Geometry) (start : List (List ℕ)) (n : ℕ) (image : List (List ℕ)) : Type 0 where
@@ -45,9 +46,9 @@ pub record IsUpgradable (kept : Kept) (start : List (List ℕ)) : Type 0 where
   pub obeys : ObeysRules kept.geometry (image_view kept.geometry start)
 
 -- since the device held the first image, so many writes were made, and the records of the numbers below 8 n are cleared
-pub record HasCleared (kept : Kept) (start : List (List ℕ)) (before : List (List (List ℕ))) (n : ℕ) (image : List (List ℕ)) (held : List (List (List ℕ))) (writes : ℕ) : Type 0 where
+pub record HasCleared (kept : Kept) (start : List (List ℕ)) (before : Held) (n : ℕ) (image : List (List ℕ)) (held : Held) (writes : ℕ) : Type 0 where
   pub more : List (List (List ℕ))
-  pub held_now : held ≡ before ++ more
+  pub held_now : images_held held ≡ images_held before ++ more
   pub image_now : image ≡ last_held start more
   pub counted : writes ≡ length more
   pub stage : IsUpgradable kept start → IsStage kept.geometry start n image

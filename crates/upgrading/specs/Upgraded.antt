@@ -3,6 +3,7 @@ use Rattle.std.specs.Prelude.{◌≡◌, ◌≢◌, ℕ, ◌+◌, ◌%◌, ◌<�
 use Rattle.model.specs.Layout.{Geometry, inode_block, inode_byte, inode_count}
 use Rattle.model.specs.Image.{IsImage, block_at, image_view}
 use Rattle.model.specs.Rules.{ObeysRules}
+use Rattle.device.specs.Media.{Held, images_held}
 use Rattle.versions.specs.Shown.{ShowsTheSame, of_version}
 
 -- ---- one image
@@ -63,16 +64,16 @@ pub record AreOfVolume (geo : Geometry) (start : List (List ℕ)) (more : List (
   pub changes : EachChangesABlock start start more
 
 -- Whatever comes of an upgrade of this image, which was read honestly: the device holds the last image that it held, and unless it held no other one, they are of the same volume.
-pub record Upgrades (honest : Type 0) (start : List (List ℕ)) (before : List (List (List ℕ))) (image : List (List ℕ)) (held : List (List (List ℕ))) : Type 0 where
+pub record Upgrades (honest : Type 0) (start : List (List ℕ)) (before : Held) (image : List (List ℕ)) (held : Held) : Type 0 where
   pub more : List (List (List ℕ))
-  pub held_now : held ≡ before ++ more
+  pub held_now : images_held held ≡ images_held before ++ more
   pub image_now : image ≡ last_held start more
   pub of_volume : honest → (more ≡ []) ⊎ ((geo : Geometry) × AreOfVolume geo start more)
 
 -- An upgrade that made so many writes is done: the image is one of version 2, and if it was so before nothing was written.
-pub record IsUpgraded (start : List (List ℕ)) (before : List (List (List ℕ))) (image : List (List ℕ)) (held : List (List (List ℕ))) (writes : ℕ) : Type 0 where
+pub record IsUpgraded (start : List (List ℕ)) (before : Held) (image : List (List ℕ)) (held : Held) (writes : ℕ) : Type 0 where
   pub more : List (List (List ℕ))
-  pub held_now : held ≡ before ++ more
+  pub held_now : images_held held ≡ images_held before ++ more
   pub counted : writes ≡ length more
   pub geometry : Geometry
   pub was_image : IsImage geometry start

@@ -4,6 +4,7 @@
 
 ghost use Rattle.std.specs.Prelude.{◌≡◌, ◌⊎◌, ◌<◌, length, IfErr, IfOk, IsErrOf, OnErr, OnOk};
 ghost use Rattle.layout.specs.declared.refusal.Refusal.TheVariants.{Device as DeviceRefusal};
+ghost use Rattle.device.specs.Media.{images_held};
 ghost use Rattle.device.specs.Writes.{CountsFaults, HasFailed};
 ghost use Rattle.upgrading.specs.Steps.{TellsVersion};
 ghost use Rattle.rules.specs.Loading.{LoadSoundRefuses};
@@ -52,7 +53,7 @@ pub fn upgrade<D: Device>(alloc: Global, device: &mut D) -> Result<u32, Refusal>
 fn set_version<D: Device>(device: &mut D, superblock: &Block) -> Result<(), DeviceFault>
     requires { 0 < length (D.image device.old) }
     ensures told { OnOk result (TellsVersion superblock.now (D.image device.old) (D.held device.old) (D.image device.new) (D.held device.new)) }
-    ensures stopped { OnErr result (((D.image device.new ≡ D.image device.old) × (D.held device.new ≡ D.held device.old))
+    ensures stopped { OnErr result (((D.image device.new ≡ D.image device.old) × (images_held (D.held device.new) ≡ images_held (D.held device.old)))
         ⊎ TellsVersion superblock.now (D.image device.old) (D.held device.old) (D.image device.new) (D.held device.new)) }
     ensures honest { D.honest device.new → D.honest device.old }
     ensures cause { CountsFaults result (D.failures device.old) (D.failures device.new) }

@@ -2,7 +2,7 @@ use Rattle.std.proofs.Common.{◌≡◌, ◌/◌, ◌+◌, ◌-◌, ◌^◌, ◌
 use Rattle.std.proofs.lemmas.Result.{err_from_is_err_and}
 use Rattle.model.specs.Layout.{Geometry, inode_count}
 use Rattle.upgrading.specs.Steps.{HasCleared, TellsVersion}
-use Rattle.upgrading.proofs.Ends.{finished, first_is_there, first_there, has_failed, nothing_written, stopped, upgradable, upgraded, upgraded_before}
+use Rattle.upgrading.proofs.Ends.{cleared_stays, finished, first_is_there, first_there, has_failed, nothing_written, stopped, upgradable, upgraded, upgraded_before}
 use Rattle.upgrading.proofs.upgrade.Goals as goal
 
 pub returns-then-version-eq-DOUBLE-clause-held : goal.returns-then-version-eq-DOUBLE-clause-held
@@ -70,7 +70,8 @@ returns-in_err-set_version-clause-held g c =
       | inl same ↦
           stopped (honest c.set_version.new.device) kept (image c.args.device.now) (held c.args.device.now) ready
           (inode_count kept.geometry / 8) (image c.set_version.new.device) (held c.set_version.new.device) c.in_ok-writes.writes
-          (subst₂ (λ i more. HasCleared kept (image c.args.device.now) (held c.args.device.now) (inode_count kept.geometry / 8) i more c.in_ok-writes.writes) (sym same.0) (sym same.1) cleared)
+          (cleared_stays kept (image c.args.device.now) (held c.args.device.now) (inode_count kept.geometry / 8) (image c.clear_records.new.device) (held c.clear_records.new.device) c.in_ok-writes.writes
+          (image c.set_version.new.device) (held c.set_version.new.device) cleared same.0 same.1)
       | inr tells ↦
           finished (honest c.set_version.new.device) kept (image c.args.device.now) (held c.args.device.now) ready
           (image c.clear_records.new.device) (held c.clear_records.new.device) c.in_ok-writes.writes cleared (image c.set_version.new.device) (held c.set_version.new.device)

@@ -1,13 +1,15 @@
-use Rattle.std.proofs.Common.{ℕ, map, refl, sym, ap, ap₂, ◌∙◌}
+use Rattle.std.proofs.Common.{◌≡◌, ℕ, map, refl, sym, ap, ap₂, ◌∙◌}
 use Rattle.machine.specs.Command.{Create as AsksCreate, Mkdir as AsksMkdir, Link as AsksLink, Unlink as AsksUnlink, Rmdir as AsksRmdir, Rename as AsksRename, Open as AsksOpen, Close as AsksClose, Read as AsksRead, Write as AsksWrite, Truncate as AsksTruncate, ListNames, Stat as AsksStat, Flush as AsksFlush, Sync as AsksSync}
 use Rattle.machine.specs.Command.{Number as IsNumber, Bytes as AreBytes, Listed, Status as IsStatus}
+use Rattle.device.specs.Media.{Held}
 use Rattle.softdep.specs.Queued.{pending_of}
 use Rattle.live_paths.specs.Listed.{name_of}
 use Rattle.snapshot.specs.declared.answer.Answer.TheVariants.{Done, Number, Bytes, Names, Status}
+use Rattle.snapshot.specs.declared.command.Command.TheVariants.{Flush}
 use Rattle.snapshot.specs.Asked.{asked}
 use Rattle.snapshot.proofs.AnswerLemmas.{neither}
 use Rattle.snapshot.proofs.Blaming.{cause_blamed, device_blamed, of_caused, of_device, of_device_or_caused, of_first, of_flush, of_refused, replied_so}
-use Rattle.snapshot.proofs.Writing.{idle_writes, refused_writes, untouched, writes_flush}
+use Rattle.snapshot.proofs.Writing.{flush_counts, refused_writes, untouched, unwritten_writes, writes_flush}
 use Rattle.snapshot.proofs.UserReplies.{looked, on_err_always, plain, plainly_done, reading, reading_done, unflushed, writing, writing_done}
 use Rattle.snapshot.proofs.users.user_reply.Goals as goal
 
@@ -102,7 +104,7 @@ returns-in-Sync-clause-replied g c =
     writing_done g.D.Device.honest g.D.Device.held g.D.Device.image c.args.live.now c.sync.new.self (asked c.args.live.now.kept.geometry c.args.command.now) AsksSync
     (ap (asked c.args.live.now.kept.geometry) c.in-Sync.is)
     c.sync.result c.done-in-Sync.result c.done-in-Sync.ensures c.sync.ensures.done c.sync.ensures.refused
-    (on_err_always _ c.sync.result c.sync.ensures.flushes) c.sync.ensures.metadata c.sync.ensures.holdings
+    (on_err_always _ c.sync.result c.sync.ensures.writes) c.sync.ensures.metadata c.sync.ensures.holdings
 
 -- ---- what a refusal may be
 
@@ -360,10 +362,10 @@ pub returns-in-Close-clause-writes : goal.returns-in-Close-clause-writes
 returns-in-Close-clause-writes g c = rw c.in-Close.is (untouched g.D.Device.held g.D.Device.image c.args.live.now.device c.close.new.self.device c.close.ensures.device)
 
 pub returns-in-Read-clause-writes : goal.returns-in-Read-clause-writes
-returns-in-Read-clause-writes g c = rw c.in-Read.is (record { image_stays = c.read.ensures.image; held_stays = c.read.ensures.held })
+returns-in-Read-clause-writes g c = rw c.in-Read.is (record { image_stays = c.read.ensures.image; held_stays = ap (λ (h : Held). h.media) c.read.ensures.held })
 
 pub returns-in-Write-clause-writes : goal.returns-in-Write-clause-writes
-returns-in-Write-clause-writes g c = rw c.in-Write.is (record { image_stays = c.write.ensures.image; held_stays = c.write.ensures.held })
+returns-in-Write-clause-writes g c = rw c.in-Write.is (record { image_stays = c.write.ensures.image; held_stays = ap (λ (h : Held). h.media) c.write.ensures.held })
 
 pub returns-in-Truncate-clause-writes : goal.returns-in-Truncate-clause-writes
 returns-in-Truncate-clause-writes g c = rw c.in-Truncate.is (untouched g.D.Device.held g.D.Device.image c.args.live.now.device c.truncate.new.self.device c.truncate.ensures.device)
@@ -374,13 +376,17 @@ returns-in-List-clause-writes g c = rw c.in-List.is (record { image_stays = refl
 pub returns-in-Stat-clause-writes : goal.returns-in-Stat-clause-writes
 returns-in-Stat-clause-writes g c = rw c.in-Stat.is (record { image_stays = refl; held_stays = refl })
 
+pub returns-in-Flush-clause-flushed : goal.returns-in-Flush-clause-flushed
+returns-in-Flush-clause-flushed g c = λ a asks.
+    flush_counts c.args.live.now a c.in-Flush.address c.flush.result c.count.result c.count.ensures c.flush.ensures.count (let same : Flush c.in-Flush.address ≡ Flush a = sym c.in-Flush.is ∙ asks in cc)
+
 pub returns-in-Flush-clause-writes : goal.returns-in-Flush-clause-writes
 returns-in-Flush-clause-writes g c =
     let old = c.args.live.now.device in
     let new = c.flush.new.self.device in
     rw c.in-Flush.is (writes_flush c.in-Flush.address (g.D.Device.image old) (g.D.Device.held old) (g.D.Device.image new) (g.D.Device.held new) c.flush.result c.count.result c.count.ensures
-    (idle_writes g.D.Device.held g.D.Device.image old new c.flush.result c.flush.ensures.idle) c.flush.ensures.written
+    (unwritten_writes (g.D.Device.image old) (g.D.Device.image new) (g.D.Device.held old) (g.D.Device.held new) c.flush.result c.flush.ensures.unwritten) c.flush.ensures.written
     (refused_writes _ (g.D.Device.image old) (g.D.Device.held old) (g.D.Device.image new) (g.D.Device.held new) c.flush.result c.flush.ensures.untouched))
 
 pub returns-in-Sync-clause-writes : goal.returns-in-Sync-clause-writes
-returns-in-Sync-clause-writes g c = rw c.in-Sync.is (λ h. (pending_of c.sync.new.self.queue, c.sync.ensures.flushes h))
+returns-in-Sync-clause-writes g c = rw c.in-Sync.is (λ h. (pending_of c.sync.new.self.queue, c.sync.ensures.writes h))

@@ -7,6 +7,7 @@ use Rattle.snapshot.proofs.AnswerLemmas.{neither}
 use Rattle.snapshot.proofs.AppliesLemmas.{freezing, releasing, stays, stays_done}
 use Rattle.snapshot.proofs.Blaming.{caused_so, freeze_caused, handed_on, never_device, never_so, release_caused}
 use Rattle.layout.specs.declared.refusal.Refusal.TheVariants.{Device, NoSnapshot, TooManySnapshots}
+use Rattle.device.specs.Media.{Held}
 use Rattle.live_states.specs.Planned.{IsRefusedWith}
 use Rattle.live.specs.Alive.{Alive}
 use Rattle.snapshot.proofs.Writing.{refused_by, untouched}
@@ -125,7 +126,7 @@ returns-in-Freeze-clause-writes g c =
     )
 
 pub returns-in-SnapRead-clause-writes : goal.returns-in-SnapRead-clause-writes
-returns-in-SnapRead-clause-writes g c = rw c.in-SnapRead.is (record { image_stays = c.snap_read.ensures.image; held_stays = c.snap_read.ensures.held })
+returns-in-SnapRead-clause-writes g c = rw c.in-SnapRead.is (record { image_stays = c.snap_read.ensures.image; held_stays = ap (λ (h : Held). h.media) c.snap_read.ensures.held })
 
 pub returns-in-Release-clause-writes : goal.returns-in-Release-clause-writes
 returns-in-Release-clause-writes g c =

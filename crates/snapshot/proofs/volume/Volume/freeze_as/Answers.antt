@@ -5,13 +5,14 @@ use Rattle.std.proofs.lemmas.Bool.{not-false, not-true, true≢false}
 use Rattle.std.proofs.lemmas.Result.{err_from_is_err_and}
 use Rattle.layout.specs.declared.refusal.Refusal.{Refusal}
 use Rattle.layout.specs.declared.refusal.Refusal.TheVariants.{Device, TooManySnapshots}
+use Rattle.device.specs.Media.{Held}
 use Rattle.machine.specs.Command.{Freeze}
 use Rattle.machine.specs.Snapshot.{frozen, settled}
 use Rattle.machine.specs.Standing.{begun as more, too_many}
 use Rattle.frozen.specs.Kept.{Kept, KeepsMetadata}
 use Rattle.metadata.specs.Shown.{Shows}
 use Rattle.softdep.specs.Queued.{pending_of}
-use Rattle.softdep.specs.Syncing.{AreFlushes}
+use Rattle.softdep.specs.Syncing.{AreWrites}
 use Rattle.live_states.specs.Holdings.{AreImagesOf, Beside, Holdings}
 use Rattle.live_states.specs.Snapshots.{IsSettled, keeping}
 use Rattle.live_states.proofs.Standing.{has}
@@ -34,7 +35,7 @@ returns-then-not-may_freeze-clause-refused g c = λ h.
 pub invariant_of-self : goal.invariant_of-self
 invariant_of-self g c =
     let e = c.write_all.ensures in
-    written_keeps g.D.Device.honest g.D.Device.held g.D.Device.image c.self.inside.live c.write_all.new.live e.metadata e.holdings e.flushes e.stands c.self.invariant e.honest
+    written_keeps g.D.Device.honest g.D.Device.held g.D.Device.image c.self.inside.live c.write_all.new.live e.metadata e.holdings e.writes e.stands c.self.invariant e.honest
 
 pub returns-in_err-write_all-clause-refused : goal.returns-in_err-write_all-clause-refused
 returns-in_err-write_all-clause-refused g c =
@@ -44,7 +45,7 @@ returns-in_err-write_all-clause-refused g c =
     let mid = c.write_all.new.live in
     rw (p.1, p.2)
     (λ h. subst (λ (l : Alive _). Replies (g.D.Device.held l.device) (g.D.Device.image l.device) l Freeze (Err r) (g.D.Device.held mid.device) (g.D.Device.image mid.device) mid) c.self.view_is
-    (written_err g.D.Device.honest g.D.Device.held g.D.Device.image c.self.inside.live mid e.metadata e.holdings e.flushes e.stands Freeze r (λ beside is. inr (inl e.error)) h))
+    (written_err g.D.Device.honest g.D.Device.held g.D.Device.image c.self.inside.live mid e.metadata e.holdings e.writes e.stands Freeze r (λ beside is. inr (inl e.error)) h))
 
 -- what this volume is to keep
 abbrev IsWhole : {D : Type 0} → Alive D → Kept → Type 0
@@ -76,8 +77,8 @@ keep-number-requires-clause-whole g c =
     let whole = subst (λ (l : Alive _). IsWhole l (arc_value c.args.snapshot)) (sym c.self.view_is) c.requires.whole in
     (whole.0 ∙ ap (λ (k : Kept). k.geometry) (sym c.in_ok-write_all.ensures.metadata), whole.1)
 
-module _ {D : Type 0} (honest : D → Type 0) (held_of : D → List (List (List ℕ))) (image_of : D → List (List ℕ)) (old mid new : Alive D) (kept : mid.kept ≡ old.kept) (holdings : mid.holdings ≡ old.holdings)
-    (flushes : honest mid.device → AreFlushes old.kept.geometry (image_of old.device) (held_of old.device) (pending_of old.queue) (image_of mid.device) (held_of mid.device) (pending_of mid.queue))
+module _ {D : Type 0} (honest : D → Type 0) (held_of : D → Held) (image_of : D → List (List ℕ)) (old mid new : Alive D) (kept : mid.kept ≡ old.kept) (holdings : mid.holdings ≡ old.holdings)
+    (flushes : honest mid.device → AreWrites old.kept.geometry (image_of old.device) (held_of old.device) (pending_of old.queue) (image_of mid.device) (held_of mid.device) (pending_of mid.queue))
     (stands : honest mid.device → StandsSo (image_of mid.device) mid) (may : not (too_many old.holdings.snapshots) ≡ true) (none : pending_of mid.queue ≡ [])
     (number : ℕ) (is_number : number ≡ mid.holdings.snapshots.freezes) (snapshot : Kept) (is_kept : new ≡ record mid { holdings = keeping mid.holdings snapshot })
     (back : honest mid.device → honest old.device)
@@ -101,7 +102,7 @@ invariant_of-self-2 g c =
     let k = c.keep-number.ensures in
     let mid = c.write_all.new.live in
     let snapshot = arc_value c.args.snapshot in
-    then_beside g.D.Device.honest g.D.Device.held g.D.Device.image c.self.inside.live mid c.keep-number.new.self e.metadata e.holdings e.flushes e.stands (sym c.may_freeze.ensures ∙ c.if-not-may_freeze.false) e.pending
+    then_beside g.D.Device.honest g.D.Device.held g.D.Device.image c.self.inside.live mid c.keep-number.new.self e.metadata e.holdings e.writes e.stands (sym c.may_freeze.ensures ∙ c.if-not-may_freeze.false) e.pending
     c.keep-number.result k.number snapshot k.kept e.honest (is_shown g.D.Device.honest g.D.Device.image c.self.inside.live snapshot
     (subst (λ (l : Alive _). IsSettled l.kept l.holdings snapshot) (sym c.self.view_is) c.requires.settled) c.keeps_metadata.ensures.shown) k.frozen c.device.ensures.stands c.self.invariant
 
@@ -114,7 +115,7 @@ returns-clause-frozen g c =
     let number = c.keep-number.result in
     let snapshot = arc_value c.args.snapshot in
     λ h. subst (λ (l : Alive _). Freezes (g.D.Device.held l.device) (g.D.Device.image l.device) l number snapshot (g.D.Device.held new.device) (g.D.Device.image new.device) new) c.self.view_is
-    (is_frozen g.D.Device.honest g.D.Device.held g.D.Device.image c.self.inside.live mid new e.metadata e.holdings e.flushes e.stands (sym c.may_freeze.ensures ∙ c.if-not-may_freeze.false) e.pending
+    (is_frozen g.D.Device.honest g.D.Device.held g.D.Device.image c.self.inside.live mid new e.metadata e.holdings e.writes e.stands (sym c.may_freeze.ensures ∙ c.if-not-may_freeze.false) e.pending
     number k.number snapshot k.kept e.honest (is_shown g.D.Device.honest g.D.Device.image c.self.inside.live snapshot
     (subst (λ (l : Alive _). IsSettled l.kept l.holdings snapshot) (sym c.self.view_is) c.requires.settled) c.keeps_metadata.ensures.shown) k.frozen c.device.ensures.stands h)
 
@@ -128,7 +129,7 @@ pub returns-in_err-write_all-clause-writes : goal.returns-in_err-write_all-claus
 returns-in_err-write_all-clause-writes g c =
     let mid = c.write_all.new.live in
     subst (λ (l : Alive _). g.D.Device.honest mid.device → Wrote g.D.Device.held g.D.Device.image l mid.device) c.self.view_is
-    (wrote_so g.D.Device.held g.D.Device.image g.D.Device.honest c.self.inside.live mid mid.device refl c.in_err-write_all.ensures.flushes)
+    (wrote_so g.D.Device.held g.D.Device.image g.D.Device.honest c.self.inside.live mid mid.device refl c.in_err-write_all.ensures.writes)
 
 pub returns-in_err-write_all-clause-unchanged : goal.returns-in_err-write_all-clause-unchanged
 returns-in_err-write_all-clause-unchanged g c =
@@ -140,7 +141,7 @@ returns-clause-writes g c =
     let mid = c.write_all.new.live in
     let new = c.keep-number.new.self in
     subst (λ (l : Alive _). g.D.Device.honest new.device → Wrote g.D.Device.held g.D.Device.image l new.device) c.self.view_is
-    (wrote_so g.D.Device.held g.D.Device.image g.D.Device.honest c.self.inside.live mid new.device (ap (λ (l : Alive _). l.device) c.keep-number.ensures.kept) c.in_ok-write_all.ensures.flushes)
+    (wrote_so g.D.Device.held g.D.Device.image g.D.Device.honest c.self.inside.live mid new.device (ap (λ (l : Alive _). l.device) c.keep-number.ensures.kept) c.in_ok-write_all.ensures.writes)
 
 -- ---- why it is refused
 

@@ -3,6 +3,7 @@ use Rattle.std.proofs.lemmas.Result.{err_from_is_err_and}
 use Rattle.layout.specs.declared.refusal.Refusal.{Refusal}
 use Rattle.layout.specs.declared.refusal.Refusal.TheVariants.{Device, NoMemory}
 use Rattle.model.specs.Layout.{Geometry}
+use Rattle.device.specs.Media.{Held}
 use Rattle.machine.specs.Balance.{Balance}
 use Rattle.machine.specs.Causes.{FirstRefusal}
 use Rattle.machine.specs.Command.{Bytes, SnapRead}
@@ -27,7 +28,7 @@ use Rattle.snapshot.proofs.CallLemmas.{same_beside, same_err}
 use Rattle.snapshot.proofs.Going.{quietly, refused}
 use Rattle.snapshot.proofs.volume.Volume.snap_read.Goals as goal
 
-module _ {D : Type 0} (honest : D → Type 0) (held_of : D → List (List (List ℕ))) (image_of : D → List (List ℕ)) (old new : Alive D) (n i k : ℕ)
+module _ {D : Type 0} (honest : D → Type 0) (held_of : D → Held) (image_of : D → List (List ℕ)) (old new : Alive D) (n i k : ℕ)
     (image : image_of new.device ≡ image_of old.device) (held : held_of new.device ≡ held_of old.device) (untouched : (new.queue ≡ old.queue) × (new.kept ≡ old.kept) × (new.holdings ≡ old.holdings)) where
   -- the device was read at most
   read_err : (r : Refusal) → (r ≡ NoMemory) ⊎ (r ≡ Device) → Replies (held_of old.device) (image_of old.device) old (SnapRead n i k) (Err r) (held_of new.device) (image_of new.device) new

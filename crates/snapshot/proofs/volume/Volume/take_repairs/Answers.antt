@@ -2,6 +2,7 @@ use Rattle.std.proofs.Common.{◌≡◌, ℕ, List, [], Ok, Err, Result, OnErr, 
 use Rattle.std.proofs.lemmas.Result.{err_from_is_err_and}
 use Rattle.layout.specs.declared.refusal.Refusal.{Refusal}
 use Rattle.layout.specs.declared.refusal.Refusal.TheVariants.{NoMemory}
+use Rattle.device.specs.Media.{Held}
 use Rattle.findings.specs.declared.repair.Repair.{Repair}
 use Rattle.fsck.specs.Checked.{CheckedImage}
 use Rattle.machine.specs.Command.{Check, Done, Install}
@@ -49,7 +50,7 @@ install-outcome-requires-clause-repairs g c =
     let items : c.in_ok-repairs.repairs.items ≡ c.args.checked.now.repairs = c.in_ok-repairs.ensures.items_if_clones_equal (λ x y e. e) ∙ c.repairs.ensures.repairs in
     subst (λ l. AreRepairsOf old.kept.geometry (installing old.holdings l).repairs) (sym items) (named_in c.args.self.now old c.args.checked.now (sym c.self.view_is) c.requires.named)
 
-module _ {D : Type 0} {T : Type 0} (honest : D → Type 0) (held_of : D → List (List (List ℕ))) (image_of : D → List (List ℕ)) (old new : Alive D) (check : Check) (list items : List Repair) (same : items ≡ list)
+module _ {D : Type 0} {T : Type 0} (honest : D → Type 0) (held_of : D → Held) (image_of : D → List (List ℕ)) (old new : Alive D) (check : Check) (list items : List Repair) (same : items ≡ list)
     (installable : IsInstallable old.kept old.holdings check list) (outcome : Result T Refusal)
     (done : OnOk outcome ((check : Check) → IsQuietlyDone old.kept old.holdings [] (Install check) Done (installing old.holdings items) → honest old.device → Answers (image_of old.device) old (Install check) Done (image_of new.device) new []))
     (installed : OnOk outcome (new ≡ record old { holdings = installing old.holdings items })) (untouched : OnErr outcome (new ≡ old)) (so : honest new.device → StandsSo (image_of new.device) new) where

@@ -1,0 +1,3 @@
+mod OnTop
+mod Lifted
+mod Along
