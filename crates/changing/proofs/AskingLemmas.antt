@@ -5,6 +5,7 @@ use Rattle.layout.specs.declared.refusal.Refusal.{Refusal}
 use Rattle.snapshot.specs.Alive.{Alive}
 use Rattle.machine.specs.Command.{Command as Request, Flush}
 use Rattle.model.specs.Layout.{Geometry}
+use Rattle.device.specs.Media.{Held}
 use Rattle.snapshot.specs.declared.answer.Answer.{Answer}
 use Rattle.snapshot.specs.declared.command.Command.{Command}
 use Rattle.snapshot.specs.Asked.{asked}
@@ -17,7 +18,7 @@ answered_more [] answer a = tt
 answered_more (Ok x ∷ rs) answer a = answered_more rs answer a
 answered_more (Err r ∷ rs) answer a = absurd a
 
-module _ {D : Type 0} (held held' : List (List (List ℕ))) (image image' : List (List ℕ)) (old new : Alive D) where
+module _ {D : Type 0} (held held' : Held) (image image' : List (List ℕ)) (old new : Alive D) where
   -- an answered command adds what it asks
   pub adds_one : (command : Command) (answer : Answer) (request : Request) → Applies held image old (asked old.kept.geometry command) (Ok answer) held' image' new
       → ((geo : Geometry) → asked geo command ≡ request) → Adds held image old (request ∷ []) held' image' new
@@ -42,7 +43,7 @@ module _ {D : Type 0} (held held' : List (List (List ℕ))) (image image' : List
   pub one_flush : (a : ℕ) → Adds held image old (Flush a ∷ []) held' image' new → AddsFlushes held image old held' image' new
   one_flush a adds = record { addresses = a ∷ []; adds = adds }
 
-module _ {D : Type 0} (held : List (List (List ℕ))) (image : List (List ℕ)) (live : Alive D) where
+module _ {D : Type 0} (held : Held) (image : List (List ℕ)) (live : Alive D) where
   -- nothing was asked yet
   pub went_nowhere : Went held image live [] held image live
   went_nowhere = record { commands = []; ask = refl; replies = []; answered = tt; runs = runs_none held image live [] [] refl }
@@ -53,7 +54,7 @@ module _ {D : Type 0} (held : List (List (List ℕ))) (image : List (List ℕ)) 
   pub no_flush : AddsFlushes held image live held image live
   no_flush = record { addresses = []; adds = adds_none }
 
-module _ {D : Type 0} (held held' held'' : List (List (List ℕ))) (image image' image'' : List (List ℕ)) (old mid new : Alive D) where
+module _ {D : Type 0} (held held' held'' : Held) (image image' image'' : List (List ℕ)) (old mid new : Alive D) where
   pub adds_then : (first second : List Request) → Adds held image old first held' image' mid → Adds held' image' mid second held'' image'' new → Adds held image old (first ++ second) held'' image'' new
   adds_then first second one two held₀ image₀ start before went =
       subst (λ rs. Went held₀ image₀ start rs held'' image'' new) (append_assoc before first second) (two held₀ image₀ start (before ++ first) (one held₀ image₀ start before went))

@@ -1,6 +1,7 @@
 -- What a volume went through of which each command was answered.
 use Rattle.std.specs.Prelude.{◌≡◌, ℕ, List, [], ◌∷◌, ◌++◌, map, Ok, Err, Result}
 use Rattle.layout.specs.declared.refusal.Refusal.{Refusal}
+use Rattle.device.specs.Media.{Held}
 use Rattle.snapshot.specs.Alive.{Alive}
 use Rattle.machine.specs.Command.{Command as Request, Flush}
 use Rattle.snapshot.specs.declared.answer.Answer.{Answer}
@@ -15,7 +16,7 @@ AllAnswer (Ok answer ∷ replies) = AllAnswer replies
 AllAnswer (Err r ∷ replies) = ⊥
 
 -- From one volume to another this was asked, and each of it was answered.
-pub record Went {D : Type 0} (held : List (List (List ℕ))) (image : List (List ℕ)) (old : Alive D) (requests : List Request) (held' : List (List (List ℕ))) (image' : List (List ℕ)) (new : Alive D) : Type 0 where
+pub record Went {D : Type 0} (held : Held) (image : List (List ℕ)) (old : Alive D) (requests : List Request) (held' : Held) (image' : List (List ℕ)) (new : Alive D) : Type 0 where
   pub commands : List Command
   pub ask : map (asked old.kept.geometry) commands ≡ requests
   pub replies : List (Result Answer Refusal)
@@ -23,11 +24,11 @@ pub record Went {D : Type 0} (held : List (List (List ℕ))) (image : List (List
   pub runs : Runs held image old (map (asked old.kept.geometry) commands) replies held' image' new
 
 -- This comes next, after whatever was asked from whichever volume on.
-abbrev pub Adds : {D : Type 0} → List (List (List ℕ)) → List (List ℕ) → Alive D → List Request → List (List (List ℕ)) → List (List ℕ) → Alive D → Type 0
-Adds {D} held image old requests held' image' new = (held₀ : List (List (List ℕ))) (image₀ : List (List ℕ)) (start : Alive D) (before : List Request)
+abbrev pub Adds : {D : Type 0} → Held → List (List ℕ) → Alive D → List Request → Held → List (List ℕ) → Alive D → Type 0
+Adds {D} held image old requests held' image' new = (held₀ : Held) (image₀ : List (List ℕ)) (start : Alive D) (before : List Request)
     → Went held₀ image₀ start before held image old → Went held₀ image₀ start (before ++ requests) held' image' new
 
 -- Blocks are flushed next, one after another.
-pub record AddsFlushes {D : Type 0} (held : List (List (List ℕ))) (image : List (List ℕ)) (old : Alive D) (held' : List (List (List ℕ))) (image' : List (List ℕ)) (new : Alive D) : Type 0 where
+pub record AddsFlushes {D : Type 0} (held : Held) (image : List (List ℕ)) (old : Alive D) (held' : Held) (image' : List (List ℕ)) (new : Alive D) : Type 0 where
   pub addresses : List ℕ
   pub adds : Adds held image old (map Flush addresses) held' image' new

@@ -7,9 +7,10 @@ use layout::Refusal;
 use snapshot::{Command, Volume};
 use std::alloc::Global;
 
-/// Flushes blocks in passes until none is ready. A sync would do too, but it flushes the least block that may be written each
-/// time, and so a block of inodes, which stands before the blocks of their files, again after each of these; a pass writes it
-/// once. It does not wait for the medium: each image that the device holds on the way is one that a stop may leave.
+/// Flushes blocks in passes until none is ready. A sync would do too, but on a device that keeps order it flushes the least block
+/// that may be written each time, and so a block of inodes, which stands before the blocks of their files, again after each of
+/// these; a pass writes it once. A device that does not keep order is waited for behind the passes, so that what waited for
+/// their writes may go next. Each image that the device holds on the way is one that a stop may leave.
 pub fn flush_in_passes<D: Device>(alloc: Global, volume: &mut Volume<D>) -> Result<(), Refusal>
     ensures flushed { OnOk result (D.honest volume.new.device
         → AddsFlushes (D.held volume.old.device) (D.image volume.old.device) volume.old (D.held volume.new.device) (D.image volume.new.device) volume.new) }
@@ -21,6 +22,20 @@ pub fn flush_in_passes<D: Device>(alloc: Global, volume: &mut Volume<D>) -> Resu
             break;
         }
         flush_pass(alloc, volume)?;
+    }
+    wait_for_writes(alloc, volume)?;
+    Ok(())
+}
+
+/// Where the device does not keep order, waits until what was written is durable: no flush of the superblock has anything to
+/// write.
+fn wait_for_writes<D: Device>(alloc: Global, volume: &mut Volume<D>) -> Result<(), Refusal>
+    ensures flushed { OnOk result (D.honest volume.new.device
+        → AddsFlushes (D.held volume.old.device) (D.image volume.old.device) volume.old (D.held volume.new.device) (D.image volume.new.device) volume.new) }
+    ensures honest { D.honest volume.new.device → D.honest volume.old.device }
+{
+    if !D::KEEPS_ORDER {
+        ask(alloc, volume, &Command::Flush(0))?;
     }
     Ok(())
 }

@@ -3,8 +3,8 @@ use Rattle.std.proofs.Common.{◌≡◌, ◌<◌, ◌≤◌, ◌+◌, ◌*◌, �
 use Rattle.std.specs.Fork.{slice_chunk}
 use Rattle.std.specs.Slice.Iter.{chunks_rest, chunks_size, chunks_steps}
 use Rattle.std.specs.declared.slice.Chunks.{Chunks}
-use Rattle.std.proofs.lemmas.List.{append-nil, drop-drop, drop_all, length-append, length-drop, take_all, take_at}
-use Rattle.std.proofs.Math.Seq.{drop-append_seam}
+use Rattle.std.proofs.lemmas.List.{append-nil, drop-append-le, drop-drop, drop_all, length-append, length-drop, take-append-le, take_all, take_at}
+use Rattle.std.proofs.Math.Seq.{drop-append-add, drop-append_seam}
 
 -- what comes off, and what is left
 cut_front : (n : ℕ) (xs x r : List ℕ) → xs ≡ x ++ r → length x ≡ min n (length xs) → (x ≡ take n xs) × (r ≡ drop n xs)
@@ -45,3 +45,14 @@ pub cut_end : (bytes : List ℕ) (n : ℕ) (s t : Chunks ℕ) (given : Option (B
 cut_end bytes n s t given is steps rest within =
     let none : chunks_steps s None t = subst (λ o. chunks_steps s o t) is steps in
     omega (arith, none.1.0, ap length rest, length-drop (n * 1024) bytes, within)
+
+-- ---- blocks of bytes that are longer than those before
+pub chunk_before : (before part : List ℕ) (n : ℕ) → n * 1024 + 1024 ≤ length before → slice_chunk before 1024 n ≡ slice_chunk (before ++ part) 1024 n
+chunk_before before part n within =
+    sym (ap (take 1024) (drop-append-le (n * 1024) before part (omega (arith, within)))
+    ∙ take-append-le 1024 (drop (n * 1024) before) part (omega (arith, within, length-drop (n * 1024) before)))
+
+pub chunk_behind : (before part : List ℕ) (first n : ℕ) → length before ≡ first * 1024 → slice_chunk (before ++ part) 1024 (first + n) ≡ slice_chunk part 1024 n
+chunk_behind before part first n whole =
+    let at : (first + n) * 1024 ≡ length before + n * 1024 = omega (arith, whole) in
+    ap (take 1024) (ap (λ k. drop k (before ++ part)) at ∙ drop-append-add before part (n * 1024))

@@ -1,3 +1,4 @@
 mod CutLemmas
+mod PartLemmas
 mod PutLemmas
 mod PlaceLemmas

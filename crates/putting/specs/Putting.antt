@@ -1,8 +1,8 @@
 -- What a volume went through into which files and folders of the host were put.
-use Rattle.std.specs.Prelude.{◌≡◌, ℕ, suc, List, [], ◌∷◌, ◌++◌, length, map}
+use Rattle.std.specs.Prelude.{◌≡◌, ℕ, ◌+◌, ◌*◌, suc, List, [], ◌∷◌, ◌++◌, length, map}
 use Rattle.std.specs.Fork.{slice_chunk}
-use Rattle.std.proofs.Common.{Vec, Global}
 use Rattle.archives.specs.declared.entries.Kind.TheVariants as kind
+use Rattle.device.specs.Media.{Held as Media}
 use Rattle.snapshot.specs.Alive.{Alive}
 use Rattle.snapshot.specs.Mounting.{IsMountable}
 use Rattle.live_states.specs.Holdings.{IsIdle}
@@ -26,18 +26,19 @@ pub data MakesFile (path bytes : List ℕ) (requests : List Request) : Type 0 wh
   Full : (handle : ℕ) (writes : List Request) → WriteBlocks handle bytes (blocks_of (length bytes)) writes → requests ≡ Create path ∷ Open path ∷ (writes ++ Close handle ∷ []) → MakesFile path bytes requests
 
 -- The first n blocks of a file of these bytes are written next, by a handle.
-pub record AddsBlocks {D : Type 0} (handle : ℕ) (bytes : List ℕ) (n : ℕ) (held : List (List (List ℕ))) (image : List (List ℕ)) (old : Alive D) (held' : List (List (List ℕ))) (image' : List (List ℕ)) (new : Alive D) : Type 0 where
+pub record AddsBlocks {D : Type 0} (handle : ℕ) (bytes : List ℕ) (n : ℕ) (held : Media) (image : List (List ℕ)) (old : Alive D) (held' : Media) (image' : List (List ℕ)) (new : Alive D) : Type 0 where
   pub requests : List Request
   pub write : WriteBlocks handle bytes n requests
   pub adds : Adds held image old requests held' image' new
 
--- bytes that the host gave
-abbrev pub Read : Type 0
-Read = Vec ℕ Global
+-- The first n blocks of these bytes are written next, by a handle, behind the first blocks of a file, whatever they are.
+abbrev pub AddsPart : {D : Type 0} → ℕ → ℕ → List ℕ → ℕ → Media → List (List ℕ) → Alive D → Media → List (List ℕ) → Alive D → Type 0
+AddsPart handle first part n held image old held' image' new = (before : List ℕ) (held₀ : Media) (image₀ : List (List ℕ)) (start : Alive _) → length before ≡ first * 1024
+    → AddsBlocks handle before first held₀ image₀ start held image old → AddsBlocks handle (before ++ part) (first + n) held₀ image₀ start held' image' new
 
 -- an item, and the bytes that the host gave for it
 abbrev pub Reading : Type 0
-Reading = Item × Read
+Reading = Item × List ℕ
 
 abbrev pub item_of : Reading → Item
 item_of reading = reading.0
@@ -48,38 +49,38 @@ IsTrueTo (Host path) bytes = Unit {0}
 IsTrueTo (Held held) bytes = bytes ≡ held.items
 
 abbrev pub IsTrueReading : Reading → Type 0
-IsTrueReading reading = IsTrueTo reading.0.source reading.1.items
+IsTrueReading reading = IsTrueTo reading.0.source reading.1
 
 -- These requests put these items, one after another; between them blocks may be flushed, and all that waits may be written.
 pub data ArePut : List Reading → List Request → Type 0 where
   Nothing : ArePut [] []
-  Folder : (readings : List Reading) (requests : List Request) (item : Item) (read : Read) → ArePut readings requests → item.kind ≡ kind.Folder → ArePut (readings ++ (item, read) ∷ []) (requests ++ Mkdir item.path.items ∷ [])
-  File : (readings : List Reading) (requests more : List Request) (item : Item) (read : Read) → ArePut readings requests → item.kind ≡ kind.File → MakesFile item.path.items read.items more → ArePut (readings ++ (item, read) ∷ []) (requests ++ more)
+  Folder : (readings : List Reading) (requests : List Request) (item : Item) (read : List ℕ) → ArePut readings requests → item.kind ≡ kind.Folder → ArePut (readings ++ (item, read) ∷ []) (requests ++ Mkdir item.path.items ∷ [])
+  File : (readings : List Reading) (requests more : List Request) (item : Item) (read : List ℕ) → ArePut readings requests → item.kind ≡ kind.File → MakesFile item.path.items read more → ArePut (readings ++ (item, read) ∷ []) (requests ++ more)
   Flushed : (readings : List Reading) (requests : List Request) (addresses : List ℕ) → ArePut readings requests → ArePut readings (requests ++ map Flush addresses)
   Written : (readings : List Reading) (requests : List Request) → ArePut readings requests → ArePut readings (requests ++ Sync ∷ [])
 
 -- The requests put these items into a volume, and each was answered.
-pub record WerePut {D : Type 0} (readings : List Reading) (held : List (List (List ℕ))) (image : List (List ℕ)) (old : Alive D) (held' : List (List (List ℕ))) (image' : List (List ℕ)) (new : Alive D) : Type 0 where
+pub record WerePut {D : Type 0} (readings : List Reading) (held : Media) (image : List (List ℕ)) (old : Alive D) (held' : Media) (image' : List (List ℕ)) (new : Alive D) : Type 0 where
   pub requests : List Request
   pub put : ArePut readings requests
   pub went : Went held image old requests held' image' new
 
 -- These items were put next, after whatever was put into whichever volume.
-abbrev pub AddsItems : {D : Type 0} → List Reading → List (List (List ℕ)) → List (List ℕ) → Alive D → List (List (List ℕ)) → List (List ℕ) → Alive D → Type 0
-AddsItems readings held image old held' image' new = (before : List Reading) (held₀ : List (List (List ℕ))) (image₀ : List (List ℕ)) (start : Alive _)
+abbrev pub AddsItems : {D : Type 0} → List Reading → Media → List (List ℕ) → Alive D → Media → List (List ℕ) → Alive D → Type 0
+AddsItems readings held image old held' image' new = (before : List Reading) (held₀ : Media) (image₀ : List (List ℕ)) (start : Alive _)
     → WerePut before held₀ image₀ start held image old → WerePut (before ++ readings) held₀ image₀ start held' image' new
 
 -- The requests put these items into a volume, and a sync followed; each was answered.
-pub record TookIn {D : Type 0} (readings : List Reading) (held : List (List (List ℕ))) (image : List (List ℕ)) (old : Alive D) (held' : List (List (List ℕ))) (image' : List (List ℕ)) (new : Alive D) : Type 0 where
+pub record TookIn {D : Type 0} (readings : List Reading) (held : Media) (image : List (List ℕ)) (old : Alive D) (held' : Media) (image' : List (List ℕ)) (new : Alive D) : Type 0 where
   pub requests : List Request
   pub put : ArePut readings requests
   pub went : Went held image old (requests ++ Sync ∷ []) held' image' new
 
 -- The volume of an image was just mounted, and then it took these items in.
-pub record PutMounted {D : Type 0} (image : List (List ℕ)) (readings : List Reading) (held' : List (List (List ℕ))) (image' : List (List ℕ)) (new : Alive D) : Type 0 where
+pub record PutMounted {D : Type 0} (image : List (List ℕ)) (readings : List Reading) (held' : Media) (image' : List (List ℕ)) (new : Alive D) : Type 0 where
   pub mounted : Alive D
   pub mountable : IsMountable mounted.kept.geometry image
   pub pending : pending_of mounted.queue ≡ []
   pub idle : IsIdle mounted.holdings
-  pub held : List (List (List ℕ))
+  pub held : Media
   pub took : TookIn readings held image mounted held' image' new

@@ -102,7 +102,6 @@ fn first_item(alloc: Global, path: &[u8]) -> Result<Vec<Item>, Failure>
             source: Source::Held(Vec::new(alloc)),
             path: path.to_vec(alloc)?,
             kind: Kind::Folder,
-            length: 0,
         })?;
     }
     Ok(items)
@@ -137,15 +136,13 @@ fn item_of_entry(alloc: Global, path: &[u8], most: u64, entry: Entry) -> Result<
     if name_bytes(below.as_slice()) > NAME_BYTES || path.len() > PATH_BYTES {
         return Err(Failure::from(Refusal::BadName).in_image(alloc, path.as_slice()));
     }
-    let length = bytes.len() as u64;
-    if let Err(cause) = allow_length(length, most) {
+    if let Err(cause) = allow_length(bytes.len() as u64, most) {
         return Err(Failure::from(cause).in_image(alloc, path.as_slice()));
     }
     Ok(Item {
         source: Source::Held(bytes),
         path,
         kind,
-        length,
     })
 }
 

@@ -36,8 +36,6 @@ pub struct Item {
     pub source: Source,
     pub path: Vec<u8>,
     pub kind: Kind,
-    /// How many bytes it had when it was listed; its file is read in few calls where it has as many still.
-    pub length: u64,
 }
 
 /// What stands at a path of the host, and all below it, each folder before what it holds, and the names in a folder in the
@@ -63,7 +61,6 @@ where
         source: Source::Host(String::from_str(alloc, host)?),
         path: path.to_vec(alloc)?,
         kind,
-        length: metadata.len(),
     };
     if path != b"/".as_slice() {
         return with_all_below(rt, first, to);
@@ -150,7 +147,6 @@ where
         source: Source::Host(host),
         path,
         kind,
-        length: metadata.len(),
     })
 }
 

@@ -5,16 +5,20 @@
 #![tactic(auto)]
 
 mod archived;
+mod copying;
 mod filling;
+mod given;
 mod items;
 mod limits;
 mod lines;
+mod making;
 #[cfg(test)]
 mod tests;
 mod writing;
 
 pub use archived::items_in_archive;
 pub use filling::{Filled, Holding, Readings, put, put_on_device};
+pub use given::Given;
 pub use items::{Item, Source, allow_items, items_of};
 pub use limits::{Destination, file_bytes};
 pub use lines::{

@@ -9,14 +9,15 @@ use layout::{BLOCK_BYTES, Refusal};
 use snapshot::Volume;
 use std::alloc::Global;
 
-/// After how many bytes what waits is flushed, so that the queue of updates stays short.
-const BYTES_AT_ONCE: usize = 1 << 17;
+/// After how many bytes what waits is flushed, so that the queue of updates stays short. A device that does not keep order is
+/// waited for each time.
+const BYTES_AT_ONCE: usize = 1 << 20;
 
 /// After how many blocks of a file it is.
 const BLOCKS_AT_ONCE: u32 = (BYTES_AT_ONCE / BLOCK_BYTES) as u32;
 
-/// Flushes what waits, if it is this many bytes or more, and tells how many wait then. It does not wait for the medium: each
-/// image that the device holds on the way is one that a stop may leave.
+/// Flushes what waits, if it is this many bytes or more, and tells how many wait then. Each image that the device holds on the way
+/// is one that a stop may leave.
 pub(crate) fn write_some<D: Device>(
     alloc: Global,
     volume: &mut Volume<D>,

@@ -14,7 +14,7 @@ use std::rt::Files;
 use std::thread::Threads;
 
 /// After how many lines what waits is flushed, so that the queue of updates stays short.
-const LINES_AT_ONCE: usize = 128;
+const LINES_AT_ONCE: usize = 1024;
 
 /// How many lines there were.
 #[derive(Clone, Copy)]

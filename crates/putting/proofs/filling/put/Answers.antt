@@ -9,6 +9,7 @@ loop-item-init g c =
     let none = c.new.ensures in
     record {
       done = refl;
+      room = c.in_ok-room.ensures;
       honest = λ h. h;
       read = read_none c.args.items.now c.new.result.items none;
       held = none_false c.new.result.items none;
@@ -33,6 +34,7 @@ loop-item-preserved g c =
     let within : i < length items = omega (arith, c.loop-item-test.true) in
     record {
       done = omega (arith, inv.done);
+      room = c.put_item.ensures.room;
       honest = λ h. inv.honest (c.put_item.ensures.honest (c.write_some.ensures.honest h));
       read = read_next items i item added.0 readings next within c.item-item.is added.1 inv.read;
       held = next_true readings next (item, added.0) added.1 added.2 inv.held;
@@ -65,3 +67,22 @@ returns-clause-took_in g c = λ none honest.
 
 pub returns-clause-held : goal.returns-clause-held
 returns-clause-held g c = λ none. c.loop-item.invariant.held
+
+-- at each return, whatever comes of it
+pub returns-in_err-write_all-in-Err-clause-honest : goal.returns-in_err-write_all-in-Err-clause-honest
+returns-in_err-write_all-in-Err-clause-honest g c = λ h. c.loop-item.invariant.honest (c.put_item.ensures.honest (c.write_all.ensures.honest h))
+
+pub returns-in-Err-clause-honest : goal.returns-in-Err-clause-honest
+returns-in-Err-clause-honest g c = λ h. c.loop-item.invariant.honest (c.put_item.ensures.honest (c.write_all.ensures.honest h))
+
+pub returns-in_err-pending-clause-honest : goal.returns-in_err-pending-clause-honest
+returns-in_err-pending-clause-honest g c = λ h. c.loop-item.invariant.honest (c.put_item.ensures.honest (c.write_some.ensures.honest h))
+
+pub returns-in_err-flush_in_passes-clause-honest : goal.returns-in_err-flush_in_passes-clause-honest
+returns-in_err-flush_in_passes-clause-honest g c = λ h. c.loop-item.invariant.honest (c.flush_in_passes.ensures.honest h)
+
+pub returns-in_err-write_rest-clause-honest : goal.returns-in_err-write_rest-clause-honest
+returns-in_err-write_rest-clause-honest g c = λ h. c.loop-item.invariant.honest (c.flush_in_passes.ensures.honest (c.write_rest.ensures.honest h))
+
+pub returns-clause-honest : goal.returns-clause-honest
+returns-clause-honest g c = λ h. c.loop-item.invariant.honest (c.flush_in_passes.ensures.honest (c.write_rest.ensures.honest h))

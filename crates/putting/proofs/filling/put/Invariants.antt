@@ -1,10 +1,11 @@
-use Rattle.std.proofs.Common.{◌≡◌, All, map, take}
+use Rattle.std.proofs.Common.{◌≡◌, All, length, map, take}
 use Rattle.putting.specs.Putting.{IsTrueReading, WerePut, item_of}
 use Rattle.putting.proofs.filling.put.Given as goal
 
 abbrev pub invariant-loop-item : goal.invariant-loop-item
 invariant-loop-item g l = record {
   done : l.done ≡ l.item-index;
+  room : length l.room.items ≡ 131072;
   honest : g.D.Device.honest l.volume.device → g.D.Device.honest l.fn.volume.device;
   read : map item_of l.readings.items.items ≡ take l.item-index l.items;
   held : All IsTrueReading l.readings.items.items;

@@ -1,6 +1,6 @@
 use Rattle.std.proofs.Common.{ap}
 use Rattle.machine.specs.Command.{Open}
-use Rattle.putting.proofs.filling.open.Goals as goal
+use Rattle.putting.proofs.making.open.Goals as goal
 
 pub returns-in-Ok-clause-opened : goal.returns-in-Ok-clause-opened
 returns-in-Ok-clause-opened g c = λ honest.

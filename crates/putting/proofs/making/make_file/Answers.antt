@@ -1,5 +1,5 @@
 use Rattle.putting.proofs.PutLemmas.{creates}
-use Rattle.putting.proofs.filling.make_file.Goals as goal
+use Rattle.putting.proofs.making.make_file.Goals as goal
 
 pub returns-in-Ok-clause-made : goal.returns-in-Ok-clause-made
 returns-in-Ok-clause-made g c = λ honest.

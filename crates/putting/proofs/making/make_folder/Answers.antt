@@ -1,7 +1,7 @@
 use Rattle.std.proofs.Common.{ap}
 use Rattle.std.proofs.lemmas.Result.{on_ok_weaker}
 use Rattle.machine.specs.Command.{Mkdir}
-use Rattle.putting.proofs.filling.make_folder.Goals as goal
+use Rattle.putting.proofs.making.make_folder.Goals as goal
 
 pub returns-clause-made : goal.returns-clause-made
 returns-clause-made g c =
