@@ -6,6 +6,7 @@ use image_lines::bits::BitsLine;
 use image_lines::check::CheckLine;
 use image_lines::repair::RepairLine;
 use image_lines::upgrade::UpgradeLine;
+use script_lines::cuts::CutsLine;
 use script_lines::demo::DemoLine;
 use script_lines::run::RunLine;
 use script_lines::stops::StopsLine;
@@ -26,6 +27,7 @@ pub enum Line<'a> {
     Upgrade(UpgradeLine<'a>),
     Run(RunLine<'a>),
     Stops(StopsLine<'a>),
+    Cuts(CutsLine<'a>),
     Bits(BitsLine<'a>),
     Demo(DemoLine),
     Info(InfoLine<'a>),

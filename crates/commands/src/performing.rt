@@ -9,7 +9,7 @@ use command_line::{Answer, Failure, GAVE_OUT, Screen};
 use host_lines::{get, mkfs, put};
 use image_lines::{bits, check, repair, sample, upgrade};
 use progress::Watcher;
-use script_lines::{demo, run, stops};
+use script_lines::{cuts, demo, run, stops};
 use serve_lines::serve;
 use std::convert::AsStr;
 use std::io::Write;
@@ -92,6 +92,7 @@ where
         Line::Upgrade(line) => upgrade::answer(rt, line),
         Line::Run(line) => run::answer(rt, line),
         Line::Stops(line) => stops::answer(rt, line),
+        Line::Cuts(line) => cuts::answer(rt, line),
         Line::Bits(line) => bits::answer(rt, line),
         Line::Demo(line) => demo::answer(rt, line),
         Line::Info(line) => info::answer(rt, line),

@@ -2,7 +2,7 @@
 use clap::Command;
 use host_lines::{get, mkfs, put};
 use image_lines::{bits, check, repair, upgrade};
-use script_lines::{demo, run, stops};
+use script_lines::{cuts, demo, run, stops};
 use serve_lines::serve;
 use std::alloc::{AllocError, Global};
 use tool_lines::{cat, change, info, ls, map, stat};
@@ -18,7 +18,7 @@ Groups:
   change          mkdir, rm, rmdir, mv, ln
   mount           serve
   check and mend  check, repair, upgrade, bits, run
-  experiments     stops, demo
+  experiments     stops, cuts, demo
 
 Status:
   0  done, or the image is clean
@@ -94,6 +94,7 @@ fn that_check<'a>(alloc: Global, program: Command<'a>) -> Result<Command<'a>, Al
 /// With the lines that show what the program does.
 fn that_try<'a>(alloc: Global, program: Command<'a>) -> Result<Command<'a>, AllocError> {
     let program = with_line(program, stops::command(alloc))?;
+    let program = with_line(program, cuts::command(alloc))?;
     with_line(program, demo::command(alloc))
 }
 

@@ -9,7 +9,7 @@ use command_line::{Failure, misread};
 use host_lines::{get, mkfs, put};
 use image_lines::{bits, check, repair, upgrade};
 use layout::Refusal;
-use script_lines::{demo, run, stops};
+use script_lines::{cuts, demo, run, stops};
 use serve_lines::serve;
 use std::alloc::{AllocError, Global};
 use std::convert::AsStr;
@@ -145,6 +145,7 @@ fn line_that_tries<'a>(name: &str, options: &ArgMatches<'a>) -> Option<Line<'a>>
 {
     match name {
         "stops" => Some(Line::Stops(stops::line_of(options)?)),
+        "cuts" => Some(Line::Cuts(cuts::line_of(options)?)),
         "demo" => Some(Line::Demo(demo::line_of(options)?)),
         _ => None,
     }

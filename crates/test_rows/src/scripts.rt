@@ -1,4 +1,4 @@
-//! The lines `run` and `stops`.
+//! The lines `run`, `stops` and `cuts`.
 use crate::reports::{CLEAN_REPORT, SOFT_MENDED, SOFT_REPORT};
 use crate::trying::Wanted::{Printed, Refused};
 use crate::trying::{Changes, Wanted, changed, gives, holds, made_small};
@@ -184,7 +184,8 @@ fn scripts_and_images_that_cannot_be_read_are_failed_devices(rt: HostRuntime) ->
     let fresh = made_small(&rt, image)?;
     fails_without_files(&rt, "run --workers 1", image)?;
     fails_without_files(&rt, "stops", image)?;
-    holds(&rt, "run, stops", image, fresh.as_slice())?;
+    fails_without_files(&rt, "cuts", image)?;
+    holds(&rt, "run, stops, cuts", image, fresh.as_slice())?;
     fs::remove_file(&rt, image)?;
     Ok(())
 }
@@ -299,6 +300,38 @@ fn stops_refuses_what_cannot_be_mounted(rt: HostRuntime) -> Result<(), Fail> {
     for &(changes, script, wanted) in STOPS_REFUSED {
         let bytes = changed(rt.alloc(), fresh.as_slice(), changes)?;
         leaves(&rt, "stops", (image, bytes.as_slice()), script, wanted)?;
+    }
+    fs::remove_file(&rt, image)?;
+    Ok(())
+}
+
+/// The words of a line, a script, and what is told of losses of power on a fresh image.
+const CUTS: &[(&str, &str, &str)] = &[
+    (
+        "cuts",
+        "",
+        "cut 0 loose 0 images 1 verdict clean\ncut 1 loose 0 images 1 verdict clean\n",
+    ),
+    ("cuts", "1 create /a\n", CREATED),
+    ("cuts --most 2 --seed 7", "1 create /a\n", CREATED),
+];
+
+/// A bit, a record and an entry, each of which waits until the one before it is on the medium.
+const CREATED: &str =
+    "cut 0 loose 0 images 1 verdict clean\ncut 1 loose 1 images 2 verdict soft\ncut 2 loose 0 images 1 verdict soft\ncut 3 loose 1 images 2 verdict soft\ncut 4 loose 0 images 1 verdict soft\ncut 5 loose 1 images 2 verdict soft\ncut 6 loose 0 images 1 verdict clean\n";
+
+#[test]
+fn cuts_tells_what_each_loss_of_power_may_leave(rt: HostRuntime) -> Result<(), Fail> {
+    let image = "rows_cuts.img";
+    let fresh = made_small(&rt, image)?;
+    for &(start, script, told) in CUTS {
+        leaves(
+            &rt,
+            start,
+            (image, fresh.as_slice()),
+            script,
+            Printed(told, 0),
+        )?;
     }
     fs::remove_file(&rt, image)?;
     Ok(())

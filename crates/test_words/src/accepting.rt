@@ -60,6 +60,11 @@ const READ: &[(&str, &str)] = &[
     ("run a.img --workers=65 b.txt", "run \"a.img\" \"b.txt\" 65"),
     ("run a.img b.txt --workers 0", "run \"a.img\" \"b.txt\" 0"),
     ("stops a.img b.txt", "stops \"a.img\" \"b.txt\""),
+    ("cuts a.img b.txt", "cuts \"a.img\" \"b.txt\" 64 0"),
+    (
+        "cuts --seed 18446744073709551615 a.img --most 2 b.txt",
+        "cuts \"a.img\" \"b.txt\" 2 18446744073709551615",
+    ),
     ("serve --read-only a.img", "serve \"a.img\" None"),
     (
         "serve a.img --owner=1:2 --read-only",

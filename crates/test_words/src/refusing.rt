@@ -47,6 +47,18 @@ const WRONG: &[(&str, &str)] = &[
         "required arguments were not provided:\n  <IMAGE>\n  <SCRIPT>",
     ),
     (
+        "cuts a.img",
+        "required arguments were not provided:\n  <SCRIPT>",
+    ),
+    (
+        "cuts --most 1 a.img b.txt",
+        "invalid value '1' for '--most <NUMBER>': 1 is not in 2..=65536",
+    ),
+    (
+        "cuts --seed -1 a.img b.txt",
+        "unexpected argument '-1' found",
+    ),
+    (
         "stops --workers 1 a.img b.txt",
         "unexpected argument '--workers' found",
     ),
@@ -158,7 +170,7 @@ const HELPS: &[(&str, &str)] = &[
     ),
     (
         "--help",
-        "\nGroups:\n  make and move   mkfs, put, get\n  look            ls, stat, cat, info, map\n  change          mkdir, rm, rmdir, mv, ln\n  mount           serve\n  check and mend  check, repair, upgrade, bits, run\n  experiments     stops, demo\n",
+        "\nGroups:\n  make and move   mkfs, put, get\n  look            ls, stat, cat, info, map\n  change          mkdir, rm, rmdir, mv, ln\n  mount           serve\n  check and mend  check, repair, upgrade, bits, run\n  experiments     stops, cuts, demo\n",
     ),
     ("--help", "\nStatus:\n  0  done, or the image is clean\n"),
     ("--help", "\n  3  the line is refused\n"),
@@ -186,6 +198,10 @@ const HELPS: &[(&str, &str)] = &[
         "Usage: fsvol run --workers <NUMBER> <IMAGE> <SCRIPT>\n",
     ),
     ("stops --help", "Usage: fsvol stops <IMAGE> <SCRIPT>\n"),
+    (
+        "cuts --help",
+        "Usage: fsvol cuts [OPTIONS] <IMAGE> <SCRIPT>\n",
+    ),
     ("bits --help", "Usage: fsvol bits <IMAGE>\n"),
     ("bits a.img -h", "Usage: fsvol bits <IMAGE>\n"),
     (

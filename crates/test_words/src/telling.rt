@@ -5,6 +5,7 @@ use image_lines::bits::BitsLine;
 use image_lines::check::CheckLine;
 use image_lines::repair::RepairLine;
 use image_lines::upgrade::UpgradeLine;
+use script_lines::cuts::{CutsLine, Tries};
 use script_lines::run::RunLine;
 use script_lines::stops::StopsLine;
 use serve_lines::serve::ServeLine;
@@ -56,6 +57,13 @@ pub(crate) fn told(alloc: Global, line: &Line<'_>) -> Result<String, AllocError>
             },
         ) => format!(in alloc; "run {image:?} {script:?} {workers}"),
         Line::Stops(StopsLine { image, script }) => format!(in alloc; "stops {image:?} {script:?}"),
+        Line::Cuts(
+            CutsLine {
+                image,
+                script,
+                tries: Tries { most, seed },
+            },
+        ) => format!(in alloc; "cuts {image:?} {script:?} {most} {seed}"),
         Line::Upgrade(UpgradeLine { image }) => format!(in alloc; "upgrade {image:?}"),
         Line::Serve(ServeLine { image, owner }) => format!(in alloc; "serve {image:?} {owner:?}"),
         Line::Bits(BitsLine { image }) => format!(in alloc; "bits {image:?}"),

@@ -1,0 +1,3 @@
+pub mod ChoiceLemmas
+pub mod JudgedLemmas
+pub mod EachLemmas
