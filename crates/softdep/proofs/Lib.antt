@@ -3,11 +3,12 @@ mod Issued
 mod Puts
 mod Flushed
 mod Nexts
-mod Mediums
 mod NewBlocks
 mod Swept
 mod Synced
 mod GivenBytes
 mod Framed
+pub mod Frames
+pub mod Mediums
 mod RecordTails
 mod FreeBytes

@@ -1,6 +1,7 @@
 -- What a write, an issue and the word of the device do to what a medium holds of a queue.
 use Rattle.std.proofs.Common.{◌≡◌, ℕ, ◌<◌, Bool, true, false, ◌||◌, List, [], ◌∷◌, ◌++◌, inl, inr, refl, sym, ap, ap₂, ◌∙◌, subst, length, arith}
 use Rattle.std.proofs.lemmas.Bool.{cases_eq}
+use Rattle.std.proofs.lemmas.List.Elements.{All-append, All-cons, All-nil}
 use Rattle.model.specs.Layout.{Geometry}
 use Rattle.model.specs.View.{View, view_of}
 use Rattle.model.specs.Image.{block_at, image_view}
@@ -18,7 +19,8 @@ use Rattle.power_cut.specs.Volumes.{Moment}
 use Rattle.power_cut.proofs.EpochLemmas.{left_is_cut, epoch_behind, epoch_written}
 use Rattle.power_cut.proofs.ImageLemmas.{stands_synced}
 use Rattle.softdep.specs.Queued.{Queued, AreClosed, unsynced_of, next_cut, flushed, settled, issued}
-use Rattle.softdep.specs.OnMedium.{IsOnMedium}
+use Rattle.softdep.specs.OnMedium.{IsOnMedium, KeepsFrame}
+use Rattle.softdep.proofs.Frames.{image_frames}
 use Rattle.softdep.proofs.Queues.{closed_flushed, flushed_same}
 
 -- ---- unions
@@ -60,6 +62,8 @@ module _ (mounted : View) (queue : Queued) (m : Medium) (on : IsOnMedium mounted
   on_settled closed =
       let joins = write_joins mounted (updates queue.written) queue.durable queue.loose closed.durable closed.loose in
       record {
+        image = image_frames queue.geometry m.durable m.loose on.image on.frames;
+        frames = All-nil (KeepsFrame queue.geometry);
         durable = answers_view ∙ ap (λ v. seen v q queue.loose) on.durable ∙ sym joins.2;
         puts = [];
         epoch = tt;
@@ -69,8 +73,10 @@ module _ (mounted : View) (queue : Queued) (m : Medium) (on : IsOnMedium mounted
       }
 
   -- after the write of a block with all that may go there
-  pub on_flushed : (a : ℕ) (block : List ℕ) → a < length m.durable → Shows geo a block (seen durable q (ready (home_of geo) a q)) → IsOnMedium mounted (flushed queue a) (cached m a block)
-  on_flushed a block low shows = record {
+  pub on_flushed : (a : ℕ) (block : List ℕ) → a < length m.durable → Shows geo a block (seen durable q (ready (home_of geo) a q)) → KeepsFrame queue.geometry (a, block) → IsOnMedium mounted (flushed queue a) (cached m a block)
+  on_flushed a block low shows keeps = record {
+    image = on.image;
+    frames = All-append (KeepsFrame queue.geometry) m.loose ((a, block) ∷ []) on.frames (All-cons (KeepsFrame queue.geometry) (a, block) [] keeps (All-nil (KeepsFrame queue.geometry)));
     durable = on.durable;
     puts = ready_put geo a block q ∷ on.puts;
     epoch = epoch_written geo durable q on.puts a block on.epoch shows;
@@ -96,6 +102,8 @@ behind_within n (p ∷ ps) w = (w.0, behind_within n ps w.1)
 pub on_issued : (mounted : View) (queue : Queued) (m : Medium) (ws : List Issue) → IsOnMedium mounted queue m → IsOnMedium mounted (issued queue ws) m
 on_issued mounted queue m [] on = on
 on_issued mounted queue m (w ∷ ws) on = on_issued mounted (record queue { written = w ∷ queue.written; durable = false ∷ queue.durable; loose = false ∷ queue.loose }) m ws (record {
+  image = on.image;
+  frames = on.frames;
   durable = on.durable;
   puts = all_behind on.puts;
   epoch = epoch_behind queue.geometry (image_view queue.geometry m.durable) (unsynced_of queue) w.update on.puts on.epoch;

@@ -6,7 +6,7 @@ ghost use Rattle.model.specs.Cells.{SetInode};
 ghost use Rattle.ordering.specs.Cuts.{Pending};
 ghost use Rattle.queue_model.specs.Flush.{TakesChange};
 ghost use Rattle.model.specs.View.{View};
-ghost use Rattle.model.specs.Image.{block_at, image_view};
+ghost use Rattle.model.specs.Image.{IsImage, block_at, image_view};
 ghost use Rattle.ordering.specs.Ghosts.{Ghost};
 ghost use Rattle.queue_model.specs.Course.{IsGood};
 ghost use Rattle.device.specs.Media.{MayBeLeft, Medium};
@@ -31,10 +31,12 @@ pub fn a_flush_clears_a_freed_record()
         → slice_index new (inode_byte n + k) ≡ 0 }
 {}
 
-/// Whatever a loss of power leaves of a medium that holds what a queue was given is the image of a closed cut of that, which holds
-/// what is durable: it obeys the rules and has the safe files.
+/// Whatever a loss of power leaves of a medium that holds what a queue was given is an image of the volume, and that of a closed
+/// cut of what was given, which holds what is durable: it obeys the rules and has the safe files.
 pub fn what_a_power_cut_leaves_is_safe()
-    ensures { (mounted : View) (queue : Queued) (m : Medium) (ghost : Ghost) (image : List (List ℕ)) → IsOnMedium mounted queue m
+    ensures image { (mounted : View) (queue : Queued) (m : Medium) (image : List (List ℕ)) → IsOnMedium mounted queue m → MayBeLeft m image
+        → IsImage queue.geometry image }
+    ensures safe { (mounted : View) (queue : Queued) (m : Medium) (ghost : Ghost) (image : List (List ℕ)) → IsOnMedium mounted queue m
         → IsGood queue.geometry mounted queue.written queue.durable ghost → MayBeLeft m image
         → IsSafelyLeft queue.geometry mounted
         (record { written = queue.written; cut = queue.durable; durable = block_at m.durable; loose = []; ghost = ghost })

@@ -1,7 +1,8 @@
 use Rattle.std.proofs.Common.{◌≡◌, ◌<◌, ◌≤◌, false, not, IsTrue, [], refl, sym, ap, ◌∙◌, subst, length, arith, slice_set, get_or-set_same}
 use Rattle.model.specs.Layout.{is_data_address}
 use Rattle.model.specs.View.{View}
-use Rattle.model.specs.Image.{IsGroupBlock, IsImage, block_at, image_view}
+use Rattle.std.proofs.lemmas.List.{length-set}
+use Rattle.model.specs.Image.{IsBlock, IsGroupBlock, IsImage, block_at, image_view}
 use Rattle.ordering.specs.Cuts.{rest, seen}
 use Rattle.queue_model.specs.Blocks.{home_of}
 use Rattle.queue_model.specs.Flush.{ready, taken}
@@ -12,10 +13,11 @@ use Rattle.softdep_queue.specs.Next.{to_write}
 use Rattle.softdep_queue.specs.Taking.{TakesAll}
 use Rattle.softdep.specs.declared.queue.Kind.TheVariants.{Wrote}
 use Rattle.softdep.specs.Queued.{Queued, IsQueue, AreClosed, after, fresh_queue, unsynced_of, pending_of, next_cut, flushed}
-use Rattle.softdep.specs.OnMedium.{IsOnMedium}
+use Rattle.softdep.specs.OnMedium.{IsOnMedium, KeepsFrame}
 use Rattle.softdep.specs.Writing.{WritesTaken}
 use Rattle.softdep.proofs.Issued.{after_push}
-use Rattle.softdep.proofs.Framed.{framed, above_super}
+use Rattle.softdep.proofs.Framed.{above_super}
+use Rattle.softdep.proofs.Frames.{image_frames, write_frames}
 use Rattle.softdep.proofs.Queues.{pending_rest}
 use Rattle.softdep.proofs.Flushed.{queue_flushed, queue_unflushed, next_count, flushed_bytes, unflushed_bytes, unflushed_view}
 use Rattle.softdep.proofs.Puts.{group_block_stays}
@@ -144,6 +146,19 @@ module _ (g : Over) (c : goal.After-self-in-Ok-1 g) where
       (block_shows before.geometry (block_at (g.D.Device.image c.args.device.now)) c.args.address (seen (image_view before.geometry m.durable) (unsynced_of before) before.loose)
       (ap (image_view before.geometry) answers ∙ answers_view mounted before m on))))
 
+  -- and leaves an image one
+  keeps : g.D.Device.honest c.write.new.self → IsImage c.self.inside.geometry (g.D.Device.image c.args.device.now) → KeepsFrame c.self.inside.geometry (c.args.address, c.take-count.new.block)
+  keeps honest is = record {
+    block = subst IsBlock (ap (λ image. block_at image c.args.address) now ∙ get_or-set_same (g.D.Device.image c.args.device.now) c.args.address c.take-count.new.block [] low)
+        (c.blocks-in-Ok.ensures.whole c.args.address [] (let l = low in let n = ap length now ∙ length-set (g.D.Device.image c.args.device.now) c.args.address c.take-count.new.block in omega (arith, l, n)));
+    low = (let l = low in let n = is.count in omega (arith, l, n));
+    above = above_super c.self.inside.geometry c.self.invariant.entries (unsynced_of before) before.loose c.args.address c.take-count.new.self
+        (block_at (g.D.Device.image c.args.device.now) c.args.address) c.take-count.new.block c.take-count.result (there honest) few;
+    maps = λ h l e. group_block_stays c.self.inside.geometry c.args.address (there honest).last.es
+        (block_at (g.D.Device.image c.args.device.now) c.args.address) c.take-count.new.block (there honest).last.own (there honest).put h e
+        (subst (IsGroupBlock h) (ap (block_at (g.D.Device.image c.args.device.now)) (sym e)) (is.group_blocks h l));
+  }
+
   medium : g.D.Device.honest c.write.new.self → (mounted : View) → IsOnMedium mounted c.args.self.now (g.D.Device.held c.args.device.now).now
       → IsOnMedium mounted (after (fresh_queue c.self.inside.geometry) c.and-self-inside-in-Ok.result.items) (cached (g.D.Device.held c.args.device.now).now c.args.address c.take-count.new.block)
   medium honest mounted is =
@@ -152,7 +167,9 @@ module _ (g : Over) (c : goal.After-self-in-Ok-1 g) where
       let l = low in
       let answers = ap length (g.met.D.Device.answers c.args.device.now) in
       let long = length-image_after m.durable m.loose in
-      subst (λ (w : Queued). IsOnMedium mounted w (cached m c.args.address c.take-count.new.block)) (sym next_ok) (on_flushed mounted before m on c.args.address c.take-count.new.block (omega (arith, l, answers, long)) (shows honest mounted on))
+      let image : IsImage before.geometry (g.D.Device.image c.args.device.now) = subst (IsImage before.geometry) (sym (g.met.D.Device.answers c.args.device.now)) (image_frames before.geometry m.durable m.loose on.image on.frames) in
+      subst (λ (w : Queued). IsOnMedium mounted w (cached m c.args.address c.take-count.new.block)) (sym next_ok) (on_flushed mounted before m on c.args.address c.take-count.new.block (omega (arith, l, answers, long)) (shows honest mounted on)
+      (subst (λ geo. KeepsFrame geo (c.args.address, c.take-count.new.block)) (sym c.self.invariant.same) (keeps honest (subst (λ geo. IsImage geo (g.D.Device.image c.args.device.now)) c.self.invariant.same image))))
 
   -- and over what it answered before the same as it writes
   view : g.D.Device.honest c.write.new.self → image_view before.geometry (g.D.Device.image c.write.new.self) ≡ seen (image_view before.geometry (g.D.Device.image c.args.device.now)) (pending_of before) (next_cut before c.args.address)
@@ -164,13 +181,7 @@ module _ (g : Over) (c : goal.After-self-in-Ok-1 g) where
       c.take-count.new.block over.put now low))
 
   frame : g.D.Device.honest c.write.new.self → IsImage c.self.inside.geometry (g.D.Device.image c.args.device.now) → IsImage c.self.inside.geometry (g.D.Device.image c.write.new.self)
-  frame honest is = framed c.self.inside.geometry (g.D.Device.image c.args.device.now) (g.D.Device.image c.write.new.self) c.args.address c.take-count.new.block is c.blocks-in-Ok.ensures.whole now low
-      (above_super c.self.inside.geometry c.self.invariant.entries (unsynced_of before) before.loose c.args.address c.take-count.new.self
-      (block_at (g.D.Device.image c.args.device.now) c.args.address) c.take-count.new.block c.take-count.result (there honest) few)
-      (λ h l e.
-      group_block_stays c.self.inside.geometry c.args.address (there honest).last.es
-      (block_at (g.D.Device.image c.args.device.now) c.args.address) c.take-count.new.block (there honest).last.own (there honest).put h e
-      (subst (IsGroupBlock h) (ap (block_at (g.D.Device.image c.args.device.now)) (sym e)) (is.group_blocks h l)))
+  frame honest is = subst (IsImage c.self.inside.geometry) (sym now) (write_frames c.self.inside.geometry (g.D.Device.image c.args.device.now) (c.args.address, c.take-count.new.block) is (keeps honest is))
 
 pub invariant_of-self-in-Ok : goal.invariant_of-self-in-Ok
 invariant_of-self-in-Ok g c =
