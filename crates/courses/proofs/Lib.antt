@@ -14,7 +14,7 @@ mod LifeBytes
 mod AcceptedPlans
 mod AcceptedWrites
 mod SafeModes
-mod Doing
+pub mod Doing
 pub mod Serving
 pub mod ServiceLemmas
 pub mod Leaving
