@@ -81,6 +81,9 @@ pub returns-in_err-sweep-2-clause-held : goal.returns-in_err-sweep-2-clause-held
 returns-in_err-sweep-2-clause-held g c = λ h mounted on. held_then mounted c.args.self.now c.loop-self.self (g.D.Device.held c.args.device.now) (g.D.Device.held c.loop-self.device) (g.D.Device.held c.sweep-in-loop-self.new.device) c.loop-self.invariant.closed c.loop-self.invariant.put
     (c.loop-self.invariant.held (c.sweep-in-loop-self.ensures.honest h) mounted on) (c.sweep-in-loop-self.ensures.held h mounted (c.loop-self.invariant.medium (c.sweep-in-loop-self.ensures.honest h) mounted on))
 
+pub returns-in_err-sweep-2-clause-medium : goal.returns-in_err-sweep-2-clause-medium
+returns-in_err-sweep-2-clause-medium g c h mounted on = c.sweep-in-loop-self.ensures.medium h mounted (c.loop-self.invariant.medium (c.sweep-in-loop-self.ensures.honest h) mounted on)
+
 pub returns-in_err-sweep-2-clause-rest : goal.returns-in_err-sweep-2-clause-rest
 returns-in_err-sweep-2-clause-rest g c = rest_put c.args.self.now c.sweep-in-loop-self.new.self c.loop-self.invariant.closed (returns-in_err-sweep-2-clause-put g c)
 
