@@ -14,7 +14,7 @@ mod LifeBytes
 mod AcceptedPlans
 mod AcceptedWrites
 mod SafeModes
-pub mod Doing
+mod Doing
 pub mod Serving
 pub mod ServiceLemmas
 pub mod Leaving
