@@ -43,7 +43,7 @@ module _ (geo : Geometry) where
   }
 
   -- what a life of one step over it leads to
-  stepped : (durable : View) (unsynced : List Pending) (held safe : ℕ → Bool) (mount : View) (h : List Written) (cut : List Bool) → IsMoment geo mount h cut (at_rest held safe) durable unsynced
+  pub stepped : (durable : View) (unsynced : List Pending) (held safe : ℕ → Bool) (mount : View) (h : List Written) (cut : List Bool) → IsMoment geo mount h cut (at_rest held safe) durable unsynced
       → (durable' : View) (unsynced' : List Pending) (held' safe' : ℕ → Bool) (images : List View) → Life geo durable unsynced held safe durable' unsynced' held' safe' images
       → (h' : List Written) × (cut' : List Bool) × IsMoment geo mount h' cut' (at_rest held' safe') durable' unsynced'
   stepped durable unsynced held safe mount h cut moment durable' unsynced' held' safe' images life =
@@ -52,7 +52,7 @@ module _ (geo : Geometry) where
 
   module _ (durable : View) (unsynced : List Pending) (disk : View) (q : List Pending) (held safe : ℕ → Bool) (d : IsDurably geo durable unsynced disk q held safe) where
     -- users see the same over both
-    users_same : users_view durable unsynced ≡ users_view disk q
+    pub users_same : users_view durable unsynced ≡ users_view disk q
     users_same = sym (users_flushed durable unsynced d.loose d.closed) ∙ sym (ap₂ users_view d.answers d.pending)
 
     pub written_durably : (cut : List Bool) → IsClosed q cut → IsDurably geo durable unsynced (seen disk q cut) (rest q cut) held safe

@@ -1,3 +1,3 @@
 mod OnTop
 mod Lifted
-mod Along
+pub mod Along

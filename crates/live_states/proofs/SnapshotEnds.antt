@@ -97,7 +97,7 @@ module _ (kept : Kept) (holdings : Holdings) (disk : View) (keeps : KeepsMetadat
   abbrev n : ℕ
   n = length holdings.held
 
-  accepts : Accepts geo old (Release s)
+  pub accepts : Accepts geo old (Release s)
   unfolding causes
   accepts = (ap (λ b. option_or (when b NoSnapshot) None) (some_image (image_at holdings.snapshots.standing s) (snapshot_at old s) stands (same_at holdings.snapshots.standing volume.beside.snapshots.standing volume.snapshots.1 s)), tt)
 
@@ -108,7 +108,7 @@ module _ (kept : Kept) (holdings : Holdings) (disk : View) (keeps : KeepsMetadat
   one_besides : (beside : Beside) → AreImagesOf holdings.snapshots beside.snapshots → (a : ℕ) → kept_besides old s a ≡ kept_besides (state_over disk [] holdings beside) s a
   one_besides beside images a = same_besides volume.beside volume.snapshots a ∙ sym (same_besides beside images a)
 
-  few : (a : ℕ) → IsTrue (old.held a) → a < n
+  pub few : (a : ℕ) → IsTrue (old.held a) → a < n
   few a t = few_held holdings.held a t
 
   abbrev q' : List Pending
@@ -125,7 +125,7 @@ module _ (kept : Kept) (holdings : Holdings) (disk : View) (keeps : KeepsMetadat
   same_blocks : let_go_blocks holdings s ≡ let_go_below old s n
   same_blocks = ap (λ (f : ℕ → Bool). found_below f (λ a. a) n) (fun_ext (λ a. ap (λ k. held_by holdings a && not k) (sym (same_besides volume.beside volume.snapshots a))))
 
-  cleared : over [] updates ≡ q'
+  pub cleared : over [] updates ≡ q'
   cleared = list ∙ ap (λ bs. releasing bs []) same_blocks
 
   -- the bits of what goes are cleared, and nothing else changes
@@ -145,7 +145,7 @@ module _ (kept : Kept) (holdings : Holdings) (disk : View) (keeps : KeepsMetadat
     view_after = view_then ∙ ap (λ (f : ℕ → Bool). record (users_view disk []) { block_marked = λ a. (users_view disk []).block_marked a && not (f a) })
         (fun_ext (λ a. ap (λ k. held_by holdings a && not k) (one_besides beside images a)))
 
-    held_after : held_by (let_go holdings s) ≡ held_still before s
+    pub held_after : held_by (let_go holdings s) ≡ held_still before s
     held_after = fun_ext (λ a.
         unmarked_at (let_go_blocks holdings s) holdings.held a ∙ ap (λ bs. held_by holdings a && not (among a bs)) same_blocks ∙ ap (λ t. held_by holdings a && not t) (among_gone a)
         ∙ not_gone (held_by holdings a) (kept_besides old s a) ∙ ap (λ k. held_by holdings a && k) (one_besides beside images a))

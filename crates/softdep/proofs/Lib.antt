@@ -1,10 +1,10 @@
 pub mod Queues
-mod Issued
+pub mod Issued
 mod Puts
 mod Flushed
 mod Nexts
 mod NewBlocks
-mod Swept
+pub mod Swept
 mod Synced
 mod GivenBytes
 mod Framed
