@@ -1,3 +1,5 @@
+mod Durably
+mod DurablePlans
 mod Between
 mod ByteLemmas
 mod Carrying

@@ -6,3 +6,4 @@ pub mod Mounting
 pub mod Places
 pub mod Runs
 pub mod Seen
+pub mod Durable

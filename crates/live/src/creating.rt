@@ -1,6 +1,7 @@
 ghost use Rattle.std.specs.Prelude.{◌≡◌, IfErr, IfOk, OnErr, OnOk};
 ghost use Rattle.machine.specs.Command.{Create, Done, Link, Mkdir, Number};
 ghost use Rattle.live_states.specs.Planned.{IsRefused};
+ghost use Rattle.live.specs.Durable.{StaysSoundAfter};
 ghost use Rattle.live.specs.Alive.{MayRefuse};
 ghost use Rattle.live.specs.Seen.{Answered};
 
@@ -17,6 +18,7 @@ impl<D: Device> Live<D> {
     /// unmarked.
     pub fn create(&mut self, alloc: Global, path: &[u8]) -> Result<u32, Refusal>
         ensures done { IfOk result (λ number. D.honest self.old.device → Answered D.image self.old (Create path.now) (Number number) self.new) }
+        ensures sound { OnOk result (D.honest self.old.device → StaysSoundAfter D.held D.image self.old (Create path.now) self.new) }
         ensures refused { IfErr result (λ r. D.honest self.old.device → MayRefuse (D.image self.old.device) self.old (Create path.now) r) }
         ensures cause { IfErr result (IsRefused self.old.kept (Create path.now)) }
         ensures untouched { OnErr result (self.new ≡ self.old) }
@@ -32,6 +34,7 @@ impl<D: Device> Live<D> {
     /// its parent has 32,767 links; it needs a block for its dots too.
     pub fn mkdir(&mut self, alloc: Global, path: &[u8]) -> Result<u32, Refusal>
         ensures done { IfOk result (λ number. D.honest self.old.device → Answered D.image self.old (Mkdir path.now) (Number number) self.new) }
+        ensures sound { OnOk result (D.honest self.old.device → StaysSoundAfter D.held D.image self.old (Mkdir path.now) self.new) }
         ensures refused { IfErr result (λ r. D.honest self.old.device → MayRefuse (D.image self.old.device) self.old (Mkdir path.now) r) }
         ensures cause { IfErr result (IsRefused self.old.kept (Mkdir path.now)) }
         ensures untouched { OnErr result (self.new ≡ self.old) }
@@ -49,6 +52,7 @@ impl<D: Device> Live<D> {
     /// before, with `Exists`, with `TooManyLinks` where the file has 32,767 links, with `TooBig`, and with `NoBlock`.
     pub fn link(&mut self, alloc: Global, path: &[u8], other: &[u8]) -> Result<(), Refusal>
         ensures done { OnOk result (D.honest self.old.device → Answered D.image self.old (Link path.now other.now) Done self.new) }
+        ensures sound { OnOk result (D.honest self.old.device → StaysSoundAfter D.held D.image self.old (Link path.now other.now) self.new) }
         ensures refused { IfErr result (λ r. D.honest self.old.device → MayRefuse (D.image self.old.device) self.old (Link path.now other.now) r) }
         ensures cause { IfErr result (IsRefused self.old.kept (Link path.now other.now)) }
         ensures untouched { OnErr result (self.new ≡ self.old) }

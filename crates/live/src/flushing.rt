@@ -6,6 +6,7 @@ ghost use Rattle.machine.specs.Room.{unmarked_blocks};
 ghost use Rattle.model.specs.Layout.{block_count};
 ghost use Rattle.queue_model.specs.Flush.{taken};
 ghost use Rattle.softdep.specs.Queued.{IsSettled, after_flush, next_cut, pending_of, unsynced_of};
+ghost use Rattle.live.specs.Durable.{StaysSound};
 ghost use Rattle.live.specs.Alive.{MayRefuse};
 ghost use Rattle.live.specs.Seen.{seen_of, AnsweredByWrites, Flushed, Wrote, WroteBlock, IsLeastReadyOf, IsNextReadyOf};
 
@@ -42,6 +43,7 @@ impl<D: Device> Live<D> {
     pub fn flush(&mut self, address: u32) -> Result<usize, Refusal>
         // What the device held after it is what the flush wrote.
         ensures done { IfOk result (λ count. D.honest self.new.device → AnsweredByWrites D.held D.image self.old (Flush address) (Number count) self.new) }
+        ensures sound { D.honest self.new.device → StaysSound D.held self.old self.new }
         ensures flushed { OnOk result (self.new.queue ≡ after_flush D.KEEPS_ORDER self.old.queue address) }
         ensures count { IfOk result (λ count. count ≡ taken (next_cut self.old.queue address)) }
         ensures refused { IfErr result (λ r. D.honest self.new.device → MayRefuse (D.image self.old.device) self.old (Flush address) r) }
@@ -72,6 +74,7 @@ impl<D: Device> Live<D> {
     pub fn sync(&mut self) -> Result<(), Refusal>
         ensures done { OnOk result (D.honest self.new.device → AnsweredByWrites D.held D.image self.old Sync Done self.new) }
         ensures refused { IfErr result (λ r. D.honest self.new.device → MayRefuse (D.image self.old.device) self.old Sync r) }
+        ensures sound { D.honest self.new.device → StaysSound D.held self.old self.new }
         ensures pending { OnOk result (pending_of self.new.queue ≡ []) }
         ensures unsynced { OnOk result (unsynced_of self.new.queue ≡ []) }
         ensures metadata { self.new.kept ≡ self.old.kept }

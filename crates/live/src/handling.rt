@@ -8,6 +8,7 @@ ghost use Rattle.model.specs.Shape.{most_blocks};
 ghost use Rattle.model.specs.Uses.{claim_at, is_directory_at};
 ghost use Rattle.live_states.specs.Planned.{AreSeen, IsRefusedWith};
 ghost use Rattle.live_writes.specs.Aimed.{seen_at, seen_before};
+ghost use Rattle.live.specs.Durable.{StaysSound, StaysSoundAfter};
 ghost use Rattle.live.specs.Alive.{MayRefuse};
 ghost use Rattle.live.specs.Seen.{seen_of, Answered};
 
@@ -26,6 +27,7 @@ impl<D: Device> Live<D> {
     /// with `TooManyOpen` where 1,024 handles are open.
     pub fn open(&mut self, path: &[u8]) -> Result<u32, Refusal>
         ensures done { IfOk result (λ handle. D.honest self.old.device → Answered D.image self.old (Open path.now) (Number handle) self.new) }
+        ensures sound { OnOk result (StaysSound D.held self.old self.new) }
         ensures refused { IfErr result (λ r. D.honest self.old.device → MayRefuse (D.image self.old.device) self.old (Open path.now) r) }
         ensures cause { IfErr result (IsRefusedWith self.old.kept self.old.holdings (Open path.now)) }
         ensures untouched { OnErr result (self.new ≡ self.old) }
@@ -67,6 +69,7 @@ impl<D: Device> Live<D> {
         piece: &[u8],
     ) -> Result<(), Refusal>
         ensures done { OnOk result (D.honest self.new.device → Answered D.image self.old (Write handle index piece.now) Done self.new) }
+        ensures sound { OnOk result (D.honest self.new.device → StaysSoundAfter D.held D.image self.old (Write handle index piece.now) self.new) }
         ensures refused { IfErr result (λ r. D.honest self.new.device → MayRefuse (D.image self.old.device) self.old (Write handle index piece.now) r) }
         ensures error { IfErr result (λ r. (r ≡ DeviceRefusal) ⊎ IsRefusedWith self.old.kept self.old.holdings (Write handle index piece.now) r) }
         ensures cause { IsErrOf result Refusal.Device → HasFailed (D.failures self.old.device) (D.failures self.new.device) }
@@ -134,6 +137,7 @@ impl<D: Device> Live<D> {
     /// the handle is not open, and with `BadIndex` where the size is larger.
     pub fn truncate(&mut self, alloc: Global, handle: u32, size: u32) -> Result<(), Refusal>
         ensures done { OnOk result (D.honest self.old.device → Answered D.image self.old (Truncate handle size) Done self.new) }
+        ensures sound { OnOk result (D.honest self.old.device → StaysSoundAfter D.held D.image self.old (Truncate handle size) self.new) }
         ensures refused { IfErr result (λ r. D.honest self.old.device → MayRefuse (D.image self.old.device) self.old (Truncate handle size) r) }
         ensures cause { IfErr result (IsRefusedWith self.old.kept self.old.holdings (Truncate handle size)) }
         ensures untouched { OnErr result (self.new ≡ self.old) }
@@ -148,6 +152,7 @@ impl<D: Device> Live<D> {
     /// where the handle is not open.
     pub fn close(&mut self, alloc: Global, handle: u32) -> Result<(), Refusal>
         ensures done { OnOk result (D.honest self.old.device → Answered D.image self.old (Close handle) Done self.new) }
+        ensures sound { OnOk result (D.honest self.old.device → StaysSoundAfter D.held D.image self.old (Close handle) self.new) }
         ensures refused { IfErr result (λ r. D.honest self.old.device → MayRefuse (D.image self.old.device) self.old (Close handle) r) }
         ensures cause { IfErr result (IsRefusedWith self.old.kept self.old.holdings (Close handle)) }
         ensures untouched { OnErr result (self.new ≡ self.old) }

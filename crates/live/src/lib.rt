@@ -21,5 +21,8 @@ mod snapshots;
 
 pub use live::{Live, NotMounted};
 pub use looking::Status;
-pub use runs::{each_stop_of_a_run_is_safe, mountable_images_mount, mounted_volumes_begin};
+pub use runs::{
+    each_stop_of_a_run_is_safe, mountable_images_mount, mounted_volumes_begin,
+    sound_volumes_outlive_power_cuts,
+};
 pub use upgrading::upgrade;

@@ -12,6 +12,7 @@ ghost use Rattle.machine.specs.Command.{Answer, Command};
 ghost use Rattle.softdep.specs.Queued.{fresh_queue, pending_of};
 ghost use Rattle.live_states.specs.Holdings.{IsIdle, with_held};
 ghost use Rattle.live_states.specs.Planned.{AreSeen, IsPlannedFor, IsPlannedWith, Seen};
+ghost use Rattle.live.specs.Durable.{StaysSoundAfter};
 ghost use Rattle.live.specs.Alive.{IsLive, StandsSo, disk_of};
 ghost use Rattle.live.specs.Ended.{ended};
 ghost use Rattle.live.specs.Issued.{IsIssued};
@@ -76,6 +77,7 @@ impl<D: Device> Live<D> {
         ensures image { IfOk result (λ live. D.image live.device ≡ D.image device) }
         ensures held { IfOk result (λ live. D.held live.device ≡ D.held device) }
         ensures pending { IfOk result (λ live. pending_of live.queue ≡ []) }
+        ensures fresh { IfOk result (λ live. live.queue ≡ fresh_queue live.kept.geometry) }
         ensures idle { IfOk result (λ live. IsIdle live.holdings) }
         ensures mounted { IfOk result (λ live. D.honest live.device → IsMountable live.kept.geometry (D.image device)) }
         ensures untouched { IfErr result (λ refused. (D.image refused.device ≡ D.image device) × (D.held refused.device ≡ D.held device)) }
@@ -98,6 +100,7 @@ impl<D: Device> Live<D> {
         ensures device { IfOk result (λ live. live.device ≡ device) }
         ensures kept { IfOk result (λ live. live.kept ≡ frozen) }
         ensures pending { IfOk result (λ live. pending_of live.queue ≡ []) }
+        ensures fresh { IfOk result (λ live. live.queue ≡ fresh_queue live.kept.geometry) }
         ensures idle { IfOk result (λ live. IsIdle live.holdings) }
         ensures mounted { IfOk result (λ live. D.honest device → IsMountable live.kept.geometry (D.image device)) }
         ensures untouched { IfErr result (λ refused. refused.device ≡ device) }
@@ -181,6 +184,10 @@ impl<D: Device> Live<D> {
             → IsPlannedFor self.old.kept self.old.holdings seen command answer planned.plan (with_held (ended self.old.holdings ending) planned.holds.items)
             → D.honest self.old.device
             → AreSeen seen (seen_of D.image self.old) → Answered D.image self.old command answer self.new) }
+        ensures sound { OnOk result ((seen : List Seen) (command : Command) (answer : Answer)
+            → IsPlannedFor self.old.kept self.old.holdings seen command answer planned.plan (with_held (ended self.old.holdings ending) planned.holds.items)
+            → D.honest self.old.device
+            → AreSeen seen (seen_of D.image self.old) → StaysSoundAfter D.held D.image self.old command self.new) }
         ensures device { self.new.device ≡ self.old.device }
         ensures untouched { OnErr result (self.new ≡ self.old) }
         ensures error { IsOkUnless result Refusal.NoMemory }

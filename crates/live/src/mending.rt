@@ -1,6 +1,7 @@
 ghost use Rattle.std.specs.Prelude.{◌≡◌, IfErr, OnErr, OnOk};
 ghost use Rattle.machine.specs.Command.{Done, RepairAt};
 ghost use Rattle.live_states.specs.Planned.{IsRefusedWith};
+ghost use Rattle.live.specs.Durable.{StaysSoundAfter};
 ghost use Rattle.live.specs.Alive.{MayRefuse};
 ghost use Rattle.live.specs.Seen.{Answered};
 
@@ -17,6 +18,7 @@ impl<D: Device> Live<D> {
     /// has no such repair, and with `AlreadyDone`.
     pub fn repair(&mut self, alloc: Global, place: u32) -> Result<(), Refusal>
         ensures done { OnOk result (D.honest self.old.device → Answered D.image self.old (RepairAt place) Done self.new) }
+        ensures sound { OnOk result (D.honest self.old.device → StaysSoundAfter D.held D.image self.old (RepairAt place) self.new) }
         ensures refused { IfErr result (λ r. D.honest self.old.device → MayRefuse (D.image self.old.device) self.old (RepairAt place) r) }
         ensures cause { IfErr result (IsRefusedWith self.old.kept self.old.holdings (RepairAt place)) }
         ensures untouched { OnErr result (self.new ≡ self.old) }

@@ -1,6 +1,7 @@
 ghost use Rattle.std.specs.Prelude.{◌≡◌, IfErr, OnErr, OnOk};
 ghost use Rattle.machine.specs.Command.{Done, Rmdir, Unlink};
 ghost use Rattle.live_states.specs.Planned.{IsRefused};
+ghost use Rattle.live.specs.Durable.{StaysSoundAfter};
 ghost use Rattle.live.specs.Alive.{MayRefuse};
 ghost use Rattle.live.specs.Seen.{Answered};
 
@@ -16,6 +17,7 @@ impl<D: Device> Live<D> {
     /// `IsDirectory` where it leads to a directory.
     pub fn unlink(&mut self, alloc: Global, path: &[u8]) -> Result<(), Refusal>
         ensures done { OnOk result (D.honest self.old.device → Answered D.image self.old (Unlink path.now) Done self.new) }
+        ensures sound { OnOk result (D.honest self.old.device → StaysSoundAfter D.held D.image self.old (Unlink path.now) self.new) }
         ensures refused { IfErr result (λ r. D.honest self.old.device → MayRefuse (D.image self.old.device) self.old (Unlink path.now) r) }
         ensures cause { IfErr result (IsRefused self.old.kept (Unlink path.now)) }
         ensures untouched { OnErr result (self.new ≡ self.old) }
@@ -30,6 +32,7 @@ impl<D: Device> Live<D> {
     /// or `NotDirectory` where it leads nowhere, with `NotDirectory` where it leads to a file, and with `NotEmpty`.
     pub fn rmdir(&mut self, alloc: Global, path: &[u8]) -> Result<(), Refusal>
         ensures done { OnOk result (D.honest self.old.device → Answered D.image self.old (Rmdir path.now) Done self.new) }
+        ensures sound { OnOk result (D.honest self.old.device → StaysSoundAfter D.held D.image self.old (Rmdir path.now) self.new) }
         ensures refused { IfErr result (λ r. D.honest self.old.device → MayRefuse (D.image self.old.device) self.old (Rmdir path.now) r) }
         ensures cause { IfErr result (IsRefused self.old.kept (Rmdir path.now)) }
         ensures untouched { OnErr result (self.new ≡ self.old) }

@@ -1,6 +1,7 @@
 ghost use Rattle.std.specs.Prelude.{◌≡◌, IfErr, OnErr, OnOk};
 ghost use Rattle.machine.specs.Command.{Done, Rename};
 ghost use Rattle.live_states.specs.Planned.{IsRefused};
+ghost use Rattle.live.specs.Durable.{StaysSoundAfter};
 ghost use Rattle.live.specs.Alive.{MayRefuse};
 ghost use Rattle.live.specs.Seen.{Answered};
 
@@ -18,6 +19,7 @@ impl<D: Device> Live<D> {
     /// `NoBlock` as `link`.
     pub fn rename(&mut self, alloc: Global, path: &[u8], other: &[u8]) -> Result<(), Refusal>
         ensures done { OnOk result (D.honest self.old.device → Answered D.image self.old (Rename path.now other.now) Done self.new) }
+        ensures sound { OnOk result (D.honest self.old.device → StaysSoundAfter D.held D.image self.old (Rename path.now other.now) self.new) }
         ensures refused { IfErr result (λ r. D.honest self.old.device → MayRefuse (D.image self.old.device) self.old (Rename path.now other.now) r) }
         ensures cause { IfErr result (IsRefused self.old.kept (Rename path.now other.now)) }
         ensures untouched { OnErr result (self.new ≡ self.old) }

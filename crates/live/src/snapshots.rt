@@ -12,11 +12,12 @@ ghost use Rattle.metadata.specs.Shown.{Shows};
 ghost use Rattle.model.specs.Image.{block_at};
 ghost use Rattle.model.specs.Layout.{block_count, is_data_address};
 ghost use Rattle.plans_data.specs.Release.{releasing};
-ghost use Rattle.softdep.specs.Queued.{pending_of};
+ghost use Rattle.softdep.specs.Queued.{pending_of, unsynced_of};
 ghost use Rattle.live_states.specs.Drafts.{over};
 ghost use Rattle.live_states.specs.Holdings.{AreImagesOf, Beside, Repairs};
 ghost use Rattle.live_states.specs.Planned.{IsQuietlyDone};
 ghost use Rattle.live_states.specs.Snapshots.{AreRepairsOf, IsSettled, installing, keeping, let_go, let_go_blocks, places};
+ghost use Rattle.live.specs.Durable.{StaysSound};
 ghost use Rattle.live.specs.Alive.{IsSnapshotOf, state_of};
 ghost use Rattle.live.specs.Places.{Ascend};
 ghost use Rattle.live.specs.Seen.{seen_of, Answered};
@@ -158,6 +159,7 @@ impl<D: Device> Live<D> {
         ensures released { OnOk result (D.honest self.old.device → (beside : Beside) → AreImagesOf self.old.holdings.snapshots beside.snapshots
             → state_of (D.image self.new.device) self.new (record { snapshots = ended beside.snapshots number })
             ≡ released (state_of (D.image self.old.device) self.old beside) number) }
+        ensures sound { OnOk result (D.honest self.old.device → unsynced_of self.old.queue ≡ [] → StaysSound D.held self.old self.new) }
         ensures pending { OnOk result (pending_of self.new.queue ≡ releasing (let_go_blocks self.old.holdings number) []) }
         ensures holdings { OnOk result (self.new.holdings ≡ let_go self.old.holdings number) }
         ensures geometry { OnOk result (self.new.kept.geometry ≡ self.old.kept.geometry) }

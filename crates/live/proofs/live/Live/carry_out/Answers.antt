@@ -7,6 +7,11 @@ use Rattle.live_states.specs.Planned.{AreSeen, IsPlannedFor, IsPlannedWith}
 use Rattle.live.specs.Alive.{Alive, Answers, IsLive, disk_of}
 use Rattle.live.specs.Ended.{ended}
 use Rattle.live.proofs.Carrying.{answers, held_within, keeps_after, left_marks, live_after, still_marks, still_repairs}
+use Rattle.frozen.specs.Kept.{Kept}
+use Rattle.metadata.proofs.Steps.{same_geometry}
+use Rattle.live_states.proofs.Planning.{planned_with}
+use Rattle.live.specs.Durable.{StaysSoundAfter}
+use Rattle.live.proofs.DurablePlans.{goes_planned}
 use Rattle.live.proofs.live.Live.carry_out.Goals as goal
 
 pub issue-requires-clause-geometry : goal.issue-requires-clause-geometry
@@ -68,3 +73,18 @@ returns-clause-done g c = λ seen command answer planned h sees.
     (subst (λ o. Answers image before command answer image (record { device = c.self.inside.device; queue = c.issue.new.queue; kept = c.issue.new.metadata; holdings = o }) []) (sym held)
     (subst (λ k. Answers image before command answer image (record { device = c.self.inside.device; queue = c.issue.new.queue; kept = k; holdings = holdings }) [])
     (sym is.metadata) done))
+
+pub returns-clause-sound : goal.returns-clause-sound
+returns-clause-sound g c = λ sights command answer planned h sees.
+    let before : Alive _ = record { device = c.self.inside.device; queue = c.self.inside.queue; kept = c.self.inside.metadata; holdings = c.self.inside.holdings } in
+    let new : Alive _ = record { device = c.self.inside.device; queue = c.issue.new.queue; kept = c.issue.new.metadata; holdings = c.hold.new.self } in
+    let holdings = with_held (ended c.self.inside.holdings c.args.ending) c.args.planned.holds.items in
+    let held : c.hold.new.self ≡ holdings = c.hold.ensures ∙ ap₂ with_held c.end.ensures c.as_slice.ensures.value in
+    let is = c.in_ok-issue.ensures.issued in
+    let volume = c.self.invariant.alive.true (subst (λ (l : Alive _). g.D.Device.honest l.device) (sym c.self.view_is) h) in
+    let was = subst (λ (l : Alive _). IsPlannedFor l.kept l.holdings sights command answer c.args.planned.plan (with_held (ended l.holdings c.args.ending) c.args.planned.holds.items)) (sym c.self.view_is) planned in
+    subst (λ (l : Alive _). StaysSoundAfter g.D.Device.held g.D.Device.image l command new) c.self.view_is
+    (goes_planned (g.D.Device.held before.device) (g.D.Device.image before.device) (g.met.D.Device.answers before.device) before new (ap (λ (k : Kept). k.geometry) is.metadata ∙ same_geometry before.kept is.staged.blocks.items) volume
+    sights command answer c.args.planned.plan
+    (subst (IsPlannedWith before.kept before.holdings sights command answer c.args.planned.plan) (sym held) (planned_with before.kept before.holdings sights command answer c.args.planned.plan holdings was))
+    (subst (λ (l : Alive _). AreSeen sights (users_view (disk_of (g.D.Device.image l.device) l) (pending_of l.queue))) (sym c.self.view_is) sees) is.queued)

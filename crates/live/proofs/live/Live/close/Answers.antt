@@ -47,3 +47,9 @@ returns-clause-done g c = λ h.
     c.in_ok-carry_out.ensures.done [] (Close c.args.handle) Done
     (subst (λ (l : Alive _). IsPlannedWith l.kept l.holdings [] (Close c.args.handle) Done c.in_ok-planned.planned.plan (with_held (ended l.holdings (Handle c.args.handle)) c.in_ok-planned.planned.holds.items)) c.self.view_is
     c.in_ok-planned.ensures.planned) h (none_seen (users_view (disk_of (g.D.Device.image c.args.self.now.device) c.args.self.now) (pending_of c.args.self.now.queue)))
+
+pub returns-clause-sound : goal.returns-clause-sound
+returns-clause-sound g c = λ h.
+    c.in_ok-carry_out.ensures.sound [] (Close c.args.handle) Done
+    (subst (λ (l : Alive _). IsPlannedWith l.kept l.holdings [] (Close c.args.handle) Done c.in_ok-planned.planned.plan (with_held (ended l.holdings (Handle c.args.handle)) c.in_ok-planned.planned.holds.items)) c.self.view_is
+    c.in_ok-planned.ensures.planned) h (none_seen (users_view (disk_of (g.D.Device.image c.args.self.now.device) c.args.self.now) (pending_of c.args.self.now.queue)))

@@ -6,12 +6,14 @@ use Rattle.machine.specs.Snapshot.{released}
 use Rattle.frozen.specs.Kept.{Kept}
 use Rattle.metadata.proofs.Steps.{same_geometry}
 use Rattle.plans_data.specs.Release.{releasing}
-use Rattle.softdep.specs.Queued.{pending_of}
+use Rattle.softdep.specs.Queued.{pending_of, unsynced_of}
 use Rattle.live_states.specs.Holdings.{AreImagesOf, Holdings}
 use Rattle.live_states.specs.Snapshots.{let_go, let_go_blocks}
-use Rattle.live_states.specs.Volume.{state_over}
+use Rattle.live_states.specs.Volume.{IsVolume, state_over}
 use Rattle.live.specs.Alive.{Alive, IsLive, state_of}
 use Rattle.live.proofs.SnapshotLemmas.{held_are_data, live_let_go, metadata_then, pending_then, released_then}
+use Rattle.live.specs.Durable.{GoesSoundly}
+use Rattle.live.proofs.DurablePlans.{goes_released}
 use Rattle.live.proofs.live.Live.end_keep.Goals as goal
 
 pub clearing-requires : goal.clearing-requires
@@ -79,3 +81,17 @@ pub returns-clause-geometry : goal.returns-clause-geometry
 returns-clause-geometry g c =
     let is = c.in_ok-issue.ensures.issued in
     ap (λ (k : Kept). k.geometry) is.metadata ∙ same_geometry c.self.inside.metadata is.staged.blocks.items ∙ ap (λ (l : Alive _). l.kept.geometry) c.self.view_is
+
+pub returns-clause-sound : goal.returns-clause-sound
+returns-clause-sound g c = λ h none safe.
+    let device = c.self.inside.device in
+    let before : Alive _ = record { device = device; queue = c.self.inside.queue; kept = c.self.inside.metadata; holdings = c.self.inside.holdings } in
+    let new : Alive _ = record { device = device; queue = c.issue.new.queue; kept = c.issue.new.metadata; holdings = c.let_go.new.self } in
+    let is = c.in_ok-issue.ensures.issued in
+    let none_pending = subst (λ (l : Alive _). pending_of l.queue ≡ []) (sym c.self.view_is) c.requires.pending in
+    let volume = subst (λ q. IsVolume before.kept before.holdings q (image_view before.kept.geometry (g.D.Device.image device))) none_pending
+    (c.self.invariant.alive.true (subst (λ (l : Alive _). g.D.Device.honest l.device) (sym c.self.view_is) h)) in
+    subst (λ (l : Alive _). GoesSoundly (g.D.Device.held l.device) l (g.D.Device.held device) new safe safe) c.self.view_is
+    (goes_released (g.D.Device.held device) (g.D.Device.image device) (g.met.D.Device.answers device) before new (ap (λ (k : Kept). k.geometry) is.metadata ∙ same_geometry before.kept is.staged.blocks.items) c.self.invariant.alive.keeps volume
+    none_pending (subst (λ (l : Alive _). unsynced_of l.queue ≡ []) (sym c.self.view_is) none) c.args.number (subst (λ (l : Alive _). IsSome (image_at l.holdings.snapshots.standing c.args.number)) (sym c.self.view_is) c.requires.stands)
+    c.in_ok-plan.plan.updates (c.in_ok-plan.ensures.updates ∙ ap (λ bs. releasing bs []) (c.as_slice.ensures.value ∙ c.in_ok-blocks.ensures)) is.staged is.is_staged is.queued c.let_go.ensures safe)

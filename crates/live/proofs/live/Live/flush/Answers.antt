@@ -13,6 +13,8 @@ use Rattle.live.specs.Alive.{Alive, Answers}
 use Rattle.live.specs.Held.{HeldMore, WritesBlock}
 use Rattle.live.proofs.Flushes.{flush_answers, flush_geometry, flush_keeps, live_after, refuses_flush, same_length, still_live}
 use Rattle.live.proofs.live.Live.flush.Given.{Over}
+use Rattle.live.specs.Durable.{GoesSoundly}
+use Rattle.live.proofs.Durably.{goes_flushed, goes_still}
 use Rattle.live.proofs.live.Live.flush.Goals as goal
 
 pub returns-then-address-blocks-clause-refused : goal.returns-then-address-blocks-clause-refused
@@ -82,3 +84,22 @@ returns-clause-written g c = λ some.
     let w = c.in_ok-count.ensures.written some in
     subst (λ (l : Alive _). WritesBlock c.args.address (g.D.Device.image l.device) (g.D.Device.held l.device) (g.D.Device.image c.flush.new.device) (g.D.Device.held c.flush.new.device)) c.self.view_is
     (record { bytes = w.0; image_is = w.1; held_is = held_more g c some })
+
+pub returns-clause-sound : goal.returns-clause-sound
+returns-clause-sound g c = λ h safe.
+    let e = c.in_ok-count.ensures in
+    let new : Alive _ = record { device = c.flush.new.device; queue = c.flush.new.self; kept = c.self.inside.metadata; holdings = c.self.inside.holdings } in
+    subst (λ (l : Alive _). GoesSoundly (g.D.Device.held l.device) l (g.D.Device.held c.flush.new.device) new safe safe) c.self.view_is
+    (goes_flushed (g.D.Device.held c.self.inside.device) (g.D.Device.held c.flush.new.device) (record { device = c.self.inside.device; queue = c.self.inside.queue; kept = c.self.inside.metadata; holdings = c.self.inside.holdings }) new
+    refl refl g.D.Device.KEEPS_ORDER c.args.address c.in_ok-count.count e.flushed (λ zero. (e.unwritten zero).1) (λ some. let w = e.written some in (w.0, w.2)) (e.medium h) safe)
+
+pub returns-in_err-count-clause-sound : goal.returns-in_err-count-clause-sound
+returns-in_err-count-clause-sound g c = λ h safe.
+    let e = c.in_err-count.ensures in
+    let new : Alive _ = record { device = c.flush.new.device; queue = c.flush.new.self; kept = c.self.inside.metadata; holdings = c.self.inside.holdings } in
+    subst (λ (l : Alive _). GoesSoundly (g.D.Device.held l.device) l (g.D.Device.held c.flush.new.device) new safe safe) c.self.view_is
+    (goes_still (g.D.Device.held c.self.inside.device) (g.D.Device.held c.flush.new.device) (record { device = c.self.inside.device; queue = c.self.inside.queue; kept = c.self.inside.metadata; holdings = c.self.inside.holdings }) new
+    e.held e.refused refl refl safe)
+
+pub returns-then-address-blocks-clause-sound : goal.returns-then-address-blocks-clause-sound
+returns-then-address-blocks-clause-sound g c = λ h safe. goes_still (g.D.Device.held c.args.self.now.device) (g.D.Device.held c.args.self.now.device) c.args.self.now c.args.self.now refl refl refl refl safe

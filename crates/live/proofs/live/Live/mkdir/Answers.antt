@@ -49,3 +49,10 @@ returns-clause-done g c = λ h.
     (subst (λ (l : Alive _). IsPlannedWith l.kept l.holdings [] (Mkdir c.args.path.now) (Number c.file-number.result) c.without_holds.result.plan (with_held (ended l.holdings Nothing) c.without_holds.result.holds.items)) c.self.view_is
     (alone c.self.inside.metadata c.self.inside.holdings (Mkdir c.args.path.now) (Number c.file-number.result) c.in_ok-plan.plan c.without_holds.result.plan c.without_holds.result.holds.items c.without_holds.ensures.plan c.without_holds.ensures.holds
     (subst (λ n. IsPlanned c.self.inside.metadata (Mkdir c.args.path.now) (Number n) c.in_ok-plan.plan) (sym c.file-number.ensures) c.in_ok-plan.ensures.planned))) h (none_seen (users_view (disk_of (g.D.Device.image c.args.self.now.device) c.args.self.now) (pending_of c.args.self.now.queue)))
+
+pub returns-clause-sound : goal.returns-clause-sound
+returns-clause-sound g c = λ h.
+    c.in_ok-carry_out.ensures.sound [] (Mkdir c.args.path.now) (Number c.file-number.result)
+    (subst (λ (l : Alive _). IsPlannedWith l.kept l.holdings [] (Mkdir c.args.path.now) (Number c.file-number.result) c.without_holds.result.plan (with_held (ended l.holdings Nothing) c.without_holds.result.holds.items)) c.self.view_is
+    (alone c.self.inside.metadata c.self.inside.holdings (Mkdir c.args.path.now) (Number c.file-number.result) c.in_ok-plan.plan c.without_holds.result.plan c.without_holds.result.holds.items c.without_holds.ensures.plan c.without_holds.ensures.holds
+    (subst (λ n. IsPlanned c.self.inside.metadata (Mkdir c.args.path.now) (Number n) c.in_ok-plan.plan) (sym c.file-number.ensures) c.in_ok-plan.ensures.planned))) h (none_seen (users_view (disk_of (g.D.Device.image c.args.self.now.device) c.args.self.now) (pending_of c.args.self.now.queue)))

@@ -25,6 +25,7 @@ returns-in-Ok g c =
       image = IfOk-weaker c.mount_loaded.result _ _ (λ live same. ap image same ∙ reads.same) live.device;
       held = IfOk-weaker c.mount_loaded.result _ _ (λ live same. ap held same ∙ reads.held) live.device;
       pending = live.pending;
+      fresh = live.fresh;
       idle = live.idle;
       mounted = with_both c.mount_loaded.result _ _ _ live.device live.mounted (λ live same mounted h. subst (λ i. IsMountable live.kept.geometry i) reads.same (mounted (subst honest same h)));
       untouched = IfErr-weaker c.mount_loaded.result _ _ (λ refused same. (ap image same ∙ reads.same, ap held same ∙ reads.held)) live.untouched;

@@ -1,4 +1,4 @@
-use Rattle.std.proofs.Common.{[], inr, refl, sym, subst}
+use Rattle.std.proofs.Common.{Bool, false, List, [], inr, refl, sym, ap, subst, slice_index_or}
 use Rattle.std.proofs.lemmas.Result.{err_from_is_err_and}
 use Rattle.model.specs.Image.{image_view}
 use Rattle.ordering.specs.Cuts.{users_view}
@@ -9,6 +9,8 @@ use Rattle.live_states.specs.Snapshots.{AreRepairsOf}
 use Rattle.live.specs.Alive.{Alive, Answers, MayRefuse}
 use Rattle.live.proofs.Commands.{refused_with}
 use Rattle.live.proofs.Quietly.{none_seen, quiet_answers, quiet_live}
+use Rattle.live.specs.Durable.{GoesSoundly}
+use Rattle.live.proofs.Durably.{goes_still}
 use Rattle.live.proofs.live.Live.open.Goals as goal
 
 pub returns-in_err-opening-clause-refused : goal.returns-in_err-opening-clause-refused
@@ -43,3 +45,11 @@ returns-clause-done g c = λ h.
     (quiet_answers (g.D.Device.honest device) image c.self.inside.queue c.self.inside.metadata c.self.inside.holdings c.self.invariant [] (Open c.args.path.now) (Number handle) c.open.new.self
     (c.in_ok-opening.ensures.opens c.open.new.self c.in_ok-open.ensures.opened) device device image refl (subst (λ (l : Alive _). g.D.Device.honest l.device) (sym c.self.view_is) h)
     (none_seen (users_view (image_view c.self.inside.metadata.geometry image) (pending_of c.self.inside.queue))))
+
+pub returns-clause-sound : goal.returns-clause-sound
+returns-clause-sound g c = λ safe.
+    let device = c.self.inside.device in
+    let before : Alive _ = record { device = device; queue = c.self.inside.queue; kept = c.self.inside.metadata; holdings = c.self.inside.holdings } in
+    let new : Alive _ = record { device = device; queue = c.self.inside.queue; kept = c.self.inside.metadata; holdings = c.open.new.self } in
+    subst (λ (l : Alive _). GoesSoundly (g.D.Device.held l.device) l (g.D.Device.held device) new safe safe) c.self.view_is
+    (goes_still (g.D.Device.held device) (g.D.Device.held device) before new refl refl refl (ap (λ (l : List Bool) a. slice_index_or l a false) c.in_ok-open.ensures.opened.held) safe)

@@ -1,4 +1,4 @@
-use Rattle.std.proofs.Common.{◌≡◌, true, List, subst}
+use Rattle.std.proofs.Common.{◌≡◌, true, List, refl, subst}
 use Rattle.model.specs.View.{View}
 use Rattle.machine.specs.Command.{Done, Sync}
 use Rattle.softdep.specs.Queued.{IsSettled, pending_of}
@@ -6,6 +6,8 @@ use Rattle.softdep.specs.Syncing.{AreFlushes, AreWrites}
 use Rattle.live.specs.Alive.{Alive, Answers}
 use Rattle.live.specs.Held.{HeldMore}
 use Rattle.live.proofs.Flushes.{live_after, sync_answers, sync_keeps}
+use Rattle.live.specs.Durable.{GoesSoundly}
+use Rattle.live.proofs.Durably.{goes_synced}
 use Rattle.live.proofs.live.Live.sync.Goals as goal
 
 pub invariant_of-self : goal.invariant_of-self
@@ -75,3 +77,19 @@ returns-clause-flushes g c = λ h.
     let q' = pending_of c.sync.new.self in
     subst (λ (l : Alive _). g.D.Device.KEEPS_ORDER ≡ true → IsSettled l.queue → AreFlushes l.kept.geometry (g.D.Device.image l.device) (g.D.Device.held l.device) (pending_of l.queue) image' held' q') c.self.view_is
     (λ order settled. subst (λ geo. AreFlushes geo (g.D.Device.image c.self.inside.device) (g.D.Device.held c.self.inside.device) (pending_of c.self.inside.queue) image' held' q') c.self.invariant.geometry (e.flushes h order settled))
+
+pub returns-in_err-sync-clause-sound : goal.returns-in_err-sync-clause-sound
+returns-in_err-sync-clause-sound g c = λ h safe.
+    let e = c.in_err-sync.ensures in
+    let new : Alive _ = record { device = c.sync.new.device; queue = c.sync.new.self; kept = c.self.inside.metadata; holdings = c.self.inside.holdings } in
+    subst (λ (l : Alive _). GoesSoundly (g.D.Device.held l.device) l (g.D.Device.held c.sync.new.device) new safe safe) c.self.view_is
+    (goes_synced (g.D.Device.held c.self.inside.device) (g.D.Device.held c.sync.new.device) (record { device = c.self.inside.device; queue = c.self.inside.queue; kept = c.self.inside.metadata; holdings = c.self.inside.holdings }) new
+    refl refl e.put (e.medium h) (e.held h) safe)
+
+pub returns-clause-sound : goal.returns-clause-sound
+returns-clause-sound g c = λ h safe.
+    let e = c.in_ok-sync.ensures in
+    let new : Alive _ = record { device = c.sync.new.device; queue = c.sync.new.self; kept = c.self.inside.metadata; holdings = c.self.inside.holdings } in
+    subst (λ (l : Alive _). GoesSoundly (g.D.Device.held l.device) l (g.D.Device.held c.sync.new.device) new safe safe) c.self.view_is
+    (goes_synced (g.D.Device.held c.self.inside.device) (g.D.Device.held c.sync.new.device) (record { device = c.self.inside.device; queue = c.self.inside.queue; kept = c.self.inside.metadata; holdings = c.self.inside.holdings }) new
+    refl refl e.put (e.medium h) (e.held h) safe)

@@ -9,6 +9,9 @@ use Rattle.live.specs.Alive.{Alive, Answers, MayRefuse}
 use Rattle.live.proofs.Between.{answered, still_seen}
 use Rattle.live.proofs.Commands.{refused_with}
 use Rattle.live.proofs.LettingGo.{answers_with}
+use Rattle.frozen.specs.Kept.{Kept}
+use Rattle.live_states.specs.Holdings.{held_by}
+use Rattle.live.proofs.Durably.{goes_still, goes_then}
 use Rattle.live.proofs.live.Live.write.Goals as goal
 
 pub aim-requires : goal.aim-requires
@@ -85,3 +88,33 @@ returns-clause-done g c = λ h.
     (answered was (g.D.Device.image mid.device) old mid same queue kept' holdings' command Done (g.D.Device.image then.device) then []
     (c.in_ok-carry_out.ensures.done seen command Done planned honest
     (still_seen was (g.D.Device.image mid.device) old mid same queue kept' holdings' seen (c.in_ok-read_under.ensures.seen (subst (λ (l : Alive _). g.D.Device.honest l.device) is honest))))))
+
+pub returns-clause-sound : goal.returns-clause-sound
+returns-clause-sound g c = λ h safe.
+    let kept = ap (λ (l : Alive _). l.kept) c.self-2.view_is ∙ c.in_ok-read_under.ensures.untouched.1 ∙ sym (ap (λ (l : Alive _). l.kept) c.self.view_is) in
+    let holdings = ap (λ (l : Alive _). l.holdings) c.self-2.view_is ∙ c.in_ok-read_under.ensures.untouched.2 ∙ sym (ap (λ (l : Alive _). l.holdings) c.self.view_is) in
+    let aimed =
+    subst (λ k. IsAimed k c.self-2.inside.holdings c.args.handle c.args.index c.args.piece.now c.in_ok-target.target) (sym kept)
+    (subst (λ o. IsAimed c.self.inside.metadata o c.args.handle c.args.index c.args.piece.now c.in_ok-target.target) (sym holdings) c.in_ok-target.ensures.aimed) in
+    let command = Write c.args.handle c.args.index c.args.piece.now in
+    let seen = seen_before c.in_ok-target.target c.read_under.new.block in
+    let old = c.args.self.now in
+    let mid : Alive _ = record { device = c.self-2.inside.device; queue = c.self-2.inside.queue; kept = c.self-2.inside.metadata; holdings = c.self-2.inside.holdings } in
+    let is = c.self-2.view_is in
+    let was = g.D.Device.image old.device in
+    let then = c.carry_out.new.self in
+    let new = c.let_go.new.self in
+    let honest = subst (λ d. g.D.Device.honest d) c.in_ok-carry_out.ensures.device (subst (λ d. g.D.Device.honest d) c.let_go.ensures.device h) in
+    let planned = c.in_ok-planned.ensures.planned c.args.handle c.args.index aimed in
+    let same = ap (λ (l : Alive _). g.D.Device.image l.device) is ∙ c.in_ok-read_under.ensures.image in
+    let untouched = c.in_ok-read_under.ensures.untouched in
+    let queue = ap (λ (l : Alive _). l.queue) is ∙ untouched.0 in
+    let kept' = ap (λ (l : Alive _). l.kept) is ∙ untouched.1 in
+    let holdings' = ap (λ (l : Alive _). l.holdings) is ∙ untouched.2 in
+    let held = g.D.Device.held in
+    goes_then (held old.device) (held mid.device) (held new.device) old mid new safe safe safe
+    (goes_still (held old.device) (held mid.device) old mid (ap (λ (l : Alive _). held l.device) is ∙ c.in_ok-read_under.ensures.held) queue (ap (λ (k : Kept). k.geometry) kept') (ap held_by holdings') safe)
+    (goes_then (held mid.device) (held then.device) (held new.device) mid then new safe safe safe
+    (c.in_ok-carry_out.ensures.sound seen command Done planned honest
+    (still_seen was (g.D.Device.image mid.device) old mid same queue kept' holdings' seen (c.in_ok-read_under.ensures.seen (subst (λ (l : Alive _). g.D.Device.honest l.device) is honest))) safe)
+    (goes_still (held then.device) (held new.device) then new (ap held c.let_go.ensures.device) c.let_go.ensures.queue c.let_go.ensures.geometry (ap held_by c.let_go.ensures.holdings) safe))

@@ -1,0 +1,233 @@
+-- A volume that is sound on its medium stays so, and what a loss of power leaves of it can be mounted.
+use Rattle.std.proofs.Common.{◌≡◌, ℕ, ◌<◌, Bool, List, [], ◌∷◌, ◌++◌, inl, inr, arith, refl, sym, ap, ap₂, ◌∙◌, subst, IsTrue, Ok, append-nil}
+use Rattle.std.specs.List.{All}
+use Rattle.std.proofs.lemmas.Bool.{cases_eq}
+use Rattle.std.proofs.lemmas.List.{append_assoc}
+use Rattle.std.proofs.lemmas.List.Elements.{All-append, All-cons, All-nil}
+use Rattle.model.specs.Image.{IsImage, image_view}
+use Rattle.model.specs.Layout.{Geometry}
+use Rattle.model.specs.Reach.{IsReachable}
+use Rattle.model.specs.Rules.{ObeysRules}
+use Rattle.model.specs.View.{View}
+use Rattle.device.specs.Media.{Held, MayBeLeft, Medium, image_of, wrote}
+use Rattle.device.specs.Writes.{image_after}
+use Rattle.ordering.specs.Agrees.{AllAgree}
+use Rattle.ordering.specs.Cuts.{Pending, IsClosed, seen, rest, joined, users_view}
+use Rattle.ordering.specs.Ghosts.{at_rest}
+use Rattle.ordering.proofs.Flushes.{joined_closed, joined_seen, users_flushed}
+use Rattle.machine.specs.Command.{Answer, Command}
+use Rattle.machine.specs.State.{State}
+use Rattle.plans_data.specs.Carried.{Stands}
+use Rattle.queue_model.specs.Files.{Written, updates}
+use Rattle.queue_model.proofs.HistoryLemmas.{joined_rest}
+use Rattle.power_cut.specs.Epochs.{IsEpoch}
+use Rattle.power_cut.proofs.EpochLemmas.{together_closed}
+use Rattle.courses.specs.Leads.{IsMoment}
+use Rattle.courses.specs.Life.{Begins, Puts}
+use Rattle.cut_courses.specs.Durably.{IsDurably}
+use Rattle.courses.proofs.LifeCourses.{mount_moment}
+use Rattle.cut_courses.proofs.Along.{answered, left_safely, stepped, users_same}
+use Rattle.softdep.specs.Queued.{Queued, AreClosed, unsynced_of, pending_of, after_flush, fresh_queue}
+use Rattle.softdep.specs.OnMedium.{IsOnMedium, KeepsFrame}
+use Rattle.softdep.specs.Syncing.{HasPut, HasHeld, IsMediumOf}
+use Rattle.softdep.proofs.Frames.{left_frames}
+use Rattle.softdep.proofs.Mediums.{answers_view, on_issued}
+use Rattle.softdep.proofs.Queues.{pending_rest}
+use Rattle.softdep.proofs.Swept.{held_more, held_same, held_nothing as put_held_nothing, put_after}
+use Rattle.live_states.specs.Holdings.{held_by}
+use Rattle.frozen.specs.Kept.{Kept}
+use Rattle.live.specs.Alive.{Alive}
+use Rattle.live.specs.Durable.{GoesSoundly, HeldSafely, IsSound, IsSoundOn, LeavesSafe}
+use Rattle.live.specs.Mounting.{IsMountable}
+
+-- ---- what a loss of power leaves
+
+pub leaves_safe : (m : Medium) (geo : Geometry) (queue : Queued) (held safe : ℕ → Bool) → IsSound m geo queue held safe → LeavesSafe geo safe m
+leaves_safe m geo queue held safe s left may =
+    let on = s.on in
+    let epoch = subst (λ x. IsEpoch x (image_view x m.durable) (unsynced_of queue) on.puts) s.geometry on.epoch in
+    let shown = left_safely geo m (unsynced_of queue) (image_view geo (image_of m)) (pending_of queue) held safe s.durably on.puts epoch on.writes on.within left may in (
+      record {
+        is_image = subst (λ x. IsImage x left) s.geometry (left_frames queue.geometry m left on.image on.frames may);
+        obeys = subst (ObeysRules geo) (sym shown.since) shown.safe_image.rules;
+      },
+      λ f t. subst (λ v. IsReachable geo v f) (sym shown.since) (shown.safe_image.files f t),
+    )
+
+-- ---- writes, and the word of the device
+
+module _ (m : Medium) (geo : Geometry) (queue : Queued) (held safe : ℕ → Bool) (s : IsSound m geo queue held safe)
+    (queue' : Queued) (m' : Medium) (put : HasPut queue queue') (on' : IsOnMedium s.mounted queue' m') where
+  abbrev us : List Pending
+  us = updates queue.written
+
+  abbrev D : View
+  D = image_view geo m.durable
+
+  abbrev D' : View
+  D' = image_view geo m'.durable
+
+  abbrev U : List Pending
+  U = unsynced_of queue
+
+  geometry' : queue'.geometry ≡ geo
+  geometry' = put.geometry ∙ s.geometry
+
+  closed' : AreClosed queue'
+  closed' = record {
+    durable = subst (λ h. IsClosed (updates h) queue'.durable) (sym put.written)
+        (subst (IsClosed (updates queue.written)) (sym put.durable) (joined_closed (updates queue.written) queue.durable put.synced s.closed.durable put.synced_closed));
+    loose = subst (IsClosed (unsynced_of queue')) on'.loose (together_closed queue'.geometry (image_view queue'.geometry m'.durable) (unsynced_of queue') on'.puts on'.epoch);
+  }
+
+  was : image_view geo m.durable ≡ seen s.mounted (updates queue.written) queue.durable
+  was = subst (λ x. image_view x m.durable ≡ seen s.mounted (updates queue.written) queue.durable) s.geometry s.on.durable
+
+  is : image_view geo m'.durable ≡ seen (image_view geo m.durable) (unsynced_of queue) put.synced
+  is = subst (λ x. image_view x m'.durable ≡ seen s.mounted (updates queue'.written) queue'.durable) geometry' on'.durable
+      ∙ ap₂ (λ h c. seen s.mounted (updates h) c) put.written put.durable ∙ joined_seen s.mounted us queue.durable put.synced s.closed.durable put.synced_closed
+      ∙ ap (λ v. seen v U put.synced) (sym was)
+
+  left : unsynced_of queue' ≡ rest (unsynced_of queue) put.synced
+  left = ap₂ (λ h c. rest (updates h) c) put.written put.durable ∙ joined_rest us queue.durable put.synced s.closed.durable put.synced_closed
+
+  answers' : image_view geo (image_of m') ≡ seen (image_view geo m'.durable) (unsynced_of queue') queue'.loose
+  answers' = subst (λ x. image_view x (image_of m') ≡ seen (image_view x m'.durable) (unsynced_of queue') queue'.loose) geometry' (answers_view s.mounted queue' m' on')
+
+  durably' : IsDurably geo (image_view geo m'.durable) (unsynced_of queue') (image_view geo (image_of m')) (pending_of queue') held safe
+  durably' =
+      let d = s.durably in
+      let next = stepped geo D U held safe d.mount d.history d.cut d.moment (seen D U put.synced) (rest U put.synced) held safe (seen D U put.synced ∷ []) (Puts put.synced Begins put.synced_closed) in
+      record {
+        mount = d.mount;
+        history = next.0;
+        cut = next.1;
+        moment = subst (λ v. IsMoment geo d.mount next.0 next.1 (at_rest held safe) v (unsynced_of queue')) (sym is) (subst (IsMoment geo d.mount next.0 next.1 (at_rest held safe) (seen D U put.synced)) (sym left) next.2);
+        loose = queue'.loose;
+        closed = closed'.loose;
+        answers = answers';
+        pending = pending_rest queue' closed';
+      }
+
+  users' : users_view (image_view geo (image_of m')) (pending_of queue') ≡ users_view (image_view geo (image_of m)) (pending_of queue)
+  users' =
+      sym (users_same geo (image_view geo m'.durable) (unsynced_of queue') (image_view geo (image_of m')) (pending_of queue') held safe durably')
+      ∙ ap₂ users_view is left ∙ users_flushed D U put.synced put.synced_closed
+      ∙ users_same geo D U (image_view geo (image_of m)) (pending_of queue) held safe s.durably
+
+  pub put_sound : IsSound m' geo queue' held safe
+  put_sound = record {
+    geometry = geometry';
+    closed = closed';
+    durably = durably';
+    files = λ f t. ap (λ (v : View). (v.inode f).mode) users' ∙ s.files f t;
+    mounted = s.mounted;
+    on = on';
+  }
+
+-- each medium since leaves what is safe
+pub held_safe : (m : Medium) (geo : Geometry) (queue : Queued) (held safe : ℕ → Bool) (s : IsSound m geo queue held safe) (more : List Medium) → All (IsMediumOf s.mounted queue) more
+    → All (LeavesSafe geo safe) more
+held_safe m geo queue held safe s more each =
+    λ k d low. let one = each k d low in
+    leaves_safe _ geo one.queue held safe (put_sound m geo queue held safe s one.queue _ one.put one.on)
+
+-- ---- a volume goes on
+
+pub held_nothing : (geo : Geometry) (held held' : Held) (safe : ℕ → Bool) → held'.media ≡ held.media → HeldSafely geo held held' safe
+held_nothing geo held held' safe same = record { more = []; media = same ∙ sym (append-nil held.media); each = All-nil (LeavesSafe geo safe) }
+
+module _ {D : Type 0} where
+  pub goes_then : (held held1 held2 : Held) (old mid new : Alive D) (safe safe1 safe2 : ℕ → Bool) → GoesSoundly held old held1 mid safe safe1 → GoesSoundly held1 mid held2 new safe1 safe2 → GoesSoundly held old held2 new safe safe2
+  goes_then held held1 held2 old mid new safe safe1 safe2 first later = record {
+    geometry = later.geometry ∙ first.geometry;
+    fewer = λ f t. first.fewer f (later.fewer f t);
+    sound = λ s.
+        let one = first.sound s in
+        let two = later.sound one.0 in
+        let geo = old.kept.geometry in
+        let behind : HeldSafely geo held1 held2 safe2 = subst (λ x. HeldSafely x held1 held2 safe2) first.geometry two.1 in (
+          two.0,
+          record {
+            more = one.1.more ++ behind.more;
+            media = behind.media ∙ ap (λ l. l ++ behind.more) one.1.media ∙ append_assoc held.media one.1.more behind.more;
+            each = All-append (LeavesSafe geo safe2) one.1.more behind.more (λ k d low image may. let was = one.1.each k d low image may in (was.0, λ f t. was.1 f (later.fewer f t))) behind.each;
+          },
+        );
+  }
+
+  -- nothing changed
+  pub goes_still : (held held' : Held) (old new : Alive D) → held' ≡ held → new.queue ≡ old.queue → new.kept.geometry ≡ old.kept.geometry → held_by new.holdings ≡ held_by old.holdings → (safe : ℕ → Bool) → GoesSoundly held old held' new safe safe
+  goes_still held held' old new same queue geometry holds safe = record {
+    geometry = geometry;
+    fewer = λ f t. t;
+    sound = λ s. (
+      subst (λ (h : Held). IsSound h.now new.kept.geometry new.queue (held_by new.holdings) safe) (sym same)
+          (subst (λ x. IsSound held.now x new.queue (held_by new.holdings) safe) (sym geometry)
+          (subst (λ w. IsSound held.now old.kept.geometry w (held_by new.holdings) safe) (sym queue) (subst (λ b. IsSound held.now old.kept.geometry old.queue b safe) (sym holds) s))),
+      held_nothing old.kept.geometry held held' safe (ap (λ (h : Held). h.media) same),
+    );
+  }
+
+  -- writes, and the word of the device
+  goes_put : (held held' : Held) (old new : Alive D) → new.kept.geometry ≡ old.kept.geometry → held_by new.holdings ≡ held_by old.holdings → (safe : ℕ → Bool)
+      → ((s : IsSoundOn held.now old safe) → HasPut old.queue new.queue × IsOnMedium s.mounted new.queue held'.now × HasHeld s.mounted old.queue held held') → GoesSoundly held old held' new safe safe
+  goes_put held held' old new geometry holds safe done = record {
+    geometry = geometry;
+    fewer = λ f t. t;
+    sound = λ s.
+        let now = done s in
+        let geo = old.kept.geometry in (
+          subst (λ x. IsSound held'.now x new.queue (held_by new.holdings) safe) (sym geometry)
+              (subst (λ b. IsSound held'.now geo new.queue b safe) (sym holds) (put_sound held.now geo old.queue (held_by old.holdings) safe s new.queue held'.now now.0 now.1)),
+          record { more = now.2.more; media = now.2.media; each = held_safe held.now geo old.queue (held_by old.holdings) safe s now.2.more now.2.each },
+        );
+  }
+
+  pub goes_synced : (held held' : Held) (old new : Alive D) → new.kept ≡ old.kept → new.holdings ≡ old.holdings → HasPut old.queue new.queue
+      → ((mounted : View) → IsOnMedium mounted old.queue held.now → IsOnMedium mounted new.queue held'.now) → ((mounted : View) → IsOnMedium mounted old.queue held.now → HasHeld mounted old.queue held held')
+      → (safe : ℕ → Bool) → GoesSoundly held old held' new safe safe
+  goes_synced held held' old new kept holdings put medium more safe =
+      goes_put held held' old new (ap (λ (k : Kept). k.geometry) kept) (ap held_by holdings) safe (λ s. (put, medium s.mounted s.on, more s.mounted s.on))
+
+  pub goes_flushed : (held held' : Held) (old new : Alive D) → new.kept ≡ old.kept → new.holdings ≡ old.holdings → (order : Bool) (a count : ℕ) → new.queue ≡ after_flush order old.queue a
+      → (count ≡ 0 → held'.media ≡ held.media) → (0 < count → (block : List ℕ) × (held' ≡ wrote order held a block)) → ((mounted : View) → IsOnMedium mounted old.queue held.now → IsOnMedium mounted new.queue held'.now)
+      → (safe : ℕ → Bool) → GoesSoundly held old held' new safe safe
+  goes_flushed held held' old new kept holdings order a count flushed still wrote_on medium safe =
+      goes_put held held' old new (ap (λ (k : Kept). k.geometry) kept) (ap held_by holdings) safe (λ s.
+      let put = subst (HasPut old.queue) (sym flushed) (put_after order old.queue s.closed a) in
+      let on = medium s.mounted s.on in (
+        put,
+        on,
+        elim (cases_eq count 0) [
+          | inl zero ↦ held_same s.mounted old.queue held held held' (put_held_nothing s.mounted old.queue held) (still zero)
+          | inr some ↦
+              let w = wrote_on (omega (arith, some)) in
+              held_more s.mounted old.queue held held held' order a w.0 (put_held_nothing s.mounted old.queue held) w.1 (record { queue = new.queue; put = put; on = on })
+        ],
+      ))
+
+-- ---- where a volume begins
+
+pub fresh_sound : (m : Medium) (geo : Geometry) (queue : Queued) (held safe : ℕ → Bool) → queue ≡ fresh_queue geo → IsMountable geo (image_of m) → m.loose ≡ []
+    → ((f : ℕ) → IsTrue (safe f) → IsReachable geo (image_view geo (image_of m)) f × (((image_view geo (image_of m)).inode f).mode ≡ 1)) → IsSound m geo queue held safe
+fresh_sound m geo queue held safe fresh mounts none files =
+    let disk = image_view geo (image_of m) in
+    let same : m.durable ≡ image_of m = sym (ap (image_after m.durable) none) in
+    subst (λ w. IsSound m geo w held safe) (sym fresh) (record {
+      geometry = refl;
+      closed = record { durable = tt; loose = tt };
+      durably = subst (λ i. IsDurably geo (image_view geo i) [] disk [] held safe) (sym same) (answered geo disk [] [] disk [] held safe (mount_moment geo disk held safe mounts.obeys (λ f t. (files f t).0)));
+      files = λ f t. (files f t).1;
+      mounted = image_view geo m.durable;
+      on = record {
+        image = subst (IsImage geo) (sym same) mounts.is_image;
+        frames = subst (All (KeepsFrame geo)) (sym none) (All-nil (KeepsFrame geo));
+        durable = refl;
+        puts = [];
+        epoch = tt;
+        writes = none;
+        within = tt;
+        loose = refl;
+      };
+    })

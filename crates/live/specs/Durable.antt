@@ -1,0 +1,54 @@
+-- What is durable of a mounted volume on the medium of its device, and what a loss of power leaves there.
+use Rattle.std.specs.Prelude.{◌≡◌, ℕ, Bool, List, ◌++◌, All, IsTrue}
+use Rattle.model.specs.Image.{image_view}
+use Rattle.model.specs.Layout.{Geometry}
+use Rattle.model.specs.Reach.{IsReachable}
+use Rattle.model.specs.View.{View}
+use Rattle.device.specs.Media.{Held, MayBeLeft, Medium, image_of}
+use Rattle.ordering.specs.Cuts.{users_view}
+use Rattle.machine.specs.Command.{Command}
+use Rattle.cut_courses.specs.Durably.{IsDurably}
+use Rattle.softdep.specs.Queued.{Queued, AreClosed, unsynced_of, pending_of}
+use Rattle.softdep.specs.OnMedium.{IsOnMedium}
+use Rattle.live_states.specs.Holdings.{held_by}
+use Rattle.live_states.specs.Planned.{safe_after}
+use Rattle.live.specs.Alive.{Alive}
+use Rattle.live.specs.Mounting.{IsMountable}
+use Rattle.live.specs.Seen.{seen_of}
+
+-- A volume is sound on a medium: what is durable there, and what is not durable over it, are a good moment, of which these files are safe, and are files; and the medium holds what its queue was given.
+pub record IsSound (m : Medium) (geo : Geometry) (queue : Queued) (held safe : ℕ → Bool) : Type 0 where
+  pub geometry : queue.geometry ≡ geo
+  pub closed : AreClosed queue
+  pub durably : IsDurably geo (image_view geo m.durable) (unsynced_of queue) (image_view geo (image_of m)) (pending_of queue) held safe
+  pub files : (f : ℕ) → IsTrue (safe f) → ((users_view (image_view geo (image_of m)) (pending_of queue)).inode f).mode ≡ 1
+  pub mounted : View
+  pub on : IsOnMedium mounted queue m
+
+abbrev pub IsSoundOn : {D : Type 0} → Medium → Alive D → (ℕ → Bool) → Type 0
+IsSoundOn m live safe = IsSound m live.kept.geometry live.queue (held_by live.holdings) safe
+
+-- Whatever a loss of power leaves of a medium can be mounted, and reaches these files.
+abbrev pub LeavesSafe : Geometry → (ℕ → Bool) → Medium → Type 0
+LeavesSafe geo safe m = (image : List (List ℕ)) → MayBeLeft m image → IsMountable geo image × ((f : ℕ) → IsTrue (safe f) → IsReachable geo (image_view geo image) f)
+
+-- each medium that a device had since leaves what is safe
+pub record HeldSafely (geo : Geometry) (held held' : Held) (safe : ℕ → Bool) : Type 0 where
+  pub more : List Medium
+  pub media : held'.media ≡ held.media ++ more
+  pub each : All (LeavesSafe geo safe) more
+
+-- Where a volume was sound on the medium of its device it is so then, no file more is safe, and each medium that the device had since leaves what is safe then.
+pub record GoesSoundly {D : Type 0} (held : Held) (old : Alive D) (held' : Held) (new : Alive D) (safe safe' : ℕ → Bool) : Type 0 where
+  pub geometry : new.kept.geometry ≡ old.kept.geometry
+  pub fewer : (f : ℕ) → IsTrue (safe' f) → IsTrue (safe f)
+  pub sound : IsSoundOn held.now old safe → IsSoundOn held'.now new safe' × HeldSafely old.kept.geometry held held' safe'
+
+-- whichever files are safe, they stay so
+abbrev pub StaysSound : {D : Type 0} → (D → Held) → Alive D → Alive D → Type 0
+StaysSound held_of old new = (safe : ℕ → Bool) → GoesSoundly (held_of old.device) old (held_of new.device) new safe safe
+
+-- and after a command, but for the file of which it took a name
+abbrev pub StaysSoundAfter : {D : Type 0} → (D → Held) → (D → List (List ℕ)) → Alive D → Command → Alive D → Type 0
+StaysSoundAfter held_of image_of old command new =
+    (safe : ℕ → Bool) → GoesSoundly (held_of old.device) old (held_of new.device) new safe (safe_after old.kept.geometry (seen_of image_of old) command safe)
