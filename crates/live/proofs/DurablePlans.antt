@@ -210,7 +210,7 @@ goes_released held image answers old new geometry keeps volume0 none_pending non
       (subst (λ b. IsMoment geo d.mount service.lived.h' service.lived.cut' (at_rest b safe) disk left) holds' service.lived.moment)) in (
         subst (λ x. IsSound m x new.queue (held_by new.holdings) safe) (sym geometry)
             (issued_sound m geo old.queue (held_by old.holdings) (held_by new.holdings) safe safe s new.queue (map written us) queue service.lived.h' service.lived.cut' now
-            (λ f t. ap (λ (v : View). (v.inode f).mode) (ap₂ users_view same unsynced') ∙ service.stands.files f t)),
+            (λ f t. ap (λ (v : View). (v.inode f).mode) (ap₂ users_view same unsynced' ∙ service.stands.same) ∙ service.stands.files f t)),
         held_nothing geo held held safe refl,
       );
 }

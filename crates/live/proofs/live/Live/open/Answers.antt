@@ -1,4 +1,4 @@
-use Rattle.std.proofs.Common.{Bool, false, List, [], inr, refl, sym, ap, subst, slice_index_or}
+use Rattle.std.proofs.Common.{ℕ, Bool, false, List, [], inr, refl, sym, ap, subst, slice_index_or}
 use Rattle.std.proofs.lemmas.Result.{err_from_is_err_and}
 use Rattle.model.specs.Image.{image_view}
 use Rattle.ordering.specs.Cuts.{users_view}
@@ -52,4 +52,4 @@ returns-clause-sound g c = λ safe.
     let before : Alive _ = record { device = device; queue = c.self.inside.queue; kept = c.self.inside.metadata; holdings = c.self.inside.holdings } in
     let new : Alive _ = record { device = device; queue = c.self.inside.queue; kept = c.self.inside.metadata; holdings = c.open.new.self } in
     subst (λ (l : Alive _). GoesSoundly (g.D.Device.held l.device) l (g.D.Device.held device) new safe safe) c.self.view_is
-    (goes_still (g.D.Device.held device) (g.D.Device.held device) before new refl refl refl (ap (λ (l : List Bool) a. slice_index_or l a false) c.in_ok-open.ensures.opened.held) safe)
+    (goes_still (g.D.Device.held device) (g.D.Device.held device) before new refl refl refl (ap {B = ℕ → Bool} (λ (l : List Bool). λ a. slice_index_or l a false) c.in_ok-open.ensures.opened.held) safe)
