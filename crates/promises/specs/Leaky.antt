@@ -1,5 +1,6 @@
 -- What a stop leaves at worst.
 use Rattle.std.specs.Prelude.{ℕ, List}
+use Rattle.device.specs.Media.{MayBeLeft, Medium}
 use Rattle.findings.specs.Findings.{AllSoft}
 use Rattle.machine.specs.Balance.{Exact, OwesNothing}
 use Rattle.machine.specs.Command.{Command, Reply}
@@ -15,3 +16,7 @@ pub record IsOnlyLeaky (geo : Geometry) (image : List (List ℕ)) : Type 0 where
   pub mounts : IsMountable geo image
   pub soft : AllSoft geo (image_view geo image)
   pub mended : (commands : List Command) (replies : List Reply) (new : State) → Run geo (mounted (image_view geo image)) commands replies new → HasCycle geo commands replies → OwesNothing geo new × Exact geo new
+
+-- Whatever a loss of power leaves of a medium is only leaky.
+abbrev pub LeavesLeaky : Geometry → Medium → Type 0
+LeavesLeaky geo m = (image : List (List ℕ)) → MayBeLeft m image → IsOnlyLeaky geo image

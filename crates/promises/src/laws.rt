@@ -1,5 +1,5 @@
 //! The three promises.
-ghost use Rattle.std.specs.Prelude.{◌≡◌, ◌++◌, ℕ, List};
+ghost use Rattle.std.specs.Prelude.{◌≡◌, ◌++◌, ℕ, false, List};
 ghost use Rattle.std.specs.List.{All};
 ghost use Rattle.findings.specs.Findings.{AreFindings};
 ghost use Rattle.findings.specs.Report.{repairs_of, report_of};
@@ -9,14 +9,15 @@ ghost use Rattle.machine.specs.Balance.{Exact, OwesNothing};
 ghost use Rattle.machine.specs.Command.{Command, Reply};
 ghost use Rattle.model.specs.Layout.{Geometry};
 ghost use Rattle.model.specs.View.{View};
-ghost use Rattle.device.specs.Media.{images_held};
+ghost use Rattle.device.specs.Media.{Medium, images_held};
 ghost use Rattle.snapshot.specs.Alive.{Alive};
 ghost use Rattle.snapshot.specs.Cycles.{HasCycle};
+ghost use Rattle.snapshot.specs.Durable.{IsSoundOn};
 ghost use Rattle.snapshot.specs.Stages.{LeadsTo, Stage, StandsAt, geometry_at, state_at};
 ghost use Rattle.shared.specs.Traces.{HasHistory, asked_by, now_at};
 ghost use Rattle.shared.specs.declared.counts.Counts.{Counts};
 ghost use Rattle.shared.specs.declared.entry.Entry.{Entry};
-ghost use Rattle.promises.specs.Leaky.{IsOnlyLeaky};
+ghost use Rattle.promises.specs.Leaky.{IsOnlyLeaky, LeavesLeaky};
 
 use device::Device;
 use shared::Sharing;
@@ -37,6 +38,20 @@ pub fn every_stop_is_only_leaky<D: Device>()
         → (more : List (List (List ℕ))) × (images_held t.held ≡ images_held s.held ++ more) × All (IsOnlyLeaky (geometry_at s)) more }
 {
     snapshot::each_image_held_is_mountable::<D>();
+    findings::rules_hold_where_findings_are_soft();
+    machine::checks_carried_out_end_exact();
+}
+
+/// Whatever a loss of power leaves is only leaky, on a device whose writes are not durable at once too: of the medium on which a
+/// volume is sound, as it is just mounted, and of each medium that the device had since, whatever calls were made.
+pub fn every_power_cut_is_only_leaky<D: Device>()
+    ensures { (s t : Stage D) (commands : List Command) (replies : List Reply) → StandsAt s → LeadsTo s commands replies t
+        → IsSoundOn s.held.now s.volume (λ f. false)
+        → LeavesLeaky (geometry_at s) s.held.now
+        × (more : List Medium) × (t.held.media ≡ s.held.media ++ more) × All (LeavesLeaky (geometry_at s)) more }
+{
+    snapshot::volumes_begin::<D>();
+    snapshot::each_power_cut_of_a_run_is_safe::<D>();
     findings::rules_hold_where_findings_are_soft();
     machine::checks_carried_out_end_exact();
 }

@@ -96,6 +96,7 @@ module _ {D : Type 0} (held held' : Held) (image image' : List (List ℕ)) (old 
         let s = goes.service mount h cut safe begin in (
           s.0,
           service_refused old.kept.geometry (disk_of image old) (pending_of old.queue) (state_of image old beside) safe (disk_of image' new) (pending_of new.queue) (state_of image' new beside') s.0 command response goes.later c s.1,
+          s.2,
         );
   }
 

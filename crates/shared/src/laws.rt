@@ -7,9 +7,10 @@ ghost use Rattle.machine.specs.Balance.{Balance, Exact, OwesNothing};
 ghost use Rattle.machine.specs.Step.{Run};
 ghost use Rattle.queue_model.specs.Files.{Written};
 ghost use Rattle.snapshot.specs.Alive.{Alive};
+ghost use Rattle.snapshot.specs.Durable.{HeldSafely, IsSoundOn};
 ghost use Rattle.snapshot.specs.Mounting.{IsMountable};
 ghost use Rattle.snapshot.specs.Cycles.{HasCycle};
-ghost use Rattle.snapshot.specs.Stages.{BeginsAt, LeadsTo, state_at};
+ghost use Rattle.snapshot.specs.Stages.{BeginsAt, LeadsTo, ServesTo, state_at};
 ghost use Rattle.shared.specs.Traces.{HasHistory, HasOpening, IsSafeTrace, asked_by, first_at, now_at, opening_at};
 ghost use Rattle.shared.specs.declared.counts.Counts.{Counts};
 ghost use Rattle.shared.specs.declared.entry.Entry.{Entry};
@@ -74,4 +75,17 @@ pub fn each_stop_of_a_trace_is_safe<D: Device>()
 {
     snapshot::volumes_begin::<D>();
     snapshot::each_stop_of_a_run_is_safe::<D>();
+}
+
+/// Whatever the threads did and in whatever order, where the volume was sound on the medium of its device when the trace began it is
+/// so now, and whatever a loss of power leaves of each medium since can be mounted, and reaches each file that no stop was to lose
+/// and of which no unlink among the calls of the trace took a name.
+pub fn each_power_cut_of_a_trace_is_safe<D: Device>()
+    ensures { (held : Held) (image : List (List ℕ)) (trace : List Entry) (now : Alive D) → (o : HasOpening held image trace now)
+        → (mount : View) (h : List Written) (cut : List Bool) (safe : ℕ → Bool) → BeginsAt (opening_at o) mount h cut safe
+        → IsSoundOn o.opening_held.now o.opening safe
+        → (later : List View) × (safe' : ℕ → Bool) × ServesTo (opening_at o) safe (asked_by o.opening.kept.geometry trace) o.responses (now_at o) safe' later
+        × IsSoundOn held.now now safe' × HeldSafely o.opening.kept.geometry o.opening_held held safe' }
+{
+    snapshot::each_power_cut_of_a_run_is_safe::<D>();
 }

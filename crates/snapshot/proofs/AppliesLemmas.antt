@@ -18,6 +18,7 @@ use Rattle.snapshot.specs.declared.answer.Answer.TheVariants.{Done}
 use Rattle.snapshot.specs.declared.command.Command.{Command}
 use Rattle.snapshot.specs.Asked.{IsReply, StandsFor, asked}
 use Rattle.snapshot.specs.Goes.{Applies, Freezes, Goes, IsBeside, Releases, Replies, Runs}
+use Rattle.live.proofs.Durably.{goes_still}
 use Rattle.snapshot.proofs.Going.{held_nothing}
 use Rattle.snapshot.proofs.Joining.{joined}
 
@@ -125,7 +126,7 @@ module _ {D : Type 0} (held : Held) (image : List (List ℕ)) (live : Alive D) w
     run = refl;
     later = [];
     since = held_nothing live.kept.geometry held held refl;
-    service = λ mount h cut safe begin. (safe, Starts);
+    service = λ mount h cut safe begin. (safe, Starts, goes_still held held live live refl refl refl refl safe);
   }
 
   pub runs_none : (items : List Command) (replies : List (Result Answer Refusal)) → replies ≡ [] → Runs held image live (map (asked live.kept.geometry) (take 0 items)) replies held image live

@@ -13,13 +13,13 @@ use Rattle.softdep.specs.Syncing.{AreWrites}
 use Rattle.live_states.specs.Holdings.{Beside, Holdings}
 use Rattle.live.specs.Alive.{Alive, Answers, StandsSo, state_of}
 use Rattle.snapshot.specs.declared.answer.Answer.{Answer}
-use Rattle.snapshot.specs.Goes.{Applies, Goes, HasBeside, IsBeside, Replies}
+use Rattle.snapshot.specs.Goes.{Applies, Goes, GoesSafely, HasBeside, IsBeside, Replies, StaysSafe}
 use Rattle.snapshot.specs.Replied.{Replied}
 use Rattle.snapshot.proofs.Going.{answered, flushed, flushed_state, held_nothing, refused}
 use Rattle.snapshot.proofs.Joining.{joined}
 
 module _ {D : Type 0} (held held' : Held) (image image' : List (List ℕ)) (old new : Alive D) (so : StandsSo image' new)
-    (flushes : AreWrites old.kept.geometry image held (pending_of old.queue) image' held' (pending_of new.queue)) (kept : new.kept ≡ old.kept) (holdings : new.holdings ≡ old.holdings) where
+    (flushes : AreWrites old.kept.geometry image held (pending_of old.queue) image' held' (pending_of new.queue)) (kept : new.kept ≡ old.kept) (holdings : new.holdings ≡ old.holdings) (sound : StaysSafe held old held' new) where
   -- the volume with what it keeps and has as before
   abbrev Mid : Kept → Holdings → Alive D
   Mid k h = record { device = new.device; queue = new.queue; kept = k; holdings = h }
@@ -32,8 +32,11 @@ module _ {D : Type 0} (held held' : Held) (image image' : List (List ℕ)) (old 
     so' : StandsSo image' (Mid old.kept old.holdings)
     so' = subst (λ k. StandsSo image' (Mid k old.holdings)) kept (subst (λ h. StandsSo image' (Mid new.kept h)) holdings so)
 
+    sound' : StaysSafe held old held' (Mid old.kept old.holdings)
+    sound' = subst (λ k. StaysSafe held old held' (Mid k old.holdings)) kept (subst (λ h. StaysSafe held old held' (Mid new.kept h)) holdings sound)
+
     flushed_first : Goes beside held image old [] [] beside held' image' (Mid old.kept old.holdings)
-    flushed_first = flushed held held' image image' old beside is new.queue flushes new.device so'
+    flushed_first = flushed held held' image image' old beside is new.queue flushes new.device so' sound'
 
     then_refused : Refuses (Mid old.kept old.holdings)
     then_refused =
@@ -50,8 +53,8 @@ module _ {D : Type 0} (held held' : Held) (image image' : List (List ℕ)) (old 
 
 module _ {D : Type 0} (held held' : Held) (image image' : List (List ℕ)) (old new : Alive D) (so : StandsSo image' new) where
   pub applies : (command : Request) (reply : Result Answer Refusal) → Replied held image old command reply held' image' new → Applies held image old command reply held' image' new
-  applies command (Ok given) r beside is = (beside, Ok r.answer, r.stands_for, answered held held' image image' old new beside command r.answer r.later r.since r.answers so is)
-  applies command (Err e) r beside is = (beside, Err e, refl, refused_after held held' image image' old new so r.flushes r.kept r.holdings beside is command e (r.refuses beside is.belongs).0)
+  applies command (Ok given) r beside is = (beside, Ok r.answer, r.stands_for, answered held held' image image' old new beside command r.answer r.later r.since r.answers r.sound so is)
+  applies command (Err e) r beside is = (beside, Err e, refl, refused_after held held' image image' old new so r.flushes r.kept r.holdings r.sound beside is command e (r.refuses beside is.belongs).0)
 
 pub beside_kept : {D : Type 0} (held held' : Held) (image image' : List (List ℕ)) (old new : Alive D) (command : Request) (reply : Result Answer Refusal)
     → HasBeside image old → Applies held image old command reply held' image' new → HasBeside image' new
@@ -63,6 +66,10 @@ pub on_ok : {T E : Type 0} {P Q : Type 0} → (P → Q) → (r : Result T E) →
 on_ok f (Ok t) p = f p
 on_ok f (Err e) p = p
 
+pub on_ok₂ : {T E : Type 0} {P P' Q : Type 0} → (P → P' → Q) → (r : Result T E) → OnOk r P → OnOk r P' → OnOk r Q
+on_ok₂ f (Ok t) p q = f p q
+on_ok₂ f (Err e) p q = p
+
 pub if_err : {T E : Type 0} {P Q : E → Type 0} {U : Type 0} → ((e : E) → P e → U → Q e) → (r : Result T E) → IfErr r P → OnErr r U → IfErr r Q
 if_err f (Ok t) p u = p
 if_err f (Err e) p u = f e p u
@@ -73,10 +80,10 @@ module _ {D : Type 0} (honest : D → Type 0) (held_of : D → Held) (image_of :
 
   -- the device is as it was
   pub quiet_ok : (command : Request) (answer : Answered) → new.device ≡ old.device → (honest new.device → StandsSo (image_of new.device) new)
-      → (honest old.device → Answers (image_of old.device) old command answer (image_of new.device) new []) → honest new.device → Replying command (Ok answer)
-  quiet_ok command answer same so done h beside is =
+      → (honest old.device → Answers (image_of old.device) old command answer (image_of new.device) new []) → (honest old.device → GoesSafely (held_of old.device) (image_of old.device) old command (held_of new.device) new) → honest new.device → Replying command (Ok answer)
+  quiet_ok command answer same so done sound h beside is =
       answered (held_of old.device) (held_of new.device) (image_of old.device) (image_of new.device) old new beside command answer []
-      (held_nothing old.kept.geometry (held_of old.device) (held_of new.device) (ap held_of same)) (done (subst honest same h)) (so h) is
+      (held_nothing old.kept.geometry (held_of old.device) (held_of new.device) (ap held_of same)) (done (subst honest same h)) (sound (subst honest same h)) (so h) is
 
   -- nothing changed
   pub same_err : (command : Request) (r : Refusal) → new ≡ old → ((beside : Beside) → IsBeside (image_of old.device) old beside → (r ≡ NoMemory) ⊎ ((r ≡ Device) ⊎ FirstRefusal old.kept.geometry (state_of (image_of old.device) old beside) command r))

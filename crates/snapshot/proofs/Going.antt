@@ -28,7 +28,8 @@ use Rattle.live_states.specs.Planned.{safe_after}
 use Rattle.live_states.specs.Volume.{state_over}
 use Rattle.live.specs.Alive.{Alive, Answers, MayRefuse, StandsSo, disk_of, state_of}
 use Rattle.live.specs.Held.{HeldMore}
-use Rattle.snapshot.specs.Goes.{Goes, IsBeside}
+use Rattle.live.proofs.Durably.{goes_still}
+use Rattle.snapshot.specs.Goes.{Goes, GoesSafely, IsBeside, StaysSafe}
 use Rattle.courses.proofs.Serving.{one_before}
 
 -- ---- what stands beside a volume
@@ -75,9 +76,9 @@ held_nothing geo held held' e = record { more = []; held_now = ap images_held e 
 -- ---- a command that is carried out
 
 module _ {D : Type 0} (held held' : Held) (image image' : List (List ℕ)) (old new : Alive D) (beside : Beside) where
-  pub answered : (command : Command) (answer : Answer) (later : List View) → HeldMore old.kept.geometry held held' later → Answers image old command answer image' new later → StandsSo image' new → IsBeside image old beside
+  pub answered : (command : Command) (answer : Answer) (later : List View) → HeldMore old.kept.geometry held held' later → Answers image old command answer image' new later → GoesSafely held image old command held' new → StandsSo image' new → IsBeside image old beside
       → Goes beside held image old (command ∷ []) (Ok answer ∷ []) beside held' image' new
-  answered command answer later since answers so is =
+  answered command answer later since answers sound so is =
       let a = answers beside is.belongs in
       let step = a.step is.stands in
       let geo = old.kept.geometry in
@@ -96,6 +97,7 @@ module _ {D : Type 0} (held held' : Held) (image image' : List (List ℕ)) (old 
               safe',
               subst (λ images. Service geo disk q s safe (disk_of image' new) (pending_of new.queue) t safe' (command ∷ []) (Ok answer ∷ []) images) (append-nil later)
                   (CarriesOut command answer (disk_of image' new) (pending_of new.queue) t safe' later Starts step.0 (a.serves safe begin.stands)),
+              sound safe,
             );
       }
 
@@ -110,7 +112,7 @@ module _ {D : Type 0} (held held' : Held) (image : List (List ℕ)) (old : Alive
     run = (state_of image old beside, step, refl);
     later = [];
     since = held_nothing old.kept.geometry held held' same_held;
-    service = λ mount h cut safe begin. (safe, Refuses command r Starts step);
+    service = λ mount h cut safe begin. (safe, Refuses command r Starts step, goes_still held held' old (record { device = device; queue = old.queue; kept = old.kept; holdings = old.holdings }) same_held refl refl refl safe);
   }
 
   pub refused : (image' : List (List ℕ)) (new : Alive D) (command : Command) (r : Refusal) → image' ≡ image → new.queue ≡ old.queue → new.kept ≡ old.kept → new.holdings ≡ old.holdings
@@ -143,7 +145,7 @@ module _ {D : Type 0} (held held' : Held) (image : List (List ℕ)) (old : Alive
         run = (s, step, refl);
         later = [];
         since = held_nothing geo held held' same_held;
-        service = λ mount h cut safe begin. (safe, CarriesOut command answer disk q s safe [] Starts step.0 (Quietly command answer s quiet step.1));
+        service = λ mount h cut safe begin. (safe, CarriesOut command answer disk q s safe [] Starts step.0 (Quietly command answer s quiet step.1), goes_still held held' old (record { device = device; queue = old.queue; kept = old.kept; holdings = old.holdings }) same_held refl refl refl safe);
       }
 
   pub quietly : (image' : List (List ℕ)) (new : Alive D) (command : Command) (answer : Answer) → image' ≡ image → new.queue ≡ old.queue → new.kept ≡ old.kept → new.holdings ≡ old.holdings
@@ -190,9 +192,9 @@ module _ {D : Type 0} (held held' : Held) (image image' : List (List ℕ)) (old 
   flushed_state holdings =
       ap (λ (view : View). record (state_over disk (pending_of old.queue) holdings beside) { view = view }) (wrote_users (home_of geo) disk (pending_of old.queue) flushes.blocks (map (image_view geo) flushes.more) (image_view geo image') (pending_of queue) flushes.writes)
 
-  pub flushed : (device : D) → StandsSo image' (record { device = device; queue = queue; kept = old.kept; holdings = old.holdings })
+  pub flushed : (device : D) → StandsSo image' (record { device = device; queue = queue; kept = old.kept; holdings = old.holdings }) → StaysSafe held old held' (record { device = device; queue = queue; kept = old.kept; holdings = old.holdings })
       → Goes beside held image old [] [] beside held' image' (record { device = device; queue = queue; kept = old.kept; holdings = old.holdings })
-  flushed device so =
+  flushed device so sound =
       let new : Alive D = record { device = device; queue = queue; kept = old.kept; holdings = old.holdings } in
       let s = state_of image old beside in
       let q = pending_of old.queue in
@@ -208,5 +210,6 @@ module _ {D : Type 0} (held held' : Held) (image image' : List (List ℕ)) (old 
               (subst (λ xs. Service geo disk q s safe (image_view geo image') (pending_of queue) s safe [] [] xs)
               (append-nil images)
               (wrote_service geo disk q s safe disk q flushes.blocks (map (image_view geo) flushes.more) [] (image_view geo image') (pending_of queue) flushes.writes Starts)),
+          sound safe,
         );
       }

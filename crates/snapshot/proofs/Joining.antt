@@ -18,6 +18,8 @@ use Rattle.live_states.specs.Holdings.{Beside}
 use Rattle.live_states.specs.Volume.{state_over}
 use Rattle.live.specs.Alive.{Alive, disk_of, state_of}
 use Rattle.live.specs.Held.{HeldMore}
+use Rattle.live.specs.Durable.{GoesSoundly}
+use Rattle.live.proofs.Durably.{goes_then}
 use Rattle.snapshot.specs.Goes.{Goes}
 
 -- ---- runs
@@ -87,11 +89,11 @@ module _ {D : Type 0} (beside beside' beside'' : Beside) (held held' held'' : He
 
   abbrev FirstBy : Geometry → Type 0
   FirstBy g = (mount : View) (h : List Written) (cut : List Bool) (safe : ℕ → Bool) → IsBeginning geo mount h cut disk q s safe
-      → (safe' : ℕ → Bool) × Service geo disk q s safe (disk_by g) (pending_of mid.queue) (state_by g) safe' commands replies one.later
+      → (safe' : ℕ → Bool) × Service geo disk q s safe (disk_by g) (pending_of mid.queue) (state_by g) safe' commands replies one.later × GoesSoundly held old held' mid safe safe'
 
   abbrev SecondBy : Geometry → Type 0
   SecondBy g = (mount : View) (h : List Written) (cut : List Bool) (safe : ℕ → Bool) → IsBeginning g mount h cut (disk_by g) (pending_of mid.queue) (state_by g) safe
-      → (safe' : ℕ → Bool) × Service g (disk_by g) (pending_of mid.queue) (state_by g) safe (disk_of image'' new) (pending_of new.queue) (state_of image'' new beside'') safe' more others two.later
+      → (safe' : ℕ → Bool) × Service g (disk_by g) (pending_of mid.queue) (state_by g) safe (disk_of image'' new) (pending_of new.queue) (state_of image'' new beside'') safe' more others two.later × GoesSoundly held' mid held'' new safe safe'
 
   first : FirstBy geo
   first = subst FirstBy one.geometry one.service
@@ -100,7 +102,7 @@ module _ {D : Type 0} (beside beside' beside'' : Beside) (held held' held'' : He
   second = subst SecondBy one.geometry two.service
 
   both : (mount : View) (h : List Written) (cut : List Bool) (safe : ℕ → Bool) → IsBeginning geo mount h cut disk q s safe
-      → (safe' : ℕ → Bool) × Service geo disk q s safe (disk_of image'' new) (pending_of new.queue) (state_of image'' new beside'') safe' (commands ++ more) (replies ++ others) (two.later ++ one.later)
+      → (safe' : ℕ → Bool) × Service geo disk q s safe (disk_of image'' new) (pending_of new.queue) (state_of image'' new beside'') safe' (commands ++ more) (replies ++ others) (two.later ++ one.later) × GoesSoundly held old held'' new safe safe'
   both mount h cut safe begin =
       let f = first mount h cut safe begin in
       let safely = service_safe geo mount h cut disk q s safe begin (disk_by geo) (pending_of mid.queue) (state_by geo) f.0 commands replies one.later f.1 in
@@ -108,6 +110,7 @@ module _ {D : Type 0} (beside beside' beside'' : Beside) (held held' held'' : He
         l.0,
         services_join geo disk q s safe (disk_by geo) (pending_of mid.queue) (state_by geo) f.0 commands replies one.later f.1
             (disk_of image'' new) (pending_of new.queue) (state_of image'' new beside'') l.0 more others two.later l.1,
+        goes_then held held' held'' old mid new safe f.0 l.0 f.2 l.2,
       )
 
   pub joined : Goes beside held image old (commands ++ more) (replies ++ others) beside'' held'' image'' new

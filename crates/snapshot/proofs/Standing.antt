@@ -31,7 +31,7 @@ use Rattle.live_states.specs.Snapshots.{keeping, let_go, let_go_blocks}
 use Rattle.live_states.proofs.Images.{images_begun, images_ended, same_at, same_kept, same_room}
 use Rattle.live_states.specs.Volume.{state_over}
 use Rattle.live.specs.Alive.{Alive, StandsSo, disk_of, state_of}
-use Rattle.snapshot.specs.Goes.{Goes, IsBeside}
+use Rattle.snapshot.specs.Goes.{Goes, IsBeside, StaysSafe}
 use Rattle.snapshot.proofs.Going.{beside_then, flushed_since, flushed_state, images}
 
 -- ---- whether one may begin, and whether one stands
@@ -105,7 +105,8 @@ module _ {D : Type 0} (held held' : Held) (image image' : List (List ℕ)) (old 
       (shows : Shows snapshot (settled geo s))
       (begun : state_over disk' (pending_of queue) (keeping old.holdings snapshot) (record { snapshots = more beside.snapshots (settled geo (state_over disk' (pending_of queue) old.holdings beside)) })
       ≡ frozen geo (state_over disk' (pending_of queue) old.holdings beside))
-      (so : StandsSo image' (record { device = device; queue = queue; kept = old.kept; holdings = keeping old.holdings snapshot })) where
+      (so : StandsSo image' (record { device = device; queue = queue; kept = old.kept; holdings = keeping old.holdings snapshot }))
+      (sound : StaysSafe held old held' (record { device = device; queue = queue; kept = old.kept; holdings = keeping old.holdings snapshot })) where
     new : Alive D
     new = record { device = device; queue = queue; kept = old.kept; holdings = keeping old.holdings snapshot }
 
@@ -135,6 +136,7 @@ module _ {D : Type 0} (held held' : Held) (image image' : List (List ℕ)) (old 
                 (subst (λ xs. Service geo disk q s safe disk' [] (frozen geo s) safe (Freeze ∷ []) (Ok (Image s.snapshots.freezes (settled geo s)) ∷ []) xs) same_later
                 (CarriesOut Freeze (Image s.snapshots.freezes (settled geo s)) disk' [] (frozen geo s) safe later Starts accepted
                 (Freezes flushes.blocks (map (image_view geo) flushes.more) disk' (subst (λ p. Writes (home_of geo) disk q flushes.blocks (map (image_view geo) flushes.more) disk' p) none flushes.writes))))),
+            sound safe,
           );
         }
 
@@ -143,7 +145,8 @@ module _ {D : Type 0} (held held' : Held) (image image' : List (List ℕ)) (old 
   module _ (device : D) (queue' : Queued) (kept' : Kept) (n : ℕ) (stands : is_some (image_at old.holdings.snapshots.standing n) ≡ true) (geometry : kept'.geometry ≡ geo)
       (pending : pending_of queue' ≡ releasing (let_go_blocks old.holdings n) [])
       (ended : state_over (image_view kept'.geometry image') (pending_of queue') (let_go old.holdings n) (record { snapshots = fewer beside.snapshots n }) ≡ released (state_over disk' (pending_of queue) old.holdings beside) n)
-      (so : StandsSo image' (record { device = device; queue = queue'; kept = kept'; holdings = let_go old.holdings n })) where
+      (so : StandsSo image' (record { device = device; queue = queue'; kept = kept'; holdings = let_go old.holdings n }))
+      (sound : StaysSafe held old held' (record { device = device; queue = queue'; kept = kept'; holdings = let_go old.holdings n })) where
     released_now : state_over (image_view kept'.geometry image') (pending_of queue') (let_go old.holdings n) (record { snapshots = fewer beside.snapshots n }) ≡ released s n
     released_now = ended ∙ ap (λ t. released t n) same_state
 
@@ -177,5 +180,6 @@ module _ {D : Type 0} (held held' : Held) (image image' : List (List ℕ)) (old 
                 (subst (λ xs. Service geo disk q s safe disk' (releasing (let_go_below s n m) []) (released s n) safe (Release n ∷ []) (Ok Done ∷ []) xs) same_later
                 (CarriesOut (Release n) Done disk' (releasing (let_go_below s n m) []) (released s n) safe later Starts ends_accepted
                 (Releases n flushes.blocks (map (image_view geo) flushes.more) disk' m (subst (λ p. Writes (home_of geo) disk q flushes.blocks (map (image_view geo) flushes.more) disk' p) none flushes.writes) few))))),
+            sound safe,
           );
         }

@@ -11,12 +11,14 @@ use Rattle.machine.specs.Standing.{begun, ended, image_at, too_many}
 use Rattle.plans_data.specs.Release.{releasing}
 use Rattle.frozen.specs.Kept.{Kept}
 use Rattle.metadata.specs.Shown.{Shows}
-use Rattle.softdep.specs.Queued.{pending_of}
+use Rattle.softdep.specs.Queued.{pending_of, unsynced_of}
 use Rattle.softdep.specs.Syncing.{AreWrites}
 use Rattle.live_states.specs.Holdings.{Beside, Holdings, AreImagesOf}
 use Rattle.live_states.specs.Snapshots.{let_go_blocks, keeping, let_go}
 use Rattle.live.specs.Alive.{Alive, StandsSo, state_of}
-use Rattle.snapshot.specs.Goes.{Freezes, Goes, HasBeside, IsBeside, Releases, Replies}
+use Rattle.live.specs.Durable.{StaysSound}
+use Rattle.live.proofs.Durably.{goes_still, goes_then}
+use Rattle.snapshot.specs.Goes.{Freezes, Goes, HasBeside, IsBeside, Releases, Replies, StaysSafe}
 use Rattle.snapshot.proofs.CallLemmas.{refused_after}
 use Rattle.snapshot.proofs.Standing.{freezes, releases}
 
@@ -35,13 +37,13 @@ some_stands (Some x) t none = let bad : Some x ≡ None = none in cc
 
 module _ {D : Type 0} (honest : D → Type 0) (held_of : D → Held) (image_of : D → List (List ℕ)) (old mid : Alive D) (kept : mid.kept ≡ old.kept) (holdings : mid.holdings ≡ old.holdings)
     (flushes : honest mid.device → AreWrites old.kept.geometry (image_of old.device) (held_of old.device) (pending_of old.queue) (image_of mid.device) (held_of mid.device) (pending_of mid.queue))
-    (stands : honest mid.device → StandsSo (image_of mid.device) mid) where
+    (sound : honest mid.device → StaysSafe (held_of old.device) old (held_of mid.device) mid) (stands : honest mid.device → StandsSo (image_of mid.device) mid) where
   -- ---- a refusal
 
   pub written_err : (command : Request) (r : Refusal) → ((beside : Beside) → IsBeside (image_of old.device) old beside → (r ≡ NoMemory) ⊎ ((r ≡ Device) ⊎ FirstRefusal old.kept.geometry (state_of (image_of old.device) old beside) command r))
       → honest mid.device → Replies (held_of old.device) (image_of old.device) old command (Err r) (held_of mid.device) (image_of mid.device) mid
   written_err command r cause h beside is =
-      refused_after (held_of old.device) (held_of mid.device) (image_of old.device) (image_of mid.device) old mid (stands h) (flushes h) kept holdings beside is command r (cause beside is)
+      refused_after (held_of old.device) (held_of mid.device) (image_of old.device) (image_of mid.device) old mid (stands h) (flushes h) kept holdings (sound h) beside is command r (cause beside is)
 
   pub written_keeps : (honest old.device → HasBeside (image_of old.device) old) → (honest mid.device → honest old.device) → honest mid.device → HasBeside (image_of mid.device) mid
   written_keeps has back h = let b = has (back h) in record { beside = b.beside; is = (written_err Freeze NoMemory (λ beside is. inl refl) h b.beside b.is).is }
@@ -52,6 +54,9 @@ module _ {D : Type 0} (honest : D → Type 0) (held_of : D → Held) (image_of :
 
   same_mid : mid ≡ Mid
   same_mid = ap₂ (λ (k : Kept) (h : Holdings). record mid { kept = k; holdings = h }) kept holdings
+
+  sound_mid : honest mid.device → StaysSafe (held_of old.device) old (held_of mid.device) Mid
+  sound_mid h = subst (λ (m : Alive D). StaysSafe (held_of old.device) old (held_of m.device) m) same_mid (sound h)
 
   -- ---- a snapshot begins
 
@@ -77,7 +82,8 @@ module _ {D : Type 0} (honest : D → Type 0) (held_of : D → Held) (image_of :
           shows,
           subst (λ n. Goes beside (held_of old.device) (image_of old.device) old (Freeze ∷ []) (Ok (Image n view) ∷ []) (record { snapshots = begun beside.snapshots view }) (held_of mid.device) (image_of mid.device) Kept')
               (is.belongs.0 ∙ sym facts.3)
-              (freezes (held_of old.device) (held_of mid.device) (image_of old.device) (image_of mid.device) old beside is mid.queue (flushes h) none mid.device snapshot room shows begun_now so),
+              (freezes (held_of old.device) (held_of mid.device) (image_of old.device) (image_of mid.device) old beside is mid.queue (flushes h) none mid.device snapshot room shows begun_now so
+              (λ safe. goes_then (held_of old.device) (held_of mid.device) (held_of mid.device) old Mid Kept' safe safe safe (sound_mid h safe) (goes_still (held_of mid.device) (held_of mid.device) Mid Kept' refl refl refl refl safe))),
         ))
 
     pub begins : (honest new.device → StandsSo (image_of new.device) new) → honest mid.device → Begins mid → IsFrozen new
@@ -91,6 +97,7 @@ module _ {D : Type 0} (honest : D → Type 0) (held_of : D → Held) (image_of :
     abbrev Ends : Alive D → Type 0
     Ends m = (new.device ≡ m.device) × (new.holdings ≡ let_go m.holdings number) × (new.kept.geometry ≡ m.kept.geometry) × (pending_of new.queue ≡ releasing (let_go_blocks m.holdings number) [])
         × ((beside : Beside) → AreImagesOf m.holdings.snapshots beside.snapshots → state_of (image_of new.device) new (record { snapshots = ended beside.snapshots number }) ≡ released (state_of (image_of m.device) m beside) number)
+        × StaysSafe (held_of m.device) m (held_of new.device) new
 
     abbrev IsReleased : Alive D → Type 0
     IsReleased n = Releases (held_of old.device) (image_of old.device) old number (held_of n.device) (image_of n.device) n
@@ -103,7 +110,10 @@ module _ {D : Type 0} (honest : D → Type 0) (held_of : D → Held) (image_of :
         subst (λ d. IsReleased (Gone d new.holdings)) (sym facts.0) (subst (λ o. IsReleased (Gone mid.device o)) (sym facts.1) (λ beside is.
         let ended_now = subst (λ (n : Alive D). state_of (image_of n.device) n (record { snapshots = ended beside.snapshots number }) ≡ released (state_of (image_of mid.device) Mid beside) number)
         (ap₂ (λ (d : D) (o : Holdings). Gone d o) facts.0 facts.1) (facts.4 beside is.belongs) in
-        releases (held_of old.device) (held_of mid.device) (image_of old.device) (image_of mid.device) old beside is mid.queue (flushes h) none mid.device new.queue new.kept number standing facts.2 facts.3 ended_now so))
+        let gone : Alive D = Gone mid.device (let_go old.holdings number) in
+        let ends_soundly = subst (λ (n : Alive D). StaysSafe (held_of mid.device) Mid (held_of n.device) n) (ap₂ (λ (d : D) (o : Holdings). Gone d o) facts.0 facts.1) facts.5 in
+        releases (held_of old.device) (held_of mid.device) (image_of old.device) (image_of mid.device) old beside is mid.queue (flushes h) none mid.device new.queue new.kept number standing facts.2 facts.3 ended_now so
+        (λ safe. goes_then (held_of old.device) (held_of mid.device) (held_of mid.device) old Mid gone safe safe safe (sound_mid h safe) (ends_soundly safe))))
 
     pub ends : (honest new.device → StandsSo (image_of new.device) new) → honest mid.device → Ends mid → IsReleased new
     ends so h facts =
@@ -115,9 +125,10 @@ module _ {D : Type 0} (honest : D → Type 0) (held_of : D → Held) (image_of :
       pub ends_ok : (r : Result T Refusal) → (honest new.device → StandsSo (image_of new.device) new)
           → OnOk r (honest mid.device → (beside : Beside) → AreImagesOf mid.holdings.snapshots beside.snapshots → state_of (image_of new.device) new (record { snapshots = ended beside.snapshots number }) ≡ released (state_of (image_of mid.device) mid beside) number)
           → OnOk r (pending_of new.queue ≡ releasing (let_go_blocks mid.holdings number) []) → OnOk r (new.holdings ≡ let_go mid.holdings number) → OnOk r (new.kept.geometry ≡ mid.kept.geometry)
+          → OnOk r (honest mid.device → unsynced_of mid.queue ≡ [] → StaysSound held_of mid new) → unsynced_of mid.queue ≡ []
           → OnOk r (honest new.device → IsReleased new)
-      ends_ok (Ok t) so gone pending held geometry = λ h. let there = subst honest device h in ends so there (device, held, geometry, pending, gone there)
-      ends_ok (Err e) so gone pending held geometry = gone
+      ends_ok (Ok t) so gone pending held geometry soundly unsynced = λ h. let there = subst honest device h in ends so there (device, held, geometry, pending, gone there, soundly there unsynced)
+      ends_ok (Err e) so gone pending held geometry soundly unsynced = gone
 
       pub ends_err : (r : Result T Refusal) → IfErr r (λ e. e ≡ NoMemory) → OnErr r (new ≡ mid)
           → IfErr r (λ e. honest new.device → Replies (held_of old.device) (image_of old.device) old (Release number) (Err e) (held_of new.device) (image_of new.device) new)

@@ -4,6 +4,7 @@ use Rattle.layout.specs.declared.refusal.Refusal.{Refusal}
 use Rattle.model.specs.Image.{IsImage}
 use Rattle.model.specs.View.{View}
 use Rattle.device.specs.Media.{Held}
+use Rattle.ordering.specs.Cuts.{users_view}
 use Rattle.machine.specs.Command.{Command, Done, Freeze, Image, Release, Reply}
 use Rattle.machine.specs.Snapshot.{settled}
 use Rattle.machine.specs.Standing.{begun, ended}
@@ -16,7 +17,9 @@ use Rattle.frozen_files.specs.Standing.{KeepsFiles}
 use Rattle.metadata.specs.Shown.{Shows}
 use Rattle.softdep.specs.Queued.{pending_of}
 use Rattle.live_states.specs.Holdings.{AreImagesOf, Beside}
+use Rattle.live_states.specs.Planned.{safe_after}
 use Rattle.live.specs.Alive.{Alive, HasBegun, disk_of, state_of}
+use Rattle.live.specs.Durable.{GoesSoundly}
 use Rattle.live.specs.Held.{HeldMore}
 use Rattle.snapshot.specs.declared.answer.Answer.{Answer as Given}
 use Rattle.snapshot.specs.Asked.{AreReplies, IsReply}
@@ -35,7 +38,7 @@ pub record HasBeside {D : Type 0} (image : List (List ℕ)) (live : Alive D) : T
   pub is : IsBeside image live beside
 
 -- From a volume over an image of its device, with this beside it, these commands got these replies, one after another. It leads to a volume, with something beside it, over another image, and to what the device held since.
--- Users see a run of the machine; and from wherever a volume may begin, whichever files no stop is to lose, what it goes through is a service of these commands.
+-- Users see a run of the machine; and from wherever a volume may begin, whichever files no stop is to lose, what it goes through is a service of these commands, and no loss of power loses more files than a stop does.
 pub record Goes {D : Type 0} (beside : Beside) (held : Held) (image : List (List ℕ)) (old : Alive D) (commands : List Command) (replies : List Reply)
     (beside' : Beside) (held' : Held) (image' : List (List ℕ)) (new : Alive D) : Type 0 where
   pub geometry : new.kept.geometry ≡ old.kept.geometry
@@ -45,7 +48,16 @@ pub record Goes {D : Type 0} (beside : Beside) (held : Held) (image : List (List
   pub later : List View
   pub since : HeldMore old.kept.geometry held held' later
   pub service : (mount : View) (h : List Written) (cut : List Bool) (safe : ℕ → Bool) → IsBeginning old.kept.geometry mount h cut (disk_of image old) (pending_of old.queue) (state_of image old beside) safe
-      → (safe' : ℕ → Bool) × Service old.kept.geometry (disk_of image old) (pending_of old.queue) (state_of image old beside) safe (disk_of image' new) (pending_of new.queue) (state_of image' new beside') safe' commands replies later
+      → (safe' : ℕ → Bool) × Service old.kept.geometry (disk_of image old) (pending_of old.queue) (state_of image old beside) safe (disk_of image' new) (pending_of new.queue) (state_of image' new beside') safe' commands replies later × GoesSoundly held old held' new safe safe'
+
+-- a volume stays sound on its medium by a command, but for the file of which it took a name
+abbrev pub GoesSafely : {D : Type 0} → Held → List (List ℕ) → Alive D → Command → Held → Alive D → Type 0
+GoesSafely held image old command held' new =
+    (safe : ℕ → Bool) → GoesSoundly held old held' new safe (safe_after old.kept.geometry (users_view (disk_of image old) (pending_of old.queue)) command safe)
+
+-- by nothing else does it lose any
+abbrev pub StaysSafe : {D : Type 0} → Held → Alive D → Held → Alive D → Type 0
+StaysSafe held old held' new = (safe : ℕ → Bool) → GoesSoundly held old held' new safe safe
 
 -- A command got this reply, and what stands beside the volume stays, whatever it is.
 abbrev pub Replies : {D : Type 0} → Held → List (List ℕ) → Alive D → Command → Reply → Held → List (List ℕ) → Alive D → Type 0

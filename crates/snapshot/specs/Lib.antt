@@ -1,4 +1,5 @@
 pub use Rattle.live.specs.Alive
+pub use Rattle.live.specs.Durable
 pub use Rattle.live.specs.Held
 pub use Rattle.live.specs.Mounting
 pub mod Asked

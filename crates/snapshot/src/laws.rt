@@ -18,6 +18,7 @@ ghost use Rattle.queue_model.specs.Files.{Written};
 ghost use Rattle.softdep.specs.Queued.{pending_of};
 ghost use Rattle.live_states.specs.Holdings.{IsIdle, nothing_beside};
 ghost use Rattle.live.specs.Alive.{disk_of};
+ghost use Rattle.live.specs.Durable.{HeldSafely, IsSoundOn, LeavesSafe};
 ghost use Rattle.live.specs.Held.{HeldMore};
 ghost use Rattle.live.specs.Mounting.{IsMountable};
 ghost use Rattle.snapshot.specs.Cycles.{HasCycle};
@@ -42,6 +43,17 @@ pub fn each_stop_of_a_run_is_safe<D: Device>()
         → (later : List View) × HeldMore (geometry_at s) s.held t.held later
         × (safe' : ℕ → Bool) × ServesTo s safe commands replies t safe' later
         × IsSafeTo s mount h cut safe commands replies t safe' later }
+{}
+
+/// A volume that is sound on the medium of its device stays so, whatever it goes through by calls. So whatever a loss of power
+/// leaves of its medium, and of each since, can be mounted, and reaches each file that no stop was to lose and of which no unlink took a
+/// name.
+pub fn each_power_cut_of_a_run_is_safe<D: Device>()
+    ensures { (s t : Stage D) (commands : List Command) (replies : List Reply) → LeadsTo s commands replies t
+        → (mount : View) (h : List Written) (cut : List Bool) (safe : ℕ → Bool) → BeginsAt s mount h cut safe
+        → IsSoundOn s.held.now s.volume safe
+        → LeavesSafe (geometry_at s) safe s.held.now × (later : List View) × (safe' : ℕ → Bool) × ServesTo s safe commands replies t safe' later
+        × IsSoundOn t.held.now t.volume safe' × HeldSafely (geometry_at s) s.held t.held safe' }
 {}
 
 /// A volume was mounted once, whatever was done with it since: it is where one may begin, with no file that no stop is to lose.

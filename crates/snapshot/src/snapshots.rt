@@ -5,9 +5,10 @@ ghost use Rattle.frozen.specs.Kept.{KeepsMetadata};
 ghost use Rattle.model.specs.Layout.{is_data_address};
 ghost use Rattle.machine.specs.Command.{Bytes, Freeze, Release, SnapRead};
 ghost use Rattle.machine.specs.Standing.{image_at, too_many};
-ghost use Rattle.softdep.specs.Queued.{pending_of};
+ghost use Rattle.softdep.specs.Queued.{pending_of, unsynced_of};
 ghost use Rattle.live_states.specs.Snapshots.{IsSettled, keeping};
 ghost use Rattle.live.specs.Alive.{StandsSo};
+ghost use Rattle.live.specs.Durable.{StaysSound};
 ghost use Rattle.live.specs.Seen.{Wrote};
 ghost use Rattle.snapshot.specs.Between.{Froze, GotReply, Released, WroteBlocks};
 ghost use Rattle.snapshot.specs.Pieces.{IsPieceOfSnapshot};
@@ -137,6 +138,8 @@ fn has_snapshot<D: Device>(live: &Live<D>, number: u64) -> bool
 /// Writes all that is pending; the volume stands then as before.
 fn write_all<D: Device>(live: &mut Live<D>) -> Result<(), Refusal>
     ensures pending { OnOk result (pending_of live.new.queue ≡ []) }
+    ensures unsynced { OnOk result (unsynced_of live.new.queue ≡ []) }
+    ensures sound { D.honest live.new.device → StaysSound D.held live.old live.new }
     ensures metadata { live.new.kept ≡ live.old.kept }
     ensures holdings { live.new.holdings ≡ live.old.holdings }
     ensures writes { D.honest live.new.device → Wrote D.held D.image live.old live.new }

@@ -18,7 +18,7 @@ use Rattle.live_states.specs.Snapshots.{IsSettled, keeping}
 use Rattle.live_states.proofs.Standing.{has}
 use Rattle.live.specs.Alive.{Alive, StandsSo, disk_of, state_of}
 use Rattle.live.specs.Seen.{seen_of}
-use Rattle.snapshot.specs.Goes.{Freezes, HasBeside, Replies}
+use Rattle.snapshot.specs.Goes.{Freezes, HasBeside, Replies, StaysSafe}
 use Rattle.snapshot.proofs.CallLemmas.{same_err}
 use Rattle.snapshot.proofs.Room.{full_cause}
 use Rattle.snapshot.proofs.Written.{begins, written_err, written_keeps}
@@ -35,7 +35,7 @@ returns-then-not-may_freeze-clause-refused g c = λ h.
 pub invariant_of-self : goal.invariant_of-self
 invariant_of-self g c =
     let e = c.write_all.ensures in
-    written_keeps g.D.Device.honest g.D.Device.held g.D.Device.image c.self.inside.live c.write_all.new.live e.metadata e.holdings e.writes e.stands c.self.invariant e.honest
+    written_keeps g.D.Device.honest g.D.Device.held g.D.Device.image c.self.inside.live c.write_all.new.live e.metadata e.holdings e.writes e.sound e.stands c.self.invariant e.honest
 
 pub returns-in_err-write_all-clause-refused : goal.returns-in_err-write_all-clause-refused
 returns-in_err-write_all-clause-refused g c =
@@ -45,7 +45,7 @@ returns-in_err-write_all-clause-refused g c =
     let mid = c.write_all.new.live in
     rw (p.1, p.2)
     (λ h. subst (λ (l : Alive _). Replies (g.D.Device.held l.device) (g.D.Device.image l.device) l Freeze (Err r) (g.D.Device.held mid.device) (g.D.Device.image mid.device) mid) c.self.view_is
-    (written_err g.D.Device.honest g.D.Device.held g.D.Device.image c.self.inside.live mid e.metadata e.holdings e.writes e.stands Freeze r (λ beside is. inr (inl e.error)) h))
+    (written_err g.D.Device.honest g.D.Device.held g.D.Device.image c.self.inside.live mid e.metadata e.holdings e.writes e.sound e.stands Freeze r (λ beside is. inr (inl e.error)) h))
 
 -- what this volume is to keep
 abbrev IsWhole : {D : Type 0} → Alive D → Kept → Type 0
@@ -79,7 +79,7 @@ keep-number-requires-clause-whole g c =
 
 module _ {D : Type 0} (honest : D → Type 0) (held_of : D → Held) (image_of : D → List (List ℕ)) (old mid new : Alive D) (kept : mid.kept ≡ old.kept) (holdings : mid.holdings ≡ old.holdings)
     (flushes : honest mid.device → AreWrites old.kept.geometry (image_of old.device) (held_of old.device) (pending_of old.queue) (image_of mid.device) (held_of mid.device) (pending_of mid.queue))
-    (stands : honest mid.device → StandsSo (image_of mid.device) mid) (may : not (too_many old.holdings.snapshots) ≡ true) (none : pending_of mid.queue ≡ [])
+    (sound : honest mid.device → StaysSafe (held_of old.device) old (held_of mid.device) mid) (stands : honest mid.device → StandsSo (image_of mid.device) mid) (may : not (too_many old.holdings.snapshots) ≡ true) (none : pending_of mid.queue ≡ [])
     (number : ℕ) (is_number : number ≡ mid.holdings.snapshots.freezes) (snapshot : Kept) (is_kept : new ≡ record mid { holdings = keeping mid.holdings snapshot })
     (back : honest mid.device → honest old.device)
     (shown : IsShown honest image_of old snapshot)
@@ -88,7 +88,7 @@ module _ {D : Type 0} (honest : D → Type 0) (held_of : D → Held) (image_of :
   is_frozen : honest new.device → Freezes (held_of old.device) (image_of old.device) old number snapshot (held_of new.device) (image_of new.device) new
   is_frozen h =
       let there = subst honest (ap (λ (l : Alive D). l.device) is_kept) h in
-      begins honest held_of image_of old mid kept holdings flushes stands new number snapshot (not-true (too_many old.holdings.snapshots) may) none so there (is_kept, shown (back there), begun, is_number)
+      begins honest held_of image_of old mid kept holdings flushes sound stands new number snapshot (not-true (too_many old.holdings.snapshots) may) none so there (is_kept, shown (back there), begun, is_number)
 
   then_beside : (honest old.device → HasBeside (image_of old.device) old) → honest new.device → HasBeside (image_of new.device) new
   then_beside has h =
@@ -102,7 +102,7 @@ invariant_of-self-2 g c =
     let k = c.keep-number.ensures in
     let mid = c.write_all.new.live in
     let snapshot = arc_value c.args.snapshot in
-    then_beside g.D.Device.honest g.D.Device.held g.D.Device.image c.self.inside.live mid c.keep-number.new.self e.metadata e.holdings e.writes e.stands (sym c.may_freeze.ensures ∙ c.if-not-may_freeze.false) e.pending
+    then_beside g.D.Device.honest g.D.Device.held g.D.Device.image c.self.inside.live mid c.keep-number.new.self e.metadata e.holdings e.writes e.sound e.stands (sym c.may_freeze.ensures ∙ c.if-not-may_freeze.false) e.pending
     c.keep-number.result k.number snapshot k.kept e.honest (is_shown g.D.Device.honest g.D.Device.image c.self.inside.live snapshot
     (subst (λ (l : Alive _). IsSettled l.kept l.holdings snapshot) (sym c.self.view_is) c.requires.settled) c.keeps_metadata.ensures.shown) k.frozen c.device.ensures.stands c.self.invariant
 
@@ -115,7 +115,7 @@ returns-clause-frozen g c =
     let number = c.keep-number.result in
     let snapshot = arc_value c.args.snapshot in
     λ h. subst (λ (l : Alive _). Freezes (g.D.Device.held l.device) (g.D.Device.image l.device) l number snapshot (g.D.Device.held new.device) (g.D.Device.image new.device) new) c.self.view_is
-    (is_frozen g.D.Device.honest g.D.Device.held g.D.Device.image c.self.inside.live mid new e.metadata e.holdings e.writes e.stands (sym c.may_freeze.ensures ∙ c.if-not-may_freeze.false) e.pending
+    (is_frozen g.D.Device.honest g.D.Device.held g.D.Device.image c.self.inside.live mid new e.metadata e.holdings e.writes e.sound e.stands (sym c.may_freeze.ensures ∙ c.if-not-may_freeze.false) e.pending
     number k.number snapshot k.kept e.honest (is_shown g.D.Device.honest g.D.Device.image c.self.inside.live snapshot
     (subst (λ (l : Alive _). IsSettled l.kept l.holdings snapshot) (sym c.self.view_is) c.requires.settled) c.keeps_metadata.ensures.shown) k.frozen c.device.ensures.stands h)
 

@@ -25,7 +25,7 @@ returns-then-not-has_snapshot-clause-refused g c = λ h.
 pub invariant_of-self : goal.invariant_of-self
 invariant_of-self g c =
     let e = c.write_all.ensures in
-    written_keeps g.D.Device.honest g.D.Device.held g.D.Device.image c.self.inside.live c.write_all.new.live e.metadata e.holdings e.writes e.stands c.self.invariant e.honest
+    written_keeps g.D.Device.honest g.D.Device.held g.D.Device.image c.self.inside.live c.write_all.new.live e.metadata e.holdings e.writes e.sound e.stands c.self.invariant e.honest
 
 pub returns-in_err-write_all-clause-refused : goal.returns-in_err-write_all-clause-refused
 returns-in_err-write_all-clause-refused g c =
@@ -35,7 +35,7 @@ returns-in_err-write_all-clause-refused g c =
     let mid = c.write_all.new.live in
     rw (p.1, p.2)
     (λ h. subst (λ (l : Alive _). Replies (g.D.Device.held l.device) (g.D.Device.image l.device) l (Release c.args.number) (Err r) (g.D.Device.held mid.device) (g.D.Device.image mid.device) mid) c.self.view_is
-    (written_err g.D.Device.honest g.D.Device.held g.D.Device.image c.self.inside.live mid e.metadata e.holdings e.writes e.stands (Release c.args.number) r (λ beside is. inr (inl e.error)) h))
+    (written_err g.D.Device.honest g.D.Device.held g.D.Device.image c.self.inside.live mid e.metadata e.holdings e.writes e.sound e.stands (Release c.args.number) r (λ beside is. inr (inl e.error)) h))
 
 pub invariant_of-self-2 : goal.invariant_of-self-2
 invariant_of-self-2 g c =
@@ -45,8 +45,8 @@ invariant_of-self-2 g c =
     let mid = c.write_all.new.live in
     let new = c.end_keep-outcome.new.self in
     let standing = sym c.has_snapshot.ensures ∙ c.if-not-has_snapshot.false in
-    ends_keeps g.D.Device.honest g.D.Device.held g.D.Device.image old mid e.metadata e.holdings e.writes e.stands new c.args.number standing e.pending o.device c.end_keep-outcome.result
-    (ends_ok g.D.Device.honest g.D.Device.held g.D.Device.image old mid e.metadata e.holdings e.writes e.stands new c.args.number standing e.pending o.device c.end_keep-outcome.result c.device.ensures.stands o.released o.pending o.holdings o.geometry)
+    ends_keeps g.D.Device.honest g.D.Device.held g.D.Device.image old mid e.metadata e.holdings e.writes e.sound e.stands new c.args.number standing e.pending o.device c.end_keep-outcome.result
+    (ends_ok g.D.Device.honest g.D.Device.held g.D.Device.image old mid e.metadata e.holdings e.writes e.sound e.stands new c.args.number standing e.pending o.device c.end_keep-outcome.result c.device.ensures.stands o.released o.pending o.holdings o.geometry o.sound e.unsynced)
     o.untouched c.self.invariant e.honest
 
 pub returns-clause-released : goal.returns-clause-released
@@ -57,7 +57,7 @@ returns-clause-released g c =
     let new = c.end_keep-outcome.new.self in
     let standing = sym c.has_snapshot.ensures ∙ c.if-not-has_snapshot.false in
     subst (λ (l : Alive _). OnOk c.end_keep-outcome.result (g.D.Device.honest new.device → Releases (g.D.Device.held l.device) (g.D.Device.image l.device) l c.args.number (g.D.Device.held new.device) (g.D.Device.image new.device) new)) c.self.view_is
-    (ends_ok g.D.Device.honest g.D.Device.held g.D.Device.image c.self.inside.live mid e.metadata e.holdings e.writes e.stands new c.args.number standing e.pending o.device c.end_keep-outcome.result c.device.ensures.stands o.released o.pending o.holdings o.geometry)
+    (ends_ok g.D.Device.honest g.D.Device.held g.D.Device.image c.self.inside.live mid e.metadata e.holdings e.writes e.sound e.stands new c.args.number standing e.pending o.device c.end_keep-outcome.result c.device.ensures.stands o.released o.pending o.holdings o.geometry o.sound e.unsynced)
 
 pub returns-clause-refused : goal.returns-clause-refused
 returns-clause-refused g c =
@@ -67,7 +67,7 @@ returns-clause-refused g c =
     let new = c.end_keep-outcome.new.self in
     let standing = sym c.has_snapshot.ensures ∙ c.if-not-has_snapshot.false in
     subst (λ (l : Alive _). IfErr c.end_keep-outcome.result (λ r. g.D.Device.honest new.device → Replies (g.D.Device.held l.device) (g.D.Device.image l.device) l (Release c.args.number) (Err r) (g.D.Device.held new.device) (g.D.Device.image new.device) new)) c.self.view_is
-    (ends_err g.D.Device.honest g.D.Device.held g.D.Device.image c.self.inside.live mid e.metadata e.holdings e.writes e.stands new c.args.number standing e.pending o.device c.end_keep-outcome.result o.error o.untouched)
+    (ends_err g.D.Device.honest g.D.Device.held g.D.Device.image c.self.inside.live mid e.metadata e.holdings e.writes e.sound e.stands new c.args.number standing e.pending o.device c.end_keep-outcome.result o.error o.untouched)
 
 -- ---- what it wrote
 

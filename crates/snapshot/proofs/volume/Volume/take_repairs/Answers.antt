@@ -11,9 +11,10 @@ use Rattle.live_states.specs.Snapshots.{AreRepairsOf, IsInstallable, installing}
 use Rattle.live_states.proofs.Installing.{installed_quietly}
 use Rattle.live_states.proofs.Standing.{has}
 use Rattle.live.specs.Alive.{Alive, Answers, StandsSo}
+use Rattle.live.proofs.Durably.{goes_still}
 use Rattle.snapshot.specs.Asked.{check_of}
-use Rattle.snapshot.specs.Goes.{HasBeside, Replies}
-use Rattle.snapshot.proofs.CallLemmas.{if_err, kept_ok, on_ok, quiet_ok, same_err, same_device}
+use Rattle.snapshot.specs.Goes.{GoesSafely, HasBeside, Replies}
+use Rattle.snapshot.proofs.CallLemmas.{if_err, kept_ok, on_ok₂, quiet_ok, same_err, same_device}
 use Rattle.snapshot.proofs.volume.Volume.take_repairs.Goals as goal
 
 pub returns-in_err-repairs-clause-refused : goal.returns-in_err-repairs-clause-refused
@@ -60,8 +61,12 @@ module _ {D : Type 0} {T : Type 0} (honest : D → Type 0) (held_of : D → Held
   device : new.device ≡ old.device
   device = same_device old new (installing old.holdings items) outcome installed untouched
 
+  sound : new ≡ record old { holdings = installing old.holdings items } → GoesSafely (held_of old.device) (image_of old.device) old (Install check) (held_of new.device) new
+  sound e = subst (λ (l : Alive D). GoesSafely (held_of old.device) (image_of old.device) old (Install check) (held_of l.device) l) (sym e)
+      (goes_still (held_of old.device) (held_of old.device) old (record old { holdings = installing old.holdings items }) refl refl refl refl)
+
   installs : OnOk outcome (honest new.device → Replies (held_of old.device) (image_of old.device) old (Install check) (Ok Done) (held_of new.device) (image_of new.device) new)
-  installs = on_ok (λ d. quiet_ok honest held_of image_of old new (Install check) Done device so (d check quietly_done)) outcome done
+  installs = on_ok₂ (λ d e. quiet_ok honest held_of image_of old new (Install check) Done device so (d check quietly_done) (λ h. sound e)) outcome done installed
 
   keeps : (honest old.device → HasBeside (image_of old.device) old) → honest new.device → HasBeside (image_of new.device) new
   keeps has = kept_ok honest held_of image_of old new (Install check) Done outcome installs untouched has (subst honest device)

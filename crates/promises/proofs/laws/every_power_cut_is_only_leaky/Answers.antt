@@ -1,0 +1,31 @@
+use Rattle.std.proofs.Common.{List, ℕ, false, ◌++◌, ◌∷◌, Ok, subst}
+use Rattle.std.proofs.lemmas.List.Elements.{All-weaker}
+use Rattle.machine.specs.Command.{Done, Image}
+use Rattle.machine.specs.State.{mounted}
+use Rattle.machine.specs.Step.{Run}
+use Rattle.model.specs.Image.{image_view}
+use Rattle.snapshot.specs.Durable.{LeavesSafe}
+use Rattle.snapshot.specs.Mounting.{IsMountable}
+use Rattle.snapshot.specs.Stages.{geometry_at}
+use Rattle.promises.specs.Leaky.{IsOnlyLeaky, LeavesLeaky}
+use Rattle.promises.proofs.laws.every_power_cut_is_only_leaky.Goals as goal
+
+pub returns : goal.returns
+returns g c = λ s t commands replies is leads sound.
+    let geo = geometry_at s in
+    let begins = c.volumes_begin.ensures s is in
+    let safe = c.each_power_cut_of_a_run_is_safe.ensures s t commands replies leads begins.0 begins.1 begins.2 (λ f. false) begins.3 sound in
+    let held = safe.5 in
+    let leaky : (stop : List (List ℕ)) → IsMountable geo stop → IsOnlyLeaky geo stop = λ stop mounts.
+    let start = mounted (image_view geo stop) in
+    record {
+      mounts = mounts;
+      soft = (c.rules_hold_where_findings_are_soft.ensures geo (image_view geo stop)).0 mounts.obeys;
+      mended = λ commands replies new run cycle.
+          c.checks_carried_out_end_exact.ensures.in_one_run geo stop new cycle.number cycle.frozen cycle.check cycle.findings cycle.earlier cycle.first cycle.second cycle.before cycle.replies cycle.answers
+          mounts.is_image mounts.obeys cycle.as_many cycle.as_many_first
+          (subst (λ cs. Run geo start cs (cycle.before ++ (Ok (Image cycle.number cycle.frozen) ∷ (cycle.replies ++ (Ok Done ∷ cycle.answers)))) new) cycle.commands_are (subst (λ rs. Run geo start commands rs new) cycle.responses_are run))
+          cycle.no_freeze_first cycle.no_freeze_second cycle.found cycle.each;
+    }
+    in
+    (λ image may. leaky image (safe.0 image may).0, held.more, held.media, All-weaker (LeavesSafe geo safe.2) (LeavesLeaky geo) (λ m leaves image may. leaky image (leaves image may).0) held.more held.each)
