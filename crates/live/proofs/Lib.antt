@@ -1,4 +1,4 @@
-mod Durably
+pub mod Durably
 mod DurablePlans
 mod Between
 mod ByteLemmas

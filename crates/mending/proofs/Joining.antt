@@ -1,13 +1,9 @@
 -- The calls of a whole cycle, one after another.
 use Rattle.std.proofs.Common.{◌≡◌, ℕ, suc, List, [], ◌∷◌, ◌++◌, refl, sym, subst, Ok, Err}
-use Rattle.std.proofs.lemmas.List.Elements.{All-nil}
-use Rattle.std.proofs.lemmas.List.{append-nil}
-use Rattle.model.specs.Image.{IsImage}
-use Rattle.device.specs.Media.{Held, images_held}
+use Rattle.device.specs.Media.{Held}
 use Rattle.frozen.specs.Kept.{Kept}
 use Rattle.machine.specs.Command.{Answer, Check, Command, Done, Freeze, Image, Install, Release, RepairAt, Reply, Sync}
 use Rattle.machine.specs.Snapshot.{settled}
-use Rattle.courses.specs.Serves.{Starts}
 use Rattle.machine.specs.Standing.{ended}
 use Rattle.live_states.specs.Holdings.{Beside, nothing_beside}
 use Rattle.snapshot.specs.Alive.{Alive, state_of}
@@ -15,18 +11,12 @@ use Rattle.snapshot.specs.declared.answer.Answer.{Answer as Given}
 use Rattle.snapshot.specs.Asked.{IsReply}
 use Rattle.snapshot.specs.Goes.{Applies, Freezes, Goes, IsBeside, Releases, Replies}
 use Rattle.snapshot.specs.Stages.{LeadsTo, Stage}
+use Rattle.snapshot.proofs.AppliesLemmas.{goes_nowhere}
 use Rattle.mending.specs.Repairs.{Mends, Repairs, all_done, one_beside, repairs_below, then_asked, then_replied}
 
 -- no call at all
 pub starts : {D : Type 0} (beside : Beside) (held : Held) (image : List (List ℕ)) (old : Alive D) → IsBeside image old beside → Goes beside held image old [] [] beside held image old
-starts beside held image old is = record {
-  geometry = refl;
-  is = is;
-  run = refl;
-  later = [];
-  since = record { more = []; held_now = sym (append-nil (images_held held)); views = refl; framed = All-nil (IsImage old.kept.geometry) };
-  service = λ mount h cut safe begins. (safe, Starts);
-}
+starts beside held image old = goes_nowhere held image old beside
 
 -- that calls join
 abbrev pub Joins : Type 0 → Type 0
