@@ -1,5 +1,5 @@
 -- The calls of a whole cycle, one after another.
-use Rattle.std.proofs.Common.{◌≡◌, ℕ, suc, List, [], ◌∷◌, ◌++◌, refl, sym, subst, Ok, Err}
+use Rattle.std.proofs.Common.{◌≡◌, ℕ, suc, List, [], ◌∷◌, ◌++◌, refl, subst, Ok, Err}
 use Rattle.device.specs.Media.{Held}
 use Rattle.frozen.specs.Kept.{Kept}
 use Rattle.machine.specs.Command.{Answer, Check, Command, Done, Freeze, Image, Install, Release, RepairAt, Reply, Sync}

@@ -89,9 +89,12 @@ module _ {D : Type 0} (honest : D → Type 0) (held_of : D → Held) (image_of :
     still (Ok t) reply told same_image same_held done refused left sound =
         by_call (Ok t) reply told ([], held_nothing old.kept.geometry (held_of old.device) (held_of new.device) same_held, done) refused left sound
     still (Err r) reply told same_image same_held done refused left sound =
-        by_call (Err r) reply told done refused
-        (no_flushes (held_of old.device) (held_of new.device) (image_of old.device) (image_of new.device) old new same_image same_held left.0, left.1, left.2,
-        λ safe. goes_still (held_of old.device) (held_of new.device) old new same_held left.0 (ap (λ (k : Kept). k.geometry) left.1) (ap held_by left.2) safe) sound
+        by_call (Err r) reply told done refused (
+          no_flushes (held_of old.device) (held_of new.device) (image_of old.device) (image_of new.device) old new same_image same_held left.0,
+          left.1,
+          left.2,
+          λ safe. goes_still (held_of old.device) (held_of new.device) old new same_held left.0 (ap (λ (k : Kept). k.geometry) left.1) (ap held_by left.2) safe,
+        ) sound
 
     -- a command that does not touch the device
     pub plain : (outcome : Result T Refusal) (reply : Result Answer Refusal) → MatchResult outcome (λ t. reply ≡ Ok (as_given t)) (λ r. reply ≡ Err r)
