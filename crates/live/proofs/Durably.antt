@@ -25,7 +25,7 @@ use Rattle.power_cut.proofs.EpochLemmas.{together_closed}
 use Rattle.courses.specs.Leads.{IsMoment}
 use Rattle.courses.specs.Life.{Begins, Puts}
 use Rattle.cut_courses.specs.Durably.{IsDurably}
-use Rattle.courses.proofs.LifeCourses.{mount_moment}
+use Rattle.courses.proofs.LifeCourses.{anew_moment, mount_moment}
 use Rattle.cut_courses.proofs.Along.{answered, left_safely, stepped, users_same}
 use Rattle.softdep.specs.Queued.{Queued, AreClosed, unsynced_of, pending_of, after_flush, fresh_queue}
 use Rattle.softdep.specs.OnMedium.{IsOnMedium, KeepsFrame}
@@ -231,3 +231,31 @@ fresh_sound m geo queue held safe fresh mounts none files =
         loose = refl;
       };
     })
+
+-- With nothing left that is not durable, any files that are reachable then may be those that no loss of power is to lose.
+pub sound_anew : (m : Medium) (geo : Geometry) (queue : Queued) (held safe : ℕ → Bool) → IsSound m geo queue held safe → unsynced_of queue ≡ []
+    → (more : ℕ → Bool) → ((f : ℕ) → IsTrue (more f) → IsReachable geo (image_view geo (image_of m)) f × (((image_view geo (image_of m)).inode f).mode ≡ 1)) → IsSound m geo queue held more
+sound_anew m geo queue held safe s none more files =
+    let d = s.durably in
+    let durable = image_view geo m.durable in
+    let disk = image_view geo (image_of m) in
+    let same : disk ≡ durable = d.answers ∙ ap (λ q. seen durable q d.loose) none in
+    let all : pending_of queue ≡ [] = d.pending ∙ ap (λ q. rest q d.loose) none in
+    record {
+      geometry = s.geometry;
+      closed = s.closed;
+      durably = record {
+        mount = d.mount;
+        history = d.history;
+        cut = d.cut;
+        moment = subst (IsMoment geo d.mount d.history d.cut (at_rest held more) durable) (sym none)
+            (anew_moment geo d.mount d.history d.cut held safe durable (subst (IsMoment geo d.mount d.history d.cut (at_rest held safe) durable) none d.moment) more (λ f t. subst (λ v. IsReachable geo v f) same (files f t).0));
+        loose = d.loose;
+        closed = d.closed;
+        answers = d.answers;
+        pending = d.pending;
+      };
+      files = λ f t. ap (λ q. ((users_view disk q).inode f).mode) all ∙ (files f t).1;
+      mounted = s.mounted;
+      on = s.on;
+    }

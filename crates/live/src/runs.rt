@@ -10,11 +10,10 @@ ghost use Rattle.model.specs.View.{View};
 ghost use Rattle.machine.specs.Command.{Command, Reply};
 ghost use Rattle.queue_model.specs.Files.{Written};
 ghost use Rattle.courses.specs.Serves.{IsBeginning, IsSafeService, Service};
-ghost use Rattle.softdep.specs.Queued.{pending_of};
+ghost use Rattle.softdep.specs.Queued.{fresh_queue, pending_of, unsynced_of};
 ghost use Rattle.live_states.specs.Holdings.{AreImagesOf, Beside, IsIdle, nothing_beside};
 ghost use Rattle.live_states.specs.Volume.{state_over};
 ghost use Rattle.device.specs.Media.{Held, Medium, image_of};
-ghost use Rattle.softdep.specs.Queued.{fresh_queue};
 ghost use Rattle.live.specs.Durable.{GoesSoundly, IsSoundOn, LeavesSafe};
 ghost use Rattle.live.specs.Alive.{Alive, disk_of, state_of};
 ghost use Rattle.live.specs.Mounting.{IsMountable};
@@ -56,7 +55,8 @@ pub fn each_stop_of_a_run_is_safe<D: Device>()
 
 /// A volume that was just mounted from a device of which nothing is loose is sound on its medium, with any reachable files as those
 /// that no loss of power is to lose. Whatever a loss of power leaves of a medium on which a volume is sound can be mounted, and has
-/// these files. Calls after which a volume stays sound may follow each other.
+/// these files. Calls after which a volume stays sound may follow each other. Where all is durable, as after a sync, any files that
+/// are reachable then may be those that no loss of power is to lose.
 pub fn sound_volumes_outlive_power_cuts<D: Device>()
     ensures mounted { (m : Medium) (live : Alive D) → live.queue ≡ fresh_queue live.kept.geometry → IsMountable live.kept.geometry (image_of m) → m.loose ≡ []
         → (safe : ℕ → Bool) → ((f : ℕ) → IsTrue (safe f) → IsReachable live.kept.geometry (disk_of (image_of m) live) f × (((disk_of (image_of m) live).inode f).mode ≡ 1))
@@ -64,4 +64,7 @@ pub fn sound_volumes_outlive_power_cuts<D: Device>()
     ensures left { (m : Medium) (live : Alive D) (safe : ℕ → Bool) → IsSoundOn m live safe → LeavesSafe live.kept.geometry safe m }
     ensures along { (held held1 held2 : Held) (old mid new : Alive D) (safe safe1 safe2 : ℕ → Bool) → GoesSoundly held old held1 mid safe safe1
         → GoesSoundly held1 mid held2 new safe1 safe2 → GoesSoundly held old held2 new safe safe2 }
+    ensures anew { (m : Medium) (live : Alive D) (safe : ℕ → Bool) → IsSoundOn m live safe → unsynced_of live.queue ≡ []
+        → (more : ℕ → Bool) → ((f : ℕ) → IsTrue (more f) → IsReachable live.kept.geometry (disk_of (image_of m) live) f × (((disk_of (image_of m) live).inode f).mode ≡ 1))
+        → IsSoundOn m live more }
 {}

@@ -1,4 +1,4 @@
--- What a stop leaves at worst.
+-- What a stop, or a loss of power, leaves at worst.
 use Rattle.std.specs.Prelude.{ℕ, List}
 use Rattle.device.specs.Media.{MayBeLeft, Medium}
 use Rattle.findings.specs.Findings.{AllSoft}

@@ -1,5 +1,5 @@
 //! The three promises.
-ghost use Rattle.std.specs.Prelude.{◌≡◌, ◌++◌, ℕ, false, List};
+ghost use Rattle.std.specs.Prelude.{◌≡◌, ◌++◌, ℕ, Bool, false, List, IsTrue};
 ghost use Rattle.std.specs.List.{All};
 ghost use Rattle.findings.specs.Findings.{AreFindings};
 ghost use Rattle.findings.specs.Report.{repairs_of, report_of};
@@ -12,8 +12,9 @@ ghost use Rattle.model.specs.View.{View};
 ghost use Rattle.device.specs.Media.{Medium, images_held};
 ghost use Rattle.snapshot.specs.Alive.{Alive};
 ghost use Rattle.snapshot.specs.Cycles.{HasCycle};
-ghost use Rattle.snapshot.specs.Durable.{IsSoundOn};
+ghost use Rattle.snapshot.specs.Durable.{IsSoundOn, LeavesSafe};
 ghost use Rattle.snapshot.specs.Stages.{LeadsTo, Stage, StandsAt, geometry_at, state_at};
+ghost use Rattle.snapshot.specs.Synced.{HasFile, IsSynced, KeepsFiles};
 ghost use Rattle.shared.specs.Traces.{HasHistory, asked_by, now_at};
 ghost use Rattle.shared.specs.declared.counts.Counts.{Counts};
 ghost use Rattle.shared.specs.declared.entry.Entry.{Entry};
@@ -42,16 +43,23 @@ pub fn every_stop_is_only_leaky<D: Device>()
     machine::checks_carried_out_end_exact();
 }
 
-/// Whatever a loss of power leaves is only leaky, on a device whose writes are not durable at once too: of the medium on which a
-/// volume is sound, as it is just mounted, and of each medium that the device had since, whatever calls were made.
+/// Whatever a loss of power leaves is only leaky, on a device whose writes are not durable at once too (`leaky`): of the medium on which
+/// a volume is sound, as it is just mounted, and of each medium that the device had since, whatever calls were made. And what a
+/// sync has seen outlives it (`synced`): the files that are there where all is durable, as after each sync that is answered, are
+/// in whatever is left then; and, but for those of which an unlink took a name since, in whatever is left of each later medium.
 pub fn every_power_cut_is_only_leaky<D: Device>()
-    ensures { (s t : Stage D) (commands : List Command) (replies : List Reply) → StandsAt s → LeadsTo s commands replies t
+    ensures leaky { (s t : Stage D) (commands : List Command) (replies : List Reply) → StandsAt s → LeadsTo s commands replies t
         → IsSoundOn s.held.now s.volume (λ f. false)
         → LeavesLeaky (geometry_at s) s.held.now
         × (more : List Medium) × (t.held.media ≡ s.held.media ++ more) × All (LeavesLeaky (geometry_at s)) more }
+    ensures synced { (s t u : Stage D) (commands more : List Command) (replies others : List Reply)
+        → StandsAt s → LeadsTo s commands replies t → IsSoundOn s.held.now s.volume (λ f. false) → IsSynced t
+        → (files : ℕ → Bool) → ((f : ℕ) → IsTrue (files f) → HasFile t f) → LeadsTo t more others u
+        → LeavesSafe (geometry_at t) files t.held.now × KeepsFiles t files more others u }
 {
     snapshot::volumes_begin::<D>();
     snapshot::each_power_cut_of_a_run_is_safe::<D>();
+    snapshot::what_a_sync_has_seen_outlives_power_cuts::<D>();
     findings::rules_hold_where_findings_are_soft();
     machine::checks_carried_out_end_exact();
 }

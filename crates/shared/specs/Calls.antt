@@ -4,7 +4,7 @@ use Rattle.std.specs.List.{count_by}
 use Rattle.layout.specs.declared.refusal.Refusal.{Refusal}
 use Rattle.layout.specs.declared.refusal.Refusal.TheVariants.{TraceFull}
 use Rattle.device.specs.Media.{Held}
-use Rattle.softdep.specs.Queued.{NothingNext}
+use Rattle.softdep.specs.Queued.{NothingNext, unsynced_of}
 use Rattle.snapshot.specs.Alive.{Alive}
 use Rattle.snapshot.specs.Between.{Applied, could_go}
 use Rattle.snapshot.specs.Refusing.{IsCause}
@@ -12,7 +12,7 @@ use Rattle.snapshot.specs.Writes.{Writes}
 use Rattle.snapshot.specs.declared.answer.Answer.{Answer}
 use Rattle.snapshot.specs.declared.answer.Answer.TheVariants.{Number}
 use Rattle.snapshot.specs.declared.command.Command.{Command}
-use Rattle.snapshot.specs.declared.command.Command.TheVariants.{Flush, Repair}
+use Rattle.snapshot.specs.declared.command.Command.TheVariants.{Flush, Repair, Sync}
 use Rattle.shared.specs.declared.counts.Counts.{Counts}
 use Rattle.shared.specs.Next.{IsNext}
 use Rattle.shared.specs.Noted.{AddsEntry}
@@ -40,6 +40,8 @@ pub record IsCall {D : Type 0} (honest : D → Type 0) (held_of : D → Held) (i
   pub untouched : OnErr reply ((new.volume.kept ≡ old.volume.kept) × (new.volume.holdings ≡ old.volume.holdings))
   -- a flush counts the updates of its block that could go
   pub flushed : (a : ℕ) → command ≡ Flush a → honest new.volume.device → IfOk reply (λ answer. answer ≡ Number (could_go old.volume a))
+  -- after a sync all is durable
+  pub synced : command ≡ Sync → IfOk reply (λ answer. unsynced_of new.volume.queue ≡ [])
   pub before : new.before ≡ old.before
   pub limit : new.limit ≡ old.limit
 

@@ -160,6 +160,11 @@ pub on_ok_whenever : {T : Type 0} (H P : Type 0) (r : Result T Refusal) → OnOk
 on_ok_whenever H P (Ok t) p = λ h. p
 on_ok_whenever H P (Err e) p = p
 
+-- what holds once it is done holds once that is answered
+pub once_done : (P : Type 0) (outcome : Result (Unit {0}) Refusal) (reply : Result Answer Refusal) → MatchResult outcome (λ _. reply ≡ Ok Done) (λ refusal. reply ≡ Err refusal) → OnOk outcome P → IfOk reply (λ _. P)
+once_done P (Ok t) reply is p = subst (λ (r : Result Answer Refusal). IfOk r (λ _. P)) (sym is) p
+once_done P (Err e) reply is p = subst (λ (r : Result Answer Refusal). IfOk r (λ _. P)) (sym is) tt
+
 -- what changes nothing takes no file from what is safe
 pub stays_still : {D T : Type 0} (held held' : Held) (old new : Alive D) (H : Type 0) (r : Result T Refusal) → held' ≡ held → (new.queue ≡ old.queue) × (new.kept ≡ old.kept) × (new.holdings ≡ old.holdings)
     → OnOk r (H → StaysSafe held old held' new)

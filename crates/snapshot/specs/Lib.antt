@@ -10,4 +10,5 @@ pub mod Pieces
 pub mod Refusing
 pub mod Replied
 pub mod Stages
+pub mod Synced
 pub mod Writes

@@ -1,5 +1,6 @@
-ghost use Rattle.std.specs.Prelude.{◌≡◌, ℕ, true, IfErr, IfOk, IsErrOf, IsOkUnless, OnErr};
+ghost use Rattle.std.specs.Prelude.{◌≡◌, [], ℕ, true, IfErr, IfOk, IsErrOf, IsOkUnless, OnErr};
 ghost use Rattle.device.specs.Writes.{HasFailed};
+ghost use Rattle.softdep.specs.Queued.{unsynced_of};
 ghost use Rattle.snapshot.specs.Asked.{HasBytesOrNames, is_users};
 ghost use Rattle.snapshot.specs.Between.{Applied, Ran, could_go};
 ghost use Rattle.snapshot.specs.Refusing.{AreCaused, IsCause};
@@ -23,6 +24,8 @@ impl<D: Device> Volume<D> {
         ensures reading { HasBytesOrNames result → (self.new.kept ≡ self.old.kept) × (self.new.holdings ≡ self.old.holdings) }
         // A flush counts the updates of its block that could go.
         ensures flushed { (a : ℕ) → command.now ≡ Command.Flush a → D.honest self.new.device → IfOk result (λ answer. answer ≡ Answer.Number (could_go self.old a)) }
+        // After a sync that is answered all is durable.
+        ensures synced { command.now ≡ Command.Sync → IfOk result (λ _. unsynced_of self.new.queue ≡ []) }
         ensures writes { Writes D.honest D.held D.image self.old command.now result self.new }
         ensures cause { IsErrOf result Refusal.Device → HasFailed (D.failures self.old.device) (D.failures self.new.device) }
         // Whatever the device did, a refusal has a cause in what the volume keeps.
@@ -52,6 +55,8 @@ impl<D: Device> Volume<D> {
         ensures reading { HasBytesOrNames result → (self.new.kept ≡ self.old.kept) × (self.new.holdings ≡ self.old.holdings) }
         // A flush counts the updates of its block that could go.
         ensures flushed { (a : ℕ) → command.now ≡ Command.Flush a → D.honest self.new.device → IfOk result (λ answer. answer ≡ Answer.Number (could_go self.old a)) }
+        // After a sync that is answered all is durable.
+        ensures synced { command.now ≡ Command.Sync → IfOk result (λ _. unsynced_of self.new.queue ≡ []) }
         ensures writes { Writes D.honest D.held D.image self.old command.now result self.new }
         ensures cause { IsErrOf result Refusal.Device → HasFailed (D.failures self.old.device) (D.failures self.new.device) }
         // Whatever the device did, a refusal has a cause in what the volume keeps.

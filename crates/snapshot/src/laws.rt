@@ -23,6 +23,7 @@ ghost use Rattle.live.specs.Held.{HeldMore};
 ghost use Rattle.live.specs.Mounting.{IsMountable};
 ghost use Rattle.snapshot.specs.Cycles.{HasCycle};
 ghost use Rattle.snapshot.specs.Stages.{BeginsAt, IsSafeTo, LeadsTo, ServesTo, Stage, StandsAt, geometry_at, state_at};
+ghost use Rattle.snapshot.specs.Synced.{HasFile, IsSynced, KeepsFiles};
 
 use device::Device;
 
@@ -55,6 +56,19 @@ pub fn each_power_cut_of_a_run_is_safe<D: Device>()
         → LeavesSafe (geometry_at s) safe s.held.now × (later : List View) × (safe' : ℕ → Bool) × ServesTo s safe commands replies t safe' later
         × IsSoundOn t.held.now t.volume safe' × HeldSafely (geometry_at s) s.held t.held safe' }
 {}
+
+/// What a sync has seen outlives each loss of power. Where all is durable of a volume that was sound on its medium at first, as after
+/// each sync that is answered, any files that are there then may be those that no loss of power is to lose: whatever is left of the
+/// medium has them, and whatever calls come then, whatever is left of each later one has those of them of which no unlink took a name.
+pub fn what_a_sync_has_seen_outlives_power_cuts<D: Device>()
+    ensures { (s t u : Stage D) (commands more : List Command) (replies others : List Reply)
+        → StandsAt s → LeadsTo s commands replies t → IsSoundOn s.held.now s.volume (λ f. false) → IsSynced t
+        → (files : ℕ → Bool) → ((f : ℕ) → IsTrue (files f) → HasFile t f) → LeadsTo t more others u
+        → LeavesSafe (geometry_at t) files t.held.now × KeepsFiles t files more others u }
+{
+    courses::services_begin_anew_with_nothing_pending();
+    courses::files_that_lose_no_name_stay_safe();
+}
 
 /// A volume was mounted once, whatever was done with it since: it is where one may begin, with no file that no stop is to lose.
 pub fn volumes_begin<D: Device>()

@@ -1,6 +1,7 @@
 //! The commands of users, carried out on the mounted volume.
-ghost use Rattle.std.specs.Prelude.{◌≡◌, ℕ, true, IfErr, IfOk, IsErrOf, OnErr};
+ghost use Rattle.std.specs.Prelude.{◌≡◌, [], ℕ, true, IfErr, IfOk, IsErrOf, OnErr};
 ghost use Rattle.device.specs.Writes.{HasFailed};
+ghost use Rattle.softdep.specs.Queued.{unsynced_of};
 ghost use Rattle.snapshot.specs.Asked.{HasBytesOrNames, is_users};
 ghost use Rattle.snapshot.specs.Between.{RepliedSo, could_go};
 ghost use Rattle.snapshot.specs.Refusing.{IsCause};
@@ -21,6 +22,7 @@ pub(crate) fn user_reply<D: Device>(live: &mut Live<D>, alloc: Global, command: 
     // An answer of bytes or names leaves all of that too.
     ensures reading { HasBytesOrNames result → (live.new.kept ≡ live.old.kept) × (live.new.holdings ≡ live.old.holdings) }
     ensures flushed { (a : ℕ) → command.now ≡ Command.Flush a → IfOk result (λ answer. answer ≡ Answer.Number (could_go live.old a)) }
+    ensures synced { command.now ≡ Command.Sync → IfOk result (λ _. unsynced_of live.new.queue ≡ []) }
     ensures writes { Writes D.honest D.held D.image live.old command.now result live.new }
     ensures cause { IsErrOf result Refusal.Device → HasFailed (D.failures live.old.device) (D.failures live.new.device) }
     ensures error { IfErr result (IsCause live.old command.now) }

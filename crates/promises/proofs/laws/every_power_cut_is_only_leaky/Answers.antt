@@ -10,8 +10,8 @@ use Rattle.snapshot.specs.Stages.{geometry_at}
 use Rattle.promises.specs.Leaky.{IsOnlyLeaky, LeavesLeaky}
 use Rattle.promises.proofs.laws.every_power_cut_is_only_leaky.Goals as goal
 
-pub returns : goal.returns
-returns g c = λ s t commands replies is leads sound.
+pub returns-clause-leaky : goal.returns-clause-leaky
+returns-clause-leaky g c = λ s t commands replies is leads sound.
     let geo = geometry_at s in
     let begins = c.volumes_begin.ensures s is in
     let safe = c.each_power_cut_of_a_run_is_safe.ensures s t commands replies leads begins.0 begins.1 begins.2 (λ f. false) begins.3 sound in
@@ -29,3 +29,6 @@ returns g c = λ s t commands replies is leads sound.
     }
     in
     (λ image may. leaky image (safe.0 image may).0, held.more, held.media, All-weaker (LeavesSafe geo safe.2) (LeavesLeaky geo) (λ m leaves image may. leaky image (leaves image may).0) held.more held.each)
+
+pub returns-clause-synced : goal.returns-clause-synced
+returns-clause-synced g c = c.what_a_sync_has_seen_outlives_power_cuts.ensures

@@ -10,7 +10,7 @@ use Rattle.snapshot.specs.Asked.{asked}
 use Rattle.snapshot.proofs.AnswerLemmas.{neither}
 use Rattle.snapshot.proofs.Blaming.{cause_blamed, device_blamed, of_caused, of_device, of_device_or_caused, of_first, of_flush, of_refused, replied_so}
 use Rattle.snapshot.proofs.Writing.{flush_counts, refused_writes, untouched, unwritten_writes, writes_flush}
-use Rattle.snapshot.proofs.UserReplies.{looked, on_err_always, on_ok_always, on_ok_whenever, plain, plainly_done, reading, reading_done, stays_still, unflushed, writing, writing_done}
+use Rattle.snapshot.proofs.UserReplies.{looked, on_err_always, on_ok_always, on_ok_whenever, once_done, plain, plainly_done, reading, reading_done, stays_still, unflushed, writing, writing_done}
 use Rattle.snapshot.proofs.users.user_reply.Goals as goal
 
 pub returns-in-Create-clause-replied : goal.returns-in-Create-clause-replied
@@ -105,6 +105,9 @@ returns-in-Sync-clause-replied g c =
     (ap (asked c.args.live.now.kept.geometry) c.in-Sync.is)
     c.sync.result c.done-in-Sync.result c.done-in-Sync.ensures c.sync.ensures.done c.sync.ensures.refused
     (on_err_always _ c.sync.result c.sync.ensures.writes) c.sync.ensures.metadata c.sync.ensures.holdings (on_ok_always _ c.sync.result c.sync.ensures.sound) (on_err_always _ c.sync.result c.sync.ensures.sound)
+
+pub returns-in-Sync-clause-synced : goal.returns-in-Sync-clause-synced
+returns-in-Sync-clause-synced g c = λ _. once_done _ c.sync.result c.done-in-Sync.result c.done-in-Sync.ensures c.sync.ensures.unsynced
 
 -- ---- what a refusal may be
 

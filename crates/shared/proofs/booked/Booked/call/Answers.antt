@@ -55,6 +55,7 @@ returns-clause-call g c =
       entry = search rules;
       untouched = untouched_so reply answer c.apply-reply.ensures.untouched c.apply-reply.ensures.reading same;
       flushed = λ a is h. answer_so _ reply answer (c.apply-reply.ensures.flushed a is h) same;
+      synced = λ is. answer_so _ reply answer (c.apply-reply.ensures.synced is) same;
       before = refl;
       limit = refl;
     })

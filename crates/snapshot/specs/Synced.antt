@@ -1,0 +1,27 @@
+-- What a sync has seen, and what calls leave of it.
+use Rattle.std.specs.Prelude.{◌≡◌, ℕ, Bool, List, [], IsTrue}
+use Rattle.model.specs.Reach.{IsReachable}
+use Rattle.model.specs.View.{View}
+use Rattle.device.specs.Media.{image_of}
+use Rattle.machine.specs.Command.{Command, Reply}
+use Rattle.courses.specs.Serves.{IsSpared}
+use Rattle.softdep.specs.Queued.{unsynced_of}
+use Rattle.live.specs.Alive.{disk_of}
+use Rattle.live.specs.Durable.{HeldSafely}
+use Rattle.snapshot.specs.Stages.{ServesTo, Stage, geometry_at}
+
+-- all is durable, on a device that answers what its medium has
+abbrev pub IsSynced : {D : Type 0} → Stage D → Type 0
+IsSynced t = (unsynced_of t.volume.queue ≡ []) × (t.image ≡ image_of t.held.now)
+
+-- a file that can be reached
+abbrev pub HasFile : {D : Type 0} → Stage D → ℕ → Type 0
+HasFile t f = IsReachable (geometry_at t) (disk_of t.image t.volume) f × (((disk_of t.image t.volume).inode f).mode ≡ 1)
+
+-- Of these files, whatever a loss of power leaves of each medium that the device had since has those of which no unlink took a name.
+pub record KeepsFiles {D : Type 0} (t : Stage D) (files : ℕ → Bool) (commands : List Command) (replies : List Reply) (u : Stage D) : Type 0 where
+  pub later : List View
+  pub left : ℕ → Bool
+  pub service : ServesTo t files commands replies u left later
+  pub spared : (f : ℕ) → IsTrue (files f) → IsSpared f service → IsTrue (left f)
+  pub held : HeldSafely (geometry_at t) t.held u.held left
