@@ -256,18 +256,6 @@ waits_one old new mid w same count next more = record {
       ∙ sym (append_assoc (steps_in false mid.answered) (steps_of mid.waiting) (Wrote w.0 w.1 ∷ [])) ∙ ap (λ (c : Calls). all_steps c ++ Wrote w.0 w.1 ∷ []) same;
 }
 
--- or was given to the file, where none waits
-pub puts_one : (old new mid : Calls) (w : Write) → mid ≡ old → new.count ≡ mid.count → new.answered ≡ mid.answered ++ (WriteBlock w.0, w.1) ∷ [] → mid.waiting ≡ [] → new.waiting ≡ [] → GoesOn old new (Wrote w.0 w.1 ∷ [])
-puts_one old new mid w same count next none none' = record {
-  more = (WriteBlock w.0, w.1) ∷ [];
-  count = count ∙ ap (λ (c : Calls). c.count) same;
-  answered = next ∙ ap (λ (c : Calls). c.answered ++ (WriteBlock w.0, w.1) ∷ []) same;
-  steps = ap₂ (λ es vs. steps_in false es ++ steps_of vs) next none' ∙ append-nil (steps_in false (mid.answered ++ (WriteBlock w.0, w.1) ∷ []))
-      ∙ steps_in-append false mid.answered ((WriteBlock w.0, w.1) ∷ [])
-      ∙ ap (λ ss. ss ++ Wrote w.0 w.1 ∷ []) (sym (append-nil (steps_in false mid.answered)) ∙ ap (λ ws. steps_in false mid.answered ++ steps_of ws) (sym none))
-      ∙ ap (λ (c : Calls). all_steps c ++ Wrote w.0 w.1 ∷ []) same;
-}
-
 -- a block that the file gave, and for whose address none waits, is the one that stands there
 pub read_stands : (image : List (List ℕ)) (es : List Answered) (ws : List Write) (a : ℕ) (block : List ℕ) → IsUntouched ws a → AreHonest image (es ++ (ReadBlock a, block) ∷ []) → block ≡ block_at (image_after image (writes_of es ++ ws)) a
 read_stands image es ws a block clear h =

@@ -93,12 +93,6 @@ module _ (image : List (List ℕ)) (es es' : List Answered) (ws ws' kept earlier
 pub adds_started : (es : List Answered) (ws ws' : List Write) (w : Write) → ws ≡ [] → ws' ≡ w ∷ [] → writes_of es ++ ws' ≡ (writes_of es ++ ws) ++ w ∷ []
 adds_started es ws ws' w none more = ap (λ vs. writes_of es ++ vs) more ∙ ap (λ vs. vs ++ w ∷ []) (sym (append-nil (writes_of es)) ∙ ap (λ vs. writes_of es ++ vs) (sym none))
 
--- the file was given it
-pub adds_put : (es es' : List Answered) (ws ws' : List Write) (a : ℕ) (block : List ℕ) → ws ≡ [] → es' ≡ es ++ (WriteBlock a, block) ∷ [] → ws' ≡ [] → writes_of es' ++ ws' ≡ (writes_of es ++ ws) ++ (a, block) ∷ []
-adds_put es es' ws ws' a block none more none' =
-    ap₂ (λ fs vs. writes_of fs ++ vs) more none' ∙ append-nil (writes_of (es ++ (WriteBlock a, block) ∷ [])) ∙ writes_of-append es ((WriteBlock a, block) ∷ [])
-    ∙ ap (λ vs. vs ++ (a, block) ∷ []) (sym (append-nil (writes_of es)) ∙ ap (λ vs. writes_of es ++ vs) (sym none))
-
 module _ (image : List (List ℕ)) (es es' : List Answered) (ws ws' kept earlier : List Write) (a : ℕ) (block : List ℕ) (is : IsWriteTo (length image) (a, block)) (k : IsKeeping image es ws kept earlier) (before : AreHonest image es' → AreHonest image es) (written : writes_of es' ++ ws' ≡ (writes_of es ++ ws) ++ (a, block) ∷ []) where
   image_is : image_after image (writes_of es' ++ ws') ≡ slice_set (image_after image (writes_of es ++ ws)) a block
   image_is = ap (image_after image) written ∙ image_after-push image (writes_of es ++ ws) (a, block)
@@ -131,14 +125,4 @@ module _ (image : List (List ℕ)) (es : List Answered) (ws kept earlier : List 
       keeps_after image es es ws ws' kept earlier a block is k (λ h. h)
       (adds_started es ws ws' (a, block) none more) kept' earlier'
       (λ h. subst (AreCopies (slice_set now a block)) (sym next) (written_copy now a block, tt))
-      (λ h. subst (AreCopies (slice_set now a block)) (sym next') (replaced_copies now a block earlier (k.earlier h)))
-
-  -- and the file was given it, where none waits
-  pub keeps_put : (es' : List Answered) (ws' kept' earlier' : List Write) → ws ≡ [] → es' ≡ es ++ (WriteBlock a, block) ∷ [] → ws' ≡ [] → kept' ≡ replaced a block kept → earlier' ≡ replaced a block earlier
-      → IsKeeping image es' ws' kept' earlier'
-  keeps_put es' ws' kept' earlier' none more none' next next' =
-      keeps_after image es es' ws ws' kept earlier a block is k
-      (λ h. (honest-append image es ((WriteBlock a, block) ∷ []) (subst (λ fs. AreHonest image fs) more h)).0)
-      (adds_put es es' ws ws' a block none more none') kept' earlier'
-      (λ h. subst (AreCopies (slice_set now a block)) (sym next) (replaced_copies now a block kept (k.kept h)))
       (λ h. subst (AreCopies (slice_set now a block)) (sym next') (replaced_copies now a block earlier (k.earlier h)))

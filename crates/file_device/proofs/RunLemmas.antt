@@ -60,28 +60,6 @@ replaced_outside a block f (x ∷ xs) out =
     ap₂ (λ w ws. w ∷ ws) (replaced_other a block (f, x) (λ e. out (omega (arith, e)) (omega (arith, e))))
     (replaced_outside a block (suc f) xs (λ l b. out (omega (arith, l)) (omega (arith, l, b))))
 
--- the block of a run that stands there
-pub replaced_at : (a f i : ℕ) (block : List ℕ) (xs : List (List ℕ)) → a ≡ f + i → i < length xs → writes_from f (slice_set xs i block) ≡ replaced a block (writes_from f xs)
-replaced_at a f i block [] at low = absurd (omega (arith, low))
-replaced_at a f zero block (x ∷ xs) at low =
-    ap₂ (λ w ws. w ∷ ws) (ap (λ n. (n, block)) (let e : f ≡ a = omega (arith, at) in e) ∙ sym (replaced_same a block (f, x) (omega (arith, at))))
-    (sym (replaced_outside a block (suc f) xs (λ l b. omega (arith, l, at))))
-replaced_at a f (suc i) block (x ∷ xs) at low =
-    ap₂ (λ w ws. w ∷ ws) (sym (replaced_other a block (f, x) (λ e. omega (arith, e, at))))
-    (replaced_at a (suc f) i block xs (omega (arith, at)) (omega (arith, low)))
-
-take_set : (n i : ℕ) (block : List ℕ) (xs : List (List ℕ)) → i < n → take n (slice_set xs i block) ≡ slice_set (take n xs) i block
-take_set zero i block xs low = absurd (omega (arith, low))
-take_set (suc n) i block [] low = refl
-take_set (suc n) zero block (x ∷ xs) low = refl
-take_set (suc n) (suc i) block (x ∷ xs) low = ap (λ ys. x ∷ ys) (take_set n i block xs (omega (arith, low)))
-
--- one of the first n blocks of a run
-pub replaced_in : (a f n : ℕ) (block : List ℕ) (xs : List (List ℕ)) → f ≤ a → a < f + length (take n xs) → length (take n xs) ≤ n
-    → writes_from f (take n (slice_set xs (a - f) block)) ≡ replaced a block (writes_from f (take n xs))
-replaced_in a f n block xs from to few =
-    ap (writes_from f) (take_set n (a - f) block xs (omega (arith, from, to, few))) ∙ replaced_at a f (a - f) block (take n xs) (omega (arith, from)) (omega (arith, from, to))
-
 -- ---- blocks of an image
 
 -- writes that do not reach there leave the block

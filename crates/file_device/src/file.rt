@@ -68,14 +68,14 @@ const NO_BLOCK: Block = [0; BLOCK_BYTES];
 /// its own: that it is the one that stands there is proved.
 ///
 /// Nor can a contract say what is on the medium. What is said of it has as its premises that a sync that the file answers has
-/// brought all there that the file was given before, that a block is there whole or not at all, that a write that the file
-/// refuses changed nothing, and that nobody else writes. A file that refused a write or a sync is asked nothing any more.
+/// brought all there that the file was given before, that a block is there whole or not at all, and that nobody else writes. A
+/// file that refused a write or a sync is asked nothing any more; of what it refused to write any block may be there.
 ///
 /// Blocks that are read one after another come from the file in runs, and those that are read alone are kept, each until
-/// another needs its place: so what others write to the file meanwhile may stay unseen. A device that gathers gives the file
-/// blocks that are written one after another in runs, too: the last ones wait in memory until another block is written, or
-/// `sync` or `give` is called. The file is given all writes in their order, so that after each call of the system it holds
-/// what some of the writes left, the first first; the medium may have any of those since the last sync.
+/// another needs its place: so what others write to the file meanwhile may stay unseen. Blocks that are written one after
+/// another are given to the file in runs, too: the last ones wait in memory until another block is written, or `sync` or `give`
+/// is called. The file is given all writes in their order, so that after each call of the system it holds what some of the
+/// writes left, the first first; the medium may have any of those since the last sync.
 #[derive(Drop)]
 pub struct FileDevice<F, S: Start> {
     file: F,
@@ -89,8 +89,6 @@ pub struct FileDevice<F, S: Start> {
     waits: bool,
     /// Blocks that were read alone, each as it was written last.
     earlier: Earlier,
-    /// Whether writes may wait.
-    gathers: bool,
     /// Whether the file refused a write or a sync.
     broken: bool,
     start: PhantomData<S>,
@@ -120,19 +118,8 @@ impl<F, S: Start> FileDevice<F, S> {
             kept: Run::before(0),
             waits: false,
             earlier: Earlier::none(),
-            gathers: false,
             broken: false,
             start: PhantomData,
-        }
-    }
-
-    /// The same device, which gathers what is written.
-    pub fn gathering(self) -> FileDevice<F, S>
-        ensures { result ≡ self }
-    {
-        FileDevice {
-            gathers: true,
-            ..self
         }
     }
 
@@ -274,24 +261,8 @@ impl<F: FileExt, S: Start> FileDevice<F, S> {
         Ok(())
     }
 
-    /// Writes a block, and counts no fault.
+    /// Keeps a block that is written, and gives the file those before it, if they are no run with it. Counts no fault.
     fn take(&mut self, address: u32, from: &Block) -> io::Result<()>
-        requires { address < self.old.count }
-        ensures taken { OnOk result (GoesOn self.old self.new (Wrote address from.now ∷ [])) }
-        ensures refused { OnErr result (GoesOn self.old self.new []) }
-        ensures sound { OnOk result (has_refused false self.old.answered ≡ false) }
-        ensures unasked { has_refused false self.old.answered ≡ true → self.new.answered ≡ self.old.answered }
-        ensures ends { OnErr result (has_refused false self.new.answered ≡ true) }
-        ensures failures { self.new.failures ≡ self.old.failures }
-    {
-        if self.gathers {
-            return self.gather(address, from);
-        }
-        self.put(address, from)
-    }
-
-    /// Keeps a block that is written, and gives the file those before it, if they are no run with it.
-    fn gather(&mut self, address: u32, from: &Block) -> io::Result<()>
         requires { address < self.old.count }
         ensures taken { OnOk result (GoesOn self.old self.new (Wrote address from.now ∷ [])) }
         ensures refused { OnErr result (GoesOn self.old self.new []) }
@@ -311,33 +282,6 @@ impl<F: FileExt, S: Start> FileDevice<F, S> {
         self.kept.start(address, from);
         self.waits = true;
         Ok(())
-    }
-
-    /// Gives the file a block that is written, and what waited before it.
-    fn put(&mut self, address: u32, from: &Block) -> io::Result<()>
-        requires { address < self.old.count }
-        ensures taken { OnOk result (GoesOn self.old self.new (Wrote address from.now ∷ [])) }
-        ensures refused { OnErr result (GoesOn self.old self.new []) }
-        ensures sound { OnOk result (has_refused false self.old.answered ≡ false) }
-        ensures unasked { has_refused false self.old.answered ≡ true → self.new.answered ≡ self.old.answered }
-        ensures ends { OnErr result (has_refused false self.new.answered ≡ true) }
-        ensures failures { self.new.failures ≡ self.old.failures }
-    {
-        self.give_waiting()?;
-        match self.file.write_all_at(from, offset(address)) {
-            Ok(()) => {
-                self.answered = self.answered.and(&Call::WriteBlock(address), from);
-                self.kept.replace(address, from);
-                self.earlier.replace(address, from);
-                // What waited was given.
-                self.waits = false;
-                Ok(())
-            }
-            Err(error) => {
-                self.refuse();
-                Err(error)
-            }
-        }
     }
 }
 

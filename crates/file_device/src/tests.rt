@@ -46,15 +46,16 @@ fn has_maps(opened: &mut FileDevice<File, Brand>) -> bool {
     }
 }
 
-/// Whether one shows what is written through the other, and refuses a write, which is its last call.
+/// Whether one shows what is written through the other, and refuses what it is given, which is its last call.
 fn shows_a_format(
     made: &mut FileDevice<File, Brand>,
     opened: &mut FileDevice<File, Brand>,
 ) -> Result<bool, Refusal> {
     format_groups(made, 1)?;
+    made.give()?;
     let is_shown = has_maps(opened);
-    let refused = set_byte(opened, (1, 0, 2)).err();
-    Ok(is_shown && refused == Some(Refusal::Device) && !has_maps(opened))
+    set_byte(opened, (1, 0, 2))?;
+    Ok(is_shown && opened.give().is_err() && !has_maps(opened))
 }
 
 /// Whether a file that is made, and opened while it stands, is as it has to be.

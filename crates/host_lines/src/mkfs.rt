@@ -11,7 +11,7 @@ use command_line::{Answer, Failure, arguments, words};
 use device::Before;
 use file_device::FileDevice;
 use image_lines::make::make;
-use layout::Geometry;
+use layout::{Geometry, Refusal};
 use progress::Watcher;
 use putting::{Item, items_of_archive, items_of_folder, put_items};
 use std::alloc::{AllocError, Global};
@@ -121,12 +121,13 @@ fn make_image<R: Files + AllocGlobal>(
 ) -> Result<FileDevice<R::File, Brand>, Failure>
 where
     R::File: FileExt,
-    ensures { IfOk result (λ device. image_now (λ _. zero_block) device ≡ fresh_image geometry.now) }
+    ensures image { IfOk result (λ device. image_now (λ _. zero_block) device ≡ fresh_image geometry.now) }
+    ensures given { IfOk result (λ device. device.waiting ≡ []) }
 {
     make_file(rt, image, geometry).map_err(|failure| failure.on_image(rt, image))
 }
 
-/// Makes a file with a fresh image.
+/// Makes a file with a fresh image, of which the file was given all.
 fn make_file<R: Files + AllocGlobal>(
     rt: &R,
     image: &str,
@@ -134,12 +135,24 @@ fn make_file<R: Files + AllocGlobal>(
 ) -> Result<FileDevice<R::File, Brand>, Failure>
 where
     R::File: FileExt,
-    ensures { IfOk result (λ device. image_now (λ _. zero_block) device ≡ fresh_image geometry.now) }
+    ensures image { IfOk result (λ device. image_now (λ _. zero_block) device ≡ fresh_image geometry.now) }
+    ensures given { IfOk result (λ device. device.waiting ≡ []) }
 {
     let mut device: FileDevice<R::File, Brand> = FileDevice::create(rt, image, geometry.blocks())?;
     match make(&mut device, geometry, Before::Zeroes) {
-        Ok(()) => Ok(device),
+        Ok(()) => given(device),
         Err(refusal) => Err(Failure::from(refusal)),
+    }
+}
+
+/// The same device, whose file was given what waited.
+fn given<F: FileExt>(mut device: FileDevice<F, Brand>) -> Result<FileDevice<F, Brand>, Failure>
+    ensures image { IfOk result (λ same. image_now (λ _. zero_block) same ≡ image_now (λ _. zero_block) device) }
+    ensures given { IfOk result (λ same. same.waiting ≡ []) }
+{
+    match device.give() {
+        Ok(()) => Ok(device),
+        Err(fault) => Err(Failure::from(Refusal::from(fault))),
     }
 }
 
@@ -173,7 +186,7 @@ where
     ensures status { IfOk result (λ answer. answer.status ≡ 0) }
     ensures silent { IfOk result (λ answer. answer.text.items ≡ []) }
 {
-    let device = make_image(rt, image, geometry)?.gathering();
+    let device = make_image(rt, image, geometry)?;
     silent(rt.alloc(), put_items(rt, image, device, items, watcher))
 }
 

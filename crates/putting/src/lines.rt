@@ -169,7 +169,7 @@ fn mount_file<R: Files + AllocGlobal>(
 where
     R::File: FileExt,
 {
-    let device = FileDevice::open_to_write(rt, image)?.gathering();
+    let device = FileDevice::open_to_write(rt, image)?;
     Ok(mount(rt.alloc(), device)?)
 }
 

@@ -34,7 +34,7 @@ pub fn carry_out_on<R: Files + AllocGlobal + Threads + Sync>(
 where
     R::File: FileExt,
 {
-    let device: FileDevice<R::File, Brand> = FileDevice::open_to_write(rt, image)?.gathering();
+    let device: FileDevice<R::File, Brand> = FileDevice::open_to_write(rt, image)?;
     let mut mounted = mount(rt.alloc(), device)?;
     let count = carry_out_and_sync(rt, rt.alloc(), &mut mounted, bytes);
     drop(mounted);

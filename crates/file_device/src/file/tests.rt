@@ -226,22 +226,12 @@ fn expect(rt: &(impl AllocGlobal + Abort), blocks: u8, steps: &[Step]) -> Result
     Ok(())
 }
 
-/// The same of a device that gathers what is written.
-fn expect_gathering(
-    rt: &(impl AllocGlobal + Abort),
-    blocks: u8,
-    steps: &[Step],
-) -> Result<(), AllocError> {
-    let mut device = over_blocks(rt.alloc(), 0xAA, blocks)?.gathering();
-    assert_eq!(rt; first_wrong(&mut device, steps), None);
-    Ok(())
-}
-
 #[test]
 fn a_block_stands_at_its_byte(rt: HostRuntime) -> Result<(), AllocError> {
     let steps = [
         Step::Change(3, 0, 7),
         Step::Change(3, 1023, 8),
+        Step::Give,
         Step::Byte(3071, 0xAA),
         Step::Byte(3072, 7),
         Step::Byte(3073, 0xAA),
@@ -276,7 +266,9 @@ fn a_read_that_fails_changes_nothing(rt: HostRuntime) -> Result<(), AllocError> 
 fn a_write_that_fails_is_the_last(rt: HostRuntime) -> Result<(), AllocError> {
     let steps = [
         Step::Fail(0, 0),
-        Step::Write(2, 1, false),
+        // It waits until another one is written.
+        Step::Write(2, 1, true),
+        Step::Write(0, 1, false),
         Step::Blocks(3),
         Step::Read(2, None),
         Step::Write(2, 1, false),
@@ -293,6 +285,7 @@ fn a_write_that_fails_is_the_last(rt: HostRuntime) -> Result<(), AllocError> {
 fn a_sync_that_fails_is_the_last(rt: HostRuntime) -> Result<(), AllocError> {
     let steps = [
         Step::Write(2, 1, true),
+        Step::Give,
         Step::Read(2, Some(1)),
         Step::Fail(0, 0),
         Step::Sync(false),
@@ -338,7 +331,7 @@ fn blocks_that_follow_are_written_together(rt: HostRuntime) -> Result<(), AllocE
         Step::Give,
         Step::Calls(5),
     ];
-    expect_gathering(&rt, 50, &steps)
+    expect(&rt, 50, &steps)
 }
 
 #[test]
@@ -353,7 +346,7 @@ fn what_waits_is_not_given_after_a_fault(rt: HostRuntime) -> Result<(), AllocErr
         Step::Calls(1),
         Step::Byte(4 * BLOCK_BYTES, 0xAA),
     ];
-    expect_gathering(&rt, 9, &steps)
+    expect(&rt, 9, &steps)
 }
 
 #[test]
@@ -381,7 +374,7 @@ fn blocks_written_in_turn_are_read_out_of_memory(rt: HostRuntime) -> Result<(), 
         Step::Calls(6),
         Step::Byte(5 * BLOCK_BYTES, 4),
     ];
-    expect_gathering(&rt, 9, &steps)
+    expect(&rt, 9, &steps)
 }
 
 #[test]
@@ -403,7 +396,7 @@ fn two_blocks_share_a_slot(rt: HostRuntime) -> Result<(), AllocError> {
         Step::Read(34, Some(6)),
         Step::Calls(6),
     ];
-    expect_gathering(&rt, 40, &steps)
+    expect(&rt, 40, &steps)
 }
 
 #[test]
@@ -420,26 +413,33 @@ fn blocks_that_follow_are_read_together(rt: HostRuntime) -> Result<(), AllocErro
     expect(&rt, 50, &steps)
 }
 
-/// Whether a format of one group stops at the call of this number, which fails: the block before is written, and this one is not.
+/// Whether a format of three groups stops at the call of this number, which fails: the runs of 32 blocks before are written, and
+/// this one is not.
 fn stops_at(device: &mut FakeDevice, number: u8) -> bool {
     device.file.fail(number as u64, number as u64);
-    let start = number as usize * BLOCK_BYTES;
-    format_groups(device, 1) == Err(Refusal::Device)
+    let start = 32 * number as usize * BLOCK_BYTES;
+    made(device) == Err(Refusal::Device)
         && device.file.byte(start) == Some(0xAA)
         && (number == 0 || device.file.byte(start - BLOCK_BYTES) != Some(0xAA))
         && device.file.calls.get() == number as u64 + 1
 }
 
+/// Writes a fresh image of three groups, and gives the file all of it.
+fn made(device: &mut FakeDevice) -> Result<(), Refusal> {
+    format_groups(device, 3)?;
+    Ok(device.give()?)
+}
+
 /// Aborts unless a format stops at the call of this number, which fails.
 fn expect_stop(rt: &(impl AllocGlobal + Abort), number: u8) -> Result<(), AllocError> {
-    let mut device = over_blocks(rt.alloc(), 0xAA, 17)?;
+    let mut device = over_blocks(rt.alloc(), 0xAA, 49)?;
     assert!(rt; stops_at(&mut device, number), "call {number}");
     Ok(())
 }
 
 #[test]
 fn a_format_with_a_fault_stops_there(rt: HostRuntime) -> Result<(), AllocError> {
-    for number in 0..17 {
+    for number in 0..2 {
         expect_stop(&rt, number)?;
     }
     Ok(())
@@ -467,6 +467,7 @@ fn known(alloc: Global) -> Result<FakeDevice, Refusal> {
     let bytes = vec![in alloc; 0; 33 * BLOCK_BYTES]?;
     let mut device: FakeDevice = FileDevice::over(FakeFile::new(bytes), 33);
     format(&mut device, &Geometry::new(2, 16, 16)?, Before::Zeroes)?;
+    device.give()?;
     Ok(device)
 }
 
@@ -474,8 +475,8 @@ fn known(alloc: Global) -> Result<FakeDevice, Refusal> {
 fn zeroes_are_not_written_over_zeroes(rt: HostRuntime) -> Result<(), Refusal> {
     let mut known = known(rt.alloc())?;
     let mut written = written(rt.alloc())?;
-    // The superblock, two blocks of maps, the root's record and its block with the dots.
-    let is_so = known.file.calls.get() == 5 && have_the_same_blocks(&mut known, &mut written, 33);
+    // Three runs: the superblock, the maps and the root's record; its block with the dots; the maps of the second group.
+    let is_so = known.file.calls.get() == 3 && have_the_same_blocks(&mut known, &mut written, 33);
     assert!(rt; is_so);
     Ok(())
 }

@@ -1,5 +1,5 @@
 ghost use Rattle.std.specs.Prelude.{◌≡◌, ◌⊎◌, ◌+◌, ◌<◌, ◌≤◌, [], ◌∷◌, true, None, List, ℕ, IfSome};
-ghost use Rattle.file_device.specs.Runs.{IsKept, blocks_of_run, replaced, with_block, writes_of_run};
+ghost use Rattle.file_device.specs.Runs.{IsKept, blocks_of_run, with_block, writes_of_run};
 
 use super::{RUN_BLOCKS, Run, Span};
 use crate::file::offset;
@@ -81,16 +81,6 @@ impl Run {
     {
         self.clear(address);
         self.push(block);
-    }
-
-    /// Replaces the block of this address, if one is kept for it.
-    pub fn replace(&mut self, address: u32, block: &Block)
-        ensures { writes_of_run self.new ≡ replaced address block.now (writes_of_run self.old) }
-    {
-        if self.block(address).is_none() {
-            return;
-        }
-        self.blocks[(address - self.span.first) as usize] = *block;
     }
 
     /// Reads so many blocks of a file from this address on. None is kept where the file does not give them all.

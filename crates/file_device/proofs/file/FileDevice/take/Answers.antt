@@ -8,7 +8,7 @@ use Rattle.file_device.specs.Runs.{waiting, blocks_of_run, writes_of_earlier, wr
 use Rattle.file_device.proofs.KeepLemmas.{keeps_pushed, keeps_started}
 use Rattle.file_device.proofs.RunLemmas.{all_wait, replaced_outside}
 use Rattle.file_device.proofs.CallLemmas.{gives_all, goes_further, waits_one, write_to}
-use Rattle.file_device.proofs.file.FileDevice.gather.Goals as goal
+use Rattle.file_device.proofs.file.FileDevice.take.Goals as goal
 
 pub invariant_of-self : goal.invariant_of-self
 invariant_of-self g c =
