@@ -3,7 +3,7 @@ ghost use Rattle.changing.specs.Changes.{ChangesMounted, IsNotChanged};
 ghost use Rattle.changing.specs.Stops.{StopsAtRefusal};
 ghost use Rattle.snapshot.specs.Mounting.{IsMountable, IsNotMounted};
 ghost use Rattle.live_states.specs.Holdings.{IsIdle};
-ghost use Rattle.softdep.specs.Queued.{pending_of};
+ghost use Rattle.softdep.specs.Queued.{fresh_queue, pending_of};
 
 use crate::change;
 use device::Device;
@@ -39,7 +39,10 @@ pub fn change_device<D: Device + Drop>(
 /// Mounts the volume of a device, which is let go if it cannot be mounted. Refused as `Live::mount` is.
 pub fn mount<D: Device + Drop>(alloc: Global, device: D) -> Result<Volume<D>, Refusal>
     ensures image { IfOk result (λ volume. D.image volume.device ≡ D.image device) }
+    ensures held { IfOk result (λ volume. D.held volume.device ≡ D.held device) }
     ensures pending { IfOk result (λ volume. pending_of volume.queue ≡ []) }
+    // Nothing was issued: so it is sound on its medium, where nothing of that is loose.
+    ensures fresh { IfOk result (λ volume. volume.queue ≡ fresh_queue volume.kept.geometry) }
     ensures idle { IfOk result (λ volume. IsIdle volume.holdings) }
     ensures mounted { IfOk result (λ volume. D.honest volume.device → IsMountable volume.kept.geometry (D.image device)) }
     ensures refused { IfErr result (IsNotMounted D.honest D.image D.held D.failures device) }
