@@ -146,7 +146,9 @@ where
 }
 
 /// The same device, whose file was given what waited.
-fn given<F: FileExt>(mut device: FileDevice<F, Brand>) -> Result<FileDevice<F, Brand>, Failure>
+fn given<F: FileExt + Drop>(
+    mut device: FileDevice<F, Brand>,
+) -> Result<FileDevice<F, Brand>, Failure>
     ensures image { IfOk result (λ same. image_now (λ _. zero_block) same ≡ image_now (λ _. zero_block) device) }
     ensures given { IfOk result (λ same. same.waiting ≡ []) }
 {
