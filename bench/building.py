@@ -33,5 +33,7 @@ def fsvol():
 
 
 def test_lists():
-    """The path of the program that carries out lists of commands."""
+    """The path of the program that carries out lists of commands; or what TEST_LISTS names."""
+    if 'TEST_LISTS' in os.environ:
+        return os.path.abspath(os.environ['TEST_LISTS'])
     return program('test_lists')
