@@ -1,9 +1,10 @@
 //! The line `cuts`: what a loss of power at each moment of a script may leave of an image.
-ghost use Rattle.std.specs.Prelude.{◌≡◌, ◌<◌, List, IfOk};
+ghost use Rattle.std.specs.Prelude.{◌≡◌, ◌<◌, List, IfOk, OnOk};
 ghost use Rattle.device.specs.Cached.{Cache};
 ghost use Rattle.left_images.specs.Judged.{AreCuts};
 ghost use Rattle.left_images.specs.declared.judging.Cut.{Cut};
-ghost use Rattle.script_lines.specs.Cuts.{IsSaid, TellsCuts};
+ghost use Rattle.script_lines.specs.Carried.{RunsOn};
+ghost use Rattle.script_lines.specs.Cuts.{IsSaid, TellsCuts, TellsMoments, held_in, image_in};
 
 use crate::scripts::{lines_of_file, of_script};
 use crate::stops::carry_out;
@@ -119,14 +120,14 @@ pub fn cuts(
     tries: Tries,
 ) -> Result<Answer, Refusal>
     ensures status { IfOk result (λ answer. answer.status < 3) }
-    ensures told { IfOk result (λ answer. TellsCuts tries.most answer) }
+    ensures told { IfOk result (λ answer. TellsCuts image.now tries.most answer) }
 {
     let device = CacheDevice::over(alloc, MemDevice::from_bytes(alloc, image)?)?;
     let mut volume = mount(alloc, device)?;
     cuts_of_script(rt, alloc, &mut volume, script, tries)
 }
 
-/// Carries out the lines of a script on a mounted volume, and tells what losses of power leave.
+/// Carries out the lines of a script on a mounted volume, syncs it, and tells what losses of power leave.
 fn cuts_of_script(
     rt: &(impl Threads + Sync),
     alloc: Global,
@@ -134,7 +135,8 @@ fn cuts_of_script(
     script: Vec<UserLine>,
     tries: Tries,
 ) -> Result<Answer, Refusal>
-    ensures { IfOk result (λ answer. TellsCuts tries.most answer) }
+    ensures told { IfOk result (λ answer. TellsMoments volume.new.device tries.most answer) }
+    ensures ran { OnOk result (RunsOn (held_in volume.old.device) (image_in volume.old.device) volume.old (held_in volume.new.device) (image_in volume.new.device) volume.new) }
 {
     carry_out(alloc, volume, script)?;
     volume.apply(alloc, &Command::Sync)?;
@@ -148,7 +150,7 @@ fn told(
     device: &CacheDevice,
     tries: Tries,
 ) -> Result<Answer, Refusal>
-    ensures { IfOk result (λ answer. TellsCuts tries.most answer) }
+    ensures { IfOk result (λ answer. TellsMoments device.entry.now tries.most answer) }
 {
     let mut checks = Checks { alloc };
     let cuts = left_images::cuts(rt, alloc, device, tries.most, tries.seed, &mut checks)?;

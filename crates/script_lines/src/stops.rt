@@ -1,5 +1,6 @@
 //! The line `stops`: what a stop after each write of a script leaves of an image.
-ghost use Rattle.std.specs.Prelude.{◌<◌, IfOk};
+ghost use Rattle.std.specs.Prelude.{◌<◌, IfOk, OnOk};
+ghost use Rattle.script_lines.specs.Carried.{RunsOn};
 
 use crate::scripts::{lines_of_file, of_script};
 use changing::mount;
@@ -104,7 +105,11 @@ pub(crate) fn carry_out<D: Device>(
     alloc: Global,
     volume: &mut Volume<D>,
     script: Vec<UserLine>,
-) -> Result<(), Refusal> {
+) -> Result<(), Refusal>
+    ensures ran { OnOk result (D.honest volume.new.device
+        → RunsOn (D.held volume.old.device) (D.image volume.old.device) volume.old (D.held volume.new.device) (D.image volume.new.device) volume.new) }
+    ensures honest { D.honest volume.new.device → D.honest volume.old.device }
+{
     let mut handles = no_handles(alloc)?;
     for line in script {
         let user = usize::from(line.user) - 1;
@@ -130,7 +135,11 @@ fn carry_out_line<D: Device>(
     volume: &mut Volume<D>,
     handles: &mut Handles,
     command: Command,
-) -> Result<(), Refusal> {
+) -> Result<(), Refusal>
+    ensures ran { OnOk result (D.honest volume.new.device
+        → RunsOn (D.held volume.old.device) (D.image volume.old.device) volume.old (D.held volume.new.device) (D.image volume.new.device) volume.new) }
+    ensures honest { D.honest volume.new.device → D.honest volume.old.device }
+{
     let Ok(command) = handles.command_for(command) else {
         return Ok(());
     };
