@@ -14,7 +14,7 @@ pub returns : goal.returns
 returns g c = λ s t u commands more replies others is leads sound synced files there then.
     let geo = geometry_at s in
     let at = geometry_at t in
-    let begins = record { stands = is.stands; moment = is.begun.moment } in
+    let begins : IsBeginning geo is.begun.mount is.begun.history is.begun.cut (disk_of s.image s.volume) (pending_of s.volume.queue) (state_at s) (λ f. false) = record { stands = is.stands; moment = is.begun.moment } in
     let first = leads.service is.begun.mount is.begun.history is.begun.cut (λ f. false) begins in
     let durable = (first.2.sound sound).0 in
     let none : pending_of t.volume.queue ≡ [] = durable.durably.pending ∙ ap (λ q. rest q durable.durably.loose) synced.0 in
