@@ -1,6 +1,7 @@
 //! A device that fails at each of its calls in turn, once or from then on.
+use crate::keeping::Keeps;
 use crate::plain::Plain;
-use crate::running::{Fused, fused, is_wanted, mount, writes_of};
+use crate::running::{Fused, fused, is_wanted, kept, mount};
 use crate::tally::Tally;
 use anyhow::Result;
 use layout::Refusal;
@@ -8,7 +9,7 @@ use snapshot::{NotMounted, Volume};
 use std::alloc::Global;
 use std::io::Eprint;
 use std::thread::Threads;
-use test_trials::{Seen, Step, Told, carry_out};
+use test_trials::{Seen, Step, Told, carry_out, is_synced};
 
 /// Which call of the device fails: the one behind so many, alone or with all that follow.
 #[derive(Clone, Copy, Debug)]
@@ -30,15 +31,17 @@ enum Wrong {
     Answer,
     /// The device did not fail.
     NoFault,
-    /// Other writes reached the device than do where nothing fails.
+    /// Other writes reached the device than do where nothing fails, or other syncs.
     Writes,
+    /// A sync was answered before all that was written is on the medium.
+    Loose,
 }
 
 /// Lets each call of the device fail that a trial makes, with all that follow and alone.
-pub fn break_calls<R: Threads + Eprint + Sync + AllocGlobal>(
+pub fn break_calls<R: Threads + Eprint + Sync + AllocGlobal, D: Keeps>(
     rt: &R,
     name: (&str, &str),
-    plain: &Plain,
+    plain: &Plain<D>,
 ) -> Result<Tally> {
     let mut tally = Tally::new();
     for after in 0..plain.all_calls() {
@@ -49,10 +52,10 @@ pub fn break_calls<R: Threads + Eprint + Sync + AllocGlobal>(
 }
 
 /// Carries a trial out on a device that fails so.
-fn break_call<R: Threads + Eprint + Sync + AllocGlobal>(
+fn break_call<R: Threads + Eprint + Sync + AllocGlobal, D: Keeps>(
     rt: &R,
     name: (&str, &str),
-    plain: &Plain,
+    plain: &Plain<D>,
     failing: Failing,
     tally: &mut Tally,
 ) -> Result<()> {
@@ -66,13 +69,13 @@ fn break_call<R: Threads + Eprint + Sync + AllocGlobal>(
 }
 
 /// What goes wrong where the device fails so, if anything does.
-fn wrong_of(
+fn wrong_of<D: Keeps>(
     rt: &(impl Threads + Sync),
     alloc: Global,
-    plain: &Plain,
+    plain: &Plain<D>,
     failing: Failing,
 ) -> Result<Option<Wrong>, Refusal> {
-    let device = fused(alloc, &plain.image, failing.after, failing.once)?;
+    let device: Fused<D> = fused(alloc, &plain.image, failing.after, failing.once)?;
     match mount(alloc, device) {
         Ok(mut volume) => wrong_in_volume(rt, alloc, &mut volume, plain, failing),
         Err(refused) => wrong_after_mount(rt, alloc, refused, plain, failing),
@@ -80,11 +83,11 @@ fn wrong_of(
 }
 
 /// The same of a volume that was mounted, with no failure.
-fn wrong_in_volume(
+fn wrong_in_volume<D: Keeps>(
     rt: &(impl Threads + Sync),
     alloc: Global,
-    volume: &mut Volume<Fused>,
-    plain: &Plain,
+    volume: &mut Volume<Fused<D>>,
+    plain: &Plain<D>,
     failing: Failing,
 ) -> Result<Option<Wrong>, Refusal> {
     if volume.live().device().faults() > 0 {
@@ -94,11 +97,11 @@ fn wrong_in_volume(
 }
 
 /// The same where the mount was refused. If the device failed once it is mounted again.
-fn wrong_after_mount(
+fn wrong_after_mount<D: Keeps>(
     rt: &(impl Threads + Sync),
     alloc: Global,
-    refused: NotMounted<Fused>,
-    plain: &Plain,
+    refused: NotMounted<Fused<D>>,
+    plain: &Plain<D>,
     failing: Failing,
 ) -> Result<Option<Wrong>, Refusal> {
     let NotMounted { device, cause } = refused;
@@ -115,11 +118,11 @@ fn wrong_after_mount(
 }
 
 /// The same of a mounted volume.
-fn wrong_in_steps(
+fn wrong_in_steps<D: Keeps>(
     rt: &(impl Threads + Sync),
     alloc: Global,
-    volume: &mut Volume<Fused>,
-    plain: &Plain,
+    volume: &mut Volume<Fused<D>>,
+    plain: &Plain<D>,
     failing: Failing,
 ) -> Result<Option<Wrong>, Refusal> {
     for (place, step) in plain.steps.iter().enumerate() {
@@ -137,10 +140,10 @@ fn wrong_in_steps(
 
 /// Carries a step out in which the device may fail, once more where it does so once. What comes behind a step that was refused
 /// for good may be answered otherwise.
-fn wrong_in_step(
+fn wrong_in_step<D: Keeps>(
     rt: &(impl Threads + Sync),
     alloc: Global,
-    volume: &mut Volume<Fused>,
+    volume: &mut Volume<Fused<D>>,
     step: &Step,
     once: bool,
 ) -> Result<Option<Wrong>, Refusal> {
@@ -154,7 +157,7 @@ fn wrong_in_step(
     let wrong = if has_failed {
         wrong_refusal(alloc, volume, &before, &told)
     } else {
-        wrong_otherwise(alloc, &told, step, faults)
+        wrong_otherwise(alloc, volume, &told, step, faults)
     }?;
     if once && has_failed && wrong.is_none() {
         return wrong_answer(rt, alloc, volume, step);
@@ -163,16 +166,20 @@ fn wrong_in_step(
 }
 
 /// What is wrong with how a step came out in which the device did not fail, and before which it had failed so often.
-fn wrong_otherwise(
+fn wrong_otherwise<D: Keeps>(
     alloc: Global,
+    volume: &Volume<Fused<D>>,
     told: &Result<Told, Refusal>,
     step: &Step,
     faults: u64,
 ) -> Result<Option<Wrong>, Refusal> {
-    if faults > 0 {
-        return Ok(is_refused_so(told).then_some(Wrong::Cause));
+    if faults > 0 && is_refused_so(told) {
+        return Ok(Some(Wrong::Cause));
     }
-    wrong_told(alloc, told, step)
+    if faults > 0 {
+        return Ok(may_lose_synced(volume, step, told).then_some(Wrong::Loose));
+    }
+    wrong_told(alloc, volume, told, step)
 }
 
 /// Whether a step was refused for a device that failed.
@@ -181,9 +188,9 @@ fn is_refused_so(told: &Result<Told, Refusal>) -> bool {
 }
 
 /// What is wrong with how a step came out in which the device failed, and before which users saw this.
-fn wrong_refusal(
+fn wrong_refusal<D: Keeps>(
     alloc: Global,
-    volume: &Volume<Fused>,
+    volume: &Volume<Fused<D>>,
     before: &Seen,
     told: &Result<Told, Refusal>,
 ) -> Result<Option<Wrong>, Refusal> {
@@ -195,37 +202,54 @@ fn wrong_refusal(
 }
 
 /// Carries a step out that has to give its answer.
-fn wrong_answer(
+fn wrong_answer<D: Keeps>(
     rt: &(impl Threads + Sync),
     alloc: Global,
-    volume: &mut Volume<Fused>,
+    volume: &mut Volume<Fused<D>>,
     step: &Step,
 ) -> Result<Option<Wrong>, Refusal> {
     let told = carry_out(rt, alloc, volume, &step.action);
-    wrong_told(alloc, &told, step)
+    wrong_told(alloc, volume, &told, step)
 }
 
 /// What is wrong with how a step came out.
-fn wrong_told(
+fn wrong_told<D: Keeps>(
     alloc: Global,
+    volume: &Volume<Fused<D>>,
     told: &Result<Told, Refusal>,
     step: &Step,
 ) -> Result<Option<Wrong>, Refusal> {
-    Ok((!is_wanted(alloc, told, step)?).then_some(Wrong::Answer))
+    if !is_wanted::<D>(alloc, told, step)? {
+        return Ok(Some(Wrong::Answer));
+    }
+    Ok(may_lose_synced(volume, step, told).then_some(Wrong::Loose))
 }
 
-/// What is wrong once all steps were carried out: the device has to have failed, and what was written has to be what is written
-/// where nothing fails: all of it where the device failed once, and the first of it else.
-fn wrong_at_end(volume: &Volume<Fused>, plain: &Plain, once: bool) -> Option<Wrong> {
+/// Whether a step is a sync that was answered, and a loss of power may take back what was written before.
+fn may_lose_synced<D: Keeps>(
+    volume: &Volume<Fused<D>>,
+    step: &Step,
+    told: &Result<Told, Refusal>,
+) -> bool {
+    is_synced(&step.action, told) && kept(volume).may_lose()
+}
+
+/// What is wrong once all steps were carried out: the device has to have failed, and what was written and synced has to be what is
+/// where nothing fails: all of it where the device failed once, and the first of it else. So what a loss of power may leave at a
+/// moment of such a run it may leave at one of the run in which nothing fails.
+fn wrong_at_end<D: Keeps>(
+    volume: &Volume<Fused<D>>,
+    plain: &Plain<D>,
+    once: bool,
+) -> Option<Wrong> {
     if volume.live().device().faults() == 0 {
         return Some(Wrong::NoFault);
     }
-    let writes = writes_of(volume);
-    let all = plain.writes.as_slice();
+    let all = kept(&plain.volume);
     let is_well = if once {
-        writes == all
+        kept(volume).is_same(all)
     } else {
-        all.starts_with(writes)
+        kept(volume).is_start_of(all)
     };
     (!is_well).then_some(Wrong::Writes)
 }

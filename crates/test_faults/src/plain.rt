@@ -1,8 +1,8 @@
 //! A trial whose device does not fail.
-use crate::running::{Fused, fused, is_wanted, mount, writes_of};
+use crate::keeping::Keeps;
+use crate::running::{Fused, fused, is_wanted, mount};
 use device::MemDevice;
 use layout::Refusal;
-use recording::Written;
 use snapshot::Volume;
 use std::alloc::Global;
 use std::thread::Threads;
@@ -10,18 +10,19 @@ use test_trials::{Step, Trial, beginning_of, carry_out, steps_of};
 
 /// How a trial goes whose device does not fail.
 #[derive(Drop)]
-pub struct Plain {
+pub struct Plain<D: Keeps> {
     /// A device, which was never written, with the image with which it begins.
     pub image: MemDevice,
     pub steps: Vec<Step>,
     /// How many calls of the device were made once each step was carried out.
     pub calls: Vec<u64>,
-    pub writes: Vec<Written>,
+    /// Its volume once all steps were carried out, with the device.
+    pub volume: Volume<Fused<D>>,
     /// How many steps came out otherwise than they have to.
     pub wrong: u64,
 }
 
-impl Plain {
+impl<D: Keeps> Plain<D> {
     /// How many calls of the device were made in all.
     pub fn all_calls(&self) -> u64 {
         match self.calls.last() {
@@ -40,42 +41,29 @@ impl Plain {
 }
 
 /// Carries a trial out with a version of the layout.
-pub fn plain_of(
+pub fn plain_of<D: Keeps>(
     rt: &(impl Threads + Sync),
     alloc: Global,
     trial: &Trial,
     version: u32,
-) -> Result<Plain, Refusal> {
+) -> Result<Plain<D>, Refusal> {
     let image = beginning_of(rt, alloc, trial, version)?;
     let steps = steps_of(alloc, trial)?;
-    let mut volume = mounted(alloc, &image)?;
-    plain_of_volume(rt, alloc, &mut volume, image, steps)
-}
-
-/// Carries steps out on a volume of this image.
-fn plain_of_volume(
-    rt: &(impl Threads + Sync),
-    alloc: Global,
-    volume: &mut Volume<Fused>,
-    image: MemDevice,
-    steps: Vec<Step>,
-) -> Result<Plain, Refusal> {
     let mut plain = Plain {
+        volume: mounted(alloc, &image)?,
         image,
         steps: Vec::new(alloc),
         calls: Vec::new(alloc),
-        writes: Vec::new(alloc),
         wrong: 0,
     };
     for step in steps {
-        add_step(rt, alloc, volume, step, &mut plain)?;
+        add_step(rt, alloc, step, &mut plain)?;
     }
-    plain.writes = writes_of(volume).to_vec(alloc)?;
     Ok(plain)
 }
 
 /// The volume of an image, on a device that does not fail.
-fn mounted(alloc: Global, image: &MemDevice) -> Result<Volume<Fused>, Refusal> {
+fn mounted<D: Keeps>(alloc: Global, image: &MemDevice) -> Result<Volume<Fused<D>>, Refusal> {
     match mount(alloc, fused(alloc, image, u64::MAX, true)?) {
         Ok(volume) => Ok(volume),
         Err(refused) => Err(refused.cause),
@@ -83,28 +71,27 @@ fn mounted(alloc: Global, image: &MemDevice) -> Result<Volume<Fused>, Refusal> {
 }
 
 /// Carries a step out, and tells whether it came out as it has to.
-fn goes_well(
+fn goes_well<D: Keeps>(
     rt: &(impl Threads + Sync),
     alloc: Global,
-    volume: &mut Volume<Fused>,
+    volume: &mut Volume<Fused<D>>,
     step: &Step,
 ) -> Result<bool, Refusal> {
     let told = carry_out(rt, alloc, volume, &step.action);
-    Ok(is_wanted(alloc, &told, step)?)
+    Ok(is_wanted::<D>(alloc, &told, step)?)
 }
 
 /// Carries a step out, and adds how it came out.
-fn add_step(
+fn add_step<D: Keeps>(
     rt: &(impl Threads + Sync),
     alloc: Global,
-    volume: &mut Volume<Fused>,
     step: Step,
-    plain: &mut Plain,
+    plain: &mut Plain<D>,
 ) -> Result<(), Refusal> {
-    if !goes_well(rt, alloc, volume, &step)? {
+    if !goes_well(rt, alloc, &mut plain.volume, &step)? {
         plain.wrong = plain.wrong.saturating_add(1);
     }
-    plain.calls.push(volume.live().device().calls())?;
+    plain.calls.push(plain.volume.live().device().calls())?;
     plain.steps.push(step)?;
     Ok(())
 }

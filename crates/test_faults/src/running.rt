@@ -1,40 +1,57 @@
 //! The volume of a trial, on a device that may fail, and how its steps come out.
+use crate::keeping::Keeps;
 use device::{Fuse, MemDevice};
 use layout::Refusal;
-use recording::{Recording, Written};
-use snapshot::{Live, NotMounted, Volume};
+use snapshot::{Command, Live, NotMounted, Volume};
 use std::alloc::{AllocError, Global};
-use test_trials::{Step, Told, Watched, write_told};
+use test_trials::{Action, Step, Told, Watched, write_told};
 
-/// A device in memory under a list of its writes, under a fuse, under a count of its calls.
-pub type Fused = Watched<Fuse<Recording<MemDevice>>>;
+/// A device in memory that keeps what it is given, under a fuse, under a count of its calls.
+pub type Fused<D> = Watched<Fuse<D>>;
 
 /// A device with this image that lets so many calls through, and then fails once or from then on.
-pub fn fused(alloc: Global, image: &MemDevice, calls: u64, once: bool) -> Result<Fused, Refusal> {
-    let recording = Recording::new(alloc, image.image_after(alloc, 0)?);
-    Ok(Watched::new(Fuse::new(recording, calls, once)))
+pub fn fused<D: Keeps>(
+    alloc: Global,
+    image: &MemDevice,
+    calls: u64,
+    once: bool,
+) -> Result<Fused<D>, Refusal> {
+    let device = D::over(alloc, image.image_after(alloc, 0)?)?;
+    Ok(Watched::new(Fuse::new(device, calls, once)))
 }
 
 /// A volume, or a device whose volume was not mounted and the cause.
-pub fn mount(alloc: Global, device: Fused) -> Result<Volume<Fused>, NotMounted<Fused>> {
+pub fn mount<D: Keeps>(
+    alloc: Global,
+    device: Fused<D>,
+) -> Result<Volume<Fused<D>>, NotMounted<Fused<D>>> {
     match Live::mount(alloc, device) {
         Ok(live) => Ok(Volume::new(live)),
         Err(refused) => Err(refused),
     }
 }
 
-/// The writes that reached the device of a volume.
-pub fn writes_of(volume: &Volume<Fused>) -> &[Written] {
-    volume.live().device().device().device().writes()
+/// The device of a volume, which keeps what it was given.
+pub fn kept<D: Keeps>(volume: &Volume<Fused<D>>) -> &D {
+    volume.live().device().device().device()
 }
 
-/// Whether a step came out as it has to.
-pub fn is_wanted(
+/// Whether a step came out as it has to. How many updates a flush writes depends on the device: what was written before may be
+/// loose.
+pub fn is_wanted<D: Keeps>(
     alloc: Global,
     told: &Result<Told, Refusal>,
     step: &Step,
 ) -> Result<bool, AllocError> {
+    if is_flushed(&step.action, told) && !D::KEEPS_ORDER {
+        return Ok(true);
+    }
     let mut text = String::new(alloc);
     write_told(&mut text, told)?;
     Ok(text.as_str() == step.wanted)
+}
+
+/// Whether an action is a flush that was answered.
+fn is_flushed(action: &Action, told: &Result<Told, Refusal>) -> bool {
+    matches!(action, Action::Command(Command::Flush(_))) && told.is_ok()
 }

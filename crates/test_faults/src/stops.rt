@@ -1,8 +1,10 @@
 //! A stop after each number of the writes of a trial.
 use crate::plain::Plain;
+use crate::running::kept;
 use crate::tally::Tally;
 use anyhow::Result;
 use device::MemDevice;
+use recording::Recording;
 use std::io::Eprint;
 use std::thread::Threads;
 use test_trials::fault_of;
@@ -12,12 +14,12 @@ use test_trials::fault_of;
 pub fn stop_each<R: Threads + Eprint + Sync + AllocGlobal>(
     rt: &R,
     name: (&str, &str),
-    plain: &Plain,
+    plain: &Plain<Recording<MemDevice>>,
 ) -> Result<Tally> {
     let mut tally = Tally::new();
     let mut held = plain.image.image_after(rt.alloc(), 0)?;
     look_at(rt, name, &held, &mut tally)?;
-    for written in &plain.writes {
+    for written in kept(&plain.volume).writes() {
         written.repeat_on(&mut held)?;
         look_at(rt, name, &held, &mut tally)?;
     }

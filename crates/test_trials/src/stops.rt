@@ -1,5 +1,6 @@
-//! What a stop leaves.
+//! What a stop leaves, or a loss of power.
 use crate::images::mount;
+use crate::stays::Stays;
 use device::{Device, MemDevice};
 use findings::Verdict;
 use frozen::load;
@@ -13,7 +14,7 @@ use std::sync::Arc;
 use std::thread::Threads;
 use workers::OpenGate;
 
-/// What no stop may leave.
+/// What no stop may leave, and no loss of power.
 #[derive(Clone, Copy, Debug, PartialEq, Eq)]
 pub enum Fault {
     /// The image breaks the rule of this number.
@@ -24,6 +25,19 @@ pub enum Fault {
     Refused(Refusal),
     /// It was mended, and a check still finds so much.
     StaysSoft(usize),
+    /// It has not all that was synced and is still there for users.
+    LosesSynced,
+    /// A sync was answered before all that was written is on the medium.
+    IsLoose,
+}
+
+/// What is said of an image.
+#[derive(Clone, Copy, Debug, PartialEq, Eq)]
+pub struct Looked {
+    /// By a check.
+    pub verdict: Verdict,
+    /// What is wrong with it, if anything is.
+    pub fault: Option<Fault>,
 }
 
 /// What is wrong with an image that a stop left, if anything is: it has to obey the rules, a check may find nothing but what
@@ -34,35 +48,72 @@ pub fn fault_of(
     alloc: Global,
     image: MemDevice,
 ) -> Result<Option<Fault>, Refusal> {
-    match look_at(rt, alloc, image) {
+    let looked = look_at(rt, alloc, image, &Stays::nothing(alloc))?;
+    Ok(looked.fault)
+}
+
+/// What is said of an image that a stop left, or a loss of power: it has to be as `fault_of` says, and to have all that stays.
+/// Refused with `NoMemory`.
+pub fn look_at(
+    rt: &(impl Threads + Sync),
+    alloc: Global,
+    image: MemDevice,
+    stays: &Stays,
+) -> Result<Looked, Refusal> {
+    match look_through(rt, alloc, image, stays) {
         Err(Refusal::NoMemory) => Err(Refusal::NoMemory),
-        Err(refusal) => Ok(Some(Fault::Refused(refusal))),
-        Ok(fault) => Ok(fault),
+        Err(refusal) => Ok(Looked {
+            verdict: Verdict::Damaged,
+            fault: Some(Fault::Refused(refusal)),
+        }),
+        Ok(looked) => Ok(looked),
     }
 }
 
 /// The same, refused as the image is.
-fn look_at(
+fn look_through(
     rt: &(impl Threads + Sync),
     alloc: Global,
     mut image: MemDevice,
-) -> Result<Option<Fault>, Refusal> {
+    stays: &Stays,
+) -> Result<Looked, Refusal> {
     let checked = checked_of(rt, alloc, &mut image)?;
+    let fault = match fault_of_checked(alloc, &checked, stays)? {
+        Some(fault) => Some(fault),
+        None => fault_once_mended(rt, alloc, image)?,
+    };
+    Ok(Looked {
+        verdict: checked.verdict(),
+        fault,
+    })
+}
+
+/// What is wrong with an image that was checked, as it is.
+fn fault_of_checked(
+    alloc: Global,
+    checked: &Checked,
+    stays: &Stays,
+) -> Result<Option<Fault>, Refusal> {
     if let Some(rule) = obeys(alloc, checked.frozen())? {
         return Ok(Some(Fault::BreaksRule(rule)));
     }
     if checked.verdict() == Verdict::Damaged {
         return Ok(Some(Fault::IsDamaged));
     }
-    let mut left = mended(rt, alloc, image)?;
-    let left = checked_of(rt, alloc, &mut left)?.findings().len();
-    Ok(if left == 0 {
-        None
-    } else {
-        Some(Fault::StaysSoft(left))
-    })
+    let has_all = stays.is_in(alloc, checked.frozen())?;
+    Ok((!has_all).then_some(Fault::LosesSynced))
 }
 
+/// What is wrong with an image once it was mended.
+fn fault_once_mended(
+    rt: &(impl Threads + Sync),
+    alloc: Global,
+    image: MemDevice,
+) -> Result<Option<Fault>, Refusal> {
+    let mut left = mended(rt, alloc, image)?;
+    let left = checked_of(rt, alloc, &mut left)?.findings().len();
+    Ok((left > 0).then_some(Fault::StaysSoft(left)))
+}
 /// The check of what a device holds.
 fn checked_of(
     rt: &(impl Threads + Sync),
