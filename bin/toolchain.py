@@ -1,9 +1,11 @@
-"""The toolchain's command `rt` as a module."""
+"""The toolchain's command `rt` as a module, and what of it is not in each kit."""
 import importlib.machinery
 import importlib.util
+import inspect
 import os
 import shutil
 import sys
+import tempfile
 
 
 def toolchain():
@@ -14,3 +16,50 @@ def toolchain():
     sys.modules['rtmain'] = rt
     loader.exec_module(rt)
     return rt
+
+
+class NothingKept:
+    """Stands for what earlier runs proved, in a kit that keeps nothing of them."""
+
+    def key(self, crate):
+        return crate.name
+
+    def give(self, crate, tests, key):
+        return False
+
+    def keep(self, crate, tests, key):
+        pass
+
+    def is_built(self, crate):
+        pass
+
+    def shrink(self):
+        pass
+
+
+def kept(rt, crates):
+    """What earlier runs on this machine proved."""
+    return rt.Kept(crates) if hasattr(rt, 'Kept') else NothingKept()
+
+
+def crates_of(rt, root):
+    """The crates of a copy of the repository, lowest first."""
+    if len(inspect.signature(rt.crates_of).parameters) == 1:
+        return rt.crates_of(root)
+    with tempfile.TemporaryDirectory(prefix='fsvol-aside-') as aside:
+        return rt.crates_of(root, aside)
+
+
+def copy_crates(rt, top, to):
+    """Copies what the prover reads of the repository."""
+    if hasattr(rt, 'copy_crates'):
+        rt.copy_crates(top, to)
+        return
+    shutil.copytree(f'{top}/crates', f'{to}/crates', ignore=shutil.ignore_patterns('out'))
+    for name in ('crates.txt', 'HANDLES'):
+        shutil.copy(f'{top}/{name}', to)
+
+
+def where_disk_lasts(rt, call, *words):
+    """Calls it where the kit's own check of the disk lets it."""
+    return rt.where_disk_lasts(call, *words) if hasattr(rt, 'where_disk_lasts') else call(*words)

@@ -9,13 +9,15 @@ use std::alloc::Global;
 
 /// Flushes blocks in passes until none is ready. A sync would do too, but on a device that keeps order it flushes the least block
 /// that may be written each time, and so a block of inodes, which stands before the blocks of their files, again after each of
-/// these; a pass writes it once. A device that does not keep order is waited for behind the passes, so that what waited for
-/// their writes may go next. Each image that the device holds on the way is one that a stop may leave.
+/// these; a pass writes it once. A device that does not keep order is waited for before the passes, so that what waited for the
+/// writes of the passes before may go in these: the medium has had the time between the two calls for those. Each image that the
+/// device holds on the way is one that a stop may leave.
 pub fn flush_in_passes<D: Device>(alloc: Global, volume: &mut Volume<D>) -> Result<(), Refusal>
     ensures flushed { OnOk result (D.honest volume.new.device
         → AddsFlushes (D.held volume.old.device) (D.image volume.old.device) volume.old (D.held volume.new.device) (D.image volume.new.device) volume.new) }
     ensures honest { D.honest volume.new.device → D.honest volume.old.device }
 {
+    wait_for_writes(alloc, volume)?;
     // Each pass writes an update, and no queue has more of them.
     for _pass in 0..u32::MAX {
         if !has_ready(volume) {
@@ -23,7 +25,6 @@ pub fn flush_in_passes<D: Device>(alloc: Global, volume: &mut Volume<D>) -> Resu
         }
         flush_pass(alloc, volume)?;
     }
-    wait_for_writes(alloc, volume)?;
     Ok(())
 }
 

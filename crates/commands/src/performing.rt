@@ -10,9 +10,9 @@ use host_lines::{get, mkfs, put};
 use image_lines::{bits, check, repair, sample, upgrade};
 use progress::Watcher;
 use script_lines::{cuts, demo, run, stops};
-use serve_lines::serve;
+use serve_lines::{Holdable, serve};
 use std::convert::AsStr;
-use std::io::Write;
+use std::io::{Eprint, Write};
 use std::os::unix::fs::FileExt;
 use std::rt::Files;
 use std::sync::Wait;
@@ -29,7 +29,7 @@ use tool_lines::{cat, change, info, ls, map, stat};
 ///
 /// The channel is the connection to Linux of the line that serves an image. No other line uses it.
 pub fn perform<
-    R: Files + AllocGlobal + Clock + Threads + Wait + Sync + Clone + Drop,
+    R: Files + AllocGlobal + Clock + Eprint + Threads + Wait + Sync + Clone + Drop,
     S: AsStr,
     W: Write,
     E: Write,
@@ -37,7 +37,7 @@ pub fn perform<
     C: Channel,
 >(rt: &R, words: &[S], out: &mut W, err: &mut E, screen: Screen<P>, channel: &mut C) -> u8
 where
-    R::File: FileExt + Send,
+    R::File: FileExt + Holdable + Send,
     ensures few { result ≤ 4 }
     ensures refused { result ≡ 3 → out.new ≡ out.old }
     ensures done { result < 2 → err.new ≡ err.old }
@@ -53,13 +53,13 @@ where
 
 /// Does what the words ask for, and shows how far that has come.
 fn answer<
-    R: Files + AllocGlobal + Clock + Threads + Wait + Sync + Clone + Drop,
+    R: Files + AllocGlobal + Clock + Eprint + Threads + Wait + Sync + Clone + Drop,
     S: AsStr,
     P: Write + Send + Drop,
     C: Channel,
 >(rt: &R, words: &[S], screen: Screen<P>, channel: &mut C) -> Result<Answer, Failure>
 where
-    R::File: FileExt + Send,
+    R::File: FileExt + Holdable + Send,
     ensures { IfOk result (λ answer. answer.status < 3) }
 {
     let line = match parse(rt.alloc(), words) {
@@ -76,12 +76,12 @@ where
 
 /// Does what a line asks for, and tells the watcher how far that has come.
 pub fn carry_out<
-    R: Files + AllocGlobal + Threads + Wait + Sync + Clone + Drop,
+    R: Files + AllocGlobal + Clock + Eprint + Threads + Wait + Sync + Clone + Drop,
     T: Watcher + Sync,
     C: Channel,
 >(rt: &R, line: &Line<'_>, watcher: &T, channel: &mut C) -> Result<Answer, Failure>
 where
-    R::File: FileExt + Send,
+    R::File: FileExt + Holdable + Send,
     ensures status { IfOk result (λ answer. answer.status < 3) }
     ensures apart { IsServe line.now ⊎ (channel.new ≡ channel.old) }
 {

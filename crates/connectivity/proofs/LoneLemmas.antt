@@ -1,5 +1,5 @@
 -- One seat asks for what all directories of a round name.
-use Rattle.std.proofs.Common.{◌≡◌, ℕ, zero, suc, ◌+◌, ◌/◌, ◌<◌, List, [], ◌∷◌, ◌++◌, length, Contains, refl, sym, ap, subst, arith, inl, inr, length-append}
+use Rattle.std.proofs.Common.{◌≡◌, ℕ, zero, suc, ◌+◌, ◌<◌, List, [], ◌∷◌, ◌++◌, length, Contains, refl, ap, subst, arith, inl, inr, length-append}
 use Rattle.std.proofs.lemmas.Bool.{cases_lt, cases_eq}
 use Rattle.std.proofs.lemmas.List.Elements.{Contains-append_left, Contains-append_right, Contains-append_cases}
 use Rattle.findings.proofs.Sorted.{Contains-none}
@@ -8,49 +8,48 @@ use Rattle.claims.specs.Seats.{Seated}
 use Rattle.model.specs.Layout.{Geometry}
 use Rattle.model.specs.View.{View}
 use Rattle.model.specs.Named.{named_from}
-use Rattle.connectivity.specs.Asked.{told, entries_in, round_in, Asks, HaveAsked}
-use Rattle.connectivity.proofs.FlatLemmas.{from_flat, to_flat}
-use Rattle.connectivity.proofs.RunLemmas.{entries_here, entries_from}
+use Rattle.connectivity.specs.Asked.{Asks, HaveAsked, Round, asked_of, told}
+use Rattle.connectivity.proofs.RunLemmas.{asked_from}
 
 -- ---- sums over a list with one element more
 total-push : {X : Type 0} (f : X → ℕ) (xs : List X) (x : X) → total f (xs ++ x ∷ []) ≡ total f xs + f x
 total-push f [] x = omega arith
 total-push f (y ∷ ys) x = let rest = total-push f ys x in omega arith
 
-module _ (geo : Geometry) (view : View) (round : List ℕ) where
-  -- what the directories of a round name whose records stand in the groups below this one
+module _ (geo : Geometry) (view : View) (round : Round) where
+  -- what the directories of a round name that are of the pieces of the units below this one
   abbrev pub asked_below : ℕ → List ℕ
   asked_below zero = []
-  asked_below (suc groups) = asked_below groups ++ round_in geo view round groups
+  asked_below (suc units) = asked_below units ++ asked_of geo view round units
 
-  pub asked_more : (groups : ℕ) → asked_below (groups + 1) ≡ asked_below groups ++ round_in geo view round groups
-  asked_more groups = let e : groups + 1 ≡ suc groups = omega arith in ap asked_below e
+  pub asked_more : (units : ℕ) → asked_below (units + 1) ≡ asked_below units ++ asked_of geo view round units
+  asked_more units = let e : units + 1 ≡ suc units = omega arith in ap asked_below e
 
-  below_from : (groups i : ℕ) → Contains (asked_below groups) i → (d : ℕ) × Contains round d × Contains (named_from geo view 2 d) i
+  below_from : (units i : ℕ) → Contains (asked_below units) i → (d : ℕ) × Contains round.0 d × Contains (named_from geo view 2 d) i
   below_from zero i c = absurd (Contains-none i c)
-  below_from (suc groups) i c = elim (Contains-append_cases (asked_below groups) (round_in geo view round groups) i c) [
-    | inl old ↦ below_from groups i old
-    | inr new ↦ (let d = from_flat (entries_in geo view groups) round i new in (d.0, d.1, entries_from geo view groups d.0 i d.2))
+  below_from (suc units) i c = elim (Contains-append_cases (asked_below units) (asked_of geo view round units) i c) [
+    | inl old ↦ below_from units i old
+    | inr new ↦ asked_from geo view round units i new
   ]
 
-  below_has : (groups d i : ℕ) → d / geo.inodes < groups → Contains round d → Contains (named_from geo view 2 d) i → Contains (asked_below groups) i
-  below_has zero d i low c n = absurd (omega arith)
-  below_has (suc groups) d i low c n = elim (cases_eq (d / geo.inodes) groups) [
-    | inl here ↦ Contains-append_right (asked_below groups) (round_in geo view round groups) i
-        (to_flat (entries_in geo view groups) round d i c (subst (λ g. Contains (entries_in geo view g d) i) here (subst (λ xs. Contains xs i) (sym (entries_here geo view d)) n)))
-    | inr apart ↦ Contains-append_left (asked_below groups) (round_in geo view round groups) i (below_has groups d i (omega arith) c n)
+  below_has : (units unit i : ℕ) → unit < units → Contains (asked_of geo view round unit) i → Contains (asked_below units) i
+  below_has zero unit i low c = absurd (omega (arith, low))
+  below_has (suc units) unit i low c = elim (cases_eq unit units) [
+    | inl here ↦ Contains-append_right (asked_below units) (asked_of geo view round units) i (subst (λ u. Contains (asked_of geo view round u) i) here c)
+    | inr apart ↦ Contains-append_left (asked_below units) (asked_of geo view round units) i (below_has units unit i (omega (arith, low, apart)) c)
   ]
 
   -- one seat alone
-  pub asked_alone : (groups : ℕ) (before : Seated) (after : Seated) (found : List ℕ) → ((d : ℕ) → Contains round d → d / geo.inodes < groups)
-      → Asks geo view (asked_below groups) before [] after found → HaveAsked geo view round (before ∷ []) (after ∷ []) found
-  asked_alone groups before after found low asks = record {
+  pub asked_alone : (units : ℕ) (before : Seated) (after : Seated) (found : List ℕ)
+      → ((d i : ℕ) → Contains round.0 d → Contains (named_from geo view 2 d) i → (unit : ℕ) × (unit < units) × Contains (asked_of geo view round unit) i)
+      → Asks geo view (asked_below units) before [] after found → HaveAsked geo view round.0 (before ∷ []) (after ∷ []) found
+  asked_alone units before after found has_unit asks = record {
     seats = refl;
     told_before = λ i stands. (let all = asks.told_before i (omega arith) in omega arith);
-    told_now = λ d i c n t. (let all = asks.told_now i (below_has groups d i (low d c) c n) t in omega arith);
+    told_now = λ d i c n t. (let unit = has_unit d i c n in let all = asks.told_now i (below_has units unit.0 i unit.1 unit.2) t in omega arith);
     taken_now = λ i stands. elim (asks.taken_now i (omega arith)) [
       | inl old ↦ inl (omega arith)
-      | inr v ↦ (let d = below_from groups i v.0 in inr (d.0, d.1, d.2, v.1))
+      | inr v ↦ (let d = below_from units i v.0 in inr (d.0, d.1, d.2, v.1))
     ];
     found_now = λ d c. elim (asks.found_now d c) [
       | inl none ↦ absurd (Contains-none d none)
@@ -64,8 +63,8 @@ module _ (geo : Geometry) (view : View) (round : List ℕ) where
   }
 
   -- and beside others, which ask for nothing
-  pub asked_last : (others : List Seated) (before after : Seated) (found : List ℕ) → HaveAsked geo view round (before ∷ []) (after ∷ []) found
-      → HaveAsked geo view round (others ++ before ∷ []) (others ++ after ∷ []) found
+  pub asked_last : (others : List Seated) (before after : Seated) (found : List ℕ) → HaveAsked geo view round.0 (before ∷ []) (after ∷ []) found
+      → HaveAsked geo view round.0 (others ++ before ∷ []) (others ++ after ∷ []) found
   asked_last others before after found asked = record {
     seats = (let x = length-append others (before ∷ []) in let y = length-append others (after ∷ []) in omega arith);
     told_before = λ i stands. more (told i) (λ s. (let all = asked.told_before i (omega arith) in omega arith)) stands;

@@ -1,5 +1,6 @@
 -- A walk that workers share in rounds: what they ask for, what they are told, and what holds between the rounds.
-use Rattle.std.specs.Prelude.{◌≡◌, ℕ, ◌+◌, ◌<◌, ◌≤◌, ◌/◌, ◌==◌, List, [], ◌∷◌, length, ◌⊎◌, ◌↔◌, IsTrue, if◌then◌else◌}
+use Rattle.std.specs.Prelude.{◌≡◌, ℕ, ◌+◌, ◌<◌, ◌≤◌, List, [], ◌∷◌, length, slice_get, ◌⊎◌, ◌↔◌, IsTrue, if◌then◌else◌}
+use Rattle.std.specs.Option.{option_map_or}
 use Rattle.std.specs.List.{Contains, flat_map}
 use Rattle.std.specs.List.Sorted.{IsStrictlySortedBy}
 use Rattle.std.specs.Ordering.{nat_cmp}
@@ -10,6 +11,8 @@ use Rattle.model.specs.View.{View}
 use Rattle.model.specs.Uses.{is_sound_at, is_directory_at}
 use Rattle.model.specs.Named.{named_from}
 use Rattle.model.specs.Reach.{IsReachable}
+use Rattle.directories.specs.declared.cutting.Piece.{Piece}
+use Rattle.directories.specs.Pieces.{in_piece}
 
 -- how often a seat was told of a number, that it is given or that it is refused; and how often all seats were
 abbrev pub told : ℕ → Seated → ℕ
@@ -22,12 +25,23 @@ all_told seats i = total (told i) seats
 abbrev pub all_given : List Seated → ℕ
 all_given seats = total (λ s. length s.taken) seats
 
--- what the slots from 2 on name, of a directory whose record stands in this group, and of such directories of a round
-abbrev pub entries_in : Geometry → View → ℕ → ℕ → List ℕ
-entries_in geo view group d = if d / geo.inodes == group then named_from geo view 2 d else []
+-- what the slots from 2 on name, of a directory of this piece, and of such directories of a round
+abbrev pub entries_in : Geometry → View → Piece → ℕ → List ℕ
+entries_in geo view piece d = if in_piece piece d then named_from geo view 2 d else []
 
-abbrev pub round_in : Geometry → View → List ℕ → ℕ → List ℕ
-round_in geo view round group = flat_map (entries_in geo view group) round
+abbrev pub round_in : Geometry → View → List ℕ → Piece → List ℕ
+round_in geo view round piece = flat_map (entries_in geo view piece) round
+
+-- the directories of a round, and the pieces that they are followed in
+abbrev pub Round : Type 0
+Round = List ℕ × List Piece
+
+abbrev pub in_pieces : List ℕ → List Piece → Round
+in_pieces directories pieces = (directories, pieces)
+
+-- what the directories of a round name that are of the piece of this unit
+abbrev pub asked_of : Geometry → View → Round → ℕ → List ℕ
+asked_of geo view round unit = option_map_or (λ piece. round_in geo view round.0 piece) (slice_get round.1 unit) []
 
 -- what is claimed from the start, and followed first: the root, if it is a sound directory
 abbrev pub opening_round : Geometry → View → List ℕ

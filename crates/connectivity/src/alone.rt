@@ -1,7 +1,7 @@
 ghost use Rattle.std.specs.Prelude.{◌≡◌, ℕ, List, [], ◌∷◌, IfOk, OnOk, IsOkUnless};
 ghost use Rattle.frozen.specs.Kept.{frozen_view};
 ghost use Rattle.directories.specs.Named.{IsNamed};
-ghost use Rattle.model.specs.Units.{Units, IsEveryGroup};
+ghost use Rattle.directories.specs.Pieces.{HasEveryNumber, Numbers};
 ghost use Rattle.model.specs.Reached.{AreReached};
 ghost use Rattle.connectivity.specs.Walk.{Visits, numbers_of};
 
@@ -18,8 +18,8 @@ use std::collections::BTreeSet;
 /// The walk goes in rounds, from the root on: each round follows the entries of the directories that the one before
 /// reached first. So each directory is followed once, and the work is that of the entries, whatever they name.
 pub fn walk(alloc: Global, frozen: &Frozen, whole: &Part) -> Result<BTreeSet<u32>, Refusal>
-    ensures reached { IfOk result (λ reached. (units : Units) → IsNamed frozen.now.geometry (frozen_view frozen.now) 2 units whole.now
-        → IsEveryGroup frozen.now.geometry units
+    ensures reached { IfOk result (λ reached. (numbers : Numbers) → IsNamed frozen.now.geometry (frozen_view frozen.now) 2 numbers whole.now
+        → HasEveryNumber frozen.now.geometry numbers
         → AreReached frozen.now.geometry (frozen_view frozen.now) reached.keys) }
     ensures error { IsOkUnless result Refusal.NoMemory }
 {

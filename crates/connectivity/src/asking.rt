@@ -3,22 +3,23 @@ ghost use Rattle.std.specs.Prelude.{◌≡◌, ℕ, ◌∷◌, [], All, OnOk, Is
 ghost use Rattle.frozen.specs.Kept.{frozen_view};
 ghost use Rattle.model.specs.Layout.{inode_count};
 ghost use Rattle.model.specs.Uses.{is_directory_at};
-ghost use Rattle.connectivity.specs.Asked.{Asks, entries_in, round_in};
+ghost use Rattle.connectivity.specs.Asked.{Asks, asked_of, entries_in, in_pieces, round_in};
 
 use crate::entries::FIRST_ENTRY;
 use claims::{Claims, Seat};
-use directories::numbers_named;
+use directories::{Piece, numbers_named};
 use frozen::Frozen;
 use layout::Refusal;
 use std::alloc::Global;
 
-/// Follows the entries of those directories of a round whose records stand in this group.
+/// Follows the entries of those directories of a round that are of the piece of this unit. A unit that is no piece has none.
 pub(crate) fn follow(
     alloc: Global,
     frozen: &Frozen,
     claims: &Claims,
     round: &[u32],
-    group: u32,
+    pieces: &[Piece],
+    unit: u32,
     seat: &mut Seat,
     found: &mut Vec<u32>,
 ) -> Result<(), Refusal>
@@ -26,23 +27,47 @@ pub(crate) fn follow(
     requires inodes { claims.now.inodes ≡ inode_count frozen.now.geometry }
     requires directories { All (λ d. IsTrue (is_directory_at frozen.now.geometry (frozen_view frozen.now) d)) round.now }
     ensures own { seat.new.of ≡ seat.old.of }
-    ensures asked { OnOk result (Asks frozen.now.geometry (frozen_view frozen.now) (round_in frozen.now.geometry (frozen_view frozen.now) round.now group)
+    ensures asked { OnOk result (Asks frozen.now.geometry (frozen_view frozen.now) (asked_of frozen.now.geometry (frozen_view frozen.now) (in_pieces round.now pieces.now) unit)
+        seat.old found.old.items seat.new found.new.items) }
+    ensures error { IsOkUnless result Refusal.NoMemory }
+{
+    match pieces.get(unit as usize) {
+        Some(piece) => follow_piece(alloc, frozen, claims, round, piece, seat, found),
+        None => Ok(()),
+    }
+}
+
+/// Follows the entries of those directories of a round that are of this piece.
+fn follow_piece(
+    alloc: Global,
+    frozen: &Frozen,
+    claims: &Claims,
+    round: &[u32],
+    piece: &Piece,
+    seat: &mut Seat,
+    found: &mut Vec<u32>,
+) -> Result<(), Refusal>
+    requires own { seat.old.of ≡ claims.now.id }
+    requires inodes { claims.now.inodes ≡ inode_count frozen.now.geometry }
+    requires directories { All (λ d. IsTrue (is_directory_at frozen.now.geometry (frozen_view frozen.now) d)) round.now }
+    ensures own { seat.new.of ≡ seat.old.of }
+    ensures asked { OnOk result (Asks frozen.now.geometry (frozen_view frozen.now) (round_in frozen.now.geometry (frozen_view frozen.now) round.now piece.now)
         seat.old found.old.items seat.new found.new.items) }
     ensures error { IsOkUnless result Refusal.NoMemory }
 {
     for directory in round {
-        follow_one(alloc, frozen, claims, *directory, group, seat, found)?;
+        follow_one(alloc, frozen, claims, *directory, piece, seat, found)?;
     }
     Ok(())
 }
 
-/// Follows the entries of a directory, if its record stands in this group.
+/// Follows the entries of a directory, if it is of this piece.
 fn follow_one(
     alloc: Global,
     frozen: &Frozen,
     claims: &Claims,
     directory: u32,
-    group: u32,
+    piece: &Piece,
     seat: &mut Seat,
     found: &mut Vec<u32>,
 ) -> Result<(), Refusal>
@@ -50,11 +75,11 @@ fn follow_one(
     requires inodes { claims.now.inodes ≡ inode_count frozen.now.geometry }
     requires directory { IsTrue (is_directory_at frozen.now.geometry (frozen_view frozen.now) directory) }
     ensures own { seat.new.of ≡ seat.old.of }
-    ensures asked { OnOk result (Asks frozen.now.geometry (frozen_view frozen.now) (entries_in frozen.now.geometry (frozen_view frozen.now) group directory)
+    ensures asked { OnOk result (Asks frozen.now.geometry (frozen_view frozen.now) (entries_in frozen.now.geometry (frozen_view frozen.now) piece.now directory)
         seat.old found.old.items seat.new found.new.items) }
     ensures error { IsOkUnless result Refusal.NoMemory }
 {
-    if frozen.geometry().group_of(directory) != group {
+    if !piece.has(directory) {
         return Ok(());
     }
     let numbers = numbers_named(alloc, frozen, directory, FIRST_ENTRY)?;

@@ -1,7 +1,7 @@
 //! Phase 3 of a check, which looks for what nothing reaches. `rounds` goes over the entries of directories from the root
-//! on, by many workers. By one, `part` reads the entries of the directories of a cylinder group, `merge` joins what was
-//! read, in any order and any grouping, and `walk` goes over the entries of all groups. `findings` tells the sound inodes
-//! that were not reached.
+//! on, by many workers. By one, `part` reads the entries of the directories of a piece, `merge` joins what was read, in any
+//! order and any grouping, and `walk` goes over the entries of all pieces. `findings` tells the sound inodes that were not
+//! reached.
 #![tactic(auto)]
 
 mod alone;

@@ -1,33 +1,35 @@
 //! The walk in rounds, shared among workers.
-ghost use Rattle.std.specs.Prelude.{◌≡◌, ◌↔◌, All, IfOk, IsErrOf, IsFalse, IsOkUnless, IsTrue, vec_len};
+ghost use Rattle.std.specs.Prelude.{◌≡◌, ◌≤◌, ◌↔◌, All, IfOk, IsErrOf, IsFalse, IsOkUnless, IsTrue, length, vec_len};
 ghost use Rattle.frozen.specs.Kept.{frozen_view};
 ghost use Rattle.claims.specs.Seats.{new_seat};
 ghost use Rattle.model.specs.Layout.{inode_count};
 ghost use Rattle.model.specs.Reached.{AreReached};
 ghost use Rattle.model.specs.Uses.{is_directory_at};
+ghost use Rattle.directories.specs.Pieces.{AreCut};
 ghost use Rattle.workers.specs.Workers.{may_work};
 ghost use Rattle.connectivity.specs.Asked.{HasWalked, HaveAsked, IsSetOf, opening_round};
 
 use crate::lone_round::{is_short, lone_round};
 use crate::walkers::{hired, paid};
 use claims::{Claims, Seat};
+use directories::{Piece, groups_of, pieces};
 use frozen::Frozen;
 use layout::{ROOT, Refusal};
 use std::alloc::{AllocError, Global};
 use std::collections::BTreeSet;
 use std::thread::Threads;
-use workers::{Gate, MOST_WORKERS, each_group};
+use workers::{ByGroup, Gate, MOST_WORKERS, each_group};
 
 /// The number of the phase, with which the gate is passed.
 pub(crate) const PHASE: u8 = 3;
 
 /// The reachable inodes, by 1 to 64 workers: what `walk` finds.
 ///
-/// The walk goes in rounds, from the root on. In each the workers draw the groups, and of a group they follow those
-/// directories whose records stand there and that the round before reached first: they claim each sound inode that an
-/// entry names, and a directory that is given to one of them is for the next round. So each directory is followed once.
-/// They pass the gate before each group in each round. A round after the first whose directories have few blocks is
-/// followed on the calling thread alone, as by one worker that draws all groups.
+/// The walk goes in rounds, from the root on. In each the workers draw the pieces of the groups, and of a piece they follow
+/// those directories that the round before reached first: they claim each sound inode that an entry names, and a directory that
+/// is given to one of them is for the next round. So each directory is followed once. They pass the gate before each piece in
+/// each round, as its group. A round after the first whose directories have few blocks is followed on the calling thread alone,
+/// as by one worker that draws all pieces.
 ///
 /// `BadWorkers` is refused where there are not 1 to 64 workers, and `NoMemory` where memory ran out.
 pub fn rounds<R: Threads + Sync, G: Gate>(
@@ -62,7 +64,10 @@ fn shared_walk<R: Threads + Sync, G: Gate>(
     let geometry = frozen.geometry();
     let opening = first_round(alloc, frozen)?;
     let (claims, seats) = Claims::new(alloc, &geometry, 0, workers, opening)?;
-    let seats = all_rounds(rt, alloc, frozen, &claims, seats, gate)?;
+    let pieces = pieces(alloc, frozen)?;
+    let groups = groups_of(alloc, frozen, pieces.as_slice())?;
+    let gate = ByGroup::new(gate, groups.as_slice());
+    let seats = all_rounds(rt, alloc, frozen, &claims, seats, pieces.as_slice(), &gate)?;
     let marked = claims.gather(alloc, seats)?;
     Ok(set_of(alloc, marked)?)
 }
@@ -86,12 +91,15 @@ fn all_rounds<R: Threads + Sync, G: Gate>(
     frozen: &Frozen,
     claims: &Claims,
     seats: Vec<Seat>,
+    pieces: &[Piece],
     gate: &G,
 ) -> Result<Vec<Seat>, Refusal>
     requires own { All (λ seat. seat ≡ new_seat claims.now.id claims.now.units) seats.items }
     requires seats { IsTrue (may_work (vec_len seats)) }
     requires inodes { claims.now.inodes ≡ inode_count frozen.now.geometry }
     requires opening { claims.now.opening ≡ opening_round frozen.now.geometry (frozen_view frozen.now) }
+    requires pieces { AreCut 0 pieces.now (inode_count frozen.now.geometry) }
+    requires few { length pieces.now ≤ 65_537 }
     ensures own { IfOk result (λ back. All (λ seat. seat.of ≡ claims.now.id) back.items) }
     ensures count { IfOk result (λ back. vec_len back ≡ vec_len seats) }
     ensures walked { IfOk result (λ back. HasWalked frozen.now.geometry (frozen_view frozen.now) claims.now.opening back.items) }
@@ -113,6 +121,7 @@ fn all_rounds<R: Threads + Sync, G: Gate>(
             claims,
             seats,
             directories,
+            pieces,
             is_first,
             gate,
         )?;
@@ -131,6 +140,7 @@ fn one_round<R: Threads + Sync, G: Gate>(
     claims: &Claims,
     seats: Vec<Seat>,
     round: &[u32],
+    pieces: &[Piece],
     is_first: bool,
     gate: &G,
 ) -> Result<(Vec<Seat>, Vec<u32>), Refusal>
@@ -138,14 +148,16 @@ fn one_round<R: Threads + Sync, G: Gate>(
     requires seats { IsTrue (may_work (vec_len seats)) }
     requires inodes { claims.now.inodes ≡ inode_count frozen.now.geometry }
     requires directories { All (λ d. IsTrue (is_directory_at frozen.now.geometry (frozen_view frozen.now) d)) round.now }
+    requires pieces { AreCut 0 pieces.now (inode_count frozen.now.geometry) }
+    requires few { length pieces.now ≤ 65_537 }
     ensures own { IfOk result (λ done. All (λ seat. seat.of ≡ claims.now.id) done.0.items) }
     ensures asked { IfOk result (λ done. HaveAsked frozen.now.geometry (frozen_view frozen.now) round.now seats.items done.0.items done.1.items) }
     ensures error { IsOkUnless result Refusal.NoMemory }
 {
     if is_first || !is_short(frozen, round, seats.len()) {
-        shared_round(rt, alloc, frozen, claims, seats, round, gate)
+        shared_round(rt, alloc, frozen, claims, seats, round, pieces, gate)
     } else {
-        lone_round(alloc, frozen, claims, seats, round, gate)
+        lone_round(alloc, frozen, claims, seats, round, pieces, gate)
     }
 }
 
@@ -157,19 +169,22 @@ fn shared_round<R: Threads + Sync, G: Gate>(
     claims: &Claims,
     seats: Vec<Seat>,
     round: &[u32],
+    pieces: &[Piece],
     gate: &G,
 ) -> Result<(Vec<Seat>, Vec<u32>), Refusal>
     requires own { All (λ seat. seat.of ≡ claims.now.id) seats.items }
     requires seats { IsTrue (may_work (vec_len seats)) }
     requires inodes { claims.now.inodes ≡ inode_count frozen.now.geometry }
     requires directories { All (λ d. IsTrue (is_directory_at frozen.now.geometry (frozen_view frozen.now) d)) round.now }
+    requires pieces { AreCut 0 pieces.now (inode_count frozen.now.geometry) }
+    requires few { length pieces.now ≤ 65_537 }
     ensures own { IfOk result (λ done. All (λ seat. seat.of ≡ claims.now.id) done.0.items) }
     ensures asked { IfOk result (λ done. HaveAsked frozen.now.geometry (frozen_view frozen.now) round.now seats.items done.0.items done.1.items) }
     ensures error { IsOkUnless result Refusal.NoMemory }
 {
-    let walkers = hired(alloc, frozen, claims, round, seats)?;
-    let groups = frozen.geometry().groups();
-    let (_parts, walkers) = each_group(rt, alloc, PHASE, groups, walkers, gate)?;
+    let walkers = hired(alloc, frozen, claims, round, pieces, seats)?;
+    let units = pieces.len() as u32;
+    let (_parts, walkers) = each_group(rt, alloc, PHASE, units, walkers, gate)?;
     Ok(paid(alloc, walkers)?)
 }
 

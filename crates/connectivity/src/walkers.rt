@@ -4,10 +4,11 @@ ghost use Rattle.std.specs.List.{flat_map};
 ghost use Rattle.frozen.specs.Kept.{frozen_view};
 ghost use Rattle.model.specs.Layout.{inode_count};
 ghost use Rattle.model.specs.Uses.{is_directory_at};
-ghost use Rattle.connectivity.specs.Asked.{Asks, round_in};
+ghost use Rattle.connectivity.specs.Asked.{Asks, asked_of, in_pieces};
 
 use crate::asking::follow;
 use claims::{Claims, Seat};
+use directories::Piece;
 use frozen::Frozen;
 use layout::Refusal;
 use std::alloc::{AllocError, Global};
@@ -20,6 +21,7 @@ pub(crate) struct Walker<'a> {
     pub(crate) frozen: &'a Frozen,
     pub(crate) claims: &'a Claims,
     pub(crate) round: &'a [u32],
+    pub(crate) pieces: &'a [Piece],
     pub(crate) seat: Seat,
     pub(crate) found: Vec<u32>,
     ghost own: { seat.of ≡ claims.now.id },
@@ -30,8 +32,10 @@ pub(crate) struct Walker<'a> {
 impl Work for Walker<'_> {
     type Part = ();
 
-    ghost gives = { λ before unit part after. (after.claims.now ≡ before.claims.now) × (after.frozen.now ≡ before.frozen.now) × (after.round.now ≡ before.round.now)
-        × Asks before.frozen.now.geometry (frozen_view before.frozen.now) (round_in before.frozen.now.geometry (frozen_view before.frozen.now) before.round.now unit)
+    ghost gives = { λ before unit part after. (after.claims.now ≡ before.claims.now) × (after.frozen.now ≡ before.frozen.now)
+        × (in_pieces after.round.now after.pieces.now ≡ in_pieces before.round.now before.pieces.now)
+        × Asks before.frozen.now.geometry (frozen_view before.frozen.now)
+        (asked_of before.frozen.now.geometry (frozen_view before.frozen.now) (in_pieces before.round.now before.pieces.now) unit)
         before.seat before.found.items after.seat after.found.items };
 
     fn part(&mut self, unit: u32) -> Result<(), Refusal> {
@@ -40,6 +44,7 @@ impl Work for Walker<'_> {
             self.frozen,
             self.claims,
             self.round,
+            self.pieces,
             unit,
             &mut self.seat,
             &mut self.found,
@@ -53,6 +58,7 @@ pub(crate) fn hired<'a>(
     frozen: &'a Frozen,
     claims: &'a Claims,
     round: &'a [u32],
+    pieces: &'a [Piece],
     seats: Vec<Seat>,
 ) -> Result<Vec<Walker<'a>>, AllocError>
     requires own { All (λ seat. seat.of ≡ claims.now.id) seats.items }
@@ -60,7 +66,7 @@ pub(crate) fn hired<'a>(
     requires directories { All (λ d. IsTrue (is_directory_at frozen.now.geometry (frozen_view frozen.now) d)) round.now }
     ensures seats { IfOk result (λ walkers. map (λ walker. walker.seat) walkers.items ≡ seats.items) }
     ensures alike { IfOk result (λ walkers. All (λ walker. (walker.claims.now ≡ claims.now) × (walker.frozen.now ≡ frozen.now)
-        × (walker.round.now ≡ round.now) × (walker.found.items ≡ [])) walkers.items) }
+        × (in_pieces walker.round.now walker.pieces.now ≡ in_pieces round.now pieces.now) × (walker.found.items ≡ [])) walkers.items) }
 {
     let mut walkers = Vec::new(alloc);
     for seat in seats {
@@ -69,6 +75,7 @@ pub(crate) fn hired<'a>(
             frozen,
             claims,
             round,
+            pieces,
             seat,
             found: Vec::new(alloc),
         })?;

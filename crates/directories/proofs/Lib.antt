@@ -1,3 +1,5 @@
 mod SlotLemmas
 mod TableLemmas
 mod WholeLemmas
+pub mod PieceLemmas
+pub mod PieceTables

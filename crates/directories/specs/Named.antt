@@ -6,9 +6,9 @@ use Rattle.std.specs.declared.vec.Vec.{Vec}
 use Rattle.std.specs.declared.alloc.Global.{Global}
 use Rattle.model.specs.Layout.{Geometry}
 use Rattle.model.specs.View.{View}
-use Rattle.model.specs.Units.{Units}
 use Rattle.model.specs.Named.{named_from}
-use Rattle.model.specs.Tables.{IsTable, value_in}
+use Rattle.model.specs.Tables.{value_in}
+use Rattle.directories.specs.Pieces.{IsTable, Numbers}
 
 -- the directories and what they name, as a map of a program has them
 abbrev pub table_of : BTreeMap ℕ (Vec ℕ Global) → List (ℕ × List ℕ)
@@ -18,6 +18,6 @@ table_of by_directory = map (λ e. (e.0, e.1.items)) by_directory.entries
 abbrev pub numbers_in : List (ℕ × List ℕ) → ℕ → List ℕ
 numbers_in table d = unwrap_or (value_in table d) []
 
--- The table has the sound directories of these groups, and at each the numbers that its good slots name from slot `first` on.
-abbrev pub IsNamed : Geometry → View → ℕ → Units → List (ℕ × List ℕ) → Type 0
-IsNamed geo view first units table = IsTable geo view (λ d numbers. numbers ≡ named_from geo view first d) units table
+-- The table has the sound directories among these numbers, and at each the numbers that its good slots name from slot `first` on.
+abbrev pub IsNamed : Geometry → View → ℕ → Numbers → List (ℕ × List ℕ) → Type 0
+IsNamed geo view first numbers table = IsTable geo view (λ d named. named ≡ named_from geo view first d) numbers table

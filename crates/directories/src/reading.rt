@@ -4,30 +4,26 @@ ghost use Rattle.dirent.specs.Seen.{seen};
 ghost use Rattle.model.specs.Named.{named_below, named_from, number_of};
 ghost use Rattle.model.specs.Slots.{Absent, slot};
 ghost use Rattle.model.specs.Tables.{Puts};
-ghost use Rattle.model.specs.Units.{only};
 ghost use Rattle.model.specs.Shape.{most_blocks};
 ghost use Rattle.model.specs.Uses.{is_directory_at};
 ghost use Rattle.directories.specs.Named.{IsNamed};
+ghost use Rattle.directories.specs.Pieces.{in_piece};
 
+use crate::cutting::Piece;
 use crate::table::Named;
 use dirent::{SLOTS, Slot, slot_in};
 use frozen::Frozen;
 use layout::Refusal;
 use std::alloc::Global;
 
-/// What the slots of the sound directories of a cylinder group name, from slot `first` on: 0 where the dots are among
-/// them, 2 where not. A unit that is no group has no directories.
-pub fn named(alloc: Global, frozen: &Frozen, unit: u32, first: u32) -> Result<Named, Refusal>
-    ensures named { IfOk result (IsNamed frozen.now.geometry (frozen_view frozen.now) first (only unit)) }
-    ensures no_group { IfOk result (λ named. frozen.now.geometry.groups ≤ unit → named ≡ []) }
+/// What the slots of the sound directories of a piece name, from slot `first` on: 0 where the dots are among them, 2 where
+/// not.
+pub fn named(alloc: Global, frozen: &Frozen, piece: &Piece, first: u32) -> Result<Named, Refusal>
+    ensures named { IfOk result (IsNamed frozen.now.geometry (frozen_view frozen.now) first (in_piece piece.now)) }
     ensures error { IsOkUnless result Refusal.NoMemory }
 {
     let mut named = Named::new(alloc);
-    let geometry = frozen.geometry();
-    if unit >= geometry.groups() {
-        return Ok(named);
-    }
-    for number in geometry.numbers_of(unit) {
+    for number in piece.first..piece.past {
         add_inode(alloc, &mut named, frozen, number, first)?;
     }
     Ok(named)

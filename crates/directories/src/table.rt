@@ -1,9 +1,9 @@
 ghost use Rattle.std.specs.Prelude.{◌≡◌, ℕ, List, [], IfOk, OnOk, IsOkUnless};
 ghost use Rattle.model.specs.Layout.{Geometry};
 ghost use Rattle.model.specs.View.{View};
-ghost use Rattle.model.specs.Units.{Units, either, no_unit};
 ghost use Rattle.model.specs.Tables.{Puts};
 ghost use Rattle.directories.specs.Named.{IsNamed, numbers_in};
+ghost use Rattle.directories.specs.Pieces.{Numbers, both_sets, no_number};
 
 use layout::Refusal;
 use std::alloc::Global;
@@ -28,7 +28,7 @@ impl Model for Named {
 impl Named {
     /// The table of no directory.
     pub fn new(alloc: Global) -> Named
-        ensures part { (geo : Geometry) (view : View) (first : ℕ) → IsNamed geo view first no_unit result }
+        ensures part { (geo : Geometry) (view : View) (first : ℕ) → IsNamed geo view first no_number result }
         ensures empty { result ≡ [] }
     {
         Named {
@@ -58,8 +58,8 @@ impl Named {
 
 /// The table of the directories of both: those of the smaller table are moved to the larger one.
 pub fn merge(left: Named, right: Named) -> Result<Named, Refusal>
-    ensures merged { IfOk result (λ whole. (geo : Geometry) (view : View) (first : ℕ) (units others : Units) → IsNamed geo view first units left
-        → IsNamed geo view first others right → IsNamed geo view first (either units others) whole) }
+    ensures merged { IfOk result (λ whole. (geo : Geometry) (view : View) (first : ℕ) (numbers others : Numbers) → IsNamed geo view first numbers left
+        → IsNamed geo view first others right → IsNamed geo view first (both_sets numbers others) whole) }
     ensures error { IsOkUnless result Refusal.NoMemory }
 {
     let (mut larger, mut smaller) = if left.by_directory.len() < right.by_directory.len() {

@@ -123,6 +123,35 @@ impl<F, S: Start> FileDevice<F, S> {
         }
     }
 
+    /// The same device, whose file is asked through another value, which asks it the same.
+    pub fn through<G, W: FnOnce(F) -> G>(self, wrap: W) -> FileDevice<G, S>
+        requires { W.IsAlwaysCallable wrap }
+        ensures { result ≡ self }
+    {
+        let FileDevice {
+            file,
+            count,
+            failures,
+            answered,
+            kept,
+            waits,
+            earlier,
+            broken,
+            start,
+        } = self;
+        FileDevice {
+            file: wrap(file),
+            count,
+            failures,
+            answered,
+            kept,
+            waits,
+            earlier,
+            broken,
+            start,
+        }
+    }
+
     /// A fault, which is counted.
     fn fault(&mut self) -> DeviceFault
         ensures { self.new ≡ record self.old { failures = min (self.old.failures + 1) (2 ^ 64 - 1) } }

@@ -6,3 +6,4 @@ pub mod KeepingLemmas
 pub mod SlotLemmas
 pub mod CopyLemmas
 pub mod LettingGo
+mod KindLemmas

@@ -1,16 +1,16 @@
 -- What the steps of loading say.
-use Rattle.std.proofs.Common.{◌≡◌, ◌<◌, ◌≤◌, ◌+◌, ◌-◌, ◌*◌, ◌%◌, ℕ, not, ltb, List, [], ◌∷◌, ◌++◌, length, Option, Some, None, IsSome, is_some, unwrap_or, IsFalse, refl, sym, ap, ◌∙◌, subst, arith, inl, inr, length-append, mul-le-mul_right}
+use Rattle.std.proofs.Common.{◌≡◌, ◌<◌, ◌≤◌, ◌+◌, ◌-◌, ◌*◌, ◌%◌, ℕ, not, ltb, List, [], ◌∷◌, ◌++◌, length, Option, Some, None, IsSome, is_some, unwrap_or, IsFalse, IsTrue, refl, sym, ap, ◌∙◌, subst, arith, inl, inr, length-append, mul-le-mul_right}
 use Rattle.std.proofs.lemmas.Bool.{and_parts, cases_eq, cases_lt, cases_order, both_ways, false_from_ne_true, ltb-true, not-true}
 use Rattle.std.proofs.lemmas.List.{get_or_append_left, get_or_at, get_or_past}
 use Rattle.std.proofs.lemmas.Option.{none-some, same_Some}
 use Rattle.layout.specs.declared.refusal.Refusal.{Refusal}
 use Rattle.layout.specs.declared.refusal.Refusal.TheVariants.{NoMemory, Device, BadGroup}
-use Rattle.model.specs.Layout.{Geometry, IsGeometry, block_count, group_block, is_data_address, place_in_group}
+use Rattle.model.specs.Layout.{Geometry, IsGeometry, block_count, data_address, group_block, header_blocks, is_data_address, place_in_group}
 use Rattle.model.specs.Image.{IsBlock, IsSuper, IsGroupBlock, block_at}
 use Rattle.model.proofs.Places.{place_of_maps, maps_are_no_data}
-use Rattle.model.proofs.Addresses.{maps_below}
+use Rattle.model.proofs.Addresses.{address_is_data, maps_below}
 use Rattle.frozen.specs.Kept.{kept_at, KeepsFrame}
-use Rattle.frozen.specs.Loading.{MapsRefuse, BlockRefuses, FrameRefuses, IsKeptBlock, AreBlocksOf}
+use Rattle.frozen.specs.Loading.{AreBlocksOf, AreReadFrom, BlockRefuses, FrameRefuses, IsKeptBlock, KeptBelow, MapsRefuse}
 
 -- no group's block of maps stands in another place of its group
 pub no_maps : (geo : Geometry) → IsGeometry geo → (a g : ℕ) → ((a - 1) % geo.blocks ≡ 0 → ⊥) → group_block geo g ≡ a → ⊥
@@ -24,15 +24,6 @@ block_refused honest geo image a block (BadGroup g) told h =
 block_refused honest geo image a block _ told h = absurd h
 
 -- ---- the blocks that were kept so far
-
-pub record KeptBelow (geo : Geometry) (first : List ℕ) (blocks : List (Option (List ℕ))) (n : ℕ) : Type 0 where
-  pub count : length blocks ≡ n
-  pub start : kept_at blocks 0 ≡ Some first
-  pub each : (a : ℕ) → 0 < a → a < n → IsKeptBlock geo a (kept_at blocks a)
-
--- those behind the superblock are those of the image
-abbrev pub AreReadFrom : List (Option (List ℕ)) → List (List ℕ) → Type 0
-AreReadFrom blocks image = (a : ℕ) (b : List ℕ) → 0 < a → kept_at blocks a ≡ Some b → b ≡ block_at image a
 
 module _ (old : List (Option (List ℕ))) (x : Option (List ℕ)) where
   -- one more place
@@ -73,6 +64,19 @@ read_more image old new n x count told added is a b low e = elim (cases_order a 
     | inr past ↦ absurd (let none : None ≡ Some b = sym (kept_past old x a (omega (arith, past, count))) ∙ sym (ap (λ blocks. kept_at blocks a) added) ∙ e in cc)
   ]
 ]
+
+-- the place of a data block is left empty
+pub data_more : (geo : Geometry) → IsGeometry geo → (g place : ℕ) (first : List ℕ) (old new : List (Option (List ℕ))) → g < geo.groups → header_blocks geo ≤ place → place < geo.blocks
+    → KeptBelow geo first old (group_block geo g + place) → new ≡ old ++ None ∷ [] → KeptBelow geo first new (group_block geo g + (place + 1))
+data_more geo ok g place first old new in_volume past inside kept added =
+    let at : data_address geo g (place - header_blocks geo) ≡ group_block geo g + place = omega (arith, past) in
+    let is : IsTrue (is_data_address geo (group_block geo g + place)) =
+    subst (λ (a : ℕ). IsTrue (is_data_address geo a)) at (address_is_data geo ok g (place - header_blocks geo) (omega (arith, past, inside)) in_volume) in
+    let next : group_block geo g + place + 1 ≡ group_block geo g + (place + 1) = omega arith in
+    subst (KeptBelow geo first new) next (kept_more geo first old new (group_block geo g + place) None (omega arith) kept added is)
+
+pub read_none : (image : List (List ℕ)) (old new : List (Option (List ℕ))) → AreReadFrom old image → new ≡ old ++ None ∷ [] → AreReadFrom new image
+read_none image old new told added = read_more image old new (length old) None refl told added (λ b e. absurd (none-some b e))
 
 -- ---- all blocks that each volume has
 

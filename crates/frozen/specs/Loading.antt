@@ -57,6 +57,20 @@ IsKeptBlock geo a (Some b) = IsFalse (is_data_address geo a) × IsBlock b × ((g
 abbrev pub AreBlocksOf : List (Option (List ℕ)) → List (List ℕ) → Type 0
 AreBlocksOf blocks image = (a : ℕ) (b : List ℕ) → kept_at blocks a ≡ Some b → b ≡ block_at image a
 
+-- The blocks below address n: the superblock, and behind it those that are kept.
+pub record KeptBelow (geo : Geometry) (first : List ℕ) (blocks : List (Option (List ℕ))) (n : ℕ) : Type 0 where
+  pub count : length blocks ≡ n
+  pub start : kept_at blocks 0 ≡ Some first
+  pub each : (a : ℕ) → 0 < a → a < n → IsKeptBlock geo a (kept_at blocks a)
+
+-- Where the first list has the blocks below n, the other one has those below m.
+abbrev pub KeepsOn : Geometry → List (Option (List ℕ)) → ℕ → List (Option (List ℕ)) → ℕ → Type 0
+KeepsOn geo old n new m = (first : List ℕ) → KeptBelow geo first old n → KeptBelow geo first new m
+
+-- those behind the superblock are those of the image
+abbrev pub AreReadFrom : List (Option (List ℕ)) → List (List ℕ) → Type 0
+AreReadFrom blocks image = (a : ℕ) (b : List ℕ) → 0 < a → kept_at blocks a ≡ Some b → b ≡ block_at image a
+
 -- The block of maps that stands here is refused with its group's number, and nothing else is refused.
 abbrev pub MapsRefuse : Geometry → ℕ → List ℕ → Refusal → Type 0
 MapsRefuse geo a block (BadGroup g) = (g < geo.groups) × (group_block geo g ≡ a) × (IsGroupBlock g block → ⊥)

@@ -6,9 +6,11 @@ ghost use Rattle.model.specs.Uses.{record_use, use_at, claim_at, is_sound_at, is
 ghost use Rattle.model.specs.Slots.{Absent, slot, slot_in};
 ghost use Rattle.model.specs.Image.{IsGroupBlock};
 ghost use Rattle.std.specs.List.{All};
+ghost use Rattle.frozen.specs.Kinds.{AreKinds};
 ghost use Rattle.frozen.specs.Installed.{FitsIn, IsPlain, standing, with_blocks, without_block};
 
 use crate::Held;
+use crate::kinds::Kind;
 use inode::Record;
 use layout::{Block, Geometry};
 use spares::Spares;
@@ -18,9 +20,13 @@ use std::sync::Arc;
 
 /// The metadata of an image as it was at one moment: its superblock, its blocks of maps and of inodes, the blocks of
 /// pointers that sound inodes claim, and the blocks that sound directories claim. None of them is missing.
+///
+/// Beside them stands what is known of the inode numbers from 0 on, so that a question for one takes no look at its record.
+/// Once a block is put in or let go of, and in a copy, nothing is known, and records are looked at.
 #[derive(Drop)]
 pub struct Frozen {
     held: Held,
+    kinds: Vec<Kind>,
 }
 
 /// A block, and the address at which it is to stand.
@@ -31,30 +37,36 @@ pub struct Placed {
 }
 
 impl Model for Frozen {
-    ghost use Rattle.frozen.specs.Kept.{Kept, KeepsMetadata};
+    ghost use Rattle.frozen.specs.Kept.{Kept, KeepsMetadata, frozen_view};
+    ghost use Rattle.frozen.specs.Kinds.{AreKinds};
 
     ghost Value = { Kept };
 
     ghost view = { λ frozen. frozen.held };
 
-    ghost invariant = { λ frozen. KeepsMetadata frozen.held };
+    ghost invariant = { λ frozen. KeepsMetadata frozen.held × AreKinds frozen.held.geometry (frozen_view frozen.held) frozen.kinds.items };
 }
 
 impl Frozen {
-    /// The frozen image of these blocks, of which none is missing.
-    pub(crate) fn new(held: Held) -> Frozen
-        requires { KeepsMetadata held }
+    /// The frozen image of these blocks, of which none is missing, with what is known of its inode numbers.
+    pub(crate) fn new(held: Held, kinds: Vec<Kind>) -> Frozen
+        requires metadata { KeepsMetadata held }
+        requires known { AreKinds held.geometry (frozen_view held) kinds.items }
         ensures { result ≡ held }
     {
-        Frozen { held }
+        Frozen { held, kinds }
     }
 
-    /// A copy, which shares the blocks. Takes memory for their table.
+    /// A copy, which shares the blocks. Takes memory for their table. A copy is made to be changed, so nothing is known of its
+    /// inode numbers.
     pub fn copy(&self, alloc: Global) -> Result<Frozen, AllocError>
         ensures { IfOk result (λ copy. copy ≡ self.now) }
     {
         let held = self.held.copy(alloc)?;
-        Ok(Frozen { held })
+        Ok(Frozen {
+            held,
+            kinds: Vec::new(alloc),
+        })
     }
 
     /// Its geometry.
@@ -98,18 +110,40 @@ impl Frozen {
         self.held.record(number)
     }
 
+    /// The mode of an inode, of whose record nothing else is read.
+    pub fn mode(&self, number: u32) -> u16
+        requires { IsTrue (is_number self.now.geometry number) }
+        ensures { result ≡ ((frozen_view self.now).inode number).mode }
+    {
+        self.held.mode(number)
+    }
+
+    /// How many links an inode has: of its record the pointers are not read.
+    pub fn links(&self, number: u32) -> u16
+        requires { IsTrue (is_number self.now.geometry number) }
+        ensures { result ≡ ((frozen_view self.now).inode number).links }
+    {
+        self.held.links(number)
+    }
+
     /// Whether the number is that of a sound inode: false for 0, 1 and numbers past the last.
     pub fn is_sound_at(&self, number: u32) -> bool
         ensures { result ≡ is_sound_at self.now.geometry (frozen_view self.now) number }
     {
-        self.held.is_sound_at(number)
+        match self.kinds.get(number as usize) {
+            Some(kind) => kind.is_sound,
+            None => self.held.is_sound_at(number),
+        }
     }
 
     /// Whether the number is that of a sound directory: false for 0, 1 and numbers past the last.
     pub fn is_directory_at(&self, number: u32) -> bool
         ensures { result ≡ is_directory_at self.now.geometry (frozen_view self.now) number }
     {
-        self.held.is_directory_at(number)
+        match self.kinds.get(number as usize) {
+            Some(kind) => kind.is_directory,
+            None => self.held.is_directory_at(number),
+        }
     }
 
     /// The value that an inode uses at a position: a pointer of its record's, or one of a table's that it claims. `None`
@@ -143,7 +177,7 @@ impl Frozen {
         ensures slots { (s : ℕ) → s / 16 ≡ position → slot self.now.geometry (frozen_view self.now) directory s
             ≡ option_map_or (λ block. slot_in self.now.geometry block s) (option_copied result) Absent }
     {
-        if position >= self.geometry().most_blocks() || !self.held.is_directory_at(directory) {
+        if position >= self.geometry().most_blocks() || !self.is_directory_at(directory) {
             return None;
         }
         let claimed = self.held.claim_at(directory, position)?;
@@ -157,6 +191,7 @@ impl Frozen {
         requires metadata { KeepsMetadata (with_blocks self.old (map standing blocks.items)) }
         ensures { self.new ≡ with_blocks self.old (map standing blocks.items) }
     {
+        self.kinds.clear();
         self.held.install(blocks, spares);
     }
 
@@ -165,6 +200,7 @@ impl Frozen {
         requires { IsPlain self.old address }
         ensures { self.new ≡ without_block self.old address }
     {
+        self.kinds.clear();
         self.held.let_go(address);
     }
 }

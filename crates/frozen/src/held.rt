@@ -5,14 +5,19 @@ ghost use Rattle.std.specs.Option.{option_copied};
 ghost use Rattle.frozen.specs.Kept.{KeepsFrame, frozen_view, kept_at, kept_bytes, is_frame};
 ghost use Rattle.model.specs.Layout.{inode_count, group_block, inode_block, is_data_address, is_number};
 ghost use Rattle.model.specs.Shape.{pointer_in, table_of};
-ghost use Rattle.model.specs.Uses.{record_use, use_at, claim_at, has_position, is_sound, is_sound_at, is_directory_at};
-ghost use Rattle.model.specs.View.{inode_at};
+ghost use Rattle.model.specs.Uses.{blocks_of, record_use, use_at, claim_at, has_position, is_sound, is_sound_at, is_directory_at};
+ghost use Rattle.model.specs.View.{free_inode, inode_at};
 ghost use Rattle.model.specs.Image.{IsGroupBlock};
+ghost use Rattle.frozen.specs.Kinds.{IsKind};
 ghost use Rattle.frozen.specs.Installed.{FitsIn, standing, with_block, with_blocks, without_block};
 ghost use Rattle.std.specs.List.{All};
 
 use crate::Placed;
-use inode::{DIRECTORY, FREE, RECORD_BYTES, Record, a_record_is_read_from_its_bytes, mode_of};
+use crate::kinds::Kind;
+use inode::{
+    DIRECT_POINTERS, DIRECTORY, FREE, RECORD_BYTES, Record, a_record_is_read_from_its_bytes,
+    mode_of,
+};
 use layout::{Block, Geometry, INODES_PER_BLOCK, ROOT, TablePlace, u32_at};
 use spares::Spares;
 use std::alloc::{AllocError, Global};
@@ -103,8 +108,33 @@ impl Held {
         Record::read(self.geometry().version(), self.record_bytes(number))
     }
 
+    /// The record of an inode with its pointers at 0, of which nothing is read.
+    fn head(&self, number: u32) -> Record
+        requires { IsTrue (is_number self.now.geometry number) }
+        ensures { let inode = (frozen_view self.now).inode number in
+            result ≡ record free_inode { mode = inode.mode; links = inode.links; size = inode.size } }
+    {
+        Record::read_head(self.record_bytes(number))
+    }
+
+    /// How many blocks the size of an inode takes: of its record the pointers are not read.
+    pub(crate) fn blocks(&self, number: u32) -> u32
+        requires { IsTrue (is_number self.now.geometry number) }
+        ensures { result ≡ blocks_of ((frozen_view self.now).inode number).size }
+    {
+        self.head(number).blocks()
+    }
+
+    /// How many links an inode has: of its record the pointers are not read.
+    pub(crate) fn links(&self, number: u32) -> u16
+        requires { IsTrue (is_number self.now.geometry number) }
+        ensures { result ≡ ((frozen_view self.now).inode number).links }
+    {
+        self.head(number).links
+    }
+
     /// The mode of an inode, of whose record nothing else is read.
-    fn mode(&self, number: u32) -> u16
+    pub(crate) fn mode(&self, number: u32) -> u16
         requires { IsTrue (is_number self.now.geometry number) }
         ensures { result ≡ ((frozen_view self.now).inode number).mode }
     {
@@ -127,7 +157,7 @@ impl Held {
     {
         self.is_number(number)
             && self.mode(number) != FREE
-            && self.record(number).is_sound(&self.geometry())
+            && self.head(number).is_sound(&self.geometry())
     }
 
     /// Whether the number is that of a sound directory.
@@ -137,7 +167,33 @@ impl Held {
         if !self.is_number(number) || self.mode(number) != DIRECTORY {
             return false;
         }
-        self.record(number).is_sound(&self.geometry())
+        self.head(number).is_sound(&self.geometry())
+    }
+
+    /// What its record tells of an inode number, by one look at it.
+    pub(crate) fn kind(&self, number: u32) -> Kind
+        ensures { IsKind self.now.geometry (frozen_view self.now) number result }
+    {
+        if !self.is_number(number) {
+            return Kind {
+                is_sound: false,
+                has_tables: false,
+                is_directory: false,
+            };
+        }
+        let head = self.head(number);
+        if !head.is_sound(&self.geometry()) {
+            return Kind {
+                is_sound: false,
+                has_tables: false,
+                is_directory: false,
+            };
+        }
+        Kind {
+            is_sound: true,
+            has_tables: head.blocks() > DIRECT_POINTERS as u32,
+            is_directory: head.is_directory(),
+        }
     }
 
     /// The value that an inode uses at a position: a pointer of its record's, or one of a table's that it claims. `None`

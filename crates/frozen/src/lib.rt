@@ -3,6 +3,7 @@
 
 mod frozen;
 mod held;
+mod kinds;
 mod loading;
 
 pub use frozen::{Frozen, Placed};

@@ -1,19 +1,22 @@
-ghost use Rattle.std.specs.Prelude.{◌≡◌, ◌<◌, ℕ, List, length, IfOk, IfErr, OnOk, IsErrOf, Some};
+ghost use Rattle.std.specs.Prelude.{◌≡◌, ◌<◌, ◌+◌, ℕ, List, length, IfOk, IfErr, OnOk, IsErrOf, Some};
 ghost use Rattle.std.specs.Option.{option_map};
 ghost use Rattle.std.specs.Arc.{arc_value};
-ghost use Rattle.model.specs.Layout.{block_count, group_block};
+ghost use Rattle.model.specs.Layout.{block_count, data_address, group_block};
 ghost use Rattle.model.specs.Image.{IsBlock, IsSuper, IsGroupBlock, block_at};
 ghost use Rattle.frozen.specs.Kept.{KeepsFrame, KeepsClaim, KeepsTables, KeepsTablesOf, KeepsDirectory, KeepsMetadata, KeepsMore, IsKeptOf};
+ghost use Rattle.frozen.specs.Kept.{frozen_view};
+ghost use Rattle.frozen.specs.Kinds.{AreKinds};
 ghost use Rattle.frozen.specs.Shared.{shared_blocks};
 ghost use Rattle.device.specs.Reading.{ReadsOnly};
 ghost use Rattle.device.specs.Writes.{HasFailed};
-ghost use Rattle.frozen.specs.Loading.{LoadRefuses, GivesOut, FrameRefuses, BlockRefuses, MapsRefuse, IsKeptBlock, AreBlocksOf};
+ghost use Rattle.frozen.specs.Loading.{AreBlocksOf, AreReadFrom, BlockRefuses, FrameRefuses, GivesOut, IsKeptBlock, KeepsOn, KeptBelow, LoadRefuses, MapsRefuse};
 
+use crate::kinds::{Kind, kinds_of, may_be_directory, may_have_tables};
 use crate::{Frozen, Held};
 use cgmaps::read_group;
 use device::Device;
 use layout::{BLOCK_BYTES, Block, Geometry, Refusal, read_super};
-use std::alloc::Global;
+use std::alloc::{AllocError, Global};
 use std::sync::Arc;
 
 /// Reads the metadata of a device's image: the blocks that each volume has, then the tables that sound inodes
@@ -43,15 +46,40 @@ pub fn load<D: Device>(alloc: Global, device: &mut D) -> Result<Frozen, Refusal>
         return Err(Refusal::BadLength);
     }
     let blocks = read_frame(alloc, device, &geometry, &first)?;
-    let mut held = Held::new(geometry, blocks);
-    read_tables(alloc, device, &mut held)?;
-    read_directories(alloc, device, &mut held)?;
-    Ok(Frozen::new(held))
+    Ok(fill(alloc, device, Held::new(geometry, blocks))?)
+}
+
+/// Reads what else is kept of the image whose frame is held: the tables that sound inodes claim, then the blocks that sound
+/// directories claim. What the records tell of their numbers is found out first, so few of them are looked at again.
+fn fill<D: Device>(alloc: Global, device: &mut D, held: Held) -> Result<Frozen, Refusal>
+    requires { length (D.image device.old) ≡ block_count held.geometry }
+
+    ensures metadata { IfOk result (λ frozen. KeepsMetadata frozen) }
+    ensures more { IfOk result (λ frozen. KeepsMore held frozen) }
+    ensures blocks { IfOk result (λ frozen. D.honest device.new → AreBlocksOf held.blocks (D.image device.old)
+        → AreBlocksOf frozen.blocks (D.image device.old)) }
+    ensures refused { IfErr result GivesOut }
+    ensures cause { IsErrOf result Refusal.Device → HasFailed (D.failures device.old) (D.failures device.new) }
+    ensures failures { OnOk result (D.failures device.new ≡ D.failures device.old) }
+
+    ensures reads { ReadsOnly D.honest D.image D.held device.old device.new }
+{
+    let mut held = held;
+    let kinds = kinds_of(alloc, &held)?;
+    read_tables(alloc, device, &mut held, kinds.as_slice())?;
+    read_directories(alloc, device, &mut held, kinds.as_slice())?;
+    Ok(Frozen::new(held, kinds))
 }
 
 /// Reads the tables that sound inodes claim, each once.
-fn read_tables<D: Device>(alloc: Global, device: &mut D, held: &mut Held) -> Result<(), Refusal>
-    requires { length (D.image device.old) ≡ block_count held.old.geometry }
+fn read_tables<D: Device>(
+    alloc: Global,
+    device: &mut D,
+    held: &mut Held,
+    kinds: &[Kind],
+) -> Result<(), Refusal>
+    requires count { length (D.image device.old) ≡ block_count held.old.geometry }
+    requires known { AreKinds held.old.geometry (frozen_view held.old) kinds.now }
 
     ensures frame { OnOk result (KeepsFrame held.new) }
     ensures more { OnOk result (KeepsMore held.old held.new) }
@@ -65,7 +93,7 @@ fn read_tables<D: Device>(alloc: Global, device: &mut D, held: &mut Held) -> Res
     ensures reads { ReadsOnly D.honest D.image D.held device.old device.new }
 {
     for number in 0..held.geometry().inodes() {
-        read_tables_of(alloc, device, held, number)?;
+        read_tables_of(alloc, device, held, kinds, number)?;
     }
     Ok(())
 }
@@ -76,10 +104,12 @@ fn read_tables_of<D: Device>(
     alloc: Global,
     device: &mut D,
     held: &mut Held,
+    kinds: &[Kind],
     number: u32,
 ) -> Result<(), Refusal>
     requires count { length (D.image device.old) ≡ block_count held.old.geometry }
     requires frame { KeepsFrame held.old }
+    requires known { AreKinds held.old.geometry (frozen_view held.old) kinds.now }
 
     ensures frame { OnOk result (KeepsFrame held.new) }
     ensures more { OnOk result (KeepsMore held.old held.new) }
@@ -92,11 +122,14 @@ fn read_tables_of<D: Device>(
 
     ensures reads { ReadsOnly D.honest D.image D.held device.old device.new }
 {
+    if !may_have_tables(kinds, number) {
+        return Ok(());
+    }
     if !held.is_sound_at(number) {
         return Ok(());
     }
     let geometry = held.geometry();
-    for position in geometry.most_blocks()..geometry.tables_end(held.record(number).blocks()) {
+    for position in geometry.most_blocks()..geometry.tables_end(held.blocks(number)) {
         keep_claimed(alloc, device, held, number, position)?;
     }
     Ok(())
@@ -107,9 +140,11 @@ fn read_directories<D: Device>(
     alloc: Global,
     device: &mut D,
     held: &mut Held,
+    kinds: &[Kind],
 ) -> Result<(), Refusal>
     requires count { length (D.image device.old) ≡ block_count held.old.geometry }
     requires tables { KeepsTables held.old }
+    requires known { AreKinds held.old.geometry (frozen_view held.old) kinds.now }
 
     ensures metadata { OnOk result (KeepsMetadata held.new) }
     ensures more { OnOk result (KeepsMore held.old held.new) }
@@ -122,7 +157,7 @@ fn read_directories<D: Device>(
     ensures reads { ReadsOnly D.honest D.image D.held device.old device.new }
 {
     for number in 0..held.geometry().inodes() {
-        read_directory(alloc, device, held, number)?;
+        read_directory(alloc, device, held, kinds, number)?;
     }
     Ok(())
 }
@@ -132,11 +167,13 @@ fn read_directory<D: Device>(
     alloc: Global,
     device: &mut D,
     held: &mut Held,
+    kinds: &[Kind],
     number: u32,
 ) -> Result<(), Refusal>
     requires count { length (D.image device.old) ≡ block_count held.old.geometry }
     requires frame { KeepsFrame held.old }
     requires tables { KeepsTables held.old }
+    requires known { AreKinds held.old.geometry (frozen_view held.old) kinds.now }
 
     ensures frame { OnOk result (KeepsFrame held.new) }
     ensures more { OnOk result (KeepsMore held.old held.new) }
@@ -149,10 +186,13 @@ fn read_directory<D: Device>(
 
     ensures reads { ReadsOnly D.honest D.image D.held device.old device.new }
 {
+    if !may_be_directory(kinds, number) {
+        return Ok(());
+    }
     if !held.is_directory_at(number) {
         return Ok(());
     }
-    for position in 0..held.record(number).blocks() {
+    for position in 0..held.blocks(number) {
         keep_claimed(alloc, device, held, number, position)?;
     }
     Ok(())
@@ -212,11 +252,64 @@ fn read_frame<D: Device>(
 {
     let mut blocks = Vec::with_capacity(alloc, geometry.blocks() as usize)?;
     blocks.push(Some(Arc::new(alloc, *first)?))?;
-    for address in 1..geometry.blocks() {
+    for group in 0..geometry.groups() {
+        read_header(alloc, device, geometry, group, &mut blocks)?;
+        leave_data(geometry, group, &mut blocks)?;
+    }
+    Ok(blocks)
+}
+
+/// Reads the blocks of a group that come before its data blocks, behind those of the blocks before.
+fn read_header<D: Device>(
+    alloc: Global,
+    device: &mut D,
+    geometry: &Geometry,
+    group: u32,
+    blocks: &mut Vec<Option<Arc<Block>>>,
+) -> Result<(), Refusal>
+    requires count { length (D.image device.old) ≡ block_count geometry.now }
+    requires in_volume { group < geometry.now.groups }
+
+    ensures kept { OnOk result (KeepsOn geometry.now (shared_blocks blocks.old.items) (group_block geometry.now group)
+        (shared_blocks blocks.new.items) (data_address geometry.now group 0)) }
+    ensures told { OnOk result (D.honest device.new → AreReadFrom (shared_blocks blocks.old.items) (D.image device.old)
+        → (first : List ℕ) → KeptBelow geometry.now first (shared_blocks blocks.old.items) (group_block geometry.now group)
+        → AreReadFrom (shared_blocks blocks.new.items) (D.image device.old)) }
+    ensures refused { IfErr result (λ refusal. (D.honest device.new → AreReadFrom (shared_blocks blocks.old.items) (D.image device.old))
+        → (first : List ℕ) → KeptBelow geometry.now first (shared_blocks blocks.old.items) (group_block geometry.now group)
+        → FrameRefuses (D.honest device.new) geometry.now (D.image device.old) refusal) }
+    ensures cause { IsErrOf result Refusal.Device → HasFailed (D.failures device.old) (D.failures device.new) }
+    ensures failures { OnOk result (D.failures device.new ≡ D.failures device.old) }
+
+    ensures reads { ReadsOnly D.honest D.image D.held device.old device.new }
+{
+    let start = geometry.group_block(group);
+    let header = geometry.header_blocks();
+    for address in start..start + header {
         let kept = keep_block(alloc, device, geometry, address)?;
         blocks.push(kept)?;
     }
-    Ok(blocks)
+    Ok(())
+}
+
+/// Leaves the places of a group's data blocks empty.
+fn leave_data(
+    geometry: &Geometry,
+    group: u32,
+    blocks: &mut Vec<Option<Arc<Block>>>,
+) -> Result<(), AllocError>
+    requires { group < geometry.now.groups }
+    ensures kept { OnOk result (KeepsOn geometry.now (shared_blocks blocks.old.items) (data_address geometry.now group 0)
+        (shared_blocks blocks.new.items) (group_block geometry.now (group + 1))) }
+    ensures told { OnOk result ((image : List (List ℕ)) → AreReadFrom (shared_blocks blocks.old.items) image
+        → AreReadFrom (shared_blocks blocks.new.items) image) }
+{
+    let header = geometry.header_blocks();
+    let past = geometry.blocks_a_group();
+    for _place in header..past {
+        blocks.push(None)?;
+    }
+    Ok(())
 }
 
 /// Reads a block behind the superblock, if each volume has it.

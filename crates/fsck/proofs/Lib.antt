@@ -2,4 +2,3 @@ mod FindingLemmas
 mod VerdictLemmas
 mod OrderLemmas
 mod PartLemmas
-pub mod UnitLemmas

@@ -1,19 +1,20 @@
 -- The parts of a phase, as workers make them and as they are merged.
-use Rattle.std.proofs.Common.{◌≡◌, ◌<◌, ℕ, zero, suc, ◌+◌, Result, Vec, List, [], ◌∷◌, ◌++◌, length, map, Some, slice_get, refl, sym, ap, ◌∙◌, subst, All, arith, length-append}
+use Rattle.std.proofs.Common.{◌≡◌, ◌<◌, ℕ, zero, suc, Result, Vec, List, [], ◌∷◌, ◌++◌, length, map, None, Some, slice_get, refl, sym, ap, ◌∙◌, subst, All, arith, length-append}
 use Rattle.std.specs.declared.alloc.Global.{Global}
 use Rattle.std.proofs.lemmas.List.{length-map, length_push}
-use Rattle.std.proofs.lemmas.Option.{none-some, same_Some}
+use Rattle.std.proofs.lemmas.Option.{none-some, same_Some, slice_get_within}
 use Rattle.std.proofs.lemmas.Result.{IfOk-weaker}
 use Rattle.std.proofs.lemmas.List.Elements.{All-push}
 use Rattle.layout.specs.declared.refusal.Refusal.{Refusal}
 use Rattle.findings.specs.Groups.{IsEach}
-use Rattle.model.specs.Layout.{Geometry}
-use Rattle.model.specs.Units.{IsEveryGroup, Units, either, only}
+use Rattle.model.specs.Layout.{Geometry, inode_count}
+use Rattle.directories.specs.declared.cutting.Piece.{Piece}
+use Rattle.directories.specs.Pieces.{AreCut, AreOfPieces, HasEveryNumber, Numbers, between, both_sets, in_piece}
+use Rattle.directories.proofs.PieceLemmas.{every_number, one_piece_more, reach, reach_all, reach_next}
+use Rattle.findings.proofs.JoinLemmas.{stands_at}
 use Rattle.workers.specs.Turns.{AreDone}
 use Rattle.workers.proofs.EveryPart.{every_part}
-use Rattle.fsck.specs.Checked.{units_below}
-use Rattle.fsck.proofs.UnitLemmas.{next_below, every_group}
-use Rattle.fsck.specs.Parts.{AreParts, MakesItsOwn, MakesParts}
+use Rattle.fsck.specs.Parts.{IsOfPiece, MakesItsOwn, MakesParts, MakesPieces}
 
 -- what workers that are alike, and stay so, have made of all groups
 pub made_alike : {W P : Type 0} (gives : W → ℕ → P → W → Type 0) (is_of : W → ℕ → P → Type 0) (work : W)
@@ -56,6 +57,10 @@ made_of_groups is_of wanted groups result told made = record {
   error = made.error;
 }
 
+-- the same number of units
+pub of_units : {P : Type 0} (is_of : ℕ → P → Type 0) (units groups : ℕ) (result : Result (Vec P Global) Refusal) → units ≡ groups → MakesParts is_of units result → MakesParts is_of groups result
+of_units is_of units groups result same made = subst (λ (n : ℕ). MakesParts is_of n result) same made
+
 -- and what is kept of each
 pub each_kept : {X Y : Type 0} (f : X → Y) (wanted : ℕ → Y → Type 0) (groups : ℕ) (xs : List X) → IsEach (λ unit x. wanted unit (f x)) groups xs → IsEach wanted groups (map f xs)
 each_kept {X} {Y} f wanted groups xs each = record {
@@ -68,28 +73,56 @@ each_kept {X} {Y} f wanted groups xs each = record {
     from_map (x ∷ xs) zero y at = (x, refl, same_Some (f x) y at)
     from_map (x ∷ xs) (suc i) y at = from_map xs i y at
 
--- the part of the group that comes next
+-- ---- the parts of pieces
+-- the part of the piece that stands at its unit, and any part where none stands there
+pub of_piece : {P : Type 0} (is_part : Numbers → P → Type 0) (pieces : List Piece) (unit : ℕ) (here : Piece) (part : P) → slice_get pieces unit ≡ Some here → is_part (in_piece here) part
+    → IsOfPiece is_part pieces unit part
+of_piece is_part pieces unit here part at is piece other = subst (λ (p : Piece). is_part (in_piece p) part) (same_Some here piece (sym at ∙ other)) is
+
+pub of_no_piece : {P : Type 0} (is_part : Numbers → P → Type 0) (pieces : List Piece) (unit : ℕ) (part : P) → slice_get pieces unit ≡ None → IsOfPiece is_part pieces unit part
+of_no_piece is_part pieces unit part none piece at = absurd (none-some piece (sym none ∙ at))
+
+-- each unit's part is of its piece
+pub of_pieces : {P : Type 0} (is_part : Numbers → P → Type 0) (past : ℕ) (pieces : List Piece) (parts : List P) → AreCut 0 pieces past
+    → IsEach (IsOfPiece is_part pieces) (length pieces) parts → AreOfPieces is_part past parts
+of_pieces is_part past pieces parts cut each = record { pieces = pieces; cut = cut; count = each.count; each = λ k piece part a b. each.each k part b piece a }
+
+pub made_of_pieces : {P : Type 0} (is_part : Numbers → P → Type 0) (geo : Geometry) (pieces : List Piece) (result : Result (Vec P Global) Refusal) → AreCut 0 pieces (inode_count geo)
+    → MakesParts (IsOfPiece is_part pieces) (length pieces) result → MakesPieces is_part geo result
+made_of_pieces {P} is_part geo pieces result cut made = record {
+  made = IfOk-weaker result (λ parts. IsEach (IsOfPiece is_part pieces) (length pieces) parts.items) (λ parts. AreOfPieces is_part (inode_count geo) parts.items)
+      (λ parts each. of_pieces is_part (inode_count geo) pieces parts.items cut each) made.made;
+  error = made.error;
+}
+
+-- the part of the piece that comes next
 after_taken : {P : Type 0} (taken : List P) (part : P) (rest : List P) → slice_get (taken ++ part ∷ rest) (length taken) ≡ Some part
 after_taken [] part rest = refl
 after_taken (p ∷ taken) part rest = after_taken taken part rest
 
-pub next_part : {P : Type 0} (is_part : Units → P → Type 0) (groups : ℕ) (parts taken : List P) (part : P) (rest : List P) → AreParts is_part groups parts
-    → taken ++ part ∷ rest ≡ parts → is_part (only (length taken)) part
-next_part is_part groups parts taken part rest are whole =
-    are.each (length taken) part (subst (λ ps. slice_get ps (length taken) ≡ Some part) whole (after_taken taken part rest))
+-- the parts of the pieces before have been joined, so this is the part of their numbers
+abbrev pub joined_so_far : {P : Type 0} (is_part : Numbers → P → Type 0) → List Piece → ℕ → P → Type 0
+joined_so_far is_part pieces n whole = is_part (between 0 (reach n 0 pieces)) whole
 
--- with that part, those of one group more are merged
-pub one_more : {P : Type 0} (is_part : Units → P → Type 0) (groups : ℕ) (parts taken : List P) (part : P) (rest : List P) (whole more : P) → AreParts is_part groups parts
-    → taken ++ part ∷ rest ≡ parts → is_part (units_below (length taken)) whole
-    → (is_part (units_below (length taken)) whole → is_part (only (length taken)) part → is_part (either (units_below (length taken)) (only (length taken))) more)
-    → is_part (units_below (length (taken ++ part ∷ []))) more
-one_more is_part groups parts taken part rest whole more are all told merged =
-    let longer : length taken + 1 ≡ length (taken ++ part ∷ []) = sym (length_push taken part) in
-    subst (λ (n : ℕ). is_part (units_below n) more) longer
-    (subst (λ (units : Units). is_part units more) (next_below (length taken)) (merged told (next_part is_part groups parts taken part rest are all)))
+-- with that part, those of one piece more are joined
+pub one_more : {P : Type 0} (is_part : Numbers → P → Type 0) (past : ℕ) (parts taken : List P) (part : P) (rest : List P) (whole more : P) (are : AreOfPieces is_part past parts)
+    → taken ++ part ∷ rest ≡ parts → joined_so_far is_part are.pieces (length taken) whole
+    → ((numbers others : Numbers) → is_part numbers whole → is_part others part → is_part (both_sets numbers others) more)
+    → joined_so_far is_part are.pieces (length (taken ++ part ∷ [])) more
+one_more is_part past parts taken part rest whole more are all told merged =
+    let k = length taken in
+    let at : slice_get parts k ≡ Some part = subst (λ ps. slice_get ps k ≡ Some part) all (after_taken taken part rest) in
+    let piece = stands_at are.pieces k (subst (λ (n : ℕ). k < n) are.count (slice_get_within parts k part at)) in
+    let next = reach_next k 0 are.pieces past are.cut piece.0 piece.1 in
+    let longer : suc k ≡ length (taken ++ part ∷ []) = omega (arith, length_push taken part) in
+    subst (λ (n : ℕ). joined_so_far is_part are.pieces n more) longer
+    (subst (λ (e : ℕ). is_part (between 0 e) more) (sym next.2)
+    (subst (λ (numbers : Numbers). is_part numbers more) (one_piece_more (reach k 0 are.pieces) piece.0 next.0 next.1)
+    (merged (between 0 (reach k 0 are.pieces)) (in_piece piece.0) told (are.each k piece.0 part piece.1 at))))
 
--- and in the end those of every group
-pub all_taken : {P : Type 0} (is_part : Units → P → Type 0) (geo : Geometry) (parts taken rest : List P) → AreParts is_part geo.groups parts → taken ++ rest ≡ parts → length rest ≡ 0
-    → IsEveryGroup geo (units_below (length taken))
+-- and in the end those of every number
+pub all_taken : {P : Type 0} (is_part : Numbers → P → Type 0) (geo : Geometry) (parts taken rest : List P) (are : AreOfPieces is_part (inode_count geo) parts) → taken ++ rest ≡ parts → length rest ≡ 0
+    → HasEveryNumber geo (between 0 (reach (length taken) 0 are.pieces))
 all_taken is_part geo parts taken rest are all none =
-    every_group geo (length taken) (omega (arith, are.count, ap length all, length-append taken rest, none))
+    every_number geo (reach (length taken) 0 are.pieces)
+    (reach_all (length taken) 0 are.pieces (inode_count geo) are.cut (omega (arith, are.count, ap length all, length-append taken rest, none)))

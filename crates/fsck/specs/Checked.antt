@@ -1,5 +1,5 @@
 -- What a check of an image gives.
-use Rattle.std.specs.Prelude.{◌≡◌, ℕ, nat_lt, List, ◌↔◌}
+use Rattle.std.specs.Prelude.{◌≡◌, ℕ, List, ◌↔◌}
 use Rattle.std.specs.List.{Contains}
 use Rattle.findings.specs.declared.finding.Finding.{Finding}
 use Rattle.findings.specs.declared.repair.Repair.{Repair}
@@ -8,7 +8,6 @@ use Rattle.findings.specs.Findings.{AreFindings, IsFinding}
 use Rattle.findings.specs.Report.{report_of, verdict_of, repairs_of}
 use Rattle.model.specs.Layout.{Geometry}
 use Rattle.model.specs.View.{View}
-use Rattle.model.specs.Units.{Units}
 use Rattle.frozen.specs.Kept.{Kept, frozen_view}
 
 -- the image, its findings, the bytes of the report, the verdict, and the repairs
@@ -41,7 +40,3 @@ AreRepairs geo view repairs = (fs : List Finding) × AreFindings geo view fs × 
 -- f is among the found ones exactly where it is a finding of the image
 abbrev pub IsFoundIn : Kept → Finding → List Finding → Type 0
 IsFoundIn kept f found = Contains found f ↔ IsFinding kept.geometry (frozen_view kept) f
-
--- the units below n
-abbrev pub units_below : ℕ → Units
-units_below n g = nat_lt g n

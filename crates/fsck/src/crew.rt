@@ -2,10 +2,11 @@
 ghost use Rattle.std.specs.Prelude.{◌≡◌, IsTrue};
 ghost use Rattle.workers.specs.Workers.{may_work};
 ghost use Rattle.frozen.specs.Kept.{KeepsFrame};
-ghost use Rattle.fsck.specs.Parts.{MakesParts, are_links_if, are_maps_of, is_owned};
+ghost use Rattle.fsck.specs.Parts.{MakesParts, MakesPieces, are_links_if, are_maps_of, is_counts_part, is_names_part, is_owned};
 
 use crate::hands::parts_of_crew;
-use crate::works::{Blocks, Counts, Links, Maps, Owners};
+use crate::works::{Blocks, Counts, Links, Maps, Names, Owners};
+use directories::{groups_of, pieces};
 use findings::{Finding, OfGroup};
 use frozen::Frozen;
 use layout::Refusal;
@@ -14,7 +15,7 @@ use sets::Members;
 use std::alloc::Global;
 use std::collections::BTreeSet;
 use std::thread::Threads;
-use workers::Gate;
+use workers::{ByGroup, Gate};
 
 /// Who owns the blocks of each group, and what phase 1 finds of it. The workers pass the gate in both passes.
 pub(crate) fn owners_by_crew<R: Threads + Sync, G: Gate>(
@@ -28,18 +29,77 @@ pub(crate) fn owners_by_crew<R: Threads + Sync, G: Gate>(
     ensures frame { KeepsFrame frozen.now }
     ensures made { MakesParts (λ unit made. is_owned frozen.now unit made.kept made.found.items) frozen.now.geometry.groups result }
 {
-    let parts = parts_of_crew(rt, workers, gate, alloc, frozen, Blocks { alloc, frozen })?;
+    let groups = frozen.geometry().groups();
+    let parts = parts_of_crew(rt, workers, gate, alloc, groups, Blocks { alloc, frozen })?;
     let parts = parts.as_slice();
     parts_of_crew(
         rt,
         workers,
         gate,
         alloc,
-        frozen,
+        groups,
         Owners {
             alloc,
             frozen,
             parts,
+        },
+    )
+}
+
+/// What the slots of the directories of each piece tell. The workers pass the gate before each piece, as its group.
+pub(crate) fn names_by_crew<R: Threads + Sync, G: Gate>(
+    rt: &R,
+    workers: u32,
+    gate: &G,
+    alloc: Global,
+    frozen: &Frozen,
+) -> Result<Vec<phase_names::Part>, Refusal>
+    requires { IsTrue (may_work workers) }
+    ensures { MakesPieces (is_names_part frozen.now) frozen.now.geometry result }
+{
+    let pieces = pieces(alloc, frozen)?;
+    let pieces = pieces.as_slice();
+    let groups = groups_of(alloc, frozen, pieces)?;
+    parts_of_crew(
+        rt,
+        workers,
+        &ByGroup::new(gate, groups.as_slice()),
+        alloc,
+        pieces.len() as u32,
+        Names {
+            alloc,
+            frozen,
+            pieces,
+        },
+    )
+}
+
+/// What the reachable directories of each piece name. The workers pass the gate before each piece, as its group.
+fn counts_by_crew<R: Threads + Sync, G: Gate>(
+    rt: &R,
+    workers: u32,
+    gate: &G,
+    alloc: Global,
+    frozen: &Frozen,
+    reached: &Members,
+) -> Result<Vec<refcounts::Part>, Refusal>
+    requires { IsTrue (may_work workers) }
+    ensures { MakesPieces (is_counts_part frozen.now reached.now) frozen.now.geometry result }
+{
+    let pieces = pieces(alloc, frozen)?;
+    let pieces = pieces.as_slice();
+    let groups = groups_of(alloc, frozen, pieces)?;
+    parts_of_crew(
+        rt,
+        workers,
+        &ByGroup::new(gate, groups.as_slice()),
+        alloc,
+        pieces.len() as u32,
+        Counts {
+            alloc,
+            frozen,
+            pieces,
+            reached,
         },
     )
 }
@@ -58,25 +118,14 @@ pub(crate) fn links_by_crew<R: Threads + Sync, G: Gate>(
 {
     let members = Members::of_set(alloc, reached)?;
     let reached = &members;
-    let parts = parts_of_crew(
-        rt,
-        workers,
-        gate,
-        alloc,
-        frozen,
-        Counts {
-            alloc,
-            frozen,
-            reached,
-        },
-    )?;
+    let parts = counts_by_crew(rt, workers, gate, alloc, frozen, reached)?;
     let parts = parts.as_slice();
     parts_of_crew(
         rt,
         workers,
         gate,
         alloc,
-        frozen,
+        frozen.geometry().groups(),
         Links {
             alloc,
             frozen,
@@ -103,7 +152,7 @@ pub(crate) fn maps_by_crew<R: Threads + Sync, G: Gate>(
         workers,
         gate,
         alloc,
-        frozen,
+        frozen.geometry().groups(),
         Maps {
             alloc,
             frozen,

@@ -1,29 +1,25 @@
 //! Who makes the parts of a phase: one worker, or several at once.
 ghost use Rattle.std.specs.Prelude.{◌≡◌, All, IfOk, IsTrue, vec_len};
 ghost use Rattle.workers.specs.Workers.{may_work};
-ghost use Rattle.frozen.specs.Kept.{KeepsFrame};
 ghost use Rattle.fsck.specs.Parts.{MakesItsOwn, MakesParts};
 
 use crate::works::Look;
-use frozen::Frozen;
 use layout::Refusal;
 use std::alloc::{AllocError, Global};
 use std::thread::Threads;
 use workers::{Gate, each_group, in_turn};
 
-/// The parts of all groups, in order of the groups, made by one worker on the calling thread, which passes no gate.
-/// Only `NoMemory` is refused.
+/// The parts of so many units, in their order, made by one worker on the calling thread, which passes no gate. Only
+/// `NoMemory` is refused.
 pub(crate) fn parts_of_one<W: Look>(
     alloc: Global,
-    frozen: &Frozen,
+    units: u32,
     work: W,
 ) -> Result<Vec<W::Part>, Refusal>
     requires { MakesItsOwn W.gives W.is_of }
-    ensures frame { KeepsFrame frozen.now }
-    ensures made { MakesParts (W.is_of work) frozen.now.geometry.groups result }
+    ensures { MakesParts (W.is_of work) units result }
 {
-    let groups = frozen.geometry().groups();
-    let (parts, _work) = in_turn(alloc, groups, work)?;
+    let (parts, _work) = in_turn(alloc, units, work)?;
     Ok(parts)
 }
 
@@ -34,17 +30,15 @@ pub(crate) fn parts_of_crew<R: Threads + Sync, G: Gate, W: Look>(
     workers: u32,
     gate: &G,
     alloc: Global,
-    frozen: &Frozen,
+    units: u32,
     work: W,
 ) -> Result<Vec<W::Part>, Refusal>
     requires workers { IsTrue (may_work workers) }
     requires work { MakesItsOwn W.gives W.is_of }
-    ensures frame { KeepsFrame frozen.now }
-    ensures made { MakesParts (W.is_of work) frozen.now.geometry.groups result }
+    ensures { MakesParts (W.is_of work) units result }
 {
-    let groups = frozen.geometry().groups();
     let works = copies(alloc, work, workers)?;
-    let (parts, _works) = each_group(rt, alloc, work.phase(), groups, works, gate)?;
+    let (parts, _works) = each_group(rt, alloc, work.phase(), units, works, gate)?;
     Ok(parts)
 }
 

@@ -17,8 +17,7 @@ ghost use Rattle.model.specs.Rules.{ObeysRules};
 ghost use Rattle.model.specs.View.{View};
 ghost use Rattle.workers.specs.Workers.{may_work};
 ghost use Rattle.fsck.specs.Checked.{CheckedImage, IsChecked, IsFoundIn};
-ghost use Rattle.model.specs.Units.{only};
-ghost use Rattle.fsck.specs.Parts.{MakesParts, Reaches, are_links_if, are_maps_of, is_names_part, is_owned};
+ghost use Rattle.fsck.specs.Parts.{MakesParts, MakesPieces, Reaches, are_links_if, are_maps_of, is_names_part, is_owned};
 
 mod checked;
 mod crew;
@@ -29,12 +28,11 @@ mod phases;
 mod works;
 
 pub use checked::Checked;
-use crew::{links_by_crew, maps_by_crew, owners_by_crew};
+use crew::{links_by_crew, maps_by_crew, names_by_crew, owners_by_crew};
 use findings::{Finding, OfGroup, all_found, joined};
 use frozen::Frozen;
-use hands::{parts_of_crew, parts_of_one};
 use layout::Refusal;
-use lone::{links_by_one, maps_by_one, owners_by_one, reach};
+use lone::{links_by_one, maps_by_one, names_by_one, owners_by_one, reach};
 use order::in_order;
 use phase_blocks::BlockOwners;
 use phases::check_names;
@@ -43,7 +41,6 @@ use std::collections::BTreeSet;
 use std::sync::Arc;
 use std::thread::Threads;
 use workers::{Gate, MOST_WORKERS};
-use works::Names;
 
 /// Checks an image with 1 to 64 workers, which share the groups. `BadWorkers` is refused for any other number, and
 /// otherwise `NoMemory` alone. What is found is the same for every number of workers.
@@ -117,8 +114,8 @@ pub fn find(alloc: Global, frozen: &Frozen) -> Result<Vec<Finding>, Refusal>
             ensures made { MakesParts (λ unit made. is_owned frozen.entry.now unit made.kept made.found.items) frozen.entry.now.geometry.groups result }
         { owners_by_one(alloc, frozen) },
         || -> Result<Vec<phase_names::Part>, Refusal>
-            ensures { MakesParts (λ unit. is_names_part frozen.entry.now (only unit)) frozen.entry.now.geometry.groups result }
-        { parts_of_one(alloc, frozen, Names { alloc, frozen }) },
+            ensures { MakesPieces (is_names_part frozen.entry.now) frozen.entry.now.geometry result }
+        { names_by_one(alloc, frozen) },
         || -> Result<BTreeSet<u32>, Refusal>
             ensures { Reaches frozen.entry.now result }
         { reach(alloc, frozen) },
@@ -153,8 +150,8 @@ fn find_shared<R: Threads + Sync, G: Gate>(
         { owners_by_crew(rt, workers, gate, alloc, frozen) },
         || -> Result<Vec<phase_names::Part>, Refusal>
             requires { IsTrue (may_work workers) }
-            ensures { MakesParts (λ unit. is_names_part frozen.entry.now (only unit)) frozen.entry.now.geometry.groups result }
-        { parts_of_crew(rt, workers, gate, alloc, frozen, Names { alloc, frozen }) },
+            ensures { MakesPieces (is_names_part frozen.entry.now) frozen.entry.now.geometry result }
+        { names_by_crew(rt, workers, gate, alloc, frozen) },
         || -> Result<BTreeSet<u32>, Refusal>
             requires { IsTrue (may_work workers) }
             ensures { Reaches frozen.entry.now result }
@@ -191,7 +188,7 @@ where
     requires blocks { (made : _) → B.post blocks made → KeepsFrame frozen.now
         × MakesParts (λ unit one. is_owned frozen.now unit one.kept one.found.items) frozen.now.geometry.groups made }
     requires names { (made : _) → N.post names made
-        → MakesParts (λ unit. is_names_part frozen.now (only unit)) frozen.now.geometry.groups made }
+        → MakesPieces (is_names_part frozen.now) frozen.now.geometry made }
     requires walk { (reached : _) → W.post walk reached → Reaches frozen.now reached }
     requires counts { (reached : _) (made : _) → C.post counts reached made
         → MakesParts (λ unit found. are_links_if frozen.now reached.keys unit found.items) frozen.now.geometry.groups made }

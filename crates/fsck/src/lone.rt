@@ -1,11 +1,12 @@
 //! The phases that go over the groups by one worker, on the calling thread.
 ghost use Rattle.std.specs.Prelude.{◌≡◌};
 ghost use Rattle.frozen.specs.Kept.{KeepsFrame};
-ghost use Rattle.fsck.specs.Parts.{MakesParts, Reaches, are_links_if, are_maps_of, is_owned};
+ghost use Rattle.fsck.specs.Parts.{MakesParts, MakesPieces, Reaches, are_links_if, are_maps_of, is_counts_part, is_names_part, is_owned};
 
 use crate::hands::parts_of_one;
 use crate::phases::walk_of;
-use crate::works::{Blocks, Counts, Entries, Links, Maps, Owners};
+use crate::works::{Blocks, Counts, Entries, Links, Maps, Names, Owners};
+use directories::pieces;
 use findings::{Finding, OfGroup};
 use frozen::Frozen;
 use layout::Refusal;
@@ -22,11 +23,12 @@ pub(crate) fn owners_by_one(
     ensures frame { KeepsFrame frozen.now }
     ensures made { MakesParts (λ unit made. is_owned frozen.now unit made.kept made.found.items) frozen.now.geometry.groups result }
 {
-    let parts = parts_of_one(alloc, frozen, Blocks { alloc, frozen })?;
+    let groups = frozen.geometry().groups();
+    let parts = parts_of_one(alloc, groups, Blocks { alloc, frozen })?;
     let parts = parts.as_slice();
     parts_of_one(
         alloc,
-        frozen,
+        groups,
         Owners {
             alloc,
             frozen,
@@ -35,12 +37,55 @@ pub(crate) fn owners_by_one(
     )
 }
 
+/// What the slots of the directories of each piece tell.
+pub(crate) fn names_by_one(
+    alloc: Global,
+    frozen: &Frozen,
+) -> Result<Vec<phase_names::Part>, Refusal>
+    ensures { MakesPieces (is_names_part frozen.now) frozen.now.geometry result }
+{
+    let pieces = pieces(alloc, frozen)?;
+    let pieces = pieces.as_slice();
+    let names = Names {
+        alloc,
+        frozen,
+        pieces,
+    };
+    parts_of_one(alloc, pieces.len() as u32, names)
+}
+
 /// The reachable inodes.
 pub(crate) fn reach(alloc: Global, frozen: &Frozen) -> Result<BTreeSet<u32>, Refusal>
     ensures { Reaches frozen.now result }
 {
-    let parts = parts_of_one(alloc, frozen, Entries { alloc, frozen })?;
+    let pieces = pieces(alloc, frozen)?;
+    let pieces = pieces.as_slice();
+    let entries = Entries {
+        alloc,
+        frozen,
+        pieces,
+    };
+    let parts = parts_of_one(alloc, pieces.len() as u32, entries)?;
     walk_of(alloc, frozen, parts)
+}
+
+/// What the reachable directories of each piece name.
+fn counts_by_one(
+    alloc: Global,
+    frozen: &Frozen,
+    reached: &Members,
+) -> Result<Vec<refcounts::Part>, Refusal>
+    ensures { MakesPieces (is_counts_part frozen.now reached.now) frozen.now.geometry result }
+{
+    let pieces = pieces(alloc, frozen)?;
+    let pieces = pieces.as_slice();
+    let counts = Counts {
+        alloc,
+        frozen,
+        pieces,
+        reached,
+    };
+    parts_of_one(alloc, pieces.len() as u32, counts)
 }
 
 /// What phase 4 finds of each group, where these are the reachable inodes.
@@ -53,19 +98,11 @@ pub(crate) fn links_by_one(
 {
     let members = Members::of_set(alloc, reached)?;
     let reached = &members;
-    let parts = parts_of_one(
-        alloc,
-        frozen,
-        Counts {
-            alloc,
-            frozen,
-            reached,
-        },
-    )?;
+    let parts = counts_by_one(alloc, frozen, reached)?;
     let parts = parts.as_slice();
     parts_of_one(
         alloc,
-        frozen,
+        frozen.geometry().groups(),
         Links {
             alloc,
             frozen,
@@ -85,7 +122,7 @@ pub(crate) fn maps_by_one(
 {
     parts_of_one(
         alloc,
-        frozen,
+        frozen.geometry().groups(),
         Maps {
             alloc,
             frozen,

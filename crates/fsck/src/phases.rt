@@ -1,9 +1,11 @@
-//! The phases that join the parts of all groups of a volume.
+//! The phases that join the parts of all pieces of a volume.
 ghost use Rattle.std.specs.Prelude.{◌≡◌, IfOk, IsOkUnless};
 ghost use Rattle.findings.specs.Findings.{AreFindingsOf, is_of_names};
+ghost use Rattle.directories.specs.Pieces.{AreOfPieces};
+ghost use Rattle.model.specs.Layout.{inode_count};
 ghost use Rattle.model.specs.Reached.{AreReached};
 ghost use Rattle.frozen.specs.Kept.{frozen_view};
-ghost use Rattle.fsck.specs.Parts.{AreParts, is_entries_part, is_names_part};
+ghost use Rattle.fsck.specs.Parts.{is_entries_part, is_names_part};
 
 use findings::Finding;
 use frozen::Frozen;
@@ -18,7 +20,7 @@ pub(crate) fn check_names(
     parts: Vec<phase_names::Part>,
     reached: &BTreeSet<u32>,
 ) -> Result<Vec<Finding>, Refusal>
-    requires { AreParts (is_names_part frozen.now) frozen.now.geometry.groups parts.items }
+    requires { AreOfPieces (is_names_part frozen.now) (inode_count frozen.now.geometry) parts.items }
     ensures findings { IfOk result (λ found. AreReached frozen.now.geometry (frozen_view frozen.now) reached.now.keys
         → AreFindingsOf is_of_names frozen.now.geometry (frozen_view frozen.now) found.items) }
     ensures error { IsOkUnless result Refusal.NoMemory }
@@ -36,7 +38,7 @@ pub(crate) fn walk_of(
     frozen: &Frozen,
     parts: Vec<connectivity::Part>,
 ) -> Result<BTreeSet<u32>, Refusal>
-    requires { AreParts (is_entries_part frozen.now) frozen.now.geometry.groups parts.items }
+    requires { AreOfPieces (is_entries_part frozen.now) (inode_count frozen.now.geometry) parts.items }
     ensures reached { IfOk result (λ reached. AreReached frozen.now.geometry (frozen_view frozen.now) reached.keys) }
     ensures error { IsOkUnless result Refusal.NoMemory }
 {

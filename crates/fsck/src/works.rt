@@ -1,11 +1,11 @@
-//! The work of each pass over the groups of an image, for whoever makes the parts of all groups.
+//! The work of each pass over the groups of an image, or over the pieces of the groups, for whoever makes the parts of all.
 ghost use Rattle.std.specs.Prelude.{◌≡◌, ◌<◌, ℕ, IfOk, IsOkUnless, List, Option, Some, slice_get};
 ghost use Rattle.frozen.specs.Kept.{frozen_view};
-ghost use Rattle.model.specs.Units.{only};
 ghost use Rattle.phase_blocks.specs.declared.parts.Claim.{Claim};
 ghost use Rattle.phase_blocks.specs.Owners.{AreOwners};
-ghost use Rattle.fsck.specs.Parts.{are_links_of, are_maps, are_maps_of, is_blocks_part, is_counts_part, is_entries_part, is_names_part, is_owned_of};
+ghost use Rattle.fsck.specs.Parts.{IsOfPiece, are_links_of, are_maps, are_maps_of, is_blocks_part, is_counts_part, is_entries_part, is_names_part, is_owned_of};
 
+use directories::Piece;
 use findings::{Finding, OfGroup};
 use frozen::Frozen;
 use layout::Refusal;
@@ -74,83 +74,86 @@ impl Look for Owners<'_> {
     }
 }
 
-/// Phase 2: the slots of a group's directories.
+/// Phase 2: the slots of a piece's directories.
 #[derive(Clone, Copy)]
 pub(crate) struct Names<'a> {
     pub(crate) alloc: Global,
     pub(crate) frozen: &'a Frozen,
+    pub(crate) pieces: &'a [Piece],
 }
 
 impl Work for Names<'_> {
     type Part = phase_names::Part;
 
-    ghost gives = { λ before unit part after. is_names_part before.frozen.now (only unit) part × (after ≡ before) };
+    ghost gives = { λ before unit part after. IsOfPiece (is_names_part before.frozen.now) before.pieces.now unit part × (after ≡ before) };
 
     fn part(&mut self, unit: u32) -> Result<phase_names::Part, Refusal> {
-        phase_names::part(self.alloc, self.frozen, unit)
+        names_of(self.alloc, self.frozen, self.pieces, unit)
     }
 }
 
 impl Look for Names<'_> {
-    ghost is_of = { λ work unit. is_names_part work.frozen.now (only unit) };
+    ghost is_of = { λ work. IsOfPiece (is_names_part work.frozen.now) work.pieces.now };
 
     fn phase(&self) -> u8 {
         2
     }
 }
 
-/// Phase 3, by one worker: what a group's directories name.
+/// Phase 3, by one worker: what a piece's directories name.
 #[derive(Clone, Copy)]
 pub(crate) struct Entries<'a> {
     pub(crate) alloc: Global,
     pub(crate) frozen: &'a Frozen,
+    pub(crate) pieces: &'a [Piece],
 }
 
 impl Work for Entries<'_> {
     type Part = connectivity::Part;
 
-    ghost gives = { λ before unit part after. is_entries_part before.frozen.now (only unit) part × (after ≡ before) };
+    ghost gives = { λ before unit part after. IsOfPiece (is_entries_part before.frozen.now) before.pieces.now unit part × (after ≡ before) };
 
     fn part(&mut self, unit: u32) -> Result<connectivity::Part, Refusal> {
-        connectivity::part(self.alloc, self.frozen, unit)
+        entries_of(self.alloc, self.frozen, self.pieces, unit)
     }
 }
 
 impl Look for Entries<'_> {
-    ghost is_of = { λ work unit. is_entries_part work.frozen.now (only unit) };
+    ghost is_of = { λ work. IsOfPiece (is_entries_part work.frozen.now) work.pieces.now };
 
     fn phase(&self) -> u8 {
         3
     }
 }
 
-/// Phase 4: what a group's reachable directories name.
+/// Phase 4: what a piece's reachable directories name.
 #[derive(Clone, Copy)]
 pub(crate) struct Counts<'a> {
     pub(crate) alloc: Global,
     pub(crate) frozen: &'a Frozen,
+    pub(crate) pieces: &'a [Piece],
     pub(crate) reached: &'a Members,
 }
 
 impl Work for Counts<'_> {
     type Part = refcounts::Part;
 
-    ghost gives = { λ before unit part after. is_counts_part before.frozen.now before.reached.now unit part × (after ≡ before) };
+    ghost gives = { λ before unit part after. IsOfPiece (is_counts_part before.frozen.now before.reached.now) before.pieces.now unit part × (after ≡ before) };
 
     fn part(&mut self, unit: u32) -> Result<refcounts::Part, Refusal> {
-        refcounts::part(self.alloc, self.frozen, unit, self.reached)
+        counts_of(self.alloc, self.frozen, self.pieces, unit, self.reached)
     }
 }
 
 impl Look for Counts<'_> {
-    ghost is_of = { λ work. is_counts_part work.frozen.now work.reached.now };
+    ghost is_of = { λ work. IsOfPiece (is_counts_part work.frozen.now work.reached.now) work.pieces.now };
 
     fn phase(&self) -> u8 {
         4
     }
 }
 
-/// Phase 4, once more: what is found of the links of a group's inodes, from the parts of all groups.
+/// Phase 4, once more: what is found of the links of a group's inodes, from the parts of all pieces.
 #[derive(Clone, Copy)]
 pub(crate) struct Links<'a> {
     pub(crate) alloc: Global,
@@ -219,5 +222,54 @@ fn maps_of(
     match owners.get(unit as usize) {
         Some(owners) => phase_maps::findings(alloc, frozen, unit, owners),
         None => Ok(Vec::new(alloc)),
+    }
+}
+
+/// What the slots of the directories of the piece of this unit tell; nothing where there is no such piece.
+fn names_of(
+    alloc: Global,
+    frozen: &Frozen,
+    pieces: &[Piece],
+    unit: u32,
+) -> Result<phase_names::Part, Refusal>
+    ensures part { IfOk result (IsOfPiece (is_names_part frozen.now) pieces.now unit) }
+    ensures error { IsOkUnless result Refusal.NoMemory }
+{
+    match pieces.get(unit as usize) {
+        Some(piece) => phase_names::part(alloc, frozen, piece),
+        None => Ok(phase_names::Part::new(alloc)),
+    }
+}
+
+/// What the directories of the piece of this unit name; nothing where there is no such piece.
+fn entries_of(
+    alloc: Global,
+    frozen: &Frozen,
+    pieces: &[Piece],
+    unit: u32,
+) -> Result<connectivity::Part, Refusal>
+    ensures part { IfOk result (IsOfPiece (is_entries_part frozen.now) pieces.now unit) }
+    ensures error { IsOkUnless result Refusal.NoMemory }
+{
+    match pieces.get(unit as usize) {
+        Some(piece) => connectivity::part(alloc, frozen, piece),
+        None => Ok(connectivity::Part::new(alloc)),
+    }
+}
+
+/// What the reachable directories of the piece of this unit name; nothing where there is no such piece.
+fn counts_of(
+    alloc: Global,
+    frozen: &Frozen,
+    pieces: &[Piece],
+    unit: u32,
+    reached: &Members,
+) -> Result<refcounts::Part, Refusal>
+    ensures part { IfOk result (IsOfPiece (is_counts_part frozen.now reached.now) pieces.now unit) }
+    ensures error { IsOkUnless result Refusal.NoMemory }
+{
+    match pieces.get(unit as usize) {
+        Some(piece) => refcounts::part(alloc, frozen, piece, reached),
+        None => Ok(refcounts::Part::none(alloc, 0)?),
     }
 }

@@ -11,6 +11,8 @@ use putting::{put_archive_into_file, put_into_file};
 use std::alloc::{AllocError, Global};
 use std::os::unix::fs::FileExt;
 use std::rt::Files;
+use std::thread::Threads;
+use std::time::Clock;
 
 /// What the line asks for: what stands at a path of the host, and all below it, at a path in this image.
 #[derive(Clone, Copy)]
@@ -42,13 +44,13 @@ pub fn line_of<'a>(options: &ArgMatches<'a>) -> Option<PutLine<'a>> {
 
 /// Puts what stands on the host, or in a tar archive on standard input, into a file's image. The watcher is told what goes into
 /// it.
-pub fn answer<R: Files + AllocGlobal + Clone + Drop>(
+pub fn answer<R: Files + AllocGlobal + Clock + Threads + Sync + Clone + Drop>(
     rt: &R,
     line: &PutLine<'_>,
     watcher: &impl Watcher,
 ) -> Result<Answer, Failure>
 where
-    R::File: FileExt,
+    R::File: FileExt + Send,
     ensures { IfOk result (λ answer. answer.status ≡ 0) }
 {
     if line.host == ARCHIVE {
@@ -61,13 +63,13 @@ where
 }
 
 /// Puts what stands in the tar archive on standard input into a file's image.
-fn put_archive<R: Files + AllocGlobal>(
+fn put_archive<R: Files + AllocGlobal + Clock + Threads + Sync>(
     rt: &R,
     line: &PutLine<'_>,
     watcher: &impl Watcher,
 ) -> Result<Answer, Failure>
 where
-    R::File: FileExt,
+    R::File: FileExt + Send,
     ensures { IfOk result (λ answer. answer.status ≡ 0) }
 {
     let archive = archive_given(rt)?;

@@ -75,7 +75,7 @@ pub fn link(
     let Some(place) = metadata.frozen().geometry().pointer_place(position) else {
         unreachable!()
     };
-    start_table(alloc, plan, block, table)?;
+    start_table(alloc, plan, spares, block, table)?;
     let mut linked = link(
         alloc,
         metadata,
@@ -242,8 +242,15 @@ fn cells_of(
     }
 }
 
-/// Adds the updates that mark a new table of an inode, and put the pointer to a new block into it.
-fn start_table(alloc: Global, plan: &mut Plan, block: u32, table: u32) -> Result<(), AllocError>
+/// Adds the updates that mark a new table of an inode, and put the pointer to a new block into it. A spare block serves for it,
+/// where there is one.
+fn start_table(
+    alloc: Global,
+    plan: &mut Plan,
+    spares: &mut Spares,
+    block: u32,
+    table: u32,
+) -> Result<(), AllocError>
     requires block { IsTrue (is_data_address plan.old.geometry block) }
     requires table { IsTrue (is_data_address plan.old.geometry table) }
     ensures { OnOk result (GoesOn plan.old plan.new (λ q. record {
@@ -255,7 +262,7 @@ fn start_table(alloc: Global, plan: &mut Plan, block: u32, table: u32) -> Result
     plan.push(Change::SetBlock(table, true), Vec::new(alloc))?;
     let mut pointers = [0; BLOCK_BYTES];
     put_pointer(&mut pointers, 0, block);
-    let bytes = Arc::new(alloc, pointers)?;
+    let bytes = spares.share(alloc, &pointers)?;
     let after = vec![in alloc; Cell::BlockBit(table), Cell::Block(block)]?;
     plan.push(Change::SetBytes(table, bytes), after)
 }

@@ -1,11 +1,11 @@
 -- A number's generation never falls, and rises where the number is given to a new inode: so an old node is found no more.
-use Rattle.std.proofs.Common.{◌≡◌, ◌≢◌, ℕ, zero, suc, ◌+◌, ◌-◌, ◌*◌, ◌/◌, ◌%◌, ◌^◌, ◌<◌, ◌≤◌, ◌⊎◌, inl, inr, Bool, true, false, cond, ◌&&◌, eqb, ltb, leb, min, List, [], ◌∷◌, length, slice_index_or, slice_set, Option, Some, None, refl, sym, ap, subst, ◌∙◌, arith}
+use Rattle.std.proofs.Common.{◌≡◌, ℕ, ◌+◌, ◌-◌, ◌/◌, ◌%◌, ◌^◌, ◌<◌, ◌≤◌, inl, inr, Bool, true, false, cond, ◌&&◌, eqb, leb, min, List, [], ◌∷◌, length, Some, refl, sym, ap, subst, ◌∙◌, arith}
 use Rattle.std.proofs.lemmas.Bool.{cases_lt, eqb-true, ne_eqb}
 use Rattle.std.proofs.lemmas.List.{get_or-set_same, get_or-set_other, get_or_past, length-set}
 use Rattle.std.proofs.lemmas.Nat.{mod_low, shr_high}
 use Rattle.std.proofs.lemmas.Option.{cond_some}
 use Rattle.std.proofs.Math.Nat.{min-eq_left, min-eq_right, min-le_right}
-use Rattle.nodes.specs.Known.{Known, Named, fresh, told_once, born_again, forgot, with_its_name, without_its_name, opened_once, closed_once}
+use Rattle.nodes.specs.Known.{Known, fresh, told_once, born_again, forgot, with_its_name, without_its_name, opened_once, closed_once}
 use Rattle.nodes.specs.Table.{Table, Event, Told, Born, Forgot, Got, Lost, Opened, Closed, after, change, found, found_known, id_of, is_known, known}
 use Rattle.nodes.specs.Runs.{StaysItself, after_all}
 

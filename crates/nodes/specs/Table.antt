@@ -1,5 +1,5 @@
 -- The table of what the kernel was told, by the numbers of inodes.
-use Rattle.std.specs.Prelude.{ℕ, zero, suc, ◌+◌, ◌*◌, ◌/◌, ◌%◌, ◌^◌, ◌==◌, ◌&&◌, nat_lt, Bool, if◌then◌else◌, List, [], ◌∷◌, ◌++◌, length, replicate, slice_get, slice_index_or, slice_set, Option, Some, None, option_map, option_and_then}
+use Rattle.std.specs.Prelude.{ℕ, zero, suc, ◌+◌, ◌*◌, ◌/◌, ◌%◌, ◌^◌, ◌==◌, ◌&&◌, nat_lt, Bool, if◌then◌else◌, List, [], ◌∷◌, ◌++◌, replicate, slice_get, slice_index_or, slice_set, Option, Some, None, option_map, option_and_then}
 use Rattle.nodes.specs.Known.{Known, Named, fresh, told_once, born_again, forgot, with_its_name, without_its_name, opened_once, closed_once}
 
 -- what is known of each number

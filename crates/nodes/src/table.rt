@@ -1,5 +1,5 @@
 //! The table, by the numbers of inodes.
-ghost use Rattle.std.specs.Prelude.{◌≡◌, ℕ, ◌<◌, ◌≤◌, ◌-◌, ◌^◌, ◌++◌, ◌↔◌, IfOk, IfSome, OnErr, OnOk, IsSome, IsTrue, Ok, Err, List, None, Some, length, option_map};
+ghost use Rattle.std.specs.Prelude.{◌≡◌, ℕ, ◌<◌, ◌≤◌, ◌-◌, ◌^◌, ◌++◌, ◌↔◌, IfOk, IfSome, OnErr, OnOk, IsSome, IsTrue, Ok, Err, List, None, Some, length, nat_lt, option_map};
 ghost use Rattle.nodes.specs.Known.{Named, named, released_by};
 ghost use Rattle.nodes.specs.Table.{Born, Closed, Event, Forgot, Got, Lost, Opened, Table, Told, after, found, found_known, id_of, known, new_table, path_of};
 ghost use Rattle.nodes.specs.Runs.{StaysItself, StaysKnown, after_all};
@@ -87,21 +87,36 @@ impl Nodes {
     /// The number of the node that the inode with this number is now, whether the kernel was told of it or not; `None` if the
     /// inode's number was given to new inodes so often that none is left. Nothing is told.
     pub fn node_of(&self, number: u32) -> Option<NodeId>
-        requires { number < length self.now }
         ensures node { IfSome result (λ node. node.0 ≡ id_of self.now number) }
         ensures used_up { (result ≡ None) ↔ ((known self.now number).generation ≡ 2 ^ 32 - 1) }
     {
-        let generation = self.nodes[number as usize].generation();
+        let generation = self.generation_of(number);
         if generation == u32::MAX {
             return None;
         }
         Some(NodeId(u64::from(generation) * NUMBERS + u64::from(number)))
     }
 
+    /// How often this number was given to a new inode.
+    fn generation_of(&self, number: u32) -> u32
+        ensures { result ≡ (known self.now number).generation }
+    {
+        if !self.has(number) {
+            return 0;
+        }
+        self.nodes[number as usize].generation()
+    }
+
+    /// Whether the volume has this number. Of another one nothing is known, whatever is told.
+    pub fn has(&self, number: u32) -> bool
+        ensures { result ≡ nat_lt number (length self.now) }
+    {
+        (number as usize) < self.nodes.len()
+    }
+
     /// Tells the kernel of the inode that has this number, under a name.
     pub fn tell(&mut self, number: u32, directory: u32, name: &[u8]) -> Result<NodeId, ToldError>
-        requires no_root { 2 < number }
-        requires on_volume { number < length self.old }
+        requires { 2 < number }
         ensures told { OnOk result (self.new ≡ after (Told number (named directory name.now)) self.old) }
         ensures node { IfOk result (λ node. node.0 ≡ id_of self.old number) }
         ensures left { OnOk result ((known self.old number).generation < 2 ^ 32 - 1) }
@@ -111,16 +126,19 @@ impl Nodes {
         let Some(node) = self.node_of(number) else {
             return Err(ToldError::NoMoreNumbers);
         };
-        self.nodes[number as usize].tell(directory, name)?;
+        if self.has(number) {
+            self.nodes[number as usize].tell(directory, name)?;
+        }
         Ok(node)
     }
 
     /// This number is given to a new inode.
     pub fn bear(&mut self, number: u32)
-        requires { number < length self.old }
         ensures { self.new ≡ after (Born number) self.old }
     {
-        self.nodes[number as usize].bear();
+        if self.has(number) {
+            self.nodes[number as usize].bear();
+        }
     }
 
     /// The kernel forgets so many lookups of a node.
@@ -134,43 +152,51 @@ impl Nodes {
 
     /// The inode that has this number gets a name.
     pub fn add_name(&mut self, number: u32, directory: u32, name: &[u8]) -> Result<(), AllocError>
-        requires { number < length self.old }
         ensures added { OnOk result (self.new ≡ after (Got number (named directory name.now)) self.old) }
         ensures refused { OnErr result (self.new ≡ self.old) }
     {
+        if !self.has(number) {
+            return Ok(());
+        }
         self.nodes[number as usize].add_name(directory, name)
     }
 
     /// The inode that has this number loses a name.
     pub fn remove_name(&mut self, number: u32, directory: u32, name: &[u8])
-        requires { number < length self.old }
         ensures { self.new ≡ after (Lost number (named directory name.now)) self.old }
     {
-        self.nodes[number as usize].remove_name(directory, name);
+        if self.has(number) {
+            self.nodes[number as usize].remove_name(directory, name);
+        }
     }
 
     /// By which handle of the volume the inode that has this number is open.
     pub fn open_by(&self, number: u32) -> Option<Open>
-        requires { number < length self.now }
         ensures { result ≡ (known self.now number).open_by }
     {
+        if !self.has(number) {
+            return None;
+        }
         self.nodes[number as usize].open_by()
     }
 
     /// The inode that has this number is opened once more, by this handle if it was not open.
     pub fn open(&mut self, number: u32, handle: u32)
-        requires { number < length self.old }
         ensures { self.new ≡ after (Opened number handle) self.old }
     {
-        self.nodes[number as usize].open(handle);
+        if self.has(number) {
+            self.nodes[number as usize].open(handle);
+        }
     }
 
     /// One of those who opened the inode that has this number is done; tells the handle that is then used no more.
     pub fn close(&mut self, number: u32) -> Option<u32>
-        requires { number < length self.old }
         ensures changed { self.new ≡ after (Closed number) self.old }
         ensures released { result ≡ released_by (known self.old number).open_by }
     {
+        if !self.has(number) {
+            return None;
+        }
         self.nodes[number as usize].close()
     }
 

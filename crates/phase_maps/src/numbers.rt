@@ -127,5 +127,5 @@ fn is_free(frozen: &Frozen, number: u32) -> bool
     requires { IsTrue (is_number frozen.now.geometry number) }
     ensures { result ≡ ((frozen_view frozen.now).inode number).mode == 0 }
 {
-    frozen.record(number).mode == FREE
+    frozen.mode(number) == FREE
 }

@@ -11,7 +11,7 @@ use Rattle.model.specs.Layout.{Geometry, IsGeometry, inode_count, root}
 use Rattle.model.specs.View.{View}
 use Rattle.model.specs.Uses.{is_directory_at}
 use Rattle.model.specs.Slots.{Bad, slot}
-use Rattle.model.specs.Units.{Units, IsEveryGroup}
+use Rattle.directories.specs.Pieces.{HasEveryNumber, Numbers}
 use Rattle.model.specs.Reach.{HasParent, IsEntry, IsReachableDirectory}
 use Rattle.model.specs.Reached.{AreReached}
 use Rattle.model.proofs.SlotLemmas.{directory_number, names_from_number, number_from_names, number_low, reachable_directory}
@@ -30,33 +30,33 @@ local_found geo view d r (BadDot e) h = (refl, subst (λ q. IsFinding geo view (
 local_found geo view d r (ToUnsound e s) h = (refl, subst (λ q. IsFinding geo view (ToUnsound q s)) (sym h.0) (h.1, record { reachable = r; after_dots = h.2; names = h.3 }, h.4))
 local_found geo view d r _ h = absurd h
 
-module _ (geo : Geometry) (ok : IsGeometry geo) (view : View) (units : Units) (table : List (ℕ × Told)) (part : IsPart geo view units table) (every : IsEveryGroup geo units)
+module _ (geo : Geometry) (ok : IsGeometry geo) (view : View) (numbers : Numbers) (table : List (ℕ × Told)) (part : IsPart geo view numbers table) (every : HasEveryNumber geo numbers)
     (reached : List ℕ) (are : AreReached geo view reached) where
   abbrev pub entries : List Entry
   entries = entries_below table reached (inode_count geo)
 
-  at_entry : (k : ℕ) (e : Entry) → StandsAt entries k e → IsTargeted geo ok view units table part every reached are e
-  at_entry k e at = (entries_are geo ok view units table part every reached are (inode_count geo) e (k, at.0, at.1)).0
+  at_entry : (k : ℕ) (e : Entry) → StandsAt entries k e → IsTargeted geo ok view numbers table part every reached are e
+  at_entry k e at = (entries_are geo ok view numbers table part every reached are (inode_count geo) e (k, at.0, at.1)).0
 
   entry_place : (d s i : ℕ) → IsEntry geo view d s i → IsTarget geo view i → (k : ℕ) × StandsAt entries k (record { directory = d; slot = s; inode = i })
   entry_place d s i entry target =
-      let c = are_entries geo ok view units table part every reached are (inode_count geo) d s i (reached_below geo ok view units table part every reached are d entry.reachable) entry target in
+      let c = are_entries geo ok view numbers table part every reached are (inode_count geo) d s i (reached_below geo ok view numbers table part every reached are d entry.reachable) entry target in
       (c.0, (c.1, c.2))
 
   in_order : (k l : ℕ) (e f : Entry) → k < l → StandsAt entries k e → StandsAt entries l f → EntryBefore e f
-  in_order = entries_in_order geo ok view units table part every reached are (inode_count geo)
+  in_order = entries_in_order geo ok view numbers table part every reached are (inode_count geo)
 
   -- ---- of the slots of each alone
   alone_is : (n : ℕ) (f : Finding) → AtBelow (IsFoundAlone table reached) n f → IsTrue (is_of_names f) × IsFinding geo view f
   alone_is n f h =
       let d = h.0 in
-      let told = told_reached geo ok view units table part every reached are d h.2.0 h.2.1 in
+      let told = told_reached geo ok view numbers table part every reached are d h.2.0 h.2.1 in
       local_found geo view d told.0 f ((told.1.findings f).0 h.2.2)
 
   is_alone : (d : ℕ) (f : Finding) → IsReachableDirectory geo view d → IsLocal geo view d f → AtBelow (IsFoundAlone table reached) (inode_count geo) f
   is_alone d f r local =
-      let told = reached_told geo ok view units table part every reached are d r in
-      (d, reached_below geo ok view units table part every reached are d r, (told.0, told.1, (told.2.findings f).1 local))
+      let told = reached_told geo ok view numbers table part every reached are d r in
+      (d, reached_below geo ok view numbers table part every reached are d r, (told.0, told.1, (told.2.findings f).1 local))
 
   -- ---- second names
   extra_is : (n : ℕ) (f : Finding) → AtBelow (IsExtraAt entries) n f → IsTrue (is_of_names f) × IsFinding geo view f
@@ -120,7 +120,7 @@ module _ (geo : Geometry) (ok : IsGeometry geo) (view : View) (units : Units) (t
         let e = h.1 in
         let s = h.2 in
         let place = entry_place e s d h.4 (inr (reachable_directory geo view d r)) in
-        let parent = names_parent geo ok view units table part every d e (reachable_directory geo view d r) h.3 in
+        let parent = names_parent geo ok view numbers table part every d e (reachable_directory geo view d r) h.3 in
         let held_at : AtBelow (IsHeldAt table entries) (length entries) d = (place.0, place.1.0, (record { directory = e; slot = s; inode = d }, place.1, parent, refl)) in
         other_parent d told.parent h.0 ∙ among held d ((holds d).1 (inr held_at))
 
@@ -134,7 +134,7 @@ module _ (geo : Geometry) (ok : IsGeometry geo) (view : View) (units : Units) (t
             let entry = (at_entry h.0 e h.2.1).is_entry in
             let low = number_low geo e.directory (directory_number geo view e.directory (reachable_directory geo view e.directory entry.reachable)) in
             let parent : parent_in table d ≡ e.directory = subst (λ i. parent_in table i ≡ e.directory) h.2.3 h.2.2 in
-            inr (differs, e.directory, e.slot, parent_names geo ok view units table part every d e.directory (omega arith) parent, subst (λ i. IsEntry geo view e.directory e.slot i) h.2.3 entry))
+            inr (differs, e.directory, e.slot, parent_names geo ok view numbers table part every d e.directory (omega arith) parent, subst (λ i. IsEntry geo view e.directory e.slot i) h.2.3 entry))
       ]
     ]
 
@@ -142,15 +142,15 @@ module _ (geo : Geometry) (ok : IsGeometry geo) (view : View) (units : Units) (t
     without_is n f h =
         let d = h.0 in
         let told = h.2.0 in
-        let is = told_reached geo ok view units table part every reached are d told h.2.1 in
+        let is = told_reached geo ok view numbers table part every reached are d told h.2.1 in
         subst (λ g. IsTrue (is_of_names g) × IsFinding geo view g) h.2.3
         (refl, (is.0, (λ parent. both_ways (has_parent held d told.parent) h.2.2 (parent_true d told is.0 is.1 parent))))
 
     is_without : (d : ℕ) → IsReachableDirectory geo view d → (HasParent geo view d → ⊥) → AtBelow (IsWithoutParent table reached held) (inode_count geo) (BadDotDot d)
     is_without d r none =
-        let told = reached_told geo ok view units table part every reached are d r in (
+        let told = reached_told geo ok view numbers table part every reached are d r in (
           d,
-          reached_below geo ok view units table part every reached are d r,
+          reached_below geo ok view numbers table part every reached are d r,
           (
             told.0,
             told.1,

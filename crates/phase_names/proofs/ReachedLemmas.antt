@@ -1,5 +1,5 @@
 -- What a table tells of the reachable directories, and their entries.
-use Rattle.std.proofs.Common.{◌≡◌, ◌<◌, ◌≤◌, ◌/◌, ℕ, zero, suc, Bool, true, false, cond, leb, eqb, ◌||◌, List, [], ◌∷◌, ◌++◌, length, Option, Some, None, IsSome, Contains, ◌⊎◌, inl, inr, refl, sym, ap, ◌∙◌, subst, arith, IsTrue, get_or}
+use Rattle.std.proofs.Common.{◌≡◌, ◌<◌, ◌≤◌, ℕ, zero, suc, Bool, true, false, cond, leb, eqb, ◌||◌, List, [], ◌∷◌, ◌++◌, length, Option, Some, None, IsSome, Contains, ◌⊎◌, inl, inr, refl, sym, ap, ◌∙◌, subst, arith, IsTrue, get_or}
 use Rattle.std.specs.Option.{option_map_or}
 use Rattle.std.proofs.lemmas.Bool.{and_from, and_parts, cases_Bool, cases_eq, cases_lt, eq-eqb, eqb-true, false≢true, le-leb, or_cases, or_left, or_right}
 use Rattle.std.proofs.lemmas.Cmp.{nat_cmp_total}
@@ -13,11 +13,10 @@ use Rattle.model.specs.Layout.{Geometry, IsGeometry, inode_count, root}
 use Rattle.model.specs.View.{View}
 use Rattle.model.specs.Uses.{is_directory_at}
 use Rattle.model.specs.Slots.{slot, number_in, Names}
-use Rattle.model.specs.Units.{Units, IsEveryGroup, stands_in}
-use Rattle.model.specs.Tables.{is_directory_in, value_in}
+use Rattle.directories.specs.Pieces.{HasEveryNumber, Numbers, is_directory_among}
+use Rattle.model.specs.Tables.{value_in}
 use Rattle.model.specs.Reach.{IsEntry, IsReachableDirectory, slot_count}
 use Rattle.model.specs.Reached.{AreReached}
-use Rattle.model.proofs.Addresses.{number_in_group}
 use Rattle.model.proofs.ReachLemmas.{directory_reached}
 use Rattle.model.proofs.SlotLemmas.{directory_number, names_from_number, names_stands, number_from_names, number_low, number_below, reachable_directory}
 use Rattle.phase_names.specs.declared.look.Naming.{Naming}
@@ -164,19 +163,19 @@ module _ (geo : Geometry) (view : View) where
             inr (sym first ∙ second, omega (arith, low, last, first_slot, second_slot))
 
 -- ---- the whole table
-module _ (geo : Geometry) (ok : IsGeometry geo) (view : View) (units : Units) (table : List (ℕ × Told)) (part : IsPart geo view units table) (every : IsEveryGroup geo units) where
+module _ (geo : Geometry) (ok : IsGeometry geo) (view : View) (numbers : Numbers) (table : List (ℕ × Told)) (part : IsPart geo view numbers table) (every : HasEveryNumber geo numbers) where
   told_there : (d : ℕ) → IsTrue (is_directory_at geo view d) → (told : Told) × (value_in table d ≡ Some told) × IsTold geo view d told
   told_there d t = go (value_in table d) refl
     where
-      in_table : IsTrue (is_directory_in geo view units d)
-      in_table = and_from (is_directory_at geo view d) (stands_in geo units d) t (every (d / geo.inodes) (number_in_group geo ok d (directory_number geo view d t)))
+      in_table : IsTrue (is_directory_among geo view numbers d)
+      in_table = and_from (is_directory_at geo view d) (numbers d) t (every d (directory_number geo view d t))
 
       go : (o : Option Told) → value_in table d ≡ o → (told : Told) × (value_in table d ≡ Some told) × IsTold geo view d told
       go None e = absurd (false≢true (subst (λ o. IsSome o) e (part.all d in_table)))
       go (Some told) e = (told, e, (part.each d told e).1)
 
   told_directory : (d : ℕ) (told : Told) → value_in table d ≡ Some told → IsTrue (is_directory_at geo view d)
-  told_directory d told e = (and_parts (is_directory_at geo view d) (stands_in geo units d) (part.each d told e).0).0
+  told_directory d told e = (and_parts (is_directory_at geo view d) (numbers d) (part.each d told e).0).0
 
   -- the parent that the table tells is the one that slot 1 names
   pub parent_names : (d e : ℕ) → 1 ≤ e → parent_in table d ≡ e → Names geo view d 1 e

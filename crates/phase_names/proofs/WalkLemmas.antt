@@ -1,7 +1,7 @@
 -- A walk over the slots of a directory, one slot after another, and what it has at the end.
 use Rattle.std.proofs.Common.{◌≡◌, ◌<◌, ◌≤◌, ◌+◌, ◌-◌, ℕ, zero, suc, Bool, true, false, ◌&&◌, List, [], ◌++◌, Contains, inl, inr, refl, sym, ap, ◌∙◌, subst, arith, IsTrue, IsFalse, add-zero, add-suc}
 use Rattle.std.specs.List.Sorted.{IsStrictlySortedBy}
-use Rattle.std.proofs.lemmas.Bool.{and_parts, cases_eq, cases_lt}
+use Rattle.std.proofs.lemmas.Bool.{cases_eq, cases_lt}
 use Rattle.std.proofs.lemmas.List.{append-nil}
 use Rattle.findings.specs.declared.finding.Finding.{Finding}
 use Rattle.findings.specs.declared.finding.Finding.TheVariants.{BadSlot, DupName, BadDot, ToUnsound}
@@ -11,7 +11,7 @@ use Rattle.model.specs.Growth.{Adds}
 use Rattle.model.specs.Layout.{Geometry, is_number}
 use Rattle.model.specs.View.{View}
 use Rattle.model.specs.Shape.{most_blocks}
-use Rattle.model.specs.Uses.{blocks_of, is_directory, is_directory_at, is_sound, is_sound_at}
+use Rattle.model.specs.Uses.{blocks_of, is_directory_at, is_sound, is_sound_at}
 use Rattle.model.specs.Slots.{Slot, Absent, Empty, Good, Bad, slot, number_in}
 use Rattle.model.specs.Reach.{slot_count}
 use Rattle.model.proofs.SlotLemmas.{directory_sound, names_stands}

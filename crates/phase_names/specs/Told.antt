@@ -10,8 +10,7 @@ use Rattle.model.specs.View.{View}
 use Rattle.model.specs.Uses.{is_sound, is_directory_at}
 use Rattle.model.specs.Slots.{Good, Bad, slot, number_in, Names}
 use Rattle.model.specs.Reach.{slot_count}
-use Rattle.model.specs.Units.{Units}
-use Rattle.model.specs.Tables.{IsTable}
+use Rattle.directories.specs.Pieces.{IsTable, Numbers}
 use Rattle.phase_names.specs.declared.look.Naming.{Naming}
 
 -- the findings of a directory's slots alone, the number that its slot 1 names, and the slots from 2 on that name the root or a sound directory
@@ -44,6 +43,6 @@ pub record IsTold (geo : Geometry) (view : View) (d : ℕ) (told : Told) : Type 
   pub parent : told.parent ≡ number_in (slot geo view d 1)
   pub directories : told.directories ≡ namings_below geo view d (slot_count geo)
 
--- the table of what is told of each sound directory of these groups
-abbrev pub IsPart : Geometry → View → Units → List (ℕ × Told) → Type 0
-IsPart geo view units part = IsTable geo view (IsTold geo view) units part
+-- the table of what is told of each sound directory among these numbers
+abbrev pub IsPart : Geometry → View → Numbers → List (ℕ × Told) → Type 0
+IsPart geo view numbers part = IsTable geo view (IsTold geo view) numbers part

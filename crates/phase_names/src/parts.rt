@@ -3,7 +3,7 @@ ghost use Rattle.std.specs.Map.{keys_of};
 ghost use Rattle.std.specs.Option.{option_copied};
 ghost use Rattle.model.specs.Layout.{Geometry};
 ghost use Rattle.model.specs.View.{View};
-ghost use Rattle.model.specs.Units.{Units, either, no_unit};
+ghost use Rattle.directories.specs.Pieces.{Numbers, both_sets, no_number};
 ghost use Rattle.model.specs.Tables.{Puts, value_in};
 ghost use Rattle.phase_names.specs.Entries.{parent_in, told_by};
 ghost use Rattle.phase_names.specs.Told.{IsPart, Told};
@@ -15,7 +15,7 @@ use std::alloc::{AllocError, Global};
 use std::collections::BTreeMap;
 use std::marker::Model;
 
-/// What the slots of the directories of some groups tell, by directory.
+/// What the slots of the directories among some numbers tell, by directory.
 #[derive(Drop)]
 pub struct Part {
     looks: BTreeMap<u32, Look>,
@@ -31,9 +31,9 @@ impl Model for Part {
 }
 
 impl Part {
-    /// The part of no group.
+    /// The part of no number.
     pub fn new(alloc: Global) -> Part
-        ensures part { (geo : Geometry) (view : View) → IsPart geo view no_unit result }
+        ensures part { (geo : Geometry) (view : View) → IsPart geo view no_number result }
         ensures empty { result ≡ [] }
     {
         Part {
@@ -79,10 +79,10 @@ impl Part {
     }
 }
 
-/// The part of the groups of both: the directories of the smaller part are moved to the larger one.
+/// The part of the numbers of both: the directories of the smaller part are moved to the larger one.
 pub fn merge(left: Part, right: Part) -> Result<Part, Refusal>
-    ensures merged { IfOk result (λ whole. (geo : Geometry) (view : View) (units others : Units) → IsPart geo view units left → IsPart geo view others right
-        → IsPart geo view (either units others) whole) }
+    ensures merged { IfOk result (λ whole. (geo : Geometry) (view : View) (numbers others : Numbers) → IsPart geo view numbers left → IsPart geo view others right
+        → IsPart geo view (both_sets numbers others) whole) }
     ensures error { IsOkUnless result Refusal.NoMemory }
 {
     let (mut larger, mut smaller) = if left.looks.len() < right.looks.len() {

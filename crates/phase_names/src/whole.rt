@@ -1,7 +1,7 @@
 ghost use Rattle.std.specs.Prelude.{◌≡◌, ℕ, IfOk, OnOk, IsOkUnless};
 ghost use Rattle.std.specs.List.{Contains};
 ghost use Rattle.model.specs.Growth.{Adds};
-ghost use Rattle.model.specs.Units.{Units, IsEveryGroup};
+ghost use Rattle.directories.specs.Pieces.{HasEveryNumber, Numbers};
 ghost use Rattle.model.specs.Reached.{AreReached};
 ghost use Rattle.findings.specs.Findings.{AreFindingsOf, is_of_names};
 ghost use Rattle.frozen.specs.Kept.{frozen_view};
@@ -24,8 +24,8 @@ pub fn finish(
     whole: &Part,
     reached: &BTreeSet<u32>,
 ) -> Result<Vec<Finding>, Refusal>
-    ensures found { IfOk result (λ found. (units : Units) → IsPart frozen.now.geometry (frozen_view frozen.now) units whole.now
-        → IsEveryGroup frozen.now.geometry units
+    ensures found { IfOk result (λ found. (numbers : Numbers) → IsPart frozen.now.geometry (frozen_view frozen.now) numbers whole.now
+        → HasEveryNumber frozen.now.geometry numbers
         → AreReached frozen.now.geometry (frozen_view frozen.now) reached.now.keys
         → AreFindingsOf is_of_names frozen.now.geometry (frozen_view frozen.now) found.items) }
     ensures error { IsOkUnless result Refusal.NoMemory }

@@ -10,15 +10,19 @@ use file_device::FileDevice;
 use frozen::load;
 use layout::Geometry;
 use progress::Watcher;
+use pushing::{Pushed, Pusher, push_beside};
 use snapshot::Volume;
 use std::alloc::Global;
+use std::fs;
 use std::marker::Brand;
 use std::os::unix::fs::FileExt;
 use std::rt::Files;
+use std::thread::Threads;
+use std::time::Clock;
 
 /// Puts what stands at a path of the host, and all below it, at a path in a file's image. All names are looked at before anything
 /// is written.
-pub fn put_into_file<R: Files + AllocGlobal + Clone + Drop>(
+pub fn put_into_file<R: Files + AllocGlobal + Clock + Threads + Sync + Clone + Drop>(
     rt: &R,
     image: &str,
     path: &str,
@@ -26,14 +30,14 @@ pub fn put_into_file<R: Files + AllocGlobal + Clone + Drop>(
     watcher: &impl Watcher,
 ) -> Result<(), Failure>
 where
-    R::File: FileExt,
+    R::File: FileExt + Send,
 {
     let items = items_at(rt, image, path, host)?;
     put_new_items(rt, image, items.as_slice(), watcher)
 }
 
 /// Puts what stands in an archive at a path in a file's image. All names are looked at before anything is written.
-pub fn put_archive_into_file<R: Files + AllocGlobal>(
+pub fn put_archive_into_file<R: Files + AllocGlobal + Clock + Threads + Sync>(
     rt: &R,
     image: &str,
     path: &str,
@@ -41,7 +45,7 @@ pub fn put_archive_into_file<R: Files + AllocGlobal>(
     watcher: &impl Watcher,
 ) -> Result<(), Failure>
 where
-    R::File: FileExt,
+    R::File: FileExt + Send,
 {
     let items = entries_at(rt, image, path, archive)?;
     put_new_items(rt, image, items.as_slice(), watcher)
@@ -99,15 +103,23 @@ where
     items_of(rt, host, b"/", Destination::Fresh(geometry))
 }
 
-/// Puts items into the volume of a device, which is the image of this file. Where one is refused, what went before it is written.
-pub fn put_items<R: Files + AllocGlobal, D: Device + Drop>(
+/// Puts items into the volume of a device over this file's image. Where one is refused, what went before it is written.
+pub fn put_items<R: Files + AllocGlobal + Clock + Threads + Sync>(
     rt: &R,
     image: &str,
-    device: D,
+    device: FileDevice<R::File, Brand>,
     items: &[Item],
     watcher: &impl Watcher,
-) -> Result<(), Failure> {
-    match put_on_device(rt, device, items, watcher) {
+) -> Result<(), Failure>
+where
+    R::File: FileExt + Send,
+{
+    let pusher = &Pusher::new();
+    let device = device.through(move |file| Pushed::new(file, pusher));
+    let put = push_beside(rt, pusher, fs::open(rt, image).ok(), move || {
+        put_on_device(rt, device, items, watcher)
+    });
+    match put {
         Ok(holding) => end_of(holding.filled, items.len()),
         Err(refusal) => Err(Failure::from(refusal).on_image(rt, image)),
     }
@@ -115,14 +127,14 @@ pub fn put_items<R: Files + AllocGlobal, D: Device + Drop>(
 
 /// Puts items into the volume of a file's image, where none of them may stand yet. Where one is refused, what went before it is
 /// written.
-fn put_new_items<R: Files + AllocGlobal>(
+fn put_new_items<R: Files + AllocGlobal + Clock + Threads + Sync>(
     rt: &R,
     image: &str,
     items: &[Item],
     watcher: &impl Watcher,
 ) -> Result<(), Failure>
 where
-    R::File: FileExt,
+    R::File: FileExt + Send,
 {
     match put_new_in_file(rt, image, items, watcher) {
         Ok(filled) => end_of(filled, items.len()),
@@ -131,16 +143,33 @@ where
 }
 
 /// Puts items into the volume of a file's image, where none of them may stand yet, and tells how many went into it.
-fn put_new_in_file<R: Files + AllocGlobal>(
+fn put_new_in_file<R: Files + AllocGlobal + Clock + Threads + Sync>(
     rt: &R,
     image: &str,
     items: &[Item],
     watcher: &impl Watcher,
 ) -> Result<Filled, Failure>
 where
+    R::File: FileExt + Send,
+{
+    let pusher = &Pusher::new();
+    push_beside(rt, pusher, fs::open(rt, image).ok(), move || {
+        put_in_mounted_file(rt, image, items, watcher, pusher)
+    })
+}
+
+/// Mounts the volume of a file's image, and puts items into it, where none of them may stand yet. The pusher is told of each write.
+fn put_in_mounted_file<R: Files + AllocGlobal>(
+    rt: &R,
+    image: &str,
+    items: &[Item],
+    watcher: &impl Watcher,
+    pusher: &Pusher,
+) -> Result<Filled, Failure>
+where
     R::File: FileExt,
 {
-    match mount_file(rt, image) {
+    match mount_file(rt, image, pusher) {
         Ok(mut volume) => put_new_in_volume(rt, &mut volume, items, watcher),
         Err(failure) => {
             // An item that the image cannot have is told of first.
@@ -161,16 +190,20 @@ fn put_new_in_volume<R: Files + AllocGlobal, D: Device>(
     Ok(put(rt, volume, items, watcher)?)
 }
 
-/// Mounts the volume of a file's image.
-fn mount_file<R: Files + AllocGlobal>(
+/// Mounts the volume of a file's image. The pusher is told of each write.
+fn mount_file<'a, R: Files + AllocGlobal>(
     rt: &R,
     image: &str,
-) -> Result<Volume<FileDevice<R::File, Brand>>, Failure>
+    pusher: &'a Pusher,
+) -> Result<Volume<FileDevice<Pushed<'a, R::File>, Brand>>, Failure>
 where
     R::File: FileExt,
 {
-    let device = FileDevice::open_to_write(rt, image)?;
-    Ok(mount(rt.alloc(), device)?)
+    let device: FileDevice<R::File, Brand> = FileDevice::open_to_write(rt, image)?;
+    Ok(mount(
+        rt.alloc(),
+        device.through(move |file| Pushed::new(file, pusher)),
+    )?)
 }
 
 /// Refuses the first item of which the path leads somewhere in a file's image already, or can lead nowhere.

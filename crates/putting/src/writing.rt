@@ -11,7 +11,7 @@ use std::alloc::Global;
 
 /// After how many bytes what waits is flushed, so that the queue of updates stays short. A device that does not keep order is
 /// waited for each time.
-const BYTES_AT_ONCE: usize = 1 << 20;
+const BYTES_AT_ONCE: usize = 1 << 19;
 
 /// After how many blocks of a file it is.
 const BLOCKS_AT_ONCE: u32 = (BYTES_AT_ONCE / BLOCK_BYTES) as u32;

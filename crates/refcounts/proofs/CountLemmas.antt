@@ -1,29 +1,29 @@
 -- How counts grow, and that in the end they are the entries.
-use Rattle.std.proofs.Common.{◌≡◌, ◌<◌, ◌≤◌, ◌+◌, ◌/◌, ◌%◌, ℕ, suc, min, Bool, true, false, ◌&&◌, eqb, leb, ltb, List, [], ◌∷◌, ◌++◌, length, take, get_or, inl, inr, Contains, IsTrue, refl, sym, ap, ◌∙◌, subst, arith, zero-add}
+use Rattle.std.proofs.Common.{◌≡◌, ◌<◌, ◌≤◌, ◌+◌, ◌/◌, ◌%◌, ℕ, suc, min, Bool, true, false, ◌&&◌, eqb, List, [], ◌∷◌, ◌++◌, length, take, get_or, inl, inr, Contains, IsTrue, refl, sym, ap, ◌∙◌, subst, arith, zero-add}
 use Rattle.std.specs.List.{flat_map}
-use Rattle.std.proofs.lemmas.Bool.{and_from, and_parts, cases_Bool, le-leb, lt-ltb}
+use Rattle.std.proofs.lemmas.Bool.{and_from, and_parts, cases_Bool}
 use Rattle.std.proofs.lemmas.Cmp.{nat_cmp_total}
 use Rattle.std.proofs.lemmas.Map.Lookups.{exact_unsigned}
 use Rattle.std.proofs.lemmas.Map.Views.{btree_set_contains_iff}
 use Rattle.std.proofs.lemmas.Grind.{flat_map-append}
 use Rattle.std.proofs.lemmas.List.{append-nil, take_all}
 use Rattle.std.proofs.Math.Seq.{take-suc}
-use Rattle.model.specs.Layout.{Geometry, IsGeometry, is_number}
+use Rattle.model.specs.Layout.{Geometry, IsGeometry, inode_count, is_number}
 use Rattle.model.specs.Named.{times}
 use Rattle.model.specs.Reach.{IsReachableSet, entries_of}
 use Rattle.model.specs.Reached.{AreReached}
 use Rattle.model.specs.Uses.{is_directory_at}
 use Rattle.model.specs.View.{View}
-use Rattle.model.proofs.Addresses.{number_in_group}
 use Rattle.model.proofs.Counting.{entries_few, times-append}
 use Rattle.model.proofs.ReachLemmas.{directory_reached}
 use Rattle.model.proofs.SlotLemmas.{directory_number, reachable_directory}
-use Rattle.findings.specs.Groups.{IsEach}
+use Rattle.directories.specs.Pieces.{AreOfPieces, between}
+use Rattle.directories.proofs.PieceLemmas.{every_number}
 use Rattle.sets.specs.Members.{is_among}
 use Rattle.refcounts.specs.Counts.{most, count_at, AreCounts, AreEntries, Counted, CountsOne}
 use Rattle.refcounts.specs.Parts.{IsPart, is_read, numbers_at}
 use Rattle.refcounts.proofs.PartLemmas.{once, times_next}
-use Rattle.refcounts.proofs.SetLemmas.{all_named, read_from, same_sets}
+use Rattle.refcounts.proofs.SetLemmas.{all_named, read_between, same_sets}
 
 capped : (o t x m n : ℕ) → m ≡ min (o + t) most → n ≡ min (m + x) most → n ≡ min (o + (t + x)) most
 capped o t x m n e f = grind arith
@@ -86,23 +86,18 @@ module _ (geo : Geometry) (ok : IsGeometry geo) (view : View) (reached : List �
     (λ r. and_from (is_among reached d) (is_directory_at geo view d) (among reached d ((are.exactly d).1 (inl r))) (reachable_directory geo view d r)),
   )
 
-  -- every directory that is read stands in some group
-  in_groups : (d : ℕ) → read_from geo view reached 0 geo.groups d ≡ is_read geo view reached d
-  in_groups d = elim (cases_Bool (is_read geo view reached d)) [
-    | inl t ↦
-        (let low = number_in_group geo ok d (directory_number geo view d (and_parts (is_among reached d) (is_directory_at geo view d) t).1) in
-        both (leb 0 (d / geo.inodes)) (ltb (d / geo.inodes) (0 + geo.groups)) (is_read geo view reached d) (le-leb 0 (d / geo.inodes) (omega arith)) (lt-ltb (d / geo.inodes) (0 + geo.groups) (omega (arith, low))))
-    | inr f ↦ last_no (leb 0 (d / geo.inodes) && ltb (d / geo.inodes) (0 + geo.groups)) (is_read geo view reached d) f
+  -- every directory that is read has a number of the volume
+  in_volume : (d : ℕ) → read_between geo view reached 0 (inode_count geo) d ≡ is_read geo view reached d
+  in_volume d = elim (cases_Bool (is_read geo view reached d)) [
+    | inl t ↦ ap (λ b. b && is_read geo view reached d) (every_number geo (inode_count geo) refl d (directory_number geo view d (and_parts (is_among reached d) (is_directory_at geo view d) t).1))
+    | inr f ↦ last_no (between 0 (inode_count geo) d) (is_read geo view reached d) f
   ]
     where
-      both : (p q r : Bool) → p ≡ true → q ≡ true → ((p && q) && r) ≡ r
-      both p q r one two = ap (λ b. (b && q) && r) one ∙ ap (λ b. b && r) two
-
       last_no : (p r : Bool) → r ≡ false → (p && r) ≡ r
       last_no true r f = refl
       last_no false r f = sym f
 
-  pub are_entries : (parts : List (List (List ℕ))) (g : ℕ) (counts : List ℕ) → IsEach (IsPart geo view reached) geo.groups parts → length counts ≡ geo.inodes → AreOf geo g parts counts
+  pub are_entries : (parts : List (List (List ℕ))) (g : ℕ) (counts : List ℕ) → AreOfPieces (IsPart geo view reached) (inode_count geo) parts → length counts ≡ geo.inodes → AreOf geo g parts counts
       → AreEntries geo view g counts
   are_entries parts g counts each places of = record {
     places = places;
@@ -117,12 +112,8 @@ module _ (geo : Geometry) (ok : IsGeometry geo) (view : View) (reached : List �
     where
       all : (i : ℕ) → IsTrue (is_number geo i) → times i (flat_map (λ p. numbers_at p (i / geo.inodes)) parts) ≡ entries_of geo view (is_read geo view reached) i
       all i number =
-          all_named geo view reached i number parts 0 (λ j part at. subst (λ n. IsPart geo view reached n part) (from_zero j) (each.each j part at))
-          ∙ same_sets geo view i (read_from geo view reached 0 (length parts)) (is_read geo view reached)
-          (λ d low. ap (λ n. read_from geo view reached 0 n d) each.count ∙ in_groups d)
-        where
-          from_zero : (j : ℕ) → j ≡ 0 + j
-          from_zero j = omega arith
+          all_named geo view reached i number each.pieces parts 0 (inode_count geo) each.cut each.count each.each
+          ∙ same_sets geo view i (read_between geo view reached 0 (inode_count geo)) (is_read geo view reached) (λ d low. in_volume d)
 
       room : (s t c : ℕ) → s ≡ t → t < 18446744073709551615 → c ≡ min s most → c ≡ t
       room s t c e low f = grind arith

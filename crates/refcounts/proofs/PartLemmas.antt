@@ -1,19 +1,21 @@
 -- The lists of a part grow.
-use Rattle.std.proofs.Common.{◌≡◌, ◌<◌, ◌≤◌, ◌+◌, ◌/◌, ℕ, zero, suc, Bool, true, false, cond, ◌&&◌, eqb, ltb, List, [], ◌∷◌, ◌++◌, length, map, All, take, get_or, inl, inr, refl, sym, ap, ◌∙◌, subst, arith, IsTrue}
-use Rattle.std.proofs.lemmas.Bool.{and_from, and_parts, cases_Bool, cases_eq, eq-eqb, eqb-true, le-ltb, lt-ltb, ne_eqb}
+use Rattle.std.proofs.Common.{◌≡◌, ◌<◌, ◌≤◌, ◌+◌, ◌/◌, ℕ, zero, suc, Bool, true, false, cond, ◌&&◌, eqb, List, [], ◌∷◌, ◌++◌, length, map, All, take, get_or, ◌⊎◌, inl, inr, refl, sym, ap, ◌∙◌, subst, arith, IsTrue}
+use Rattle.std.proofs.lemmas.Bool.{and_from, and_parts, cases_Bool, cases_eq, ne_eqb}
+use Rattle.std.proofs.lemmas.Bool.Decides.{nat_tests}
 use Rattle.std.proofs.Math.Seq.{take-suc}
 use Rattle.std.specs.declared.vec.Vec.{Vec}
 use Rattle.std.specs.declared.alloc.Global.{Global}
 use Rattle.model.specs.Layout.{Geometry, IsGeometry, is_number}
 use Rattle.model.specs.Named.{named_from, times}
 use Rattle.model.specs.Reach.{entries_in, entries_of}
-use Rattle.model.specs.Units.{only, stands_in}
 use Rattle.model.specs.Uses.{is_directory_at}
 use Rattle.model.specs.View.{View}
 use Rattle.model.proofs.Addresses.{number_in_group}
 use Rattle.model.proofs.Counting.{times-append, times_are_entries}
-use Rattle.model.proofs.GroupNumbers.{before_all, before_none, before_same}
 use Rattle.model.proofs.SlotLemmas.{directory_number, number_low, number_below}
+use Rattle.directories.specs.declared.cutting.Piece.{Piece}
+use Rattle.directories.specs.Pieces.{between, in_piece}
+use Rattle.directories.proofs.PieceLemmas.{piece_none, piece_same, piece_whole}
 use Rattle.sets.specs.Members.{is_among}
 use Rattle.refcounts.specs.Parts.{Grow, IsPart, Name, Reads, is_read, numbers_at}
 use Rattle.refcounts.proofs.SetLemmas.{no_set, one_more, same_sets}
@@ -80,62 +82,70 @@ reads_none geo view reached d lists none i some inside = sym (nothing (times i (
     nothing : (a b : ℕ) → b ≡ 0 → a + b ≡ a
     nothing a b e = omega (arith, e)
 
--- ---- one directory of a group after another
--- those of the group below n that are read
+-- ---- one directory of a piece after another
+-- those from the first number on and below n that are read
 abbrev pub below : Geometry → View → List ℕ → ℕ → ℕ → ℕ → Bool
-below geo view reached group n d = (stands_in geo (only group) d && ltb d n) && is_read geo view reached d
+below geo view reached first n d = between first n d && is_read geo view reached d
 
-module _ (geo : Geometry) (ok : IsGeometry geo) (view : View) (reached : List ℕ) (group : ℕ) where
-  abbrev Below : ℕ → ℕ → Bool
-  Below = below geo view reached group
+module _ (geo : Geometry) (ok : IsGeometry geo) (view : View) (reached : List ℕ) where
+  -- before the first
+  pub name_first : (first : ℕ) (lists : List (List ℕ)) → ((g : ℕ) → numbers_at lists g ≡ []) → Name geo view (below geo view reached first first) lists
+  unfolding times
+  name_first first lists none i number =
+      ap (times i) (none (i / geo.inodes))
+      ∙ sym (no_set geo view i (below geo view reached first first) (λ d low. ap (λ b. b && is_read geo view reached d) (piece_none first d)))
 
-  read_number : (d : ℕ) → is_read geo view reached d ≡ true → IsTrue (is_number geo d)
-  read_number d h = directory_number geo view d (and_parts (is_among reached d) (is_directory_at geo view d) h).1
-
-  by_read : (p q : ℕ → Bool) (d : ℕ) → (IsTrue (is_number geo d) → p d ≡ q d) → (p d && is_read geo view reached d) ≡ (q d && is_read geo view reached d)
-  by_read p q d same = elim (cases_Bool (is_read geo view reached d)) [
-    | inl t ↦ ap (λ b. b && is_read geo view reached d) (same (read_number d t))
-    | inr f ↦ and_no (p d) (is_read geo view reached d) f ∙ sym (and_no (q d) (is_read geo view reached d) f)
-  ]
+  -- one number more
+  pub name_next : (first n : ℕ) (old new : List (List ℕ)) → first ≤ n → length old ≡ geo.groups → Reads geo view reached n old new → Name geo view (below geo view reached first n) old
+      → Name geo view (below geo view reached first (n + 1)) new
+  name_next first n old new low groups reads before i of =
+      reads i (omega (arith, number_low geo i of)) (omega (arith, groups, number_in_group geo ok i of))
+      ∙ ap (λ t. t + cond (is_read geo view reached n) (entries_in geo view i n) 0) (before i of)
+      ∙ elim (cases_Bool (is_read geo view reached n)) [
+        | inl t ↦
+            ap (λ b. entries_of geo view (below geo view reached first n) i + cond b (entries_in geo view i n) 0) (sym now)
+            ∙ sym (one_more geo view i (below geo view reached first n) (below geo view reached first (n + 1)) n (number_below geo n (read_number n t)) was (λ e differs. others e differs))
+        | inr f ↦
+            ap (λ b. entries_of geo view (below geo view reached first n) i + cond b (entries_in geo view i n) 0) f ∙ nothing (entries_of geo view (below geo view reached first n) i)
+            ∙ same_sets geo view i (below geo view reached first n) (below geo view reached first (n + 1)) (λ e _. all_same f e)
+      ]
     where
+      nothing : (a : ℕ) → a + 0 ≡ a
+      nothing a = omega arith
+
+      read_number : (d : ℕ) → is_read geo view reached d ≡ true → IsTrue (is_number geo d)
+      read_number d h = directory_number geo view d (and_parts (is_among reached d) (is_directory_at geo view d) h).1
+
+      now : below geo view reached first (n + 1) n ≡ is_read geo view reached n
+      now = ap (λ b. b && is_read geo view reached n) (here first n low)
+        where
+          here : (first n : ℕ) → first ≤ n → between first (n + 1) n ≡ true
+          here first n low = grind (arith, nat_tests)
+
+      was : below geo view reached first n n ≡ false
+      was = ap (λ b. b && is_read geo view reached n) (not_yet first n)
+        where
+          not_yet : (first n : ℕ) → between first n n ≡ false
+          not_yet first n = grind (arith, nat_tests)
+
+      others : (e : ℕ) → (e ≡ n → ⊥) → below geo view reached first n e ≡ below geo view reached first (n + 1) e
+      others e differs = ap (λ b. b && is_read geo view reached e) (piece_same first n e differs)
+
       and_no : (p r : Bool) → r ≡ false → (p && r) ≡ false
       and_no true r f = f
       and_no false r f = refl
 
-  -- before the first
-  pub name_first : (n : ℕ) (lists : List (List ℕ)) → ((g : ℕ) → numbers_at lists g ≡ []) → ((d : ℕ) → IsTrue (is_number geo d) → d / geo.inodes ≡ group → n ≤ d) → Name geo view (Below n) lists
-  unfolding times
-  name_first n lists none first i number =
-      ap (times i) (none (i / geo.inodes))
-      ∙ sym (no_set geo view i (Below n)
-      (λ d low. by_read (λ e. stands_in geo (only group) e && ltb e n) (λ e. false) d (λ t. before_none (only group (d / geo.inodes)) d n (λ u. first d t (eqb-true (d / geo.inodes) group u)))))
+      all_same : is_read geo view reached n ≡ false → (e : ℕ) → below geo view reached first n e ≡ below geo view reached first (n + 1) e
+      all_same f e = elim (cases_eq e n) [
+        | inl same ↦ (let g : is_read geo view reached e ≡ false = ap (is_read geo view reached) same ∙ f in
+            and_no (between first n e) (is_read geo view reached e) g ∙ sym (and_no (between first (n + 1) e) (is_read geo view reached e) g))
+        | inr differs ↦ others e differs
+      ]
 
-  -- one number more
-  pub name_next : (n : ℕ) (old new : List (List ℕ)) → IsTrue (is_number geo n) → n / geo.inodes ≡ group → length old ≡ geo.groups → Reads geo view reached n old new → Name geo view (Below n) old
-      → Name geo view (Below (n + 1)) new
-  name_next n old new number here groups reads before i of =
-      reads i (omega (arith, number_low geo i of)) (omega (arith, groups, number_in_group geo ok i of))
-      ∙ ap (λ t. t + cond (is_read geo view reached n) (entries_in geo view i n) 0) (before i of)
-      ∙ ap (λ b. entries_of geo view (Below n) i + cond b (entries_in geo view i n) 0) (sym now)
-      ∙ sym (one_more geo view i (Below n) (Below (n + 1)) n (number_below geo n number) was
-      (λ e differs. ap (λ b. b && is_read geo view reached e) (before_same (only group (e / geo.inodes)) e n (λ same. absurd (differs same)))))
-    where
-      now : Below (n + 1) n ≡ is_read geo view reached n
-      now = both_yes (stands_in geo (only group) n) (ltb n (n + 1)) (is_read geo view reached n) (eq-eqb (n / geo.inodes) group here) (lt-ltb n (n + 1) (omega arith))
-        where
-          both_yes : (p q r : Bool) → p ≡ true → q ≡ true → ((p && q) && r) ≡ r
-          both_yes p q r one two = ap (λ b. (b && q) && r) one ∙ ap (λ b. b && r) two
-
-      was : Below n n ≡ false
-      was = last_no (stands_in geo (only group) n) (ltb n n) (is_read geo view reached n) (le-ltb n n (omega arith))
-        where
-          last_no : (p q r : Bool) → q ≡ false → ((p && q) && r) ≡ false
-          last_no true q r none = ap (λ b. b && r) none
-          last_no false q r none = refl
-
-  -- all numbers of the group
-  pub name_all : (n : ℕ) (lists : List (List ℕ)) → ((d : ℕ) → IsTrue (is_number geo d) → d / geo.inodes ≡ group → d < n) → Name geo view (Below n) lists → IsPart geo view reached group lists
-  name_all n lists last named i number =
+  -- all numbers of the piece
+  pub name_all : (piece : Piece) (n : ℕ) (lists : List (List ℕ)) → piece.past ≤ n → (n ≤ piece.past) ⊎ (n ≡ piece.first) → Name geo view (below geo view reached piece.first n) lists
+      → IsPart geo view reached (in_piece piece) lists
+  name_all piece n lists low ends named i number =
       named i number
-      ∙ same_sets geo view i (Below n) (λ d. stands_in geo (only group) d && is_read geo view reached d)
-      (λ d low. by_read (λ e. stands_in geo (only group) e && ltb e n) (λ e. stands_in geo (only group) e) d (λ t. before_all (only group (d / geo.inodes)) d n (λ u. last d t (eqb-true (d / geo.inodes) group u))))
+      ∙ same_sets geo view i (below geo view reached piece.first n) (λ d. in_piece piece d && is_read geo view reached d)
+      (λ d _. ap (λ b. b && is_read geo view reached d) (piece_whole piece n low ends d))

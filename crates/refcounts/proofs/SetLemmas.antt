@@ -1,5 +1,5 @@
--- Entries in sets of directories: none, one directory more, and the directories of one group after another.
-use Rattle.std.proofs.Common.{◌≡◌, ◌<◌, ◌+◌, ◌/◌, ℕ, zero, suc, Bool, false, cond, ◌&&◌, eqb, leb, ltb, List, [], ◌∷◌, length, Some, slice_get, refl, sym, ap, ap₂, ◌∙◌, subst, arith, IsTrue}
+-- Entries in sets of directories: none, one directory more, and the directories of one piece after another.
+use Rattle.std.proofs.Common.{◌≡◌, ◌<◌, ◌≤◌, ◌+◌, ◌/◌, ℕ, zero, suc, Bool, false, cond, ◌&&◌, List, [], ◌∷◌, length, Some, slice_get, refl, sym, ap, ap₂, ◌∙◌, arith, IsTrue}
 use Rattle.std.specs.List.{flat_map}
 use Rattle.std.proofs.lemmas.Bool.Decides.{nat_tests}
 use Rattle.model.specs.Layout.{Geometry, inode_count, is_number}
@@ -8,6 +8,9 @@ use Rattle.model.specs.Reach.{entries_in, entries_of, sum_below}
 use Rattle.model.specs.View.{View}
 use Rattle.model.proofs.Counting.{times-append}
 use Rattle.model.proofs.Sums.{sum-changed, sum-none, sum-same}
+use Rattle.directories.specs.declared.cutting.Piece.{Piece}
+use Rattle.directories.specs.Pieces.{AreCut, between, in_piece}
+use Rattle.directories.proofs.PieceLemmas.{cut_low}
 use Rattle.refcounts.specs.Parts.{IsPart, is_read, numbers_at}
 
 sum-both : (n : ℕ) (f g : ℕ → ℕ) → sum_below n (λ k. f k + g k) ≡ sum_below n f + sum_below n g
@@ -37,40 +40,30 @@ module _ (geo : Geometry) (view : View) (i : ℕ) where
   two_sets : (s t u : ℕ → Bool) → ((d : ℕ) → d < inode_count geo → Term u d ≡ Term s d + Term t d) → entries_of geo view u i ≡ entries_of geo view s i + entries_of geo view t i
   two_sets s t u parts = sum-same (inode_count geo) (Term u) (λ d. Term s d + Term t d) parts ∙ sum-both (inode_count geo) (Term s) (Term t)
 
-split_at : (k x count e : ℕ) (r : Bool) → cond ((leb k x && ltb x (k + suc count)) && r) e 0 ≡ cond (eqb x k && r) e 0 + cond ((leb (k + 1) x && ltb x ((k + 1) + count)) && r) e 0
-split_at k x count e r = grind (arith, nat_tests)
+split_at : (from first mid past x e : ℕ) (r : Bool) → first ≡ from → from ≤ mid → mid ≤ past
+    → cond (between from past x && r) e 0 ≡ cond (between first mid x && r) e 0 + cond (between mid past x && r) e 0
+split_at from first mid past x e r same low high = grind (arith, nat_tests)
 
--- the directories of the groups from k on that are read
-abbrev pub read_from : Geometry → View → List ℕ → ℕ → ℕ → ℕ → Bool
-read_from geo view reached k count d = (leb k (d / geo.inodes) && ltb (d / geo.inodes) (k + count)) && is_read geo view reached d
+-- the directories from this number on and below another that are read
+abbrev pub read_between : Geometry → View → List ℕ → ℕ → ℕ → ℕ → Bool
+read_between geo view reached from past d = between from past d && is_read geo view reached d
 
 module _ (geo : Geometry) (view : View) (reached : List ℕ) (i : ℕ) (number : IsTrue (is_number geo i)) where
   abbrev From : ℕ → ℕ → ℕ → Bool
-  From = read_from geo view reached
+  From = read_between geo view reached
 
-  pub all_named : (parts : List (List (List ℕ))) (k : ℕ) → ((j : ℕ) (part : List (List ℕ)) → slice_get parts j ≡ Some part → IsPart geo view reached (k + j) part)
-      → times i (flat_map (λ p. numbers_at p (i / geo.inodes)) parts) ≡ entries_of geo view (From k (length parts)) i
+  pub all_named : (pieces : List Piece) (parts : List (List (List ℕ))) (from past : ℕ) → AreCut from pieces past → length parts ≡ length pieces
+      → ((k : ℕ) (piece : Piece) (part : List (List ℕ)) → slice_get pieces k ≡ Some piece → slice_get parts k ≡ Some part → IsPart geo view reached (in_piece piece) part)
+      → times i (flat_map (λ p. numbers_at p (i / geo.inodes)) parts) ≡ entries_of geo view (From from past) i
   unfolding times
-  all_named [] k each = sym (no_set geo view i (From k 0) (λ d low. none k (d / geo.inodes) (is_read geo view reached d)))
+  all_named [] [] from past cut count each = sym (no_set geo view i (From from past) (λ d low. none from past d (is_read geo view reached d) cut))
     where
-      none : (k x : ℕ) (r : Bool) → ((leb k x && ltb x (k + 0)) && r) ≡ false
-      none k x r = grind (arith, nat_tests)
-  all_named (p ∷ ps) k each =
-      times-append i (numbers_at p (i / geo.inodes)) (flat_map (λ q. numbers_at q (i / geo.inodes)) ps)
-      ∙ ap₂ (λ a b. a + b) (here ∙ same_sets geo view i (λ d. eqb (d / geo.inodes) (k + 0) && is_read geo view reached d) (λ d. eqb (d / geo.inodes) k && is_read geo view reached d)
-      (λ d low. ap (λ n. eqb (d / geo.inodes) n && is_read geo view reached d) at_k))
-      (all_named ps (k + 1) (λ j part at. later j part at))
-      ∙ sym (two_sets geo view i (λ d. eqb (d / geo.inodes) k && is_read geo view reached d) (From (k + 1) (length ps)) (From k (suc (length ps)))
-      (λ d low. split_at k (d / geo.inodes) (length ps) (entries_in geo view i d) (is_read geo view reached d)))
-    where
-      at_k : k + 0 ≡ k
-      at_k = omega arith
-
-      here : times i (numbers_at p (i / geo.inodes)) ≡ entries_of geo view (λ d. eqb (d / geo.inodes) (k + 0) && is_read geo view reached d) i
-      here = each 0 p refl i number
-
-      later : (j : ℕ) (part : List (List ℕ)) → slice_get ps j ≡ Some part → IsPart geo view reached ((k + 1) + j) part
-      later j part at = subst (λ n. IsPart geo view reached n part) (next j) (each (suc j) part at)
-        where
-          next : (j : ℕ) → k + suc j ≡ (k + 1) + j
-          next j = omega arith
+      none : (from past x : ℕ) (r : Bool) → from ≡ past → (between from past x && r) ≡ false
+      none from past x r same = grind (arith, nat_tests)
+  all_named [] (p ∷ ps) from past cut count each = absurd (omega (arith, count))
+  all_named (q ∷ qs) [] from past cut count each = absurd (omega (arith, count))
+  all_named (q ∷ qs) (p ∷ ps) from past cut count each =
+      times-append i (numbers_at p (i / geo.inodes)) (flat_map (λ r. numbers_at r (i / geo.inodes)) ps)
+      ∙ ap₂ (λ a b. a + b) (each 0 q p refl refl i number) (all_named qs ps q.past past cut.2 (omega (arith, count)) (λ k piece part a b. each (suc k) piece part a b))
+      ∙ sym (two_sets geo view i (λ d. in_piece q d && is_read geo view reached d) (From q.past past) (From from past)
+      (λ d low. split_at from q.first q.past past d (entries_in geo view i d) (is_read geo view reached d) cut.0 cut.1 (cut_low q.past qs past cut.2)))

@@ -1,9 +1,9 @@
--- What the reachable directories of a cylinder group name, by the group of what is named.
+-- What the reachable directories among some numbers name, by the group of what is named.
 use Rattle.std.specs.Prelude.{◌≡◌, ℕ, ◌/◌, ◌+◌, ◌<◌, ◌≤◌, ◌&&◌, Bool, cond, List, [], length, slice_index_or, IsTrue}
 use Rattle.model.specs.Layout.{Geometry, is_number}
 use Rattle.model.specs.Named.{times}
 use Rattle.model.specs.Reach.{entries_in, entries_of}
-use Rattle.model.specs.Units.{only, stands_in}
+use Rattle.directories.specs.Pieces.{Numbers}
 use Rattle.model.specs.Uses.{is_directory_at}
 use Rattle.model.specs.View.{View}
 use Rattle.sets.specs.Members.{is_among}
@@ -30,6 +30,6 @@ Reads geo view reached d old new = (i : ℕ) → 1 ≤ i → i / geo.inodes < le
 abbrev pub Name : Geometry → View → (ℕ → Bool) → List (List ℕ) → Type 0
 Name geo view directories lists = (i : ℕ) → IsTrue (is_number geo i) → times i (numbers_at lists (i / geo.inodes)) ≡ entries_of geo view directories i
 
--- what the directories of group g name that are among these inodes
-abbrev pub IsPart : Geometry → View → List ℕ → ℕ → List (List ℕ) → Type 0
-IsPart geo view reached g = Name geo view (λ d. stands_in geo (only g) d && is_read geo view reached d)
+-- what the directories name that are among these numbers, and among what is reached
+abbrev pub IsPart : Geometry → View → List ℕ → Numbers → List (List ℕ) → Type 0
+IsPart geo view reached numbers = Name geo view (λ d. numbers d && is_read geo view reached d)

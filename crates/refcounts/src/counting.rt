@@ -2,7 +2,8 @@
 ghost use Rattle.std.specs.Prelude.{◌≡◌, ◌<◌, ◌≤◌, ℕ, List, IfOk, IsOkUnless, [], length};
 ghost use Rattle.frozen.specs.Kept.{frozen_view};
 ghost use Rattle.model.specs.Reached.{AreReached};
-ghost use Rattle.findings.specs.Groups.{IsEach};
+ghost use Rattle.model.specs.Layout.{inode_count};
+ghost use Rattle.directories.specs.Pieces.{AreOfPieces};
 ghost use Rattle.refcounts.specs.Counts.{AreCounts, AreEntries, Counted, CountsOne, count_at};
 ghost use Rattle.refcounts.specs.Parts.{IsPart};
 
@@ -75,8 +76,8 @@ impl EntryCounts {
     }
 }
 
-/// How many entries the inodes of this group have, where the parts are those of all groups, in order. A unit that is no
-/// group has no inodes. Only `NoMemory` is refused.
+/// How many entries the inodes of this group have, where the parts are those of all pieces, in order. A unit that is no group has
+/// no inodes. Only `NoMemory` is refused.
 pub fn counts(
     alloc: Global,
     frozen: &Frozen,
@@ -84,7 +85,8 @@ pub fn counts(
     unit: u32,
 ) -> Result<EntryCounts, Refusal>
     ensures counts { IfOk result (λ counts. (reached : List ℕ) → AreReached frozen.now.geometry (frozen_view frozen.now) reached
-        → IsEach (IsPart frozen.now.geometry (frozen_view frozen.now) reached) frozen.now.geometry.groups parts.now → unit < frozen.now.geometry.groups
+        → AreOfPieces (IsPart frozen.now.geometry (frozen_view frozen.now) reached) (inode_count frozen.now.geometry) parts.now
+        → unit < frozen.now.geometry.groups
         → AreEntries frozen.now.geometry (frozen_view frozen.now) unit counts) }
     ensures no_group { IfOk result (λ counts. frozen.now.geometry.groups ≤ unit → counts ≡ []) }
     ensures error { IsOkUnless result Refusal.NoMemory }

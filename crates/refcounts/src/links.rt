@@ -54,7 +54,7 @@ fn add_links(
     requires { IsTrue (is_number frozen.now.geometry inode) }
     ensures { OnOk result (Adds (IsFoundOfLinks (frozen_view frozen.now) inode entries) found.old.items found.new.items) }
 {
-    let links = frozen.record(inode).links;
+    let links = frozen.links(inode);
     if let Some(finding) = links_finding(inode, links, entries) {
         found.push(finding)?;
     }

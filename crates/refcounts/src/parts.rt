@@ -6,7 +6,7 @@ use layout::Geometry;
 use std::alloc::{AllocError, Global};
 use std::marker::Model;
 
-/// What the reachable directories of a cylinder group name, in lists by the group of what is named: each number as often
+/// What the reachable directories of a piece name, in lists by the group of what is named: each number as often
 /// as good slots name it, the dots among them.
 #[derive(Drop)]
 pub struct Part {
@@ -23,7 +23,7 @@ impl Model for Part {
 
 impl Part {
     /// An empty list for each of so many groups.
-    pub(crate) fn none(alloc: Global, groups: u32) -> Result<Part, AllocError>
+    pub fn none(alloc: Global, groups: u32) -> Result<Part, AllocError>
         ensures groups { IfOk result (λ part. length part ≡ groups) }
         ensures none { IfOk result (λ part. (g : ℕ) → numbers_at part g ≡ []) }
     {

@@ -1,28 +1,28 @@
-//! What the directories of a group name.
-ghost use Rattle.std.specs.Prelude.{◌≡◌, ◌<◌, ◌≤◌, [], ℕ, IfOk, OnOk, IsOkUnless, length};
+//! What the directories of a piece name.
+ghost use Rattle.std.specs.Prelude.{◌≡◌, IfOk, OnOk, IsOkUnless, length};
+ghost use Rattle.directories.specs.Pieces.{in_piece};
 ghost use Rattle.frozen.specs.Kept.{frozen_view};
-ghost use Rattle.refcounts.specs.Parts.{IsPart, Reads, numbers_at};
+ghost use Rattle.refcounts.specs.Parts.{IsPart, Reads};
 
 use crate::parts::Part;
-use directories::numbers_named;
+use directories::{Piece, numbers_named};
 use frozen::Frozen;
 use layout::Refusal;
 use sets::Members;
 use std::alloc::Global;
 
-/// What the directories of this group name, where they are among the reachable inodes. A unit that is no group has no
-/// directories. Only `NoMemory` is refused.
-pub fn part(alloc: Global, frozen: &Frozen, unit: u32, reached: &Members) -> Result<Part, Refusal>
-    ensures part { IfOk result (λ part. unit < frozen.now.geometry.groups → IsPart frozen.now.geometry (frozen_view frozen.now) reached.now unit part) }
-    ensures no_group { IfOk result (λ part. frozen.now.geometry.groups ≤ unit → (g : ℕ) → numbers_at part g ≡ []) }
+/// What the directories of this piece name, where they are among the reachable inodes. Only `NoMemory` is refused.
+pub fn part(
+    alloc: Global,
+    frozen: &Frozen,
+    piece: &Piece,
+    reached: &Members,
+) -> Result<Part, Refusal>
+    ensures part { IfOk result (λ part. IsPart frozen.now.geometry (frozen_view frozen.now) reached.now (in_piece piece.now) part) }
     ensures error { IsOkUnless result Refusal.NoMemory }
 {
-    let geometry = frozen.geometry();
-    let mut part = Part::none(alloc, geometry.groups())?;
-    if unit >= geometry.groups() {
-        return Ok(part);
-    }
-    for directory in geometry.numbers_of(unit) {
+    let mut part = Part::none(alloc, frozen.geometry().groups())?;
+    for directory in piece.first..piece.past {
         add_directory(alloc, &mut part, frozen, directory, reached)?;
     }
     Ok(part)

@@ -2,46 +2,80 @@
 ghost use Rattle.std.specs.Prelude.{◌≡◌, ◌⊎◌, [], IfErr, IfOk};
 ghost use Rattle.serve_lines.specs.Ends.{MayEndService};
 
-use crate::owner::{Numbers, numbers_given, owner_of};
+use crate::holding::Holdable;
+use crate::owner::{Numbers, numbers_given};
+use crate::{viewed, written};
+use background::Plan;
 use channels::Channel;
-use clap::{Arg, ArgAction, ArgMatches, Command};
+use clap::{Arg, ArgAction, ArgMatches, Command, value_parser};
 use command_line::{Answer, Failure, words};
-use file_device::FileDevice;
-use frozen::load;
 use layout::Refusal;
-use serving::{LeftError, serve};
+use serving::LeftError;
 use std::alloc::{AllocError, Global};
-use std::marker::Brand;
+use std::io::Eprint;
 use std::os::unix::fs::FileExt;
 use std::rt::Files;
-use viewing::Desk;
+use std::sync::Wait;
+use std::thread::Threads;
+use std::time::Clock;
+use tending::Rules;
+use workers::MOST_WORKERS;
 
-/// What the line asks for: the volume of this image, which is read alone.
+/// What the line asks for: the volume of this image.
 #[derive(Clone, Copy)]
 pub struct ServeLine<'a> {
     pub image: &'a str,
     /// Whose all files are: the numbers of a user and a group. Without them they are whose the image's file is.
     pub owner: Option<&'a str>,
+    pub access: Access,
 }
+
+/// What may be done with the volume.
+#[derive(Clone, Copy, Debug, PartialEq, Eq)]
+pub enum Access {
+    /// It is read alone.
+    Read,
+    /// It is changed by these rules, and mended and flushed by this plan.
+    Write(Rules, Plan),
+}
+
+/// How many workers check the volume where no number is given, and how many seconds what is pending may wait.
+const WORKERS: u32 = 2;
+
+const SECONDS: u32 = 5;
 
 /// The words of the line.
 pub fn command<'a>(alloc: Global) -> Result<Command<'a>, AllocError> {
-    words::of_image(
+    let line = words::of_image(
         alloc,
         "serve",
         "Answers Linux, which has mounted an image, on standard input and output; started by bin/fsvol-mount",
-    )?
-    .arg(read_only(alloc))?
-    .arg(owner(alloc))
+    )?;
+    let line = line.arg(read_only(alloc))?.arg(owner(alloc))?;
+    let line = line.arg(check(alloc))?.arg(seconds(alloc))?;
+    line.arg(strict(
+        alloc,
+        "strict-attributes",
+        "Refuses to set modes, owners and times, which else last until the volume is unmounted",
+    ))?
+    .arg(strict(
+        alloc,
+        "strict-size",
+        "Refuses to write or lengthen a file past its end, which else writes zeroes before",
+    ))?
+    .arg(strict(
+        alloc,
+        "strict-names",
+        "Refuses to rename to a name that is taken, which else is taken away before",
+    ))
 }
 
-/// That nothing is changed, which has to be said: no other service is there yet.
+/// That nothing is changed.
 fn read_only<'a>(alloc: Global) -> Arg<'a> {
     Arg::new(alloc, "read-only")
         .long("read-only")
-        .required(true)
         .action(ArgAction::SetTrue)
-        .help("Changes nothing")
+        .help("Changes nothing; the words below --owner say nothing then")
 }
 
 /// Whose all files are.
@@ -52,23 +86,72 @@ fn owner<'a>(alloc: Global) -> Arg<'a> {
         .help("Whose all files are, as 1000:1000; without it, the image's owner and group")
 }
 
+/// How many workers check the volume.
+fn check<'a>(alloc: Global) -> Arg<'a> {
+    Arg::new(alloc, "check")
+        .long("check")
+        .value_name("NUMBER")
+        .value_parser(value_parser!(u32))
+        .help(
+            "How many workers check and mend the volume while it is served, 0 to 64; without it, 2",
+        )
+}
+
+/// How long what is pending may wait.
+fn seconds<'a>(alloc: Global) -> Arg<'a> {
+    Arg::new(alloc, "seconds")
+        .long("seconds")
+        .value_name("NUMBER")
+        .value_parser(value_parser!(u32))
+        .help(
+            "After how many seconds changes are on the medium, with 0 at a sync or the end; without it, 5",
+        )
+}
+
+/// That something is refused which the volume has no command for.
+fn strict<'a>(alloc: Global, name: &'a str, help: &'a str) -> Arg<'a> {
+    Arg::new(alloc, name)
+        .long(name)
+        .action(ArgAction::SetTrue)
+        .help(help)
+}
+
 /// What these words ask for.
 pub fn line_of<'a>(options: &ArgMatches<'a>) -> Option<ServeLine<'a>> {
     Some(ServeLine {
         image: options.get_str("image")?,
         owner: options.get_str("owner"),
+        access: access_of(options),
     })
 }
 
-/// Answers the messages of a channel from a file's image, until its volume is unmounted, and prints nothing. The file is opened to be
-/// read alone.
-pub fn answer<R: Files + AllocGlobal, C: Channel>(
+/// What these words let be done with the volume.
+fn access_of<'a>(options: &ArgMatches<'a>) -> Access {
+    if options.get_flag("read-only") {
+        return Access::Read;
+    }
+    let rules = Rules {
+        keeps_attributes: !options.get_flag("strict-attributes"),
+        fills: !options.get_flag("strict-size"),
+        replaces: !options.get_flag("strict-names"),
+    };
+    let plan = Plan {
+        workers: options.get_one("check").unwrap_or(WORKERS),
+        seconds: options.get_one("seconds").unwrap_or(SECONDS),
+    };
+    Access::Write(rules, plan)
+}
+
+/// Answers the messages of a channel from a file's image, until its volume is unmounted, and prints nothing. A volume that may be
+/// changed is mounted before the first message is taken, and all is written at the end; what is mended and flushed meanwhile is
+/// told on standard error alone.
+pub fn answer<R: Files + AllocGlobal + Clock + Eprint + Threads + Wait + Sync, C: Channel>(
     rt: &R,
     line: &ServeLine<'_>,
     channel: &mut C,
 ) -> Result<Answer, Failure>
 where
-    R::File: FileExt,
+    R::File: FileExt + Holdable + Send,
     ensures status { IfOk result (λ answer. answer.status ≡ 0) }
     ensures silent { IfOk result (λ answer. answer.text.items ≡ []) }
     // What is no image is refused before a message is taken.
@@ -78,47 +161,43 @@ where
         Some(word) => Some(numbers_given(rt.alloc(), word)?),
         None => None,
     };
-    match serve_file(rt, line.image, owner, channel) {
+    match serve_image(rt, line.image, owner, line.access, channel) {
         Ok(()) => Ok(Answer::nothing(rt.alloc())),
         Err(failure) => Err(failure.on_image(rt, line.image)),
     }
 }
 
 /// Answers the messages of a channel from a file's image.
-fn serve_file<R: Files + AllocGlobal, C: Channel>(
+fn serve_image<R: Files + AllocGlobal + Clock + Eprint + Threads + Wait + Sync, C: Channel>(
     rt: &R,
     image: &str,
     owner: Option<Numbers>,
+    access: Access,
     channel: &mut C,
 ) -> Result<(), Failure>
 where
-    R::File: FileExt,
+    R::File: FileExt + Holdable + Send,
     ensures { IfErr result (λ failure. MayEndService failure ⊎ (channel.new ≡ channel.old)) }
 {
-    let mut desk = desk_of(rt, image, owner)?;
-    match serve(rt.alloc(), &mut desk, channel) {
-        Ok(()) => Ok(()),
-        Err(error) => Err(failure_of(rt.alloc(), error)),
+    match access {
+        Access::Read => viewed::serve_file(rt, image, owner, channel),
+        Access::Write(rules, plan) => {
+            allow(plan)?;
+            written::serve_file(rt, image, owner, rules, plan, channel)
+        }
     }
 }
 
-/// A desk over a file's image.
-fn desk_of<R: Files + AllocGlobal>(
-    rt: &R,
-    image: &str,
-    owner: Option<Numbers>,
-) -> Result<Desk<FileDevice<R::File, Brand>>, Failure>
-where
-    R::File: FileExt,
-{
-    let mut device: FileDevice<R::File, Brand> = FileDevice::open(rt, image)?;
-    let frozen = load(rt.alloc(), &mut device)?;
-    let owner = owner_of(rt, image, owner)?;
-    Ok(Desk::new(rt.alloc(), device, frozen, owner)?)
+/// Refuses more workers than there may be.
+fn allow(plan: Plan) -> Result<(), Failure> {
+    if plan.workers as usize > MOST_WORKERS {
+        return Err(Failure::from(Refusal::BadWorkers));
+    }
+    Ok(())
 }
 
 /// Why the line ends where a desk is left before the volume is unmounted.
-fn failure_of(alloc: Global, error: LeftError) -> Failure
+pub(crate) fn failure_of(alloc: Global, error: LeftError) -> Failure
     ensures { MayEndService result }
 {
     match error {

@@ -1,1 +1,3 @@
 mod SessionLemmas
+pub mod TendedLemmas
+mod ViewedLemmas

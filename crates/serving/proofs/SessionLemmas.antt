@@ -1,30 +1,30 @@
 -- Messages are answered one behind the other.
-use Rattle.std.proofs.Common.{◌≡◌, ◌↔◌, ℕ, List, [], ◌∷◌, ◌++◌, Option, Some, None, Result, Ok, Err, IfErr, OnErr, OnOk, inl, inr, refl, sym, ap, subst, ◌∙◌, append_assoc}
+use Rattle.std.proofs.Common.{◌≡◌, ◌↔◌, ℕ, Bool, true, false, List, [], ◌∷◌, ◌++◌, Option, Some, None, Result, Ok, Err, IfErr, OnErr, OnOk, inl, inr, refl, sym, ap, subst, ◌∙◌, append_assoc}
 use Rattle.std.specs.Prelude.{◌⊎◌}
 use Rattle.std.proofs.lemmas.List.{append-nil}
-use Rattle.device.specs.Writes.{HasFailed}
-use Rattle.frozen.specs.Kept.{IsKeptOf, Kept}
 use Rattle.fuse_wire.specs.declared.requests.Head.{Head}
 use Rattle.fuse_wire.specs.Requests.{Asked, decode}
-use Rattle.nodes.specs.Table.{Table}
 use Rattle.serving.specs.declared.LeftError.{LeftError}
 use Rattle.serving.specs.declared.LeftError.TheVariants.{Channel, NoMemory, NoRequest}
-use Rattle.serving.specs.Sessions.{Answered, IsAnswered, IsLeft, Serves, Start, Step, given_by}
+use Rattle.serving.specs.Sessions.{Answered, AnswersOne, EndsAt, IsAnswered, IsLeft, Leaves, LeavesIt, LeavesOne, NothingCame, NotGiven, NotTurned, OneCame, Serves, ServesOne, Start, Step, Turning, Untouched, begins, given_by, is_begin, is_in_place}
 use Rattle.viewing.specs.declared.desk.Turned.{Turned}
 use Rattle.viewing.specs.declared.desk.Turned.TheVariants.{Unread}
-use Rattle.viewing.specs.Desks.{IsTurn, turned_of}
-use Rattle.viewing.specs.declared.owner.Owner.{Owner}
+use Rattle.viewing.specs.Desks.{turned_of}
 
 -- what follows from clauses
-pub on_ok : {T E P Q : Type 0} (r : Result T E) → OnOk r P → (P → Q) → OnOk r Q
+pub on_ok : {A E P Q : Type 0} (r : Result A E) → OnOk r P → (P → Q) → OnOk r Q
 on_ok (Ok x) p f = f p
 on_ok (Err e) p f = tt
 
-pub if_err : {T E : Type 0} {P Q : E → Type 0} (r : Result T E) → IfErr r P → ((e : E) → P e → Q e) → IfErr r Q
+pub on_ok_both : {A E P Q R : Type 0} (r : Result A E) → OnOk r P → OnOk r Q → (P → Q → R) → OnOk r R
+on_ok_both (Ok x) p q f = f p q
+on_ok_both (Err e) p q f = tt
+
+pub if_err : {A E : Type 0} {P Q : E → Type 0} (r : Result A E) → IfErr r P → ((e : E) → P e → Q e) → IfErr r Q
 if_err (Ok x) p f = tt
 if_err (Err e) p f = f e p
 
-pub if_err_both : {T E R : Type 0} {P Q : E → Type 0} (r : Result T E) → IfErr r P → OnErr r R → ((e : E) → P e → R → Q e) → IfErr r Q
+pub if_err_both : {A E R : Type 0} {P Q : E → Type 0} (r : Result A E) → IfErr r P → OnErr r R → ((e : E) → P e → R → Q e) → IfErr r Q
 if_err_both (Ok x) p q f = tt
 if_err_both (Err e) p q f = f e p q
 
@@ -32,105 +32,128 @@ if_err_both (Err e) p q f = f e p q
 pub not_unread : {turned other : Turned} → turned ≡ other → (other ≡ Unread → ⊥) → turned ≡ Unread → ⊥
 not_unread e h f = h (sym e ∙ f)
 
-pub no_request : Channel ≡ NoRequest → ⊥
-no_request e = cc
+begins_on : (messages : List (List ℕ)) (message : List ℕ) → begins messages ≡ true → is_in_place (is_begin messages) message ≡ true → begins (messages ++ message ∷ []) ≡ true
+begins_on [] message first agrees = agrees
+begins_on (m ∷ ms) message first agrees = first
 
-pub no_memory : NoMemory ≡ NoRequest → ⊥
-no_memory e = cc
+is_begin_on : (messages : List (List ℕ)) (message : List ℕ) → is_begin (messages ++ message ∷ []) ≡ false
+is_begin_on [] message = refl
+is_begin_on (m ∷ ms) message = refl
 
--- what is kept is kept where nothing changed
-pub kept_still : {kept kept' : Kept} {image image' : List (List ℕ)} → kept' ≡ kept → image' ≡ image → IsKeptOf kept image → IsKeptOf kept' image'
-kept_still {kept} {kept'} {image} {image'} e f is = subst (λ x. IsKeptOf x image') (sym e) (subst (IsKeptOf kept) (sym f) is)
-
--- a message is answered as its bytes are
-pub same_message : {kept : Kept} {image : List (List ℕ)} {owner : Owner} {t u : Table} {n m : ℕ} {message bytes : List ℕ} {given : List (List ℕ)} → bytes ≡ message
-    → IsAnswered kept image owner t n bytes given u m → IsAnswered kept image owner t n message given u m
-same_message {kept} {image} {owner} {t} {u} {n} {m} {message} {bytes} {given} e h = subst (λ x. IsAnswered kept image owner t n x given u m) e h
-
-pub given_as : {kept : Kept} {image : List (List ℕ)} {owner : Owner} {t u : Table} {n m : ℕ} {message : List ℕ} {given other : List (List ℕ)} → given ≡ other
-    → IsAnswered kept image owner t n message given u m → IsAnswered kept image owner t n message other u m
-given_as {kept} {image} {owner} {t} {u} {n} {m} {message} {given} {other} e h = subst (λ x. IsAnswered kept image owner t n message x u m) e h
-
-module _ (kept : Kept) (image : List (List ℕ)) (owner : Owner) (t : Table) (n : ℕ) where
+module _ {T : Type 0} {turns : Turning T} where
   -- what a turn tells of a message that is a request
-  pub answered_by : (message : List ℕ) (u : Table) (m : ℕ) (turned : Turned) (reply : List ℕ) → (turned ≡ Unread) ↔ (decode message ≡ None)
-      → ((head : Head) (asked : Asked) → decode message ≡ Some (head, asked) → turned ≡ turned_of asked)
-      → ((head : Head) (asked : Asked) → decode message ≡ Some (head, asked) → IsTurn kept image owner t head asked (HasFailed n m) reply u)
-      → (m ≡ n) ⊎ HasFailed n m → (turned ≡ Unread → ⊥) → IsAnswered kept image owner t n message (given_by turned reply) u m
-  answered_by message u m turned reply unread by turn failures read = go (decode message) refl
+  pub answered_by : (old new : T) (message reply : List ℕ) (turned other : Turned) → (turned ≡ Unread) ↔ (decode message ≡ None)
+      → ((head : Head) (asked : Asked) → decode message ≡ Some (head, asked) → turned ≡ turned_of asked) → turns old message turned reply new
+      → turned ≡ other → (other ≡ Unread → ⊥) → IsAnswered turns old message (given_by other reply) new
+  answered_by old new message reply turned other unread by turn is read = go (decode message) refl
     where
-      go : (o : Option (Head × Asked)) → decode message ≡ o → IsAnswered kept image owner t n message (given_by turned reply) u m
-      go None e = absurd (read (unread.1 e))
+      go : (o : Option (Head × Asked)) → decode message ≡ o → IsAnswered turns old message (given_by other reply) new
+      go None e = absurd (read (sym is ∙ unread.1 e))
       go (Some p) e = record {
         head = p.0;
         asked = p.1;
         reply = reply;
         read = e;
-        turn = turn p.0 p.1 e;
-        failures = failures;
-        gives = ap (λ x. given_by x reply) (by p.0 p.1 e);
+        turn = subst (λ x. turns old message x reply new) (by p.0 p.1 e) turn;
+        gives = ap (λ x. given_by x reply) (sym is ∙ by p.0 p.1 e);
       }
 
-  answered_on : (messages replies : List (List ℕ)) (u : Table) (m : ℕ) → Answered kept image owner t n messages replies u m
-      → {more others : List (List ℕ)} {v : Table} {k : ℕ} → Answered kept image owner u m more others v k → Answered kept image owner t n (messages ++ more) (replies ++ others) v k
-  answered_on messages replies u m first Start =
-      subst (λ xs. Answered kept image owner t n xs (replies ++ []) u m) (sym (append-nil messages))
-      (subst (λ ys. Answered kept image owner t n messages ys u m) (sym (append-nil replies)) first)
-  answered_on messages replies u m first (Step more others w v j k message given before here) =
-      subst (λ xs. Answered kept image owner t n xs (replies ++ (others ++ given)) v k) (append_assoc messages more (message ∷ []))
-      (subst (λ ys. Answered kept image owner t n ((messages ++ more) ++ message ∷ []) ys v k) (append_assoc replies others given)
-      (Step (messages ++ more) (replies ++ others) w v j k message given (answered_on messages replies u m first before) here))
+  -- a message is answered as its bytes are
+  pub same_message : {old new : T} {message bytes : List ℕ} {given : List (List ℕ)} → bytes ≡ message → IsAnswered turns old bytes given new → IsAnswered turns old message given new
+  same_message {old} {new} {message} {bytes} {given} e h = subst (λ x. IsAnswered turns old x given new) e h
 
-  module _ (taken given : List (List ℕ)) where
-    -- no message was answered
-    pub none_served : (new_taken new_given rest : List (List ℕ)) → new_taken ≡ taken ++ rest → new_given ≡ given → Serves kept image owner t n taken given new_taken new_given rest t n
-    none_served new_taken new_given rest e f = record {
+  pub answers_one : (first : Bool) (old new : T) (message : List ℕ) (given new_given more : List (List ℕ))
+      → is_in_place first message ≡ true → IsAnswered turns old message more new → new_given ≡ given ++ more → AnswersOne turns first old message given new_given new
+  answers_one first old new message given new_given more agrees answered gives = record { agrees = agrees; replies = more; answered = answered; gives = gives }
+
+  -- the message is the one that came
+  pub one_came : (first next : Bool) (old new : T) (message : List ℕ) (taken given mid_given new_taken new_given : List (List ℕ))
+      → next ≡ false → new_taken ≡ taken ++ message ∷ [] → mid_given ≡ given → AnswersOne turns first old message mid_given new_given new
+      → ServesOne turns first next old taken given new_taken new_given new
+  one_came first next old new message taken given mid_given new_taken new_given later takes same answers =
+      OneCame message later takes (subst (λ x. AnswersOne turns first old message x new_given new) same answers)
+
+  -- ---- all of them
+
+  -- none was served yet
+  pub none_served : (old : T) (taken given : List (List ℕ)) → (s : Serves turns old taken given taken given [] old) × (true ≡ is_begin s.messages)
+  none_served old taken given = (
+    record {
       messages = [];
       replies = [];
+      first = refl;
       answered = Start;
-      takes = e ∙ ap (λ xs. xs ++ rest) (sym (append-nil taken));
-      gives = f ∙ sym (append-nil given);
-    }
+      takes = sym (append-nil _) ∙ sym (append-nil _);
+      gives = sym (append-nil _);
+    },
+    refl,
+  )
 
-    -- one was
-    pub one_served : (new_taken new_given more : List (List ℕ)) (message : List ℕ) (u : Table) (m : ℕ) → new_taken ≡ taken ++ message ∷ [] → new_given ≡ given ++ more
-        → IsAnswered kept image owner t n message more u m → Serves kept image owner t n taken given new_taken new_given [] u m
-    one_served new_taken new_given more message u m e f h = record {
-      messages = message ∷ [];
-      replies = more;
-      answered = Step [] [] t u n m message more Start h;
-      takes = e ∙ sym (append-nil (taken ++ message ∷ []));
-      gives = f;
-    }
+  -- one more was, or nothing came
+  pub serves_more : (first next : Bool) (old mid new : T) (taken given mid_taken mid_given new_taken new_given : List (List ℕ))
+      → (before : Serves turns old taken given mid_taken mid_given [] mid) → first ≡ is_begin before.messages
+      → ServesOne turns first next mid mid_taken mid_given new_taken new_given new
+      → (s : Serves turns old taken given new_taken new_given [] new) × (next ≡ is_begin s.messages)
+  serves_more first next old mid new taken given mid_taken mid_given new_taken new_given before is (NothingCame stays takes gives same) = (
+    record {
+      messages = before.messages;
+      replies = before.replies;
+      first = before.first;
+      answered = subst (λ x. Answered turns old before.messages before.replies x) (sym same) before.answered;
+      takes = takes ∙ before.takes;
+      gives = gives ∙ before.gives;
+    },
+    stays ∙ is,
+  )
+  serves_more first next old mid new taken given mid_taken mid_given new_taken new_given before is (OneCame message later takes answers) = (
+    record {
+      messages = before.messages ++ message ∷ [];
+      replies = before.replies ++ answers.replies;
+      first = begins_on before.messages message before.first (subst (λ b. is_in_place b message ≡ true) is answers.agrees);
+      answered = Step before.messages before.replies mid new message answers.replies before.answered answers.answered;
+      takes = takes ∙ ap (λ xs. xs ++ message ∷ []) (before.takes ∙ append-nil _) ∙ append_assoc taken before.messages (message ∷ []) ∙ sym (append-nil _);
+      gives = answers.gives ∙ ap (λ xs. xs ++ answers.replies) before.gives ∙ append_assoc given before.replies answers.replies;
+    },
+    later ∙ sym (is_begin_on before.messages message),
+  )
 
-    -- one is left
-    pub left_served : (why : LeftError) (new_taken new_given : List (List ℕ)) (message : List ℕ) → new_taken ≡ taken ++ message ∷ [] → new_given ≡ given
-        → (why ≡ NoRequest → decode message ≡ None)
-        → (rest : List (List ℕ)) × (v : Table) × (k : ℕ) × IsLeft why rest × Serves kept image owner t n taken given new_taken new_given rest v k
-    left_served NoMemory new_taken new_given message e f h = (message ∷ [], t, n, inr (message, refl), none_served new_taken new_given (message ∷ []) e f)
-    left_served Channel new_taken new_given message e f h = (message ∷ [], t, n, inr (message, refl), none_served new_taken new_given (message ∷ []) e f)
-    left_served NoRequest new_taken new_given message e f h = (message ∷ [], t, n, (message, refl, h refl), none_served new_taken new_given (message ∷ []) e f)
+module _ {T : Type 0} {turns : Turning T} {fails : T → List ℕ → T → Type 0} where
+  pub not_given : (first : Bool) (why : LeftError) (old new : T) (message reply : List ℕ) (turned : Turned) → why ≡ Channel → turns old message turned reply new
+      → LeavesIt turns fails first old message why new
+  not_given first why old new message reply turned is turn = record {
+    left = subst (λ x. IsLeft first x (message ∷ [])) (sym is) (inr (message, refl));
+    ends = NotGiven message reply turned new turn;
+  }
 
-    -- more were
-    serves_on : (mid_taken mid_given new_taken new_given rest : List (List ℕ)) (u v : Table) (m k : ℕ) → Serves kept image owner t n taken given mid_taken mid_given [] u m
-        → Serves kept image owner u m mid_taken mid_given new_taken new_given rest v k → Serves kept image owner t n taken given new_taken new_given rest v k
-    serves_on mid_taken mid_given new_taken new_given rest u v m k first second = record {
-      messages = first.messages ++ second.messages;
-      replies = first.replies ++ second.replies;
-      answered = answered_on first.messages first.replies u m first.answered second.answered;
-      takes = second.takes
-          ∙ ap (λ xs. (xs ++ second.messages) ++ rest) (first.takes ∙ append-nil (taken ++ first.messages))
-          ∙ ap (λ xs. xs ++ rest) (append_assoc taken first.messages second.messages);
-      gives = second.gives ∙ ap (λ xs. xs ++ second.replies) first.gives ∙ append_assoc given first.replies second.replies;
-    }
+  pub one_left : (first : Bool) (why : LeftError) (old new : T) (message : List ℕ) (taken given new_taken new_given : List (List ℕ)) → new_taken ≡ taken ++ message ∷ []
+      → new_given ≡ given → LeavesIt turns fails first old message why new → LeavesOne turns fails first old taken given new_taken new_given why new
+  one_left first why old new message taken given new_taken new_given takes gives leaves = record {
+    rest = message ∷ [];
+    left = leaves.left;
+    ends = leaves.ends;
+    takes = takes;
+    gives = gives;
+  }
 
-    -- by a desk that holds the same
-    pub serves_then : (kept' : Kept) (image' : List (List ℕ)) (owner' : Owner) (mid_taken mid_given new_taken new_given rest : List (List ℕ)) (u v : Table) (m k : ℕ)
-        → kept' ≡ kept → image' ≡ image → owner' ≡ owner → IsKeptOf kept image → Serves kept image owner t n taken given mid_taken mid_given [] u m
-        → (IsKeptOf kept' image' → Serves kept' image' owner' u m mid_taken mid_given new_taken new_given rest v k)
-        → Serves kept image owner t n taken given new_taken new_given rest v k
-    serves_then kept' image' owner' mid_taken mid_given new_taken new_given rest u v m k e f g is first h =
-        let by_kept = subst (λ x. IsKeptOf x image' → Serves x image' owner' u m mid_taken mid_given new_taken new_given rest v k) e h in
-        let by_image = subst (λ x. IsKeptOf kept x → Serves kept x owner' u m mid_taken mid_given new_taken new_given rest v k) f by_kept in
-        let by_owner = subst (λ x. IsKeptOf kept image → Serves kept image x u m mid_taken mid_given new_taken new_given rest v k) g by_image in
-        serves_on mid_taken mid_given new_taken new_given rest u v m k first (by_owner is)
+  pub none_left : (why : LeftError) (old : T) (taken given : List (List ℕ)) → IsLeft true why [] → Leaves turns fails old taken given taken given why old
+  none_left why old taken given left =
+      let none : (s : Serves turns old taken given taken given [] old) × (true ≡ is_begin s.messages) = none_served old taken given in
+      record { rest = []; mid = old; serves = none.0; left = subst (λ b. IsLeft b why []) none.1 left; ends = Untouched [] }
+
+  pub leaves_one : (first : Bool) (why : LeftError) (old mid new : T) (taken given mid_taken mid_given new_taken new_given : List (List ℕ))
+      → (before : Serves turns old taken given mid_taken mid_given [] mid) → first ≡ is_begin before.messages
+      → LeavesOne turns fails first mid mid_taken mid_given new_taken new_given why new → Leaves turns fails old taken given new_taken new_given why new
+  leaves_one first why old mid new taken given mid_taken mid_given new_taken new_given before is one = record {
+    rest = one.rest;
+    mid = mid;
+    serves = record {
+      messages = before.messages;
+      replies = before.replies;
+      first = before.first;
+      answered = before.answered;
+      takes = one.takes ∙ ap (λ xs. xs ++ one.rest) (before.takes ∙ append-nil _);
+      gives = one.gives ∙ before.gives;
+    };
+    left = subst (λ b. IsLeft b why one.rest) is one.left;
+    ends = one.ends;
+  }

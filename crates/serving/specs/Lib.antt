@@ -1,1 +1,3 @@
 pub mod Sessions
+pub mod Tended
+pub mod Viewed

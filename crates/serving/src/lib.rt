@@ -1,17 +1,21 @@
 //! A desk at a channel: each message that is taken is answered by one turn, until the end.
 #![tactic(auto)]
 
-ghost use Rattle.std.specs.Prelude.{◌≡◌, ℕ, List, None, [], ◌∷◌, ◌++◌, IfErr, IfOk, OnErr, OnOk};
-ghost use Rattle.device.specs.Reading.{ReadsOnly};
-ghost use Rattle.frozen.specs.Kept.{IsKeptOf};
+mod interface;
+mod laws;
+mod tended;
+mod viewed;
+
+ghost use Rattle.std.specs.Prelude.{◌≡◌, [], ◌∷◌, ◌++◌, false, IfErr, IfOk, OnErr, OnOk};
 ghost use Rattle.fuse_wire.specs.Requests.{decode};
-ghost use Rattle.nodes.specs.Table.{Table};
-ghost use Rattle.serving.specs.Sessions.{IsAnswered, IsLeft, Serves};
+ghost use Rattle.serving.specs.Sessions.{AnswersOne, Leaves, LeavesIt, LeavesOne, Serves, ServesOne, asks_to_agree, is_in_place};
 
 use channels::{Channel, Message, Received};
-use device::Device;
+use fuse_wire::Request;
+pub use interface::Answering;
+pub use laws::sessions_of_a_desk_that_reads;
 use std::alloc::Global;
-use viewing::{Desk, Turned};
+pub use viewing::Turned;
 
 #[cfg(test)]
 mod tests;
@@ -25,32 +29,28 @@ pub enum LeftError {
     NoMemory,
     /// The channel failed.
     Channel,
-    /// A message came that is no request.
+    /// A message came that is no request, or the first one does not ask to agree on a version.
     NoRequest,
 }
 
-/// Answers the messages of a channel, one after another, until it ends or the volume is unmounted.
-pub fn serve<D: Device + Drop, C: Channel>(
+/// Answers the messages of a channel, one after another, until it ends or the volume is unmounted. The first one asks to agree on
+/// a version.
+pub fn serve<T: Answering, C: Channel>(
     alloc: Global,
-    desk: &mut Desk<D>,
+    desk: &mut T,
     channel: &mut C,
 ) -> Result<(), LeftError>
-    ensures served { OnOk result (D.honest desk.new.device → IsKeptOf desk.old.kept (D.image desk.old.device)
-        → Serves desk.old.kept (D.image desk.old.device) desk.old.owner desk.old.nodes (D.failures desk.old.device)
-        (C.taken channel.old) (C.given channel.old) (C.taken channel.new) (C.given channel.new) [] desk.new.nodes (D.failures desk.new.device)) }
-    ensures left { IfErr result (λ why. D.honest desk.new.device → IsKeptOf desk.old.kept (D.image desk.old.device)
-        → (rest : List (List ℕ)) × (t : Table) × (n : ℕ) × IsLeft why rest
-        × Serves desk.old.kept (D.image desk.old.device) desk.old.owner desk.old.nodes (D.failures desk.old.device)
-        (C.taken channel.old) (C.given channel.old) (C.taken channel.new) (C.given channel.new) rest t n) }
-    ensures same { (desk.new.kept ≡ desk.old.kept) × (desk.new.owner ≡ desk.old.owner) }
-    ensures reads { ReadsOnly D.honest D.image D.held desk.old.device desk.new.device }
+    ensures served { OnOk result (Serves T.turns desk.old (C.taken channel.old) (C.given channel.old) (C.taken channel.new) (C.given channel.new) [] desk.new) }
+    ensures left { IfErr result (λ why. Leaves T.turns T.fails desk.old (C.taken channel.old) (C.given channel.old)
+        (C.taken channel.new) (C.given channel.new) why desk.new) }
 {
     let Ok(mut message) = Message::with_room(alloc, MESSAGE_BYTES) else {
         return Err(LeftError::NoMemory);
     };
     let mut reply = Vec::new(alloc);
+    let mut is_first = true;
     for _turn in 0..u64::MAX {
-        match serve_one(desk, channel, &mut message, &mut reply) {
+        match serve_one(desk, channel, &mut message, &mut reply, &mut is_first) {
             Ok(true) => {}
             Ok(false) => return Ok(()),
             Err(why) => return Err(why),
@@ -60,24 +60,20 @@ pub fn serve<D: Device + Drop, C: Channel>(
 }
 
 /// Takes a message, if one is there, and answers it. Tells whether more may follow.
-fn serve_one<D: Device + Drop, C: Channel>(
-    desk: &mut Desk<D>,
+fn serve_one<T: Answering, C: Channel>(
+    desk: &mut T,
     channel: &mut C,
     message: &mut Message,
     reply: &mut Vec<u8>,
+    is_first: &mut bool,
 ) -> Result<bool, LeftError>
-    ensures served { OnOk result (D.honest desk.new.device → IsKeptOf desk.old.kept (D.image desk.old.device)
-        → Serves desk.old.kept (D.image desk.old.device) desk.old.owner desk.old.nodes (D.failures desk.old.device)
-        (C.taken channel.old) (C.given channel.old) (C.taken channel.new) (C.given channel.new) [] desk.new.nodes (D.failures desk.new.device)) }
-    ensures left { IfErr result (λ why. D.honest desk.new.device → IsKeptOf desk.old.kept (D.image desk.old.device)
-        → (rest : List (List ℕ)) × (t : Table) × (n : ℕ) × IsLeft why rest
-        × Serves desk.old.kept (D.image desk.old.device) desk.old.owner desk.old.nodes (D.failures desk.old.device)
-        (C.taken channel.old) (C.given channel.old) (C.taken channel.new) (C.given channel.new) rest t n) }
-    ensures same { (desk.new.kept ≡ desk.old.kept) × (desk.new.owner ≡ desk.old.owner) }
-    ensures reads { ReadsOnly D.honest D.image D.held desk.old.device desk.new.device }
+    ensures served { OnOk result (ServesOne T.turns is_first.old is_first.new desk.old (C.taken channel.old) (C.given channel.old)
+        (C.taken channel.new) (C.given channel.new) desk.new) }
+    ensures left { IfErr result (λ why. LeavesOne T.turns T.fails is_first.old desk.old (C.taken channel.old) (C.given channel.old)
+        (C.taken channel.new) (C.given channel.new) why desk.new) }
 {
     match channel.receive(message) {
-        Ok(Received::Message) => answer(desk, channel, message, reply),
+        Ok(Received::Message) => answer(desk, channel, message, reply, is_first),
         Ok(Received::Nothing) => Ok(true),
         Ok(Received::End) => Ok(false),
         Err(_) => Err(LeftError::Channel),
@@ -85,23 +81,25 @@ fn serve_one<D: Device + Drop, C: Channel>(
 }
 
 /// Answers a message. Tells whether more may follow.
-fn answer<D: Device + Drop, C: Channel>(
-    desk: &mut Desk<D>,
+fn answer<T: Answering, C: Channel>(
+    desk: &mut T,
     channel: &mut C,
     message: &Message,
     reply: &mut Vec<u8>,
+    is_first: &mut bool,
 ) -> Result<bool, LeftError>
-    ensures answered { OnOk result (D.honest desk.new.device → IsKeptOf desk.old.kept (D.image desk.old.device)
-        → (given : List (List ℕ)) × (C.given channel.new ≡ C.given channel.old ++ given)
-        × IsAnswered desk.old.kept (D.image desk.old.device) desk.old.owner desk.old.nodes (D.failures desk.old.device) message.now given
-        desk.new.nodes (D.failures desk.new.device)) }
-    ensures left { IfErr result (λ why. why ≡ LeftError.NoRequest → decode message.now ≡ None) }
+    ensures answered { OnOk result (AnswersOne T.turns is_first.old desk.old message.now (C.given channel.old) (C.given channel.new) desk.new) }
+    ensures first { OnOk result (is_first.new ≡ false) }
+    ensures left { IfErr result (λ why. LeavesIt T.turns T.fails is_first.old desk.old message.now why desk.new) }
     ensures none { OnErr result (C.given channel.new ≡ C.given channel.old) }
     ensures taken { C.taken channel.new ≡ C.taken channel.old }
-    ensures same { (desk.new.kept ≡ desk.old.kept) × (desk.new.owner ≡ desk.old.owner) }
-    ensures reads { ReadsOnly D.honest D.image D.held desk.old.device desk.new.device }
 {
-    let Ok(turned) = desk.turn(message.as_slice(), reply) else {
+    let bytes = message.as_slice();
+    if !is_in_place(*is_first, bytes) {
+        return Err(LeftError::NoRequest);
+    }
+    *is_first = false;
+    let Ok(turned) = desk.turn(bytes, reply) else {
         return Err(LeftError::NoMemory);
     };
     match turned {
@@ -123,4 +121,18 @@ fn give<C: Channel>(channel: &mut C, reply: &Vec<u8>, more: bool) -> Result<bool
         Ok(_) => Ok(more),
         Err(_) => Err(LeftError::Channel),
     }
+}
+
+/// Whether a message may come, the first one or a later one.
+fn is_in_place(is_first: bool, message: &[u8]) -> bool
+    ensures { result ≡ is_in_place is_first message.now }
+{
+    !is_first || asks_to_agree(message)
+}
+
+/// Whether a message asks to agree on a version.
+fn asks_to_agree(message: &[u8]) -> bool
+    ensures { result ≡ asks_to_agree (decode message.now) }
+{
+    matches!(fuse_wire::read(message), Some((_, Request::Init(_))))
 }

@@ -13,6 +13,7 @@ mod GivenBack
 pub mod LooseCuts
 pub mod Left
 mod TakenAll
+mod Given
 mod Settled
 mod Asked
 mod Rooms

@@ -1,5 +1,5 @@
-ghost use Rattle.std.specs.Prelude.{◌≡◌, ℕ, ◌<◌, Bool, List, [], ◌∷◌, length, MatchOption};
-ghost use Rattle.model.specs.Layout.{Geometry as Numbers, block_count};
+ghost use Rattle.std.specs.Prelude.{◌≡◌, ℕ, ◌<◌, Bool, IfSome, IsTrue, List, [], ◌∷◌, length, MatchOption};
+ghost use Rattle.model.specs.Layout.{Geometry as Numbers, block_count, is_data_address};
 ghost use Rattle.model.specs.Cells.{Update};
 ghost use Rattle.ordering.specs.Cuts.{Pending};
 ghost use Rattle.queue_model.specs.Entries.{Entry, Queue};
@@ -22,11 +22,54 @@ impl Table {
         ensures { (queue : Queue) (q : List Pending) (loose : List Bool) → Holds geometry.now self.old queue q loose
             → TakesAll geometry.now queue q loose address self.new block.old block.new result }
     {
+        if geometry.place_of(address).is_some() {
+            return self.take_whole(geometry, address, block);
+        }
+        self.take_parts(geometry, address, block)
+    }
+
+    /// The same for any block: each update is put into it.
+    fn take_parts(&mut self, geometry: &Geometry, address: u32, block: &mut Block) -> usize
+        requires held { IsTable geometry.now self.old }
+        requires address { address < block_count geometry.now }
+        ensures { (queue : Queue) (q : List Pending) (loose : List Bool) → Holds geometry.now self.old queue q loose
+            → TakesAll geometry.now queue q loose address self.new block.old block.new result }
+    {
         let mut count = 0;
         while self.take_one(geometry, address, block) {
             count += 1;
         }
         count
+    }
+
+    /// The same for a data block. Each update gives all of its bytes, so only the last one that is taken is put into it.
+    fn take_whole(&mut self, geometry: &Geometry, address: u32, block: &mut Block) -> usize
+        requires held { IsTable geometry.now self.old }
+        requires address { address < block_count geometry.now }
+        requires data_block { IsTrue (is_data_address geometry.now address) }
+        ensures { (queue : Queue) (q : List Pending) (loose : List Bool) → Holds geometry.now self.old queue q loose
+            → TakesAll geometry.now queue q loose address self.new block.old block.new result }
+    {
+        geometry.blocks(); // for the proof: its clause `geometry`
+        let mut last = None;
+        let mut count = 0;
+        while let Some(number) = self.take_next(address) {
+            last = Some(number);
+            count += 1;
+        }
+        self.put_last(geometry, last, block);
+        count
+    }
+
+    /// Puts the change of an update, where there is one, into the block in which its cell stands.
+    fn put_last(&self, geometry: &Geometry, last: Option<u32>, block: &mut Block)
+        requires { IfSome last (λ number. ShowsCell geometry.now self.now number) }
+        ensures { MatchOption last (block.new ≡ block.old)
+            (λ number. (u : Update) → Shows (node_at self.now.nodes.items number).update u → IsPutInto geometry.now u block.old block.new) }
+    {
+        if let Some(number) = last {
+            self.put(geometry, number, block);
+        }
     }
 
     /// Takes an update of a block that waits for nothing but what was taken, and puts it into the block. Answers whether

@@ -6,8 +6,9 @@ use layout::Block;
 use std::alloc::{AllocError, Global};
 use std::sync::Arc;
 
-/// How many blocks are kept at most, 1 MiB in all.
-const MOST: usize = 1024;
+/// How many blocks are kept at most, 4 MiB in all. What is written of a MiB of a file lets go of two to three times as many bytes at
+/// once, since each of its blocks comes with a new table.
+const MOST: usize = 4096;
 
 /// Blocks in memory that nothing needs any more. What their bytes were is of no account.
 #[derive(Drop)]

@@ -1,9 +1,19 @@
 //! What is kept of small images of two groups of 16 blocks and 16 inodes.
 use device::Byte;
+use directories::Piece;
 use frozen::Frozen;
 use layout::{Geometry, Refusal};
 use std::alloc::Global;
 use test_images::frozen_with;
+
+/// The numbers of a group of 16 inodes.
+pub(crate) fn group(unit: u32) -> Piece {
+    let first = unit.saturating_mul(16);
+    Piece {
+        first,
+        past: first.saturating_add(16),
+    }
+}
 
 /// The bytes that differ from a fresh image of two groups of 16 blocks and 16 inodes: the block, the byte, the value.
 /// The root names 3, 18 and 6, and has a bad slot. Directory 3, in block 5, names the root in slot 2 and 17 in its last

@@ -1,5 +1,5 @@
 use crate::expect::same;
-use crate::images::image_with;
+use crate::images::{group, image_with};
 use device::Byte;
 use findings::Finding;
 use frozen::Frozen;
@@ -32,7 +32,7 @@ const CHANGES: &[Byte] = &[
 fn parts(alloc: Global, frozen: &Frozen, reached: &Members) -> Result<Vec<Part>, Refusal> {
     let mut parts = Vec::new(alloc);
     for unit in 0..2 {
-        parts.push(part(alloc, frozen, unit, reached)?)?;
+        parts.push(part(alloc, frozen, &group(unit), reached)?)?;
     }
     Ok(parts)
 }

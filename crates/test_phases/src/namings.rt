@@ -1,6 +1,6 @@
 use crate::expect::same;
-use crate::images::{TREE, image_with};
-use directories::{Named, merge, named};
+use crate::images::{TREE, group, image_with};
+use directories::{Named, groups_of, merge, named, pieces};
 use frozen::Frozen;
 use layout::Refusal;
 use std::alloc::Global;
@@ -17,7 +17,7 @@ fn expect_named(rt: &impl Abort, named: &Named, wanted: &[(u32, &[u32])]) {
 #[test]
 fn good_slots_are_named_in_their_order(rt: HostRuntime) -> Result<(), Fail> {
     let frozen = image_with(rt.alloc(), TREE)?;
-    let with_dots = named(rt.alloc(), &frozen, 0, 0)?;
+    let with_dots = named(rt.alloc(), &frozen, &group(0), 0)?;
     expect_named(
         &rt,
         &with_dots,
@@ -30,7 +30,7 @@ fn good_slots_are_named_in_their_order(rt: HostRuntime) -> Result<(), Fail> {
 fn merged(alloc: Global, frozen: &Frozen, units: &[u32]) -> Result<Named, Refusal> {
     let mut whole = Named::new(alloc);
     for unit in units {
-        whole = merge(whole, named(alloc, frozen, *unit, 2)?)?;
+        whole = merge(whole, named(alloc, frozen, &group(*unit), 2)?)?;
     }
     Ok(whole)
 }
@@ -51,5 +51,15 @@ fn tables_are_merged_in_any_order(rt: HostRuntime) -> Result<(), Fail> {
         let whole = merged(rt.alloc(), &frozen, &units)?;
         expect_named(&rt, &whole, WHOLE);
     }
+    Ok(())
+}
+
+#[test]
+fn a_group_with_few_blocks_of_directories_is_one_piece(rt: HostRuntime) -> Result<(), Fail> {
+    let frozen = image_with(rt.alloc(), TREE)?;
+    let pieces = pieces(rt.alloc(), &frozen)?;
+    same(&rt, "pieces", pieces.as_slice(), &[group(0), group(1)][..]);
+    let groups = groups_of(rt.alloc(), &frozen, pieces.as_slice())?;
+    same(&rt, "groups", groups.as_slice(), &[0, 1][..]);
     Ok(())
 }

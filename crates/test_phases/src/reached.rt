@@ -1,5 +1,5 @@
 use crate::expect::same;
-use crate::images::{TREE, image_with};
+use crate::images::{TREE, group, image_with};
 use connectivity::{findings, merge, part, rounds, walk};
 use findings::Finding;
 use frozen::Frozen;
@@ -23,7 +23,10 @@ fn expect_reached<R: AllocGlobal + Abort>(
 
 /// What is reached by one walk.
 fn walked(alloc: Global, frozen: &Frozen) -> Result<BTreeSet<u32>, Refusal> {
-    let whole = merge(part(alloc, frozen, 1)?, part(alloc, frozen, 0)?)?;
+    let whole = merge(
+        part(alloc, frozen, &group(1))?,
+        part(alloc, frozen, &group(0))?,
+    )?;
     walk(alloc, frozen, &whole)
 }
 

@@ -1,4 +1,5 @@
 use crate::expect::same;
+use crate::images::group;
 use device::{Byte, MemDevice, set_bytes};
 use findings::Finding;
 use frozen::{Frozen, load};
@@ -113,7 +114,7 @@ fn set_of(alloc: Global, numbers: &[u32]) -> Result<BTreeSet<u32>, Refusal> {
 fn merged(alloc: Global, frozen: &Frozen, units: &[u32]) -> Result<Part, Refusal> {
     let mut whole = Part::new(alloc);
     for unit in units {
-        whole = merge(whole, part(alloc, frozen, *unit)?)?;
+        whole = merge(whole, part(alloc, frozen, &group(*unit))?)?;
     }
     Ok(whole)
 }

@@ -8,7 +8,9 @@ use crate::trying::{
     Changes, SMALL, Wanted, changed, gives, gives_of_bytes, gives_of_each, made, made_small,
     refuses_lengths,
 };
+use serve_lines::Holdable;
 use std::fs;
+use std::io::Eprint;
 use std::os::unix::fs::FileExt;
 use std::process::Abort;
 use std::rt::Files;
@@ -209,7 +211,7 @@ fn repair_gives_a_lost_directory_back(rt: HostRuntime) -> Result<(), Fail> {
 }
 
 /// An image of these bytes is mended, and is clean then.
-fn mends<R: Files + AllocGlobal + Clock + Threads + Wait + Sync + Abort + Clone + Drop>(
+fn mends<R: Files + AllocGlobal + Clock + Eprint + Threads + Wait + Sync + Abort + Clone + Drop>(
     rt: &R,
     start: &str,
     image: &str,
@@ -218,7 +220,7 @@ fn mends<R: Files + AllocGlobal + Clock + Threads + Wait + Sync + Abort + Clone 
     mended: &str,
 ) -> Result<(), Fail>
 where
-    R::File: FileExt + Send,
+    R::File: FileExt + Holdable + Send,
 {
     let out = format!(in rt.alloc(); "{report}{mended}")?;
     fs::write(rt, image, bytes)?;
@@ -281,14 +283,11 @@ fn check_and_repair_refuse_other_than_1_to_64_workers(rt: HostRuntime) -> Result
 }
 
 /// The line is refused for its workers, also where no file stands.
-fn refuses_workers<R: Files + AllocGlobal + Clock + Threads + Wait + Sync + Abort + Clone + Drop>(
-    rt: &R,
-    start: &str,
-    image: &str,
-    fresh: &[u8],
-) -> Result<(), Fail>
+fn refuses_workers<
+    R: Files + AllocGlobal + Clock + Eprint + Threads + Wait + Sync + Abort + Clone + Drop,
+>(rt: &R, start: &str, image: &str, fresh: &[u8]) -> Result<(), Fail>
 where
-    R::File: FileExt + Send,
+    R::File: FileExt + Holdable + Send,
 {
     let wanted = Refused("refused 6 BadWorkers\nworkers: 1 to 64\n", 3);
     gives_of_bytes(rt, start, image, fresh, wanted)?;

@@ -4,7 +4,9 @@ use crate::trying::Wanted::{Printed, Refused};
 use crate::trying::{
     Changes, Row, Wanted, changed, give, gives, gives_of_each, holds, made, made_small,
 };
+use serve_lines::Holdable;
 use std::fs;
+use std::io::Eprint;
 use std::os::unix::fs::FileExt;
 use std::process::Abort;
 use std::rt::Files;
@@ -111,13 +113,11 @@ fn an_image_is_changed_and_looked_into(rt: HostRuntime) -> Result<(), Fail> {
 }
 
 /// A script writes the file `/f`.
-fn writes_a_file<R: Files + AllocGlobal + Clock + Threads + Wait + Sync + Abort + Clone + Drop>(
-    rt: &R,
-    image: &str,
-    script: &str,
-) -> Result<(), Fail>
+fn writes_a_file<
+    R: Files + AllocGlobal + Clock + Eprint + Threads + Wait + Sync + Abort + Clone + Drop,
+>(rt: &R, image: &str, script: &str) -> Result<(), Fail>
 where
-    R::File: FileExt + Send,
+    R::File: FileExt + Holdable + Send,
 {
     let ran = format!(in rt.alloc(); "{WRITTEN}{CLEAN_REPORT}repaired 0\n")?;
     fs::write(rt, script, SCRIPT)?;
@@ -245,13 +245,11 @@ fn a_refused_change_tells_how_far_it_came(rt: HostRuntime) -> Result<(), Fail> {
 }
 
 /// Carries out lines on an image, as `give` takes them, each of which is refused with this text and the status 3.
-fn refuses_each<R: Files + AllocGlobal + Clock + Threads + Wait + Sync + Abort + Clone + Drop>(
-    rt: &R,
-    image: &str,
-    rows: &[(&str, &str, &str, &str)],
-) -> Result<(), Fail>
+fn refuses_each<
+    R: Files + AllocGlobal + Clock + Eprint + Threads + Wait + Sync + Abort + Clone + Drop,
+>(rt: &R, image: &str, rows: &[(&str, &str, &str, &str)]) -> Result<(), Fail>
 where
-    R::File: FileExt + Send,
+    R::File: FileExt + Holdable + Send,
 {
     for &(name, words, last, err) in rows {
         give(rt, image, &[(name, words, last, Refused(err, 3))])?;

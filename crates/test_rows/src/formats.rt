@@ -4,8 +4,10 @@ use crate::trying::Wanted::{Printed, Refused};
 use crate::trying::{
     Changes, Wanted, changed, give, gives, gives_of_each, holds, is_missing, made, made_small, same,
 };
+use serve_lines::Holdable;
 use std::alloc::{AllocError, Global};
 use std::fs::OpenFile;
+use std::io::Eprint;
 use std::os::unix::fs::FileExt;
 use std::process::Abort;
 use std::rt::Files;
@@ -147,15 +149,11 @@ fn a_file_of_10_mib_goes_in_and_comes_out(rt: HostRuntime) -> Result<(), Fail> {
 
 /// A file of this name and of so many bytes goes into an image of the second version, comes out of it as it was, and leaves nothing
 /// there once it is removed.
-fn goes_through<R: Files + AllocGlobal + Clock + Threads + Wait + Sync + Abort + Clone + Drop>(
-    rt: &R,
-    file: &str,
-    geometry: &str,
-    length: usize,
-    stat: &str,
-) -> Result<(), Fail>
+fn goes_through<
+    R: Files + AllocGlobal + Clock + Eprint + Threads + Wait + Sync + Abort + Clone + Drop,
+>(rt: &R, file: &str, geometry: &str, length: usize, stat: &str) -> Result<(), Fail>
 where
-    R::File: FileExt + Send,
+    R::File: FileExt + Holdable + Send,
 {
     let alloc = rt.alloc();
     let image = format!(in alloc; "{file}.img")?;
@@ -173,7 +171,10 @@ where
 }
 
 /// A file with this text goes into an image, is told of by `stat` as this, and comes out as the copy.
-fn puts_and_gets<'a, R: Files + AllocGlobal + Clock + Threads + Wait + Sync + Abort + Clone + Drop>(
+fn puts_and_gets<
+    'a,
+    R: Files + AllocGlobal + Clock + Eprint + Threads + Wait + Sync + Abort + Clone + Drop,
+>(
     rt: &R,
     image: &'a str,
     file: &'a str,
@@ -182,7 +183,7 @@ fn puts_and_gets<'a, R: Files + AllocGlobal + Clock + Threads + Wait + Sync + Ab
     stat: &'a str,
 ) -> Result<(), Fail>
 where
-    R::File: FileExt + Send,
+    R::File: FileExt + Holdable + Send,
 {
     let lines = [
         ("put", " /a", file, Printed("", 0)),

@@ -1,8 +1,10 @@
 //! The line `mkfs`.
 use crate::trying::Wanted::{Printed, Refused};
 use crate::trying::{SMALL, Wanted, gives, holds, is_missing, made_small, same, set};
+use serve_lines::Holdable;
 use std::alloc::{AllocError, Global};
 use std::fs;
+use std::io::Eprint;
 use std::os::unix::fs::FileExt;
 use std::process::Abort;
 use std::rt::Files;
@@ -55,14 +57,14 @@ fn mkfs_replaces_an_older_file(rt: HostRuntime) -> Result<(), Fail> {
 }
 
 /// An image of these bytes is made in place of an older file of this length.
-fn replaces<R: Files + AllocGlobal + Clock + Threads + Wait + Sync + Abort + Clone + Drop>(
+fn replaces<R: Files + AllocGlobal + Clock + Eprint + Threads + Wait + Sync + Abort + Clone + Drop>(
     rt: &R,
     image: &str,
     length: usize,
     fresh: &[u8],
 ) -> Result<(), Fail>
 where
-    R::File: FileExt + Send,
+    R::File: FileExt + Holdable + Send,
 {
     let older = vec![in rt.alloc(); 0xffu8; length]?;
     fs::write(rt, image, older.as_slice())?;
@@ -107,14 +109,11 @@ fn mkfs_refuses_numbers_of_no_geometry(rt: HostRuntime) -> Result<(), Fail> {
 }
 
 /// The line is refused where no file stands, and makes none, and where one stands, and leaves that.
-fn refuses_geometry<R: Files + AllocGlobal + Clock + Threads + Wait + Sync + Abort + Clone + Drop>(
-    rt: &R,
-    start: &str,
-    limit: &str,
-    image: &str,
-) -> Result<(), Fail>
+fn refuses_geometry<
+    R: Files + AllocGlobal + Clock + Eprint + Threads + Wait + Sync + Abort + Clone + Drop,
+>(rt: &R, start: &str, limit: &str, image: &str) -> Result<(), Fail>
 where
-    R::File: FileExt + Send,
+    R::File: FileExt + Holdable + Send,
 {
     let refused = format!(in rt.alloc(); "refused 29 BadGeometry\n{limit}\n")?;
     let wanted = Refused(refused.as_str(), 3);

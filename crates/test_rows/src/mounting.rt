@@ -4,8 +4,10 @@ use crate::trying::Wanted::{self, Printed, Refused};
 use crate::trying::{changed, given, made_small, unwatched};
 use channels::{Channel, MemoryChannel, Message, Received};
 use commands::perform;
+use serve_lines::Holdable;
 use std::alloc::Global;
 use std::fs;
+use std::io::Eprint;
 use std::os::unix::fs::FileExt;
 use std::process::Abort;
 use std::rt::Files;
@@ -44,12 +46,53 @@ fn an_image_is_served_until_it_is_unmounted(rt: HostRuntime) -> Result<(), Fail>
         is_served(&rt, &["serve", image, "--read-only"])?;
         is_served(&rt, &["serve", "--owner", "1:2", "--read-only", image])?;
     }
-    let words = ["serve", image, "--read-only"];
-    served(&rt, &words, &[FIRST], Printed("", 0), 1)?;
-    served(&rt, &words, &[], Printed("", 0), 0)?;
-    served(&rt, &words, &[b"hello"], NO_LINUX, 0)?;
-    served(&rt, &words, &[FIRST, b"hello"], NO_LINUX, 1)?;
+    ends_as_told(&rt, &["serve", image, "--read-only"])?;
     fs::remove_file(&rt, image)?;
+    Ok(())
+}
+
+/// Words of a line that serves an image with writes.
+const WRITTEN: &[&[&str]] = &[
+    &["--check", "0", "--seconds", "0"],
+    &["--check", "0", "--owner", "1:2"],
+    &["--check", "0", "--strict-names", "--strict-size"],
+];
+
+#[test]
+fn an_image_is_served_with_writes(rt: HostRuntime) -> Result<(), Fail> {
+    let image = "rows_mounting_writes.img";
+    let fresh = made_small(&rt, image)?;
+    for words in WRITTEN {
+        let mut line = vec![in rt.alloc(); "serve", image]?;
+        line.extend_from_slice(words)?;
+        is_served(&rt, line.as_slice())?;
+        ends_as_told(&rt, line.as_slice())?;
+        assert!(&rt;
+            fs::read(&rt, image)?.as_slice() == fresh.as_slice(),
+            "{words:?}"
+        );
+    }
+    let damaged = changed(rt.alloc(), fresh.as_slice(), SHARED_BLOCK)?;
+    fs::write(&rt, image, damaged.as_slice())?;
+    let refusal = "refused 24 Damaged\nsee: fsvol check rows_mounting_writes.img\n";
+    is_refused(&rt, &["serve", image], Refused(refusal, 2))?;
+    fs::remove_file(&rt, image)?;
+    Ok(())
+}
+
+/// The line of these words is done where the channel ends, and refuses what is no connection to Linux: a first message that does
+/// not ask to agree, and one that is none.
+fn ends_as_told<
+    R: Files + AllocGlobal + Clock + Eprint + Threads + Wait + Sync + Abort + Clone + Drop,
+>(rt: &R, words: &[&str]) -> Result<(), Fail>
+where
+    R::File: FileExt + Holdable + Send,
+{
+    served(rt, words, &[FIRST], Printed("", 0), 1)?;
+    served(rt, words, &[], Printed("", 0), 0)?;
+    served(rt, words, &[b"hello"], NO_LINUX, 0)?;
+    served(rt, words, &[LAST], NO_LINUX, 0)?;
+    served(rt, words, &[FIRST, b"hello"], NO_LINUX, 1)?;
     Ok(())
 }
 
@@ -75,13 +118,18 @@ const NO_IMAGES: &[(&[u8], Wanted<'static>)] = &[
 fn what_is_no_image_is_refused_before_a_message_is_taken(rt: HostRuntime) -> Result<(), Fail> {
     let image = "rows_mounting_none.img";
     let _ = fs::remove_file(&rt, image);
-    let words = ["serve", image, "--read-only"];
+    let reads = ["serve", image, "--read-only"];
+    let writes = ["serve", image];
     let missing = "refused 2 Device\nat rows_mounting_none.img: no such file\n";
-    is_refused(&rt, &words, Refused(missing, 4))?;
+    is_refused(&rt, &reads, Refused(missing, 4))?;
+    is_refused(&rt, &writes, Refused(missing, 4))?;
     for &(bytes, wanted) in NO_IMAGES {
         fs::write(&rt, image, bytes)?;
-        is_refused(&rt, &words, wanted)?;
+        is_refused(&rt, &reads, wanted)?;
+        is_refused(&rt, &writes, wanted)?;
     }
+    let workers = "refused 6 BadWorkers\nworkers: 1 to 64\n";
+    is_refused(&rt, &["serve", image, "--check", "65"], Refused(workers, 3))?;
     let owner = "error: invalid value '1' for '--owner <USER:GROUP>': two numbers, as 1000:1000\n";
     is_refused(
         &rt,
@@ -93,7 +141,7 @@ fn what_is_no_image_is_refused_before_a_message_is_taken(rt: HostRuntime) -> Res
 }
 
 /// Over a channel with these messages the line of these words gives so many replies, and what is wanted.
-fn served<R: Files + AllocGlobal + Clock + Threads + Wait + Sync + Abort + Clone + Drop>(
+fn served<R: Files + AllocGlobal + Clock + Eprint + Threads + Wait + Sync + Abort + Clone + Drop>(
     rt: &R,
     words: &[&str],
     messages: &[&[u8]],
@@ -101,7 +149,7 @@ fn served<R: Files + AllocGlobal + Clock + Threads + Wait + Sync + Abort + Clone
     replies: usize,
 ) -> Result<MemoryChannel, Fail>
 where
-    R::File: FileExt + Send,
+    R::File: FileExt + Holdable + Send,
 {
     let mut channel = channel_of(rt.alloc(), messages)?;
     let mut out = Vec::new(rt.alloc());
@@ -113,12 +161,11 @@ where
 }
 
 /// The line of these words answers the first request and the last one.
-fn is_served<R: Files + AllocGlobal + Clock + Threads + Wait + Sync + Abort + Clone + Drop>(
-    rt: &R,
-    words: &[&str],
-) -> Result<(), Fail>
+fn is_served<
+    R: Files + AllocGlobal + Clock + Eprint + Threads + Wait + Sync + Abort + Clone + Drop,
+>(rt: &R, words: &[&str]) -> Result<(), Fail>
 where
-    R::File: FileExt + Send,
+    R::File: FileExt + Holdable + Send,
 {
     let channel = served(rt, words, &[FIRST, LAST, FIRST], Printed("", 0), 2)?;
     let last = channel.replies().get(1);
@@ -130,13 +177,11 @@ where
 }
 
 /// The line of these words is refused, and the first message waits still.
-fn is_refused<R: Files + AllocGlobal + Clock + Threads + Wait + Sync + Abort + Clone + Drop>(
-    rt: &R,
-    words: &[&str],
-    wanted: Wanted<'_>,
-) -> Result<(), Fail>
+fn is_refused<
+    R: Files + AllocGlobal + Clock + Eprint + Threads + Wait + Sync + Abort + Clone + Drop,
+>(rt: &R, words: &[&str], wanted: Wanted<'_>) -> Result<(), Fail>
 where
-    R::File: FileExt + Send,
+    R::File: FileExt + Holdable + Send,
 {
     let mut channel = served(rt, words, &[FIRST], wanted, 0)?;
     let mut message = Message::with_room(rt.alloc(), 64)?;

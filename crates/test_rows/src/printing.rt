@@ -2,7 +2,8 @@
 use crate::trying::Wanted::Printed;
 use crate::trying::{gives_of_words, is_missing, unconnected, unwatched};
 use commands::perform;
-use std::io::Write;
+use serve_lines::Holdable;
+use std::io::{Eprint, Write};
 use std::os::unix::fs::FileExt;
 use std::process::Abort;
 use std::rt::Files;
@@ -41,10 +42,10 @@ fn a_wrong_line_is_refused_with_a_text(rt: HostRuntime) -> Result<(), Fail> {
 
 /// The line prints nothing, and tells something of its refusal.
 fn is_refused_with_a_text<
-    R: Files + AllocGlobal + Clock + Threads + Wait + Sync + Abort + Clone + Drop,
+    R: Files + AllocGlobal + Clock + Eprint + Threads + Wait + Sync + Abort + Clone + Drop,
 >(rt: &R, line: &str) -> Result<(), Fail>
 where
-    R::File: FileExt + Send,
+    R::File: FileExt + Holdable + Send,
 {
     let words: Vec<&str> = line.split(' ').collect(rt.alloc())?;
     let mut out = Vec::new(rt.alloc());
@@ -120,11 +121,11 @@ fn a_failed_write_is_told_by_the_status(rt: HostRuntime) {
 
 /// The line without words, whose output goes to this writer, ends with this status, and tells of no refusal.
 fn ends_with<
-    R: Files + AllocGlobal + Clock + Threads + Wait + Sync + Abort + Clone + Drop,
+    R: Files + AllocGlobal + Clock + Eprint + Threads + Wait + Sync + Abort + Clone + Drop,
     W: Write,
 >(rt: &R, out: &mut W, wanted: u8)
 where
-    R::File: FileExt + Send,
+    R::File: FileExt + Holdable + Send,
 {
     let words: &[&str] = &[];
     let mut err = Vec::new(rt.alloc());
@@ -142,10 +143,10 @@ fn a_refusal_keeps_its_status_where_it_cannot_be_printed(rt: HostRuntime) {
 
 /// The line is refused with this status, and prints nothing, where the refusal cannot be printed.
 fn is_refused_unprinted<
-    R: Files + AllocGlobal + Clock + Threads + Wait + Sync + Abort + Clone + Drop,
+    R: Files + AllocGlobal + Clock + Eprint + Threads + Wait + Sync + Abort + Clone + Drop,
 >(rt: &R, name: &str, wanted: u8)
 where
-    R::File: FileExt + Send,
+    R::File: FileExt + Holdable + Send,
 {
     let mut out = Vec::new(rt.alloc());
     let mut channel = unconnected(rt.alloc());

@@ -3,7 +3,9 @@ use crate::hosting::made_folder;
 use crate::trying::{changed, made_small, unconnected};
 use commands::{Line, carry_out, parse};
 use progress::{Step, Watcher};
+use serve_lines::Holdable;
 use std::fs;
+use std::io::Eprint;
 use std::os::unix::fs::FileExt;
 use std::process::Abort;
 use std::rt::Files;
@@ -11,6 +13,7 @@ use std::sync::Wait;
 use std::sync::atomic::{AtomicU64, Ordering};
 use std::test::Fail;
 use std::thread::Threads;
+use std::time::Clock;
 
 /// A watcher that counts what it is told.
 #[derive(Drop)]
@@ -25,12 +28,12 @@ impl Watcher for Counting {
 }
 
 /// How often a watcher is told something while a line is carried out.
-fn told_of<R: Files + AllocGlobal + Threads + Wait + Sync + Clone + Drop>(
+fn told_of<R: Files + AllocGlobal + Clock + Eprint + Threads + Wait + Sync + Clone + Drop>(
     rt: &R,
     line: &str,
 ) -> Result<u64, Fail>
 where
-    R::File: FileExt + Send,
+    R::File: FileExt + Holdable + Send,
 {
     let words: Vec<&str> = line.split(' ').collect(rt.alloc())?;
     let asked = parse(rt.alloc(), words.as_slice()).ok().ok_or(line)?;
@@ -38,12 +41,12 @@ where
 }
 
 /// How often a watcher is told something while a line is carried out, if it is not refused.
-fn told_while<R: Files + AllocGlobal + Threads + Wait + Sync + Clone + Drop>(
+fn told_while<R: Files + AllocGlobal + Clock + Eprint + Threads + Wait + Sync + Clone + Drop>(
     rt: &R,
     line: &Line<'_>,
 ) -> Option<u64>
 where
-    R::File: FileExt + Send,
+    R::File: FileExt + Holdable + Send,
 {
     let watcher = Counting {
         told: AtomicU64::new(0),

@@ -2,7 +2,9 @@
 use crate::reports::{CLEAN_REPORT, SOFT_MENDED, SOFT_REPORT};
 use crate::trying::Wanted::{Printed, Refused};
 use crate::trying::{Changes, Wanted, changed, gives, holds, made_small};
+use serve_lines::Holdable;
 use std::fs;
+use std::io::Eprint;
 use std::os::unix::fs::FileExt;
 use std::process::Abort;
 use std::rt::Files;
@@ -16,7 +18,9 @@ const TIMES: u32 = 20;
 
 /// Carries out a line that starts with these words, and ends with the names of an image of these bytes, which are written to
 /// its file first, and of a file with this script.
-fn gives_of_script<R: Files + AllocGlobal + Clock + Threads + Wait + Sync + Abort + Clone + Drop>(
+fn gives_of_script<
+    R: Files + AllocGlobal + Clock + Eprint + Threads + Wait + Sync + Abort + Clone + Drop,
+>(
     rt: &R,
     start: &str,
     (image, bytes): (&str, &[u8]),
@@ -24,7 +28,7 @@ fn gives_of_script<R: Files + AllocGlobal + Clock + Threads + Wait + Sync + Abor
     wanted: Wanted<'_>,
 ) -> Result<(), Fail>
 where
-    R::File: FileExt + Send,
+    R::File: FileExt + Holdable + Send,
 {
     let file = format!(in rt.alloc(); "{image}.script")?;
     let start = format!(in rt.alloc(); "{start} {image}")?;
@@ -79,14 +83,14 @@ fn run_tells_what_users_are_answered(rt: HostRuntime) -> Result<(), Fail> {
 }
 
 /// A script is carried out on an image of these bytes, and tells these parts; a check finds nothing on it then.
-fn runs<R: Files + AllocGlobal + Clock + Threads + Wait + Sync + Abort + Clone + Drop>(
+fn runs<R: Files + AllocGlobal + Clock + Eprint + Threads + Wait + Sync + Abort + Clone + Drop>(
     rt: &R,
     (image, bytes): (&str, &[u8]),
     script: &str,
     [answers, report, mended]: [&str; 3],
 ) -> Result<(), Fail>
 where
-    R::File: FileExt + Send,
+    R::File: FileExt + Holdable + Send,
 {
     let told = format!(in rt.alloc(); "{answers}{report}{mended}")?;
     gives_of_script(
@@ -164,7 +168,7 @@ fn run_writes_no_image_that_it_refuses(rt: HostRuntime) -> Result<(), Fail> {
 }
 
 /// Carries out a line with a script on an image of these bytes, which stand there still then.
-fn leaves<R: Files + AllocGlobal + Clock + Threads + Wait + Sync + Abort + Clone + Drop>(
+fn leaves<R: Files + AllocGlobal + Clock + Eprint + Threads + Wait + Sync + Abort + Clone + Drop>(
     rt: &R,
     start: &str,
     (image, bytes): (&str, &[u8]),
@@ -172,7 +176,7 @@ fn leaves<R: Files + AllocGlobal + Clock + Threads + Wait + Sync + Abort + Clone
     wanted: Wanted<'_>,
 ) -> Result<(), Fail>
 where
-    R::File: FileExt + Send,
+    R::File: FileExt + Holdable + Send,
 {
     gives_of_script(rt, start, (image, bytes), script, wanted)?;
     holds(rt, start, image, bytes)
@@ -204,10 +208,10 @@ const NO_IMAGE: Wanted<'static> = Refused(
 
 /// The line is refused where its script is missing, and where its image is.
 fn fails_without_files<
-    R: Files + AllocGlobal + Clock + Threads + Wait + Sync + Abort + Clone + Drop,
+    R: Files + AllocGlobal + Clock + Eprint + Threads + Wait + Sync + Abort + Clone + Drop,
 >(rt: &R, line: &str, image: &str) -> Result<(), Fail>
 where
-    R::File: FileExt + Send,
+    R::File: FileExt + Holdable + Send,
 {
     let script = "rows_a_script";
     let start = format!(in rt.alloc(); "{line} {image}")?;

@@ -2,8 +2,9 @@
 use channels::MemoryChannel;
 use command_line::Screen;
 use commands::perform;
+use serve_lines::Holdable;
 use std::alloc::{AllocError, Global};
-use std::io::Sink;
+use std::io::{Eprint, Sink};
 use std::os::unix::fs::FileExt;
 use std::process::Abort;
 use std::rt::Files;
@@ -48,14 +49,11 @@ pub(crate) fn unconnected(alloc: Global) -> MemoryChannel {
 }
 
 /// Carries out a line of these words, and of a last one behind them.
-pub(crate) fn gives<R: Files + AllocGlobal + Clock + Threads + Wait + Sync + Abort + Clone + Drop>(
-    rt: &R,
-    start: &str,
-    last: &str,
-    wanted: Wanted<'_>,
-) -> Result<(), Fail>
+pub(crate) fn gives<
+    R: Files + AllocGlobal + Clock + Eprint + Threads + Wait + Sync + Abort + Clone + Drop,
+>(rt: &R, start: &str, last: &str, wanted: Wanted<'_>) -> Result<(), Fail>
 where
-    R::File: FileExt + Send,
+    R::File: FileExt + Holdable + Send,
 {
     let mut words: Vec<&str> = start.split(' ').collect(rt.alloc())?;
     words.push(last)?;
@@ -65,10 +63,10 @@ where
 
 /// Carries out a line of these words.
 pub(crate) fn gives_of_words<
-    R: Files + AllocGlobal + Clock + Threads + Wait + Sync + Abort + Clone + Drop,
+    R: Files + AllocGlobal + Clock + Eprint + Threads + Wait + Sync + Abort + Clone + Drop,
 >(rt: &R, words: &[&str], wanted: Wanted<'_>)
 where
-    R::File: FileExt + Send,
+    R::File: FileExt + Holdable + Send,
 {
     let mut out = Vec::new(rt.alloc());
     let mut err = Vec::new(rt.alloc());
@@ -101,13 +99,11 @@ pub(crate) fn same(rt: &impl Abort, words: &[&str], bytes: &[u8], wanted: &[u8])
 }
 
 /// Carries out lines on an image, one after another.
-pub(crate) fn give<R: Files + AllocGlobal + Clock + Threads + Wait + Sync + Abort + Clone + Drop>(
-    rt: &R,
-    image: &str,
-    lines: &[Row<'_>],
-) -> Result<(), Fail>
+pub(crate) fn give<
+    R: Files + AllocGlobal + Clock + Eprint + Threads + Wait + Sync + Abort + Clone + Drop,
+>(rt: &R, image: &str, lines: &[Row<'_>]) -> Result<(), Fail>
 where
-    R::File: FileExt + Send,
+    R::File: FileExt + Holdable + Send,
 {
     for &(name, words, last, wanted) in lines {
         let start = format!(in rt.alloc(); "{name} {image}{words}")?;
@@ -117,13 +113,11 @@ where
 }
 
 /// Makes a fresh image in this file, and gives its bytes.
-pub(crate) fn made<R: Files + AllocGlobal + Clock + Threads + Wait + Sync + Abort + Clone + Drop>(
-    rt: &R,
-    geometry: &str,
-    image: &str,
-) -> Result<Vec<u8>, Fail>
+pub(crate) fn made<
+    R: Files + AllocGlobal + Clock + Eprint + Threads + Wait + Sync + Abort + Clone + Drop,
+>(rt: &R, geometry: &str, image: &str) -> Result<Vec<u8>, Fail>
 where
-    R::File: FileExt + Send,
+    R::File: FileExt + Holdable + Send,
 {
     let start = format!(in rt.alloc(); "mkfs {geometry}")?;
     gives(rt, start.as_str(), image, Printed("", 0))?;
@@ -132,20 +126,20 @@ where
 
 /// A fresh image of 1 group, 16 blocks and 16 inodes, in this file.
 pub(crate) fn made_small<
-    R: Files + AllocGlobal + Clock + Threads + Wait + Sync + Abort + Clone + Drop,
+    R: Files + AllocGlobal + Clock + Eprint + Threads + Wait + Sync + Abort + Clone + Drop,
 >(rt: &R, image: &str) -> Result<Vec<u8>, Fail>
 where
-    R::File: FileExt + Send,
+    R::File: FileExt + Holdable + Send,
 {
     made(rt, "--groups 1 --blocks 16 --inodes 16", image)
 }
 
 /// Carries out a line of these words on an image of these bytes, which stand in this file, and then stand there still.
 pub(crate) fn gives_of_bytes<
-    R: Files + AllocGlobal + Clock + Threads + Wait + Sync + Abort + Clone + Drop,
+    R: Files + AllocGlobal + Clock + Eprint + Threads + Wait + Sync + Abort + Clone + Drop,
 >(rt: &R, start: &str, image: &str, bytes: &[u8], wanted: Wanted<'_>) -> Result<(), Fail>
 where
-    R::File: FileExt + Send,
+    R::File: FileExt + Holdable + Send,
 {
     fs::write(rt, image, bytes)?;
     gives(rt, start, image, wanted)?;
@@ -167,7 +161,7 @@ pub(crate) fn holds<R: Files + AllocGlobal + Abort>(
 /// Carries out a line of these words on images, each of these bytes with changes: what it is to give on each. None of them is
 /// written.
 pub(crate) fn gives_of_each<
-    R: Files + AllocGlobal + Clock + Threads + Wait + Sync + Abort + Clone + Drop,
+    R: Files + AllocGlobal + Clock + Eprint + Threads + Wait + Sync + Abort + Clone + Drop,
 >(
     rt: &R,
     start: &str,
@@ -176,7 +170,7 @@ pub(crate) fn gives_of_each<
     rows: &[(Changes<'_>, Wanted<'_>)],
 ) -> Result<(), Fail>
 where
-    R::File: FileExt + Send,
+    R::File: FileExt + Holdable + Send,
 {
     for &(changes, wanted) in rows {
         let bytes = changed(rt.alloc(), fresh, changes)?;
@@ -187,10 +181,10 @@ where
 
 /// Carries out a line of these words on what is no image, since it has one of these lengths, of which this is told.
 pub(crate) fn refuses_lengths<
-    R: Files + AllocGlobal + Clock + Threads + Wait + Sync + Abort + Clone + Drop,
+    R: Files + AllocGlobal + Clock + Eprint + Threads + Wait + Sync + Abort + Clone + Drop,
 >(rt: &R, start: &str, image: &str, fresh: &[u8], lengths: &[(usize, &str)]) -> Result<(), Fail>
 where
-    R::File: FileExt + Send,
+    R::File: FileExt + Holdable + Send,
 {
     for &(length, told) in lengths {
         let mut bytes = fresh.to_vec(rt.alloc())?;

@@ -6,4 +6,8 @@ mod requests;
 #[cfg(test)]
 mod sessions;
 #[cfg(test)]
+mod spelling;
+#[cfg(test)]
 mod volumes;
+#[cfg(test)]
+mod writing;

@@ -65,10 +65,22 @@ const READ: &[(&str, &str)] = &[
         "cuts --seed 18446744073709551615 a.img --most 2 b.txt",
         "cuts \"a.img\" \"b.txt\" 2 18446744073709551615",
     ),
-    ("serve --read-only a.img", "serve \"a.img\" None"),
     (
-        "serve a.img --owner=1:2 --read-only",
-        "serve \"a.img\" Some(\"1:2\")",
+        "serve a.img",
+        "serve \"a.img\" None Write(Rules { keeps_attributes: true, fills: true, replaces: true }, Plan { workers: 2, seconds: 5 })",
+    ),
+    (
+        "serve --check 0 a.img --seconds=30 --strict-names",
+        "serve \"a.img\" None Write(Rules { keeps_attributes: true, fills: true, replaces: false }, Plan { workers: 0, seconds: 30 })",
+    ),
+    (
+        "serve --strict-attributes --strict-size a.img --check=65 --owner 1:2",
+        "serve \"a.img\" Some(\"1:2\") Write(Rules { keeps_attributes: false, fills: false, replaces: true }, Plan { workers: 65, seconds: 5 })",
+    ),
+    ("serve --read-only a.img", "serve \"a.img\" None Read"),
+    (
+        "serve a.img --owner=1:2 --read-only --check 3",
+        "serve \"a.img\" Some(\"1:2\") Read",
     ),
 ];
 

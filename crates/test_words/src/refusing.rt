@@ -67,8 +67,12 @@ const WRONG: &[(&str, &str)] = &[
         "unexpected argument '--groups' found",
     ),
     (
-        "serve a.img",
-        "required arguments were not provided:\n  --read-only",
+        "serve a.img --check two",
+        "invalid value 'two' for '--check <NUMBER>': invalid digit found in string",
+    ),
+    (
+        "serve a.img --seconds",
+        "a value is required for '--seconds <NUMBER>' but none was supplied",
     ),
     (
         "serve --read-only",

@@ -65,7 +65,13 @@ pub(crate) fn told(alloc: Global, line: &Line<'_>) -> Result<String, AllocError>
             },
         ) => format!(in alloc; "cuts {image:?} {script:?} {most} {seed}"),
         Line::Upgrade(UpgradeLine { image }) => format!(in alloc; "upgrade {image:?}"),
-        Line::Serve(ServeLine { image, owner }) => format!(in alloc; "serve {image:?} {owner:?}"),
+        Line::Serve(
+            ServeLine {
+                image,
+                owner,
+                access,
+            },
+        ) => format!(in alloc; "serve {image:?} {owner:?} {access:?}"),
         Line::Bits(BitsLine { image }) => format!(in alloc; "bits {image:?}"),
         Line::Sample => String::from_str(alloc, "sample"),
         _ => String::from_str(alloc, "an everyday line"),

@@ -1,15 +1,15 @@
 -- A listing, slot after slot.
-use Rattle.std.proofs.Common.{◌≡◌, ◌≤◌, ◌<◌, ◌+◌, ◌-◌, ◌&&◌, inl, inr, ap₂, ℕ, zero, suc, Bool, true, false, cond, leb, List, [], ◌++◌, length, refl, sym, ap, ◌∙◌, arith, Option, Some, None, add-zero, add-suc}
+use Rattle.std.proofs.Common.{◌≡◌, ◌≤◌, ◌<◌, ◌+◌, ◌-◌, ◌&&◌, inl, inr, ap₂, ℕ, zero, suc, Bool, true, false, cond, leb, List, [], ◌++◌, length, refl, sym, ap, ◌∙◌, arith, Some, None, add-zero}
 use Rattle.std.specs.Prelude.{◌↔◌, IsTrue, not}
 use Rattle.std.proofs.lemmas.Bool.{both_ways, cases_lt, le-leb, lt-ltb}
 use Rattle.std.proofs.lemmas.Bool.Decides.{nat_tests}
 use Rattle.fuse_wire.specs.declared.bodies.Entry.{Entry}
 use Rattle.fuse_wire.specs.Replies.{attributes_bytes, entry_bytes}
 use Rattle.viewing.specs.Turns.{is_below_root}
-use Rattle.std.specs.Option.{option_map, option_map_or}
+use Rattle.std.specs.Option.{option_map}
 use Rattle.model.specs.Layout.{Geometry, inode_count}
 use Rattle.model.specs.View.{View}
-use Rattle.model.specs.Slots.{Slot, Absent, Empty, Good, Bad, number_in, slot, slot_in, slot_of}
+use Rattle.model.specs.Slots.{Slot, Absent, Empty, Good, Bad, number_in, slot}
 use Rattle.machine.specs.Paths as paths
 use Rattle.machine.specs.Paths.{lookup}
 use Rattle.viewing.specs.Listings.{Listing, add_bytes, add_slot, listed, listed_name, so_far}

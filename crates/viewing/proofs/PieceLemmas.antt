@@ -1,5 +1,5 @@
 -- The bytes of a file, block by block.
-use Rattle.std.proofs.Common.{◌≡◌, ◌<◌, ◌+◌, ◌-◌, ◌*◌, ◌&&◌, ◌||◌, leb, ltb, ℕ, zero, suc, Bool, true, false, min, List, [], ◌++◌, length, take, Option, Some, None, Result, Err, IsTrue, inl, inr, refl, sym, ap, ap₂, ◌∙◌, arith}
+use Rattle.std.proofs.Common.{◌≡◌, ◌<◌, ◌+◌, ◌-◌, ◌*◌, ◌&&◌, ◌||◌, leb, ltb, ℕ, suc, true, false, min, List, [], ◌++◌, length, take, Some, None, Result, Err, IsTrue, inl, inr, refl, sym, ap, ap₂, ◌∙◌, arith}
 use Rattle.std.specs.Prelude.{is_some, not, unwrap_or}
 use Rattle.std.specs.Option.{option_and_then}
 use Rattle.std.specs.Bool.{then_some}
@@ -11,7 +11,7 @@ use Rattle.model.specs.Below.{any_below}
 use Rattle.model.specs.Image.{block_at, image_view}
 use Rattle.model.specs.Layout.{Geometry, block_count, header_blocks, is_data_address, is_number, place_in_group}
 use Rattle.model.specs.Metadata.{SameMetadata}
-use Rattle.model.specs.Uses.{claim_at, is_directory_at}
+use Rattle.model.specs.Uses.{claim_at}
 use Rattle.model.specs.View.{Inode, View, free_inode}
 use Rattle.model.proofs.Same.{same_facts}
 use Rattle.model.proofs.UseLemmas.{claim_parts}

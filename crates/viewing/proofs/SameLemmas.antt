@@ -1,5 +1,5 @@
 -- What is shown of the image is what is shown of what is kept of it.
-use Rattle.std.proofs.Common.{◌≡◌, ◌<◌, ◌≤◌, ◌+◌, ◌*◌, ◌-◌, ◌/◌, ◌%◌, ◌&&◌, ℕ, zero, suc, Bool, true, false, cond, eqb, leb, ltb, min, List, [], ◌∷◌, ◌++◌, length, drop, take, Option, Some, None, Result, Ok, Err, OnErr, OnOk, inl, refl, sym, ap, ap₂, subst, ◌∙◌, arith, IsTrue}
+use Rattle.std.proofs.Common.{◌≡◌, ◌<◌, ◌≤◌, ◌+◌, ◌*◌, ◌-◌, ◌/◌, ◌%◌, ◌&&◌, ℕ, zero, suc, Bool, true, false, cond, eqb, leb, ltb, min, List, [], ◌∷◌, ◌++◌, length, drop, take, Option, Some, None, Result, Ok, Err, OnErr, OnOk, inl, refl, sym, ap, ap₂, subst, ◌∙◌, arith}
 use Rattle.std.specs.Prelude.{bit_and, is_some, not}
 use Rattle.std.proofs.lemmas.Bool.{le-leb, le-ltb, lt-ltb}
 use Rattle.census.specs.Census.{count_of}
@@ -22,14 +22,14 @@ use Rattle.model.proofs.Sums.{sum-same}
 use Rattle.model.specs.Image.{image_view}
 use Rattle.model.specs.Layout.{block_count, inode_count, is_data_address, is_number}
 use Rattle.model.specs.Slots.{Slot, Absent, Empty, Good, Bad, slot}
-use Rattle.model.specs.Uses.{blocks_of, claim_at, is_directory_at}
-use Rattle.model.specs.View.{Inode, View}
+use Rattle.model.specs.Uses.{blocks_of, is_directory_at}
+use Rattle.model.specs.View.{Inode}
 use Rattle.nodes.specs.Table.{Table, id_of}
 use Rattle.viewing.specs.declared.owner.Owner.{Owner}
 use Rattle.viewing.specs.Listings.{Listing, add_bytes, add_slot, kind_of, listed, listing_from}
 use Rattle.viewing.specs.Pieces.{lacks_block, piece_blocks, piece_end, piece_of, seen_from}
 use Rattle.viewing.specs.Said.{Said, Refused, Says, Told, spelled, told}
-use Rattle.viewing.specs.Shown.{attributes_of, entry_of, kept_time, room_of}
+use Rattle.viewing.specs.Shown.{attributes_of, kept_time, room_of}
 use Rattle.viewing.specs.Turns.{attributes_said, directory_opened, entry_said, is_below_root, listed_said, looked_up, on_inode, opened_said, piece_said, read_said, sized, told_of, told_under}
 use Rattle.viewing.proofs.PieceLemmas.{lacks_none, same_claim, same_inode}
 

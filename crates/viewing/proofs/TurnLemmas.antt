@@ -1,5 +1,5 @@
 -- A turn is what was said, and what is then known.
-use Rattle.std.proofs.Common.{◌≡◌, ◌+◌, ℕ, zero, suc, Bool, true, false, cond, List, [], ◌∷◌, length, map, take, ◌%◌, ◌^◌, Option, Some, None, inl, inr, refl, sym, ap, subst, ◌∙◌, arith}
+use Rattle.std.proofs.Common.{◌≡◌, ◌+◌, ℕ, zero, suc, Bool, true, false, cond, List, [], ◌∷◌, length, map, take, ◌%◌, ◌^◌, Option, Some, inl, inr, refl, sym, ap, subst, ◌∙◌, arith}
 use Rattle.std.specs.Prelude.{◌⊎◌, slice_get}
 use Rattle.std.proofs.lemmas.List.{length-set}
 use Rattle.frozen.specs.Kept.{IsKeptOf, Kept, frozen_view}
@@ -16,7 +16,7 @@ use Rattle.fuse_wire.specs.Requests.{Asked}
 use Rattle.model.specs.Image.{image_view}
 use Rattle.nodes.specs.Known.{Named, forgot, told_once}
 use Rattle.nodes.specs.Runs.{after_all}
-use Rattle.nodes.specs.Table.{Forgot, Table, Told, after, change, found, is_known, known}
+use Rattle.nodes.specs.Table.{Forgot, Table, Told, after, change, found, known}
 use Rattle.viewing.specs.declared.owner.Owner.{Owner}
 use Rattle.viewing.specs.Desks.{Failed, IsShown, IsTurn, KnowsAfter, NoMemory}
 use Rattle.viewing.specs.Said.{Said, Nothing, Refused, Says, spelled, told}

@@ -1,5 +1,5 @@
 -- The value of a desk, and what a turn is.
-use Rattle.std.specs.Prelude.{◌≡◌, ℕ, ◌⊎◌, List, Some}
+use Rattle.std.specs.Prelude.{◌≡◌, ℕ, ◌⊎◌, List}
 use Rattle.frozen.specs.Kept.{Kept}
 use Rattle.fuse_wire.specs.declared.errors.Errno.TheVariants as errors
 use Rattle.fuse_wire.specs.declared.numbers.NodeId.{NodeId}

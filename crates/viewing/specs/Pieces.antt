@@ -1,5 +1,5 @@
 -- A piece of a file, as users see it.
-use Rattle.std.specs.Prelude.{ℕ, zero, suc, ◌+◌, ◌*◌, ◌-◌, ◌/◌, ◌%◌, min, Bool, not, List, [], ◌++◌, take, drop, is_some, nat_lt, if◌then◌else◌}
+use Rattle.std.specs.Prelude.{ℕ, zero, suc, ◌+◌, ◌-◌, ◌/◌, ◌%◌, min, Bool, not, List, [], ◌++◌, take, drop, is_some, nat_lt, if◌then◌else◌}
 use Rattle.model.specs.Below.{any_below}
 use Rattle.model.specs.Layout.{Geometry}
 use Rattle.model.specs.Uses.{blocks_of, claim_at}

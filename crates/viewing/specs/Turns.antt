@@ -1,10 +1,9 @@
 -- One turn: what is said to a request, and what the kernel then knows.
-use Rattle.std.specs.Prelude.{ℕ, ◌-◌, ◌/◌, ◌==◌, ◌&&◌, Bool, not, nat_le, nat_lt, bit_and, if◌then◌else◌, List, [], ◌∷◌, length, map, Option, Some, None}
+use Rattle.std.specs.Prelude.{ℕ, ◌-◌, ◌/◌, ◌==◌, ◌&&◌, Bool, nat_le, nat_lt, bit_and, if◌then◌else◌, List, [], ◌∷◌, length, map, Option, Some, None}
 use Rattle.fuse_wire.specs.declared.bodies.Body.TheVariants as bodies
 use Rattle.fuse_wire.specs.declared.errors.Errno.TheVariants as errors
 use Rattle.fuse_wire.specs.declared.numbers.NodeId.{NodeId}
 use Rattle.fuse_wire.specs.declared.requests.Forget.{Forget}
-use Rattle.fuse_wire.specs.declared.requests.Head.{Head}
 use Rattle.fuse_wire.specs.declared.requests.Offer.{Offer}
 use Rattle.fuse_wire.specs.Requests as asked
 use Rattle.fuse_wire.specs.Requests.{Asked}
@@ -32,8 +31,8 @@ on_node t node f = on_inode f (found t node.0)
 
 -- ---- each request
 
--- Version 7.31, and of what the kernel offers: reads side by side (bit 0), calls in one directory side by side (bit 18), and requests of up to 256
--- pages (bit 22). An older kernel is refused.
+-- Version 7.31, and of what the kernel offers: reads side by side (bit 0), writes of more than 4 KiB (bit 5), calls in one
+-- directory side by side (bit 18), and requests of up to 256 pages (bit 22). An older kernel is refused.
 abbrev pub agreed : Offer → Said
 agreed offer =
     if offer.major == 7 && nat_le 31 offer.minor
@@ -41,7 +40,7 @@ agreed offer =
       major = 7;
       minor = 31;
       readahead = offer.readahead;
-      flags = bit_and offer.flags 4456449;
+      flags = bit_and offer.flags 4456481;
       background = 12;
       congestion = 9;
       most_written = 131072;

@@ -13,16 +13,19 @@ const MAJOR: u32 = 7;
 const MINOR: u32 = 31;
 
 /// What is taken of what the kernel offers.
-const TAKEN: u32 = flags::ASYNC_READ | flags::PARALLEL_DIROPS | flags::MAX_PAGES;
+const TAKEN: u32 = flags::ASYNC_READ
+    | flags::BIG_WRITES
+    | flags::PARALLEL_DIROPS
+    | flags::MAX_PAGES;
 
-/// The most bytes of one write, of which none comes: it tells how much room a request may need.
+/// The most bytes of one write, and so how much room a request may need.
 const MOST_WRITTEN: u32 = 131_072;
 
 /// The most pages of 4 KiB of one request.
 const PAGES: u16 = 256;
 
 /// Answers the first request.
-pub(crate) fn agree(reply: &mut Vec<u8>, unique: Unique, offer: &Offer) -> Result<(), AllocError>
+pub fn agree(reply: &mut Vec<u8>, unique: Unique, offer: &Offer) -> Result<(), AllocError>
     ensures { OnOk result (reply.new.items ≡ spelled unique (agreed offer.now)) }
 {
     if offer.major != MAJOR || offer.minor < MINOR {

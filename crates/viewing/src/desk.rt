@@ -114,7 +114,7 @@ impl<D: Device + Drop> Desk<D> {
 }
 
 /// What becomes of the message of a request.
-fn turned_of(request: Request<'_>) -> Turned
+pub fn turned_of(request: Request<'_>) -> Turned
     ensures turned { result ≡ turned_of (seen request.entry) }
     ensures read { result ≢ Turned.Unread }
 {

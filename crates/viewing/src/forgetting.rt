@@ -8,7 +8,7 @@ use fuse_wire::Forgets;
 use nodes::Nodes;
 
 /// The kernel forgets lookups of many nodes.
-pub(crate) fn forget_all(nodes: &mut Nodes, forgets: Forgets<'_>)
+pub fn forget_all(nodes: &mut Nodes, forgets: Forgets<'_>)
     ensures nodes { nodes.new ≡ after_all (map forgot_by (forgets_of forgets.entry)) nodes.old }
     ensures length { length nodes.new ≡ length nodes.old }
 {

@@ -18,9 +18,16 @@ mod piece;
 mod saying;
 mod showing;
 
-pub use desk::{Desk, Turned};
+pub use agreeing::agree;
+pub use desk::{Desk, Turned, turned_of};
+pub use forgetting::forget_all;
 pub use laws::a_request_acts_on_the_inode_that_was_told;
+pub use listing::listing_from;
+pub use looking::{end_of, number_of};
 pub use owner::Owner;
+pub use piece::cut;
+pub use saying::{refuse, tell, tell_bytes};
+pub use showing::{attributes_of, room_of};
 
 #[cfg(test)]
 mod tests;

@@ -13,7 +13,7 @@ use reading::record_of;
 use std::alloc::{AllocError, Global};
 
 /// The names in a directory from this slot on, the dots among them, as many as have room in so many bytes.
-pub(crate) fn listing_from(
+pub fn listing_from(
     alloc: Global,
     frozen: &Frozen,
     directory: u32,

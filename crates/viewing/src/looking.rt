@@ -172,7 +172,7 @@ pub(crate) fn look_up(
 }
 
 /// The number that a name in a directory stands for.
-fn number_of(frozen: &Frozen, directory: u32, name: &[u8]) -> Option<u32>
+pub fn number_of(frozen: &Frozen, directory: u32, name: &[u8]) -> Option<u32>
     ensures { result ≡ lookup frozen.now.geometry (frozen_view frozen.now) directory name.now }
 {
     match find(frozen, directory, name) {
@@ -282,7 +282,7 @@ fn tell_piece<D: Device>(
 }
 
 /// Where the piece of a file ends of which so many bytes from an offset on are asked for.
-fn end_of(file: u64, offset: u64, size: u32) -> u64
+pub fn end_of(file: u64, offset: u64, size: u32) -> u64
     ensures { result ≡ min (offset + size) file }
 {
     match offset.checked_add(u64::from(size)) {

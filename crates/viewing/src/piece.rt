@@ -92,7 +92,7 @@ fn length_in(size: u32, index: u32) -> usize
 }
 
 /// So many of these bytes behind the first ones, as far as there are any.
-pub(crate) fn cut(bytes: &[u8], from: usize, count: usize) -> &[u8]
+pub fn cut(bytes: &[u8], from: usize, count: usize) -> &[u8]
     ensures cut { result.now ≡ take count (drop from bytes.now) }
     ensures few { length result.now ≤ count }
 {

@@ -7,7 +7,7 @@ use fuse_wire::{Body, Errno, Unique, write};
 use std::alloc::AllocError;
 
 /// Says that a call was done, with this body.
-pub(crate) fn tell(reply: &mut Vec<u8>, unique: Unique, body: Body<'_>) -> Result<(), AllocError>
+pub fn tell(reply: &mut Vec<u8>, unique: Unique, body: Body<'_>) -> Result<(), AllocError>
     requires { HasSpelling (Ok body) }
     ensures { OnOk result (reply.new.items ≡ spelled unique (told body.entry)) }
 {
@@ -15,11 +15,7 @@ pub(crate) fn tell(reply: &mut Vec<u8>, unique: Unique, body: Body<'_>) -> Resul
 }
 
 /// Says that a call was done, with these bytes.
-pub(crate) fn tell_bytes(
-    reply: &mut Vec<u8>,
-    unique: Unique,
-    bytes: &[u8],
-) -> Result<(), AllocError>
+pub fn tell_bytes(reply: &mut Vec<u8>, unique: Unique, bytes: &[u8]) -> Result<(), AllocError>
     requires { 16 + length bytes.now < 2 ^ 32 }
     ensures { OnOk result (reply.new.items ≡ spelled unique (Told bytes.now)) }
 {
@@ -27,7 +23,7 @@ pub(crate) fn tell_bytes(
 }
 
 /// Says why a call is refused.
-pub(crate) fn refuse(reply: &mut Vec<u8>, unique: Unique, error: Errno) -> Result<(), AllocError>
+pub fn refuse(reply: &mut Vec<u8>, unique: Unique, error: Errno) -> Result<(), AllocError>
     ensures { OnOk result (reply.new.items ≡ spelled unique (Refused error)) }
 {
     write(reply, unique, Err(error))

@@ -36,7 +36,7 @@ fn mode_of(frozen: &Frozen, number: u32) -> u32
 }
 
 /// The attributes of an inode.
-pub(crate) fn attributes_of(frozen: &Frozen, owner: Owner, number: u32) -> Attributes
+pub fn attributes_of(frozen: &Frozen, owner: Owner, number: u32) -> Attributes
     ensures { result ≡ attributes_of frozen.now.geometry (frozen_view frozen.now) owner number }
 {
     let record = record_of(frozen, number);
@@ -74,7 +74,7 @@ pub(crate) fn entry_of(frozen: &Frozen, owner: Owner, node: NodeId, number: u32)
 }
 
 /// How much room the volume has.
-pub(crate) fn room_of(frozen: &Frozen) -> Statistics
+pub fn room_of(frozen: &Frozen) -> Statistics
     ensures { result ≡ room_of frozen.now.geometry (frozen_view frozen.now) }
 {
     let census = take_census(frozen);

@@ -13,7 +13,7 @@ mod tests;
 mod turns;
 
 use claims::Claims;
-pub use interface::{Gate, OpenGate, Work};
+pub use interface::{ByGroup, Gate, OpenGate, Work};
 use layout::Refusal;
 use merging::{Apart, in_order, settled};
 use std::alloc::Global;

@@ -1,16 +1,8 @@
 use Rattle.std.proofs.Common.{◌≡◌, []}
-use Rattle.device.specs.Reading.{ReadsOnly}
-use Rattle.frozen.specs.Kept.{IsKeptOf}
-use Rattle.serving.specs.Sessions.{Serves}
+use Rattle.serving.specs.Sessions.{Serves, is_begin}
 use Rattle.serving.proofs.serve.Given as goal
 
--- all messages so far were answered
+-- all messages so far were answered, and the flag tells whether there was one
 abbrev pub invariant-loop-turn : goal.invariant-loop-turn
-invariant-loop-turn g l = record {
-  served : g.D.Device.honest l.desk.device → IsKeptOf l.fn.desk.kept (g.D.Device.image l.fn.desk.device)
-      → Serves l.fn.desk.kept (g.D.Device.image l.fn.desk.device) l.fn.desk.owner l.fn.desk.nodes (g.D.Device.failures l.fn.desk.device)
-      (g.C.Channel.taken l.fn.channel) (g.C.Channel.given l.fn.channel) (g.C.Channel.taken l.channel) (g.C.Channel.given l.channel) [] l.desk.nodes
-      (g.D.Device.failures l.desk.device);
-  same : (l.desk.kept ≡ l.fn.desk.kept) × (l.desk.owner ≡ l.fn.desk.owner);
-  reads : ReadsOnly g.D.Device.honest g.D.Device.image g.D.Device.held l.fn.desk.device l.desk.device;
-}
+invariant-loop-turn g l = (served : Serves g.T.Answering.turns l.fn.desk (g.C.Channel.taken l.fn.channel) (g.C.Channel.given l.fn.channel) (g.C.Channel.taken l.channel) (g.C.Channel.given l.channel) [] l.desk)
+    × (l.is_first ≡ is_begin served.messages)

@@ -14,13 +14,3 @@ loop-pass-preserved g c =
       flushed = λ h. flushes_then (held old.device) (held mid.device) (held new.device) (image old.device) (image mid.device) (image new.device) old mid new
           (inv.flushed (c.flush_pass.ensures.honest h)) (c.in_ok-flush_pass.ensures.flushed h);
     }
-
-pub returns-clause-flushed : goal.returns-clause-flushed
-returns-clause-flushed g c = λ h.
-    let held = g.D.Device.held in
-    let image = g.D.Device.image in
-    let old = c.args.volume.now in
-    let mid = c.loop-pass.volume in
-    let new = c.wait_for_writes.new.volume in
-    flushes_then (held old.device) (held mid.device) (held new.device) (image old.device) (image mid.device) (image new.device) old mid new
-    (c.loop-pass.invariant.flushed (c.wait_for_writes.ensures.honest h)) (c.in_ok-wait_for_writes.ensures.flushed h)

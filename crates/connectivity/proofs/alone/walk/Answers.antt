@@ -46,13 +46,13 @@ loop-alloc-preserved c =
     c.as_slice.ensures.value c.in_ok-round.ensures.visited)
 
 pub returns-clause-reached : goal.returns-clause-reached
-returns-clause-reached c = λ units named every.
+returns-clause-reached c = λ numbers named every.
     let kept = c.args.frozen.now in
     let none : c.loop-alloc.round.items ≡ [] =
     nil_from_length c.loop-alloc.round.items (sym c.loop-alloc.round.ok.0 ∙ eqb-true c.loop-alloc.round.len 0 (sym c.is_empty.ensures ∙ c.loop-alloc-test.false)) in
     walk_done kept.geometry (frozen_view kept) c.args.whole.now c.loop-alloc.reached.keys
     (subst (λ round. IsWalk kept.geometry (frozen_view kept) c.args.whole.now c.loop-alloc.reached.keys round) none c.loop-alloc.invariant)
-    (c.whole_tables_have_every_directory.ensures.directory kept.geometry (frozen_view kept) 2 units c.args.whole.now named every)
+    (c.whole_tables_have_every_directory.ensures.directory kept.geometry (frozen_view kept) 2 numbers c.args.whole.now named every)
 
 pub returns-in_err-visit-clause-reached : goal.returns-in_err-visit-clause-reached
 returns-in_err-visit-clause-reached c =

@@ -2,7 +2,7 @@
 use Rattle.std.proofs.Common.{◌++◌, ◌∷◌, [], List, sym, subst}
 use Rattle.claims.specs.Seats.{Seated}
 use Rattle.frozen.specs.Kept.{frozen_view}
-use Rattle.connectivity.specs.Asked.{HaveAsked}
+use Rattle.connectivity.specs.Asked.{HaveAsked, Round, in_pieces}
 use Rattle.connectivity.proofs.LoneLemmas.{asked_last}
 use Rattle.connectivity.proofs.lone_round.lone_round.Goals as goal
 
@@ -10,9 +10,9 @@ pub returns-clause-asked : goal.returns-clause-asked
 returns-clause-asked g c =
     let geo = c.args.frozen.now.geometry in
     let view = frozen_view c.args.frozen.now in
-    let round = c.args.round.now in
+    let round : Round = in_pieces c.args.round.now c.args.pieces.now in
     let others = c.pop.new.self.items in
     let found = c.in_ok-found.found.items in
-    subst (λ (seats : List Seated). HaveAsked geo view round seats c.push.new.self.items found) (sym c.in-Some.ensures.items)
-    (subst (λ (seats : List Seated). HaveAsked geo view round (others ++ c.in-Some.seat ∷ []) seats found) (sym c.in_ok-push.ensures.items)
-    (asked_last geo view round others c.in-Some.seat c.follow_groups.new.seat found c.in_ok-found.ensures.asked))
+    subst (λ (seats : List Seated). HaveAsked geo view round.0 seats c.push.new.self.items found) (sym c.in-Some.ensures.items)
+    (subst (λ (seats : List Seated). HaveAsked geo view round.0 (others ++ c.in-Some.seat ∷ []) seats found) (sym c.in_ok-push.ensures.items)
+    (asked_last geo view round others c.in-Some.seat c.follow_pieces.new.seat found c.in_ok-found.ensures.asked))

@@ -1,15 +1,14 @@
 -- What all workers asked for is what the directories of the round name.
-use Rattle.std.proofs.Common.{◌≡◌, ℕ, ◌/◌, ◌<◌, [], List, map, Some, slice_get, Contains, IsTrue, sym, ap, ◌∙◌, subst}
-use Rattle.model.specs.Layout.{Geometry}
+use Rattle.std.proofs.Common.{◌≡◌, ℕ, ◌<◌, [], List, map, Some, slice_get, Contains, IsTrue, sym, subst, length}
 use Rattle.std.proofs.lemmas.List.Elements.{All-same, All-map, All-contains}
 use Rattle.claims.specs.Seats.{Seated}
 use Rattle.frozen.specs.Kept.{frozen_view}
 use Rattle.model.specs.Uses.{is_directory_at}
-use Rattle.model.proofs.Addresses.{count_in_group}
 use Rattle.model.proofs.SlotLemmas.{directory_number, number_below}
-use Rattle.connectivity.specs.Asked.{HaveAsked}
+use Rattle.model.specs.Named.{named_from}
+use Rattle.connectivity.specs.Asked.{HaveAsked, Round, asked_of, in_pieces}
 use Rattle.connectivity.specs.declared.walkers.Walker.{Walker}
-use Rattle.connectivity.proofs.RunLemmas.{after_own, all_asked}
+use Rattle.connectivity.proofs.RunLemmas.{after_own, all_asked, asked_somewhere}
 use Rattle.connectivity.proofs.SharedLemmas.{all_at}
 use Rattle.connectivity.proofs.shared_rounds.shared_round.Goals as goal
 
@@ -17,9 +16,9 @@ pub returns-clause-own : goal.returns-clause-own
 returns-clause-own g c =
     All-same (λ (s : Seated). s.of ≡ c.args.claims.now.id) c.in_ok-paid.field-0.0.items (map (λ (w : Walker). w.seat) c.in_ok-_parts.walkers.items) c.in_ok-paid.ensures.seats
     (All-map (λ (s : Seated). s.of ≡ c.args.claims.now.id) (λ (w : Walker). w.seat) c.in_ok-_parts.walkers.items
-    (after_own (λ (w : Walker). w.claims.now) (λ (w : Walker). w.frozen.now) (λ (w : Walker). w.round.now) (λ (w : Walker). w.seat) (λ (w : Walker). w.found.items)
-    c.groups-groups.result c.in_ok-walkers.walkers.items c.in_ok-_parts._parts.items c.in_ok-_parts.walkers.items c.in_ok-_parts.ensures.done c.args.claims.now
-    (λ w before h. (all_at (λ (w : Walker). (w.claims.now ≡ c.args.claims.now) × (w.frozen.now ≡ c.args.frozen.now) × (w.round.now ≡ c.args.round.now) × (w.found.items ≡ [])) c.in_ok-walkers.walkers.items c.in_ok-walkers.ensures.alike w before h).0)
+    (after_own (λ (w : Walker). w.claims.now) (λ (w : Walker). w.frozen.now) (λ (w : Walker). in_pieces w.round.now w.pieces.now) (λ (w : Walker). w.seat) (λ (w : Walker). w.found.items)
+    (length c.args.pieces.now) c.in_ok-walkers.walkers.items c.in_ok-_parts._parts.items c.in_ok-_parts.walkers.items c.in_ok-_parts.ensures.done c.args.claims.now
+    (λ w before h. (all_at (λ (w : Walker). (w.claims.now ≡ c.args.claims.now) × (w.frozen.now ≡ c.args.frozen.now) × (in_pieces w.round.now w.pieces.now ≡ in_pieces c.args.round.now c.args.pieces.now) × (w.found.items ≡ [])) c.in_ok-walkers.walkers.items c.in_ok-walkers.ensures.alike w before h).0)
     (λ after. after.own)))
 
 pub returns-clause-asked : goal.returns-clause-asked
@@ -27,14 +26,14 @@ returns-clause-asked g c =
     let kept = c.args.frozen.now in
     let geo = kept.geometry in
     let view = frozen_view kept in
-    let low : (d : ℕ) → Contains c.args.round.now d → d / geo.inodes < c.groups-groups.result = λ d there.
+    let round : Round = in_pieces c.args.round.now c.args.pieces.now in
+    let has_unit : (d i : ℕ) → Contains round.0 d → Contains (named_from geo view 2 d) i → (unit : ℕ) × (unit < length c.args.pieces.now) × Contains (asked_of geo view round unit) i = λ d i there named.
     (let dir = All-contains (λ (d : ℕ). IsTrue (is_directory_at geo view d)) c.args.round.now d c.requires.directories there in
-    subst (λ (n : ℕ). d / geo.inodes < n) (sym (c.groups-groups.ensures.count ∙ ap (λ (q : Geometry). q.groups) c.geometry.ensures.geometry))
-    (count_in_group geo c.geometry.ensures.frame.geometry d (number_below geo d (directory_number geo view d dir)))) in
-    let alike : (w : ℕ) (before : Walker) → slice_get c.in_ok-walkers.walkers.items w ≡ Some before → (before.frozen.now ≡ kept) × (before.round.now ≡ c.args.round.now) × (before.found.items ≡ []) = λ w before h.
-    (let all = all_at (λ (w : Walker). (w.claims.now ≡ c.args.claims.now) × (w.frozen.now ≡ c.args.frozen.now) × (w.round.now ≡ c.args.round.now) × (w.found.items ≡ [])) c.in_ok-walkers.walkers.items c.in_ok-walkers.ensures.alike w before h in (all.1, all.2, all.3)) in
-    let all = all_asked (λ (w : Walker). w.claims.now) (λ (w : Walker). w.frozen.now) (λ (w : Walker). w.round.now) (λ (w : Walker). w.seat) (λ (w : Walker). w.found.items)
-    kept c.args.round.now c.groups-groups.result c.in_ok-walkers.walkers.items c.in_ok-_parts._parts.items c.in_ok-_parts.walkers.items c.in_ok-_parts.ensures.done alike low in
+    asked_somewhere geo view round c.requires.pieces d i (number_below geo d (directory_number geo view d dir)) there named) in
+    let alike : (w : ℕ) (before : Walker) → slice_get c.in_ok-walkers.walkers.items w ≡ Some before → (before.frozen.now ≡ kept) × (in_pieces before.round.now before.pieces.now ≡ in_pieces c.args.round.now c.args.pieces.now) × (before.found.items ≡ []) = λ w before h.
+    (let all = all_at (λ (w : Walker). (w.claims.now ≡ c.args.claims.now) × (w.frozen.now ≡ c.args.frozen.now) × (in_pieces w.round.now w.pieces.now ≡ in_pieces c.args.round.now c.args.pieces.now) × (w.found.items ≡ [])) c.in_ok-walkers.walkers.items c.in_ok-walkers.ensures.alike w before h in (all.1, all.2, all.3)) in
+    let all = all_asked (λ (w : Walker). w.claims.now) (λ (w : Walker). w.frozen.now) (λ (w : Walker). in_pieces w.round.now w.pieces.now) (λ (w : Walker). w.seat) (λ (w : Walker). w.found.items)
+    kept round (length c.args.pieces.now) c.in_ok-walkers.walkers.items c.in_ok-_parts._parts.items c.in_ok-_parts.walkers.items c.in_ok-_parts.ensures.done alike has_unit in
     subst (λ (seats : List Seated). HaveAsked geo view c.args.round.now seats c.in_ok-paid.field-0.0.items c.in_ok-paid.field-0.1.items) c.in_ok-walkers.ensures.seats
     (subst (λ (seats : List Seated). HaveAsked geo view c.args.round.now (map (λ (w : Walker). w.seat) c.in_ok-walkers.walkers.items) seats c.in_ok-paid.field-0.1.items) (sym c.in_ok-paid.ensures.seats)
     (subst (λ (found : List ℕ). HaveAsked geo view c.args.round.now (map (λ (w : Walker). w.seat) c.in_ok-walkers.walkers.items) (map (λ (w : Walker). w.seat) c.in_ok-_parts.walkers.items) found) (sym c.in_ok-paid.ensures.found) all))

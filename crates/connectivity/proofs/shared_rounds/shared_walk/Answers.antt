@@ -67,3 +67,11 @@ returns-in_err-seats-clause-reached g c =
 pub returns-in_err-seats-clause-error : goal.returns-in_err-seats-clause-error
 returns-in_err-seats-clause-error g c =
     let p = err_from_is_err_and c.from_residual-in_err-seats.result c.from_residual-in_err-seats.ensures.1 in rw (p.1, p.2) c.in_err-seats.ensures.error
+
+pub returns-in_err-pieces-clause-reached : goal.returns-in_err-pieces-clause-reached
+returns-in_err-pieces-clause-reached g c =
+    let p = err_from_is_err_and c.from_residual-in_err-pieces.result c.from_residual-in_err-pieces.ensures.1 in rw p.1 tt
+
+pub returns-in_err-pieces-clause-error : goal.returns-in_err-pieces-clause-error
+returns-in_err-pieces-clause-error g c =
+    let p = err_from_is_err_and c.from_residual-in_err-pieces.result c.from_residual-in_err-pieces.ensures.1 in rw (p.1, p.2) refl

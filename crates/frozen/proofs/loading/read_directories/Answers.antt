@@ -4,7 +4,12 @@ use Rattle.frozen.specs.Loading.{AreBlocksOf}
 use Rattle.device.proofs.ReadingLemmas.{reads_on}
 use Rattle.frozen.proofs.ClaimLemmas.{more_of_more, all_tables_stay}
 use Rattle.frozen.proofs.KeepingLemmas.{one_directory_more, all_directories}
+use Rattle.frozen.proofs.KindLemmas.{kinds_kept}
 use Rattle.frozen.proofs.loading.read_directories.Goals as goal
+
+pub read_directory-requires-clause-known : goal.read_directory-requires-clause-known
+read_directory-requires-clause-known g c =
+    kinds_kept c.args.held.now c.loop-number.held c.geometry.ensures.frame c.loop-number.invariant.more c.args.kinds.now c.requires.known
 
 pub loop-number-preserved : goal.loop-number-preserved
 loop-number-preserved g c =

@@ -1,43 +1,42 @@
-use Rattle.std.proofs.Common.{◌≡◌, ◌∷◌, ◌++◌, [], ap, ◌∙◌, arith, subst}
-use Rattle.std.proofs.lemmas.List.{map-append}
+use Rattle.std.proofs.Common.{◌≡◌, ℕ, ◌+◌, ◌*◌, sym, ap, ◌∙◌, arith, subst}
 use Rattle.std.proofs.lemmas.Result.{err_from_is_err_and}
-use Rattle.std.specs.Option.{option_map}
-use Rattle.std.specs.Arc.{arc_value}
-use Rattle.model.specs.Image.{block_at}
+use Rattle.model.specs.Layout.{block_count, group_block}
 use Rattle.model.proofs.ImageLemmas.{is_block}
 use Rattle.frozen.specs.Shared.{shared_blocks}
-use Rattle.frozen.specs.Loading.{BlockRefuses}
+use Rattle.frozen.specs.Loading.{AreReadFrom, FrameRefuses}
 use Rattle.device.proofs.ReadingLemmas.{reads_on}
-use Rattle.frozen.proofs.LoadLemmas.{kept_more, read_more, all_kept, frame_refused}
+use Rattle.frozen.proofs.LoadLemmas.{all_kept}
 use Rattle.frozen.proofs.loading.read_frame.Goals as goal
 
-pub returns-in_err-kept-clause-refused : goal.returns-in_err-kept-clause-refused
-returns-in_err-kept-clause-refused g c =
-    let p = err_from_is_err_and c.from_residual-in_err-kept.result c.from_residual-in_err-kept.ensures.1 in
-    let i = c.loop-address.invariant in
-    let honest = g.D.Device.honest c.keep_block.new.device in
+pub returns-in_err-read_header-clause-refused : goal.returns-in_err-read_header-clause-refused
+returns-in_err-read_header-clause-refused g c =
+    let p = err_from_is_err_and c.from_residual-in_err-read_header.result c.from_residual-in_err-read_header.ensures.1 in
+    let i = c.loop-group.invariant in
+    let blocks = shared_blocks c.loop-group.blocks.items in
+    let step = c.in_err-read_header.ensures in
     rw (p.1, p.2)
-    (frame_refused c.args.geometry.now c.blocks-address-end.ensures.geometry c.args.first.now (shared_blocks c.loop-address.blocks.items) c.loop-address.address i.kept
-    honest (g.D.Device.image c.args.device.now) c.in_err-kept.field-0.0 (λ h. i.told (c.in_err-kept.ensures.reads.honest h))
-    (subst (λ image. BlockRefuses honest c.args.geometry.now image c.loop-address.address c.in_err-kept.field-0.0) i.reads.same c.in_err-kept.ensures.refused))
+    (subst (λ image. FrameRefuses (g.D.Device.honest c.read_header.new.device) c.args.geometry.now image c.in_err-read_header.field-0.0) i.reads.same
+    (step.refused (λ h. subst (AreReadFrom blocks) (sym i.reads.same) (i.told (step.reads.honest h))) c.args.first.now i.kept))
 
-pub loop-address-preserved : goal.loop-address-preserved
-loop-address-preserved g c =
-    let i = c.loop-address.invariant in
-    let old = shared_blocks c.loop-address.blocks.items in
-    let new = option_map arc_value c.in_ok-kept.kept in
-    let added : shared_blocks c.push-in-loop-address.new.self.items ≡ old ++ new ∷ [] =
-    ap shared_blocks c.in_ok-push-2.ensures.items ∙ map-append (option_map arc_value) c.loop-address.blocks.items (c.in_ok-kept.kept ∷ []) in
+pub loop-group-preserved : goal.loop-group-preserved
+loop-group-preserved g c =
+    let i = c.loop-group.invariant in
+    let first = c.args.first.now in
+    let image = g.D.Device.image c.args.device.now in
+    let step = c.in_ok-read_header.ensures in
+    let rest = c.in_ok-leave_data.ensures in
     record {
-      kept = kept_more c.args.geometry.now c.args.first.now old (shared_blocks c.push-in-loop-address.new.self.items) c.loop-address.address new
-          (omega (arith, c.loop-address.auto.address)) i.kept added c.in_ok-kept.ensures.kept;
-      told = λ h. read_more (g.D.Device.image c.args.device.now) old (shared_blocks c.push-in-loop-address.new.self.items) c.loop-address.address new i.kept.count
-          (i.told (c.in_ok-kept.ensures.reads.honest h)) added (λ b e. c.in_ok-kept.ensures.block h b e ∙ ap (λ image. block_at image c.loop-address.address) i.reads.same);
-      reads = reads_on i.reads c.in_ok-kept.ensures.reads;
-      failures = c.in_ok-kept.ensures.failures ∙ i.failures;
+      kept = rest.kept first (step.kept first i.kept);
+      told = λ h. rest.told image
+          (subst (AreReadFrom (shared_blocks c.read_header.new.blocks.items)) i.reads.same
+          (step.told h (subst (AreReadFrom (shared_blocks c.loop-group.blocks.items)) (sym i.reads.same) (i.told (step.reads.honest h))) first i.kept));
+      reads = reads_on i.reads step.reads;
+      failures = step.failures ∙ i.failures;
     }
 
 pub returns-clause-kept : goal.returns-clause-kept
 returns-clause-kept g c =
-    all_kept c.args.geometry.now c.blocks-address-end.ensures.geometry c.args.first.now (shared_blocks c.loop-address.blocks.items) c.loop-address.address c.loop-address.invariant.kept
-    (omega (arith, c.blocks-address-end.ensures.count)) c.requires.first (is_block c.args.first.now c.told-first c.fits-first)
+    let geo = c.args.geometry.now in
+    let all : c.loop-group.group ≡ geo.groups = omega (arith, c.groups-group-end.ensures.count, c.loop-group-test.false, c.loop-group.auto.group-end) in
+    all_kept geo c.groups-group-end.ensures.geometry c.args.first.now (shared_blocks c.loop-group.blocks.items) (group_block geo c.loop-group.group) c.loop-group.invariant.kept
+    (ap (λ (n : ℕ). 1 + n * geo.blocks) all) c.requires.first (is_block c.args.first.now c.told-first c.fits-first)

@@ -4,7 +4,12 @@ use Rattle.frozen.specs.Loading.{AreBlocksOf}
 use Rattle.device.proofs.ReadingLemmas.{reads_on}
 use Rattle.frozen.proofs.ClaimLemmas.{more_of_more}
 use Rattle.frozen.proofs.KeepingLemmas.{one_inode_more, all_tables}
+use Rattle.frozen.proofs.KindLemmas.{kinds_kept}
 use Rattle.frozen.proofs.loading.read_tables.Goals as goal
+
+pub read_tables_of-requires-clause-known : goal.read_tables_of-requires-clause-known
+read_tables_of-requires-clause-known g c =
+    kinds_kept c.args.held.now c.loop-number.held c.geometry.ensures.frame c.loop-number.invariant.more c.args.kinds.now c.requires.known
 
 pub loop-number-preserved : goal.loop-number-preserved
 loop-number-preserved g c =

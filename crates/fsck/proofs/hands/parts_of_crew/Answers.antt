@@ -1,10 +1,6 @@
-use Rattle.std.proofs.Common.{◌≡◌, ap, ◌∙◌}
-use Rattle.model.specs.Layout.{Geometry}
+use Rattle.std.proofs.Common.{refl}
 use Rattle.fsck.proofs.PartLemmas.{made_alike}
 use Rattle.fsck.proofs.hands.parts_of_crew.Goals as goal
 
-pub returns-clause-made : goal.returns-clause-made
-returns-clause-made g c =
-    let geo = c.args.frozen.now.geometry in
-    let groups : c.groups-groups.result ≡ geo.groups = c.groups-groups.ensures.count ∙ ap (λ (one : Geometry). one.groups) c.geometry.ensures.geometry in
-    record { made = made_alike g.W.Work.gives g.W.Look.is_of c.args.work c.requires.work c.groups-groups.result geo.groups groups c.in_ok-works.ensures.alike c.in_ok-parts.ensures.done; error = tt }
+pub returns : goal.returns
+returns g c = record { made = made_alike g.W.Work.gives g.W.Look.is_of c.args.work c.requires.work c.args.units c.args.units refl c.in_ok-works.ensures.alike c.in_ok-parts.ensures.done; error = tt }

@@ -1,10 +1,10 @@
 use Rattle.std.proofs.Common.{rules, ◌++◌, ◌∷◌, [], length, subst, sym, ap, ◌∙◌, append_assoc}
 use Rattle.std.proofs.lemmas.Result.{IfOk-weaker}
-use Rattle.model.specs.Units.{Units, only}
 use Rattle.frozen.specs.Kept.{frozen_view}
+use Rattle.model.specs.Layout.{inode_count}
+use Rattle.directories.specs.Pieces.{Numbers, between}
+use Rattle.directories.proofs.PieceLemmas.{none_between, reach}
 use Rattle.phase_names.specs.Told.{IsPart}
-use Rattle.fsck.specs.Checked.{units_below}
-use Rattle.fsck.proofs.UnitLemmas.{none_below}
 use Rattle.fsck.proofs.PartLemmas.{one_more, all_taken}
 use Rattle.fsck.proofs.phases.check_names.Goals as goal
 
@@ -14,7 +14,7 @@ loop-part-init c =
     let view = frozen_view c.args.frozen.now in
     record {
       rest = search rules;
-      whole = subst (λ (units : Units). IsPart geo view units c.new-whole.result) none_below (c.new-whole.ensures.part geo view);
+      whole = λ are. subst (λ (numbers : Numbers). IsPart geo view numbers c.new-whole.result) none_between (c.new-whole.ensures.part geo view);
     }
 
 pub loop-part-preserved : goal.loop-part-preserved
@@ -25,8 +25,8 @@ loop-part-preserved c =
     let all = ap (λ ps. taken ++ ps) (sym c.in-Some.ensures.steps.0) ∙ c.loop-part.invariant.rest in
     record {
       rest = append_assoc taken (c.in-Some.part ∷ []) c.next.new.self.rest.items ∙ all;
-      whole = one_more (IsPart geo view) geo.groups c.args.parts.items taken c.in-Some.part c.next.new.self.rest.items c.loop-part.whole c.in_ok-whole.whole c.requires all
-          c.loop-part.invariant.whole (c.in_ok-whole.ensures.merged geo view (units_below (length taken)) (only (length taken)));
+      whole = λ are. one_more (IsPart geo view) (inode_count geo) c.args.parts.items taken c.in-Some.part c.next.new.self.rest.items c.loop-part.whole c.in_ok-whole.whole are all
+          (c.loop-part.invariant.whole are) (λ numbers others. c.in_ok-whole.ensures.merged geo view numbers others);
     }
 
 pub returns-clause-findings : goal.returns-clause-findings
@@ -34,4 +34,4 @@ returns-clause-findings c =
     let geo = c.args.frozen.now.geometry in
     let view = frozen_view c.args.frozen.now in
     let every = all_taken (IsPart geo view) geo c.args.parts.items c.loop-part.yielded c.loop-part.part-iterator.rest.items c.requires c.loop-part.invariant.rest (sym c.loop-part.part-iterator.rest.ok.0 ∙ c.in-None.ensures.steps.0) in
-    IfOk-weaker c.finish.result _ _ (λ found told. told (units_below (length c.loop-part.yielded)) c.loop-part.invariant.whole every) c.finish.ensures.found
+    IfOk-weaker c.finish.result _ _ (λ found told. told (between 0 (reach (length c.loop-part.yielded) 0 c.requires.pieces)) (c.loop-part.invariant.whole c.requires) every) c.finish.ensures.found

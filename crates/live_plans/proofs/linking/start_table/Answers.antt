@@ -13,6 +13,6 @@ returns c =
     (λ writes.
     marks_then_writes c.args.plan.now c.push.new.self c.push-2.new.self c.args.table (with_pointer (replicate 1024 0) 0 c.args.block) (arc_value c.in_ok-bytes.bytes)
     (map cell c.new.result.items) (map cell c.in_ok-after.after.items) (BlockBit c.args.table ∷ Block c.args.block ∷ [])
-    (ap (map cell) c.new.ensures.items) (c.in_ok-bytes.ensures.ok ∙ c.put_pointer.ensures) (ap (map cell) c.in_ok-after.ensures.items)
+    (ap (map cell) c.new.ensures.items) (c.in_ok-bytes.ensures.bytes ∙ c.put_pointer.ensures) (ap (map cell) c.in_ok-after.ensures.items)
     c.in_ok-push.ensures writes)
     c.push-2.ensures

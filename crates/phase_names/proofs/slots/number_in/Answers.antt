@@ -3,7 +3,6 @@ use Rattle.std.proofs.Common.{◌≡◌, ◌∙◌, ℕ, List, Bor, ap, refl, sy
 use Rattle.dirent.specs.Seen.{seen}
 use Rattle.dirent.specs.declared.Slot.{Slot}
 use Rattle.dirent.specs.declared.Slot.TheVariants.{Empty, Good, Bad}
-use Rattle.frozen.specs.Kept.{frozen_view}
 use Rattle.model.specs.Layout.{Geometry, inode_count}
 use Rattle.model.specs.Slots as model
 use Rattle.phase_names.proofs.slots.number_in.Goals as goal

@@ -32,6 +32,6 @@ returns-clause-found c =
     (subst (λ n. Adds (AtBelow (IsWithoutParent table members held) n) extra found) count c.in_ok-add_without_parent.ensures) in
     let at_root = subst (λ xs. Adds (IsRootBad geo view) xs first) c.new-found.ensures.items c.in_ok-add_root.ensures in
     IfOk-both c.in_order.result _ _ _
-    (λ fs sorted same units part every reachable.
-    all_found geo c.geometry.ensures.frame.geometry view units table part every reached reachable held holds first alone extra found at_root of_each second parents fs.items sorted same)
+    (λ fs sorted same numbers part every reachable.
+    all_found geo c.geometry.ensures.frame.geometry view numbers table part every reached reachable held holds first alone extra found at_root of_each second parents fs.items sorted same)
     c.in_order.ensures.order c.in_order.ensures.same

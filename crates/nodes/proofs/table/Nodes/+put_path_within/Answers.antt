@@ -1,4 +1,4 @@
-use Rattle.std.proofs.Common.{◌≡◌, ◌+◌, ◌-◌, ◌++◌, ◌∷◌, [], suc, Some, IfSome, ap, arith, slice_get, slice_index_or, subst, sym, ◌∙◌}
+use Rattle.std.proofs.Common.{◌≡◌, ◌-◌, ◌++◌, ◌∷◌, [], suc, Some, IfSome, ap, arith, slice_get, slice_index_or, subst, sym, ◌∙◌}
 use Rattle.nodes.specs.Known.{Known, fresh}
 use Rattle.nodes.specs.Table.{known, path_of}
 use Rattle.nodes.proofs.Paths.{path_goes_on}

@@ -1,0 +1,6 @@
+use Rattle.background.proofs.WentLemmas.{went_on}
+use Rattle.background.proofs.going.Going.turn.Goals as goal
+
+pub invariant_of-self : goal.invariant_of-self
+invariant_of-self g c = went_on g.D.Device.honest g.D.Device.held g.D.Device.image g.B.Beginning.begins c.self.inside.desk.volume c.turn.new.self.volume c.turn.new.self.calls
+    c.self.invariant c.turn.ensures.goes

@@ -1,0 +1,34 @@
+//! What is told on standard error while an image is served.
+use background::{Mended, News, Teller};
+use std::io::Eprint;
+
+/// Standard error, and the image of which it is told.
+#[derive(Clone, Copy)]
+pub(crate) struct Told<'a, R> {
+    pub(crate) rt: &'a R,
+    pub(crate) image: &'a str,
+}
+
+impl<R: Eprint> Teller for Told<'_, R> {
+    /// Writes a line. Nobody misses it where standard error is closed.
+    fn tell(&self, news: News) {
+        let Told { rt, image } = self;
+        let _ = match news {
+            News::Mended(
+                Mended {
+                    findings: 0,
+                    repairs: _,
+                },
+            ) => eprintln!(rt; "checked {image}: clean"),
+            News::Mended(Mended { findings, repairs }) => {
+                eprintln!(rt; "checked {image}: {findings} findings, {repairs} repairs carried out")
+            }
+            News::NotMended(refusal) => eprintln!(rt;
+                "checked {image}: not to its end: {refusal:?}"
+            ),
+            News::NotFlushed(refusal) => eprintln!(rt;
+                "{image} is not written any more: {refusal:?}"
+            ),
+        };
+    }
+}

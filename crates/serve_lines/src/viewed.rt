@@ -1,0 +1,48 @@
+//! An image that is read alone.
+ghost use Rattle.std.specs.Prelude.{◌≡◌, ◌⊎◌, IfErr};
+ghost use Rattle.serve_lines.specs.Ends.{MayEndService};
+
+use crate::owner::{Numbers, owner_of};
+use crate::serve::failure_of;
+use channels::Channel;
+use command_line::Failure;
+use file_device::FileDevice;
+use frozen::load;
+use serving::serve;
+use std::marker::Brand;
+use std::os::unix::fs::FileExt;
+use std::rt::Files;
+use viewing::Desk;
+
+/// Answers the messages of a channel from a file's image.
+pub(crate) fn serve_file<R: Files + AllocGlobal, C: Channel>(
+    rt: &R,
+    image: &str,
+    owner: Option<Numbers>,
+    channel: &mut C,
+) -> Result<(), Failure>
+where
+    R::File: FileExt,
+    ensures { IfErr result (λ failure. MayEndService failure ⊎ (channel.new ≡ channel.old)) }
+{
+    let mut desk = desk_of(rt, image, owner)?;
+    match serve(rt.alloc(), &mut desk, channel) {
+        Ok(()) => Ok(()),
+        Err(error) => Err(failure_of(rt.alloc(), error)),
+    }
+}
+
+/// A desk over a file's image.
+fn desk_of<R: Files + AllocGlobal>(
+    rt: &R,
+    image: &str,
+    owner: Option<Numbers>,
+) -> Result<Desk<FileDevice<R::File, Brand>>, Failure>
+where
+    R::File: FileExt,
+{
+    let mut device: FileDevice<R::File, Brand> = FileDevice::open(rt, image)?;
+    let frozen = load(rt.alloc(), &mut device)?;
+    let owner = owner_of(rt, image, owner)?;
+    Ok(Desk::new(rt.alloc(), device, frozen, owner)?)
+}

@@ -1,0 +1,86 @@
+//! An image that is read and written.
+ghost use Rattle.std.specs.Prelude.{◌≡◌, ◌⊎◌, IfErr};
+ghost use Rattle.serve_lines.specs.Ends.{MayEndService};
+
+use crate::holding::{Holdable, held};
+use crate::owner::{Numbers, owner_of};
+use crate::serve::failure_of;
+use crate::telling::Told;
+use background::{Ended, Plan, run};
+use changing::mount;
+use channels::Channel;
+use command_line::Failure;
+use file_device::FileDevice;
+use fuse_wire::Errno;
+use layout::Refusal;
+use serving::LeftError;
+use std::alloc::Global;
+use std::io::Eprint;
+use std::marker::Brand;
+use std::os::unix::fs::FileExt;
+use std::rt::Files;
+use std::sync::Wait;
+use std::thread::Threads;
+use std::time::Clock;
+use tending::{Desk, Rules};
+
+/// Answers the messages of a channel from a file's image, which is held and changed; beside that it is mended and flushed.
+pub(crate) fn serve_file<
+    R: Files + AllocGlobal + Clock + Eprint + Threads + Wait + Sync,
+    C: Channel,
+>(
+    rt: &R,
+    image: &str,
+    owner: Option<Numbers>,
+    rules: Rules,
+    plan: Plan,
+    channel: &mut C,
+) -> Result<(), Failure>
+where
+    R::File: FileExt + Holdable + Send,
+    ensures { IfErr result (λ failure. MayEndService failure ⊎ (channel.new ≡ channel.old)) }
+{
+    let medium = held(rt, image)?;
+    let desk = desk_of(rt, image, owner, rules)?;
+    let told = Told { rt, image };
+    let Ended {
+        desk: _,
+        served,
+        written,
+    } = run(rt, rt.alloc(), desk, plan, medium, &told, channel);
+    outcome_of(rt.alloc(), served, written)
+}
+
+/// Whether the volume was served until it was unmounted, and all is written.
+fn outcome_of(
+    alloc: Global,
+    served: Result<(), LeftError>,
+    written: Result<(), Errno>,
+) -> Result<(), Failure>
+    ensures { IfErr result MayEndService }
+{
+    match served {
+        Ok(()) => {}
+        Err(error) => return Err(failure_of(alloc, error)),
+    }
+    match written {
+        Ok(()) => Ok(()),
+        Err(_) => Err(Failure::from(Refusal::Device)),
+    }
+}
+
+/// A desk over the volume of a file's image.
+fn desk_of<R: Files + AllocGlobal>(
+    rt: &R,
+    image: &str,
+    owner: Option<Numbers>,
+    rules: Rules,
+) -> Result<Desk<FileDevice<R::File, Brand>>, Failure>
+where
+    R::File: FileExt,
+{
+    let owner = owner_of(rt, image, owner)?;
+    let device: FileDevice<R::File, Brand> = FileDevice::open_to_write(rt, image)?;
+    let volume = mount(rt.alloc(), device)?;
+    Ok(Desk::new(rt.alloc(), volume, owner, rules)?)
+}

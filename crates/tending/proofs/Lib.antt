@@ -1,0 +1,9 @@
+pub mod Going
+pub mod DoingLemmas
+pub mod RequestLemmas
+pub mod LawLemmas
+pub mod TurnLemmas
+pub mod PathLemmas
+pub mod BytesLemmas
+pub mod WriteLemmas
+pub mod DoneLemmas

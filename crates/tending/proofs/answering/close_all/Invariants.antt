@@ -1,0 +1,9 @@
+use Rattle.std.proofs.Common.{◌≡◌}
+use Rattle.tending.specs.Answers.{IsNoted}
+use Rattle.tending.proofs.answering.close_all.Given as goal
+
+abbrev pub invariant-loop-number : goal.invariant-loop-number
+invariant-loop-number g l = record {
+  start : l.mounted.asking.start ≡ l.fn.mounted.asking.start;
+  noted : IsNoted l.fn.mounted.session l.mounted.session;
+}

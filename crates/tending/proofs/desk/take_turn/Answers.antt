@@ -1,0 +1,11 @@
+use Rattle.tending.proofs.LawLemmas.{comes_noted, noted_none}
+use Rattle.tending.proofs.desk.take_turn.Goals as goal
+
+pub returns-in_default-clause-noted : goal.returns-in_default-clause-noted
+returns-in_default-clause-noted g c = noted_none _
+
+pub returns-in_err-answer-clause-noted : goal.returns-in_err-answer-clause-noted
+returns-in_err-answer-clause-noted g c = comes_noted _ _ _ _ _ _ c.answer.ensures.turn.comes
+
+pub returns-clause-noted : goal.returns-clause-noted
+returns-clause-noted g c = comes_noted _ _ _ _ _ _ c.answer.ensures.turn.comes

@@ -1,0 +1,12 @@
+//! What a volume may be asked for beyond what it keeps.
+
+/// What is done for programs though the volume has no command for it.
+#[derive(Clone, Copy, Debug, PartialEq, Eq)]
+pub struct Rules {
+    /// Modes, owners and times that are set last until the volume is unmounted.
+    pub keeps_attributes: bool,
+    /// Where a file is written or lengthened past its end, zeroes are written before.
+    pub fills: bool,
+    /// A name that a rename would replace is taken away before.
+    pub replaces: bool,
+}

@@ -1,0 +1,40 @@
+//! What lasts until a volume is unmounted.
+ghost use Rattle.std.specs.Prelude.{◌≡◌, IfOk};
+
+use crate::attributes::Attributes;
+use crate::granted::Rules;
+use nodes::Nodes;
+use std::alloc::{AllocError, Global};
+use viewing::Owner;
+
+/// Whose all of a volume is, what it may be asked for, what the kernel was told, and which attributes were set.
+#[derive(Drop)]
+pub struct Session {
+    pub(crate) owner: Owner,
+    pub(crate) rules: Rules,
+    pub(crate) nodes: Nodes,
+    pub(crate) attributes: Attributes,
+}
+
+impl Session {
+    ghost use Rattle.tending.specs.Desks.{new_session};
+
+    /// The kernel was told nothing of a volume that has so many numbers of inodes, and nothing was set.
+    pub(crate) fn new(
+        alloc: Global,
+        inodes: u32,
+        owner: Owner,
+        rules: Rules,
+    ) -> Result<Session, AllocError>
+        ensures { IfOk result (λ session. session ≡ new_session inodes owner rules) }
+    {
+        let nodes = Nodes::new(alloc, inodes)?;
+        let attributes = Attributes::new(alloc, inodes)?;
+        Ok(Session {
+            owner,
+            rules,
+            nodes,
+            attributes,
+        })
+    }
+}
