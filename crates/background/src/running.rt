@@ -1,7 +1,8 @@
 //! Both threads.
-ghost use Rattle.std.specs.Prelude.{◌≡◌, List, IfErr, OnOk};
+ghost use Rattle.std.specs.Prelude.{◌≡◌, [], List, IfErr, OnOk};
 ghost use Rattle.background.specs.Services.{LeavesSome, ServesSome, Went};
 ghost use Rattle.shared.specs.Opened.{opened_of};
+ghost use Rattle.softdep.specs.Queued.{unsynced_of};
 ghost use Rattle.tending.specs.Turns.{Call, GoesBy};
 
 use crate::beginning::Beginning;
@@ -66,6 +67,8 @@ pub fn run<
         (C.taken channel.old) (C.given channel.old) (C.taken channel.new) (C.given channel.new)) }
     ensures left { IfErr result.served (λ why. LeavesSome D.honest D.held D.image (λ opened. opened ≡ opened_of D.held D.image desk.volume)
         (C.taken channel.old) (C.given channel.old) (C.taken channel.new) (C.given channel.new) why) }
+    // If all is written, all is durable.
+    ensures written { OnOk result.written (unsynced_of result.desk.volume.queue ≡ []) }
 {
     run_on::<D, Brand, C, F, T, R>(rt, alloc, desk, plan, medium, teller, channel)
 }
@@ -93,6 +96,7 @@ fn run_on<
         (C.taken channel.old) (C.given channel.old) (C.taken channel.new) (C.given channel.new)) }
     ensures left { IfErr result.served (λ why. LeavesSome D.honest D.held D.image B.begins
         (C.taken channel.old) (C.given channel.old) (C.taken channel.new) (C.given channel.new) why) }
+    ensures written { OnOk result.written (unsynced_of result.desk.volume.queue ≡ []) }
 {
     let mut medium = medium;
     let locked: Locked<D, B> = Locked::new(desk);
@@ -106,6 +110,7 @@ fn run_on<
 fn close<D: Device + Drop>(mut desk: Desk<D>, served: Result<(), LeftError>) -> Ended<D>
     ensures goes { (calls : List Call) × GoesBy D.honest D.held D.image desk.volume calls result.desk.volume }
     ensures served { result.served ≡ served }
+    ensures written { OnOk result.written (unsynced_of result.desk.volume.queue ≡ []) }
 {
     let written = desk.end();
     Ended {
