@@ -1,5 +1,5 @@
 -- A volume goes on by commands.
-use Rattle.std.proofs.Common.{◌≡◌, ℕ, List, [], ◌∷◌, ◌++◌, map, Result, refl, sym, ap, subst, ◌∙◌}
+use Rattle.std.proofs.Common.{◌≡◌, ℕ, List, [], ◌∷◌, ◌++◌, map, IfOk, Result, Ok, Err, refl, sym, ap, subst, ◌∙◌}
 use Rattle.std.proofs.lemmas.List.{map-append}
 use Rattle.std.specs.List.{AllZip}
 use Rattle.device.specs.Media.{Held}
@@ -13,7 +13,10 @@ use Rattle.snapshot.specs.Goes.{Goes, Runs}
 use Rattle.snapshot.specs.declared.answer.Answer.{Answer}
 use Rattle.snapshot.specs.declared.command.Command.{Command}
 use Rattle.tending.specs.Turns.{Call, GoesBy}
-use Rattle.background.specs.Services.{Went}
+use Rattle.background.specs.Services.{TurnsSome, Went}
+use Rattle.serving.specs.Tended.{TurnsTended}
+use Rattle.tending.specs.Desks.{AtDesk}
+use Rattle.viewing.specs.declared.desk.Turned.{Turned}
 
 zip_append : {A B : Type 0} (R : A → B → Type 0) (xs xs' : List A) (ys ys' : List B) → AllZip R xs ys → AllZip R xs' ys' → AllZip R (xs ++ xs') (ys ++ ys')
 zip_append R [] xs' [] ys' all more = more
@@ -67,3 +70,10 @@ module _ {D : Type 0} (honest : D → Type 0) (held_of : D → Held) (image_of :
     calls = [];
     goes = record { honest_before = λ h. h; runs = λ h. runs_none (held_of now.device) (image_of now.device) now [] [] refl };
   }
+
+  -- a turn from a desk of which this is known
+  pub turns_some : {E : Type 0} (begins : Opened → Type 0) (old new : AtDesk D) (message reply : List ℕ) (outcome : Result Turned E) → Went honest held_of image_of begins old.volume
+      → IfOk outcome (λ turned. TurnsTended honest held_of image_of old message turned reply new)
+      → IfOk outcome (λ turned. TurnsSome honest held_of image_of begins message turned reply)
+  turns_some begins old new message reply (Ok turned) went turn = record { old = old; new = new; went = went; turn = turn }
+  turns_some begins old new message reply (Err e) went turn = tt

@@ -18,7 +18,7 @@ pub(crate) struct Behind<'a, D: Device, B: Beginning, R> {
 }
 
 impl<D: Device + Drop, B: Beginning, R: Wait> Answering for Behind<'_, D, B, R> {
-    ghost turns = { λ _ message turned reply _. TurnsSome D.honest D.held D.image B.begins };
+    ghost turns = { λ _ message turned reply _. TurnsSome D.honest D.held D.image B.begins message turned reply };
 
     ghost fails = { λ _ _ _. Unit {0} };
 

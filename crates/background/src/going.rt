@@ -3,6 +3,7 @@ ghost use Rattle.std.specs.Prelude.{◌≡◌, ◌↔◌, ◌∷◌, [], None, S
 ghost use Rattle.background.specs.Services.{Went};
 ghost use Rattle.fuse_wire.specs.declared.requests.Head.{Head};
 ghost use Rattle.fuse_wire.specs.Requests.{Asked, decode};
+ghost use Rattle.serving.specs.Tended.{TurnsTended};
 ghost use Rattle.shared.specs.Opened.{opened_of};
 ghost use Rattle.tending.specs.Turns.{GoesBy};
 ghost use Rattle.viewing.specs.Desks.{turned_of};
@@ -50,7 +51,7 @@ impl<D: Device + Drop, B: Beginning> Going<D, B> {
         ensures known { Went D.honest D.held D.image B.begins self.old.volume }
         ensures unread { IfOk result (λ turned. (turned ≡ Turned.Unread) ↔ (decode message.now ≡ None)) }
         ensures turned { IfOk result (λ turned. (head : Head) (asked : Asked) → decode message.now ≡ Some (head, asked) → turned ≡ turned_of asked) }
-        ensures goes { GoesBy D.honest D.held D.image self.old.volume self.new.calls self.new.volume }
+        ensures turn { IfOk result (λ turned. TurnsTended D.honest D.held D.image self.old message.now turned reply.new.items self.new) }
     {
         self.desk.turn(message, reply)
     }

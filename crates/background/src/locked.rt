@@ -60,7 +60,7 @@ impl<D: Device + Drop, B: Beginning> Locked<D, B> {
         ensures unread { IfOk result (λ turned. (turned ≡ Turned.Unread) ↔ (decode message.now ≡ None)) }
         ensures turned { IfOk result (λ turned. (head : Head) (asked : Asked) → decode message.now ≡ Some (head, asked) → turned ≡ turned_of asked) }
         // It was a turn of a desk of this service. No clause can name which one.
-        ensures some { TurnsSome D.honest D.held D.image B.begins }
+        ensures some { IfOk result (λ turned. TurnsSome D.honest D.held D.image B.begins message.now turned reply.new.items) }
     {
         self.kept.lock(rt).going.turn(message, reply)
     }

@@ -1,7 +1,8 @@
 //! Both threads.
-ghost use Rattle.std.specs.Prelude.{◌≡◌, List};
-ghost use Rattle.background.specs.Services.{Went};
+ghost use Rattle.std.specs.Prelude.{◌≡◌, [], List, IfErr, OnOk};
+ghost use Rattle.background.specs.Services.{LeavesSome, ServesSome, Went};
 ghost use Rattle.shared.specs.Opened.{opened_of};
+ghost use Rattle.softdep.specs.Queued.{unsynced_of};
 ghost use Rattle.tending.specs.Turns.{Call, GoesBy};
 
 use crate::beginning::Beginning;
@@ -18,7 +19,7 @@ use std::alloc::Global;
 use std::fs::OpenFile;
 use std::marker::Brand;
 use std::sync::Wait;
-use std::thread::{Threads, join};
+use std::thread::{Threads, join_mut};
 use std::time::Clock;
 use tending::Desk;
 
@@ -60,7 +61,14 @@ pub fn run<
     channel: &mut C,
 ) -> Ended<D>
     // Commands led to the volume that is left from one as it was served, and nothing else was done to it.
-    ensures { Went D.honest D.held D.image (λ opened. opened ≡ opened_of D.held D.image desk.volume) result.desk.volume }
+    ensures went { Went D.honest D.held D.image (λ opened. opened ≡ opened_of D.held D.image desk.volume) result.desk.volume }
+    // Each message that was taken was answered by one turn of a desk of this service, and the channel was given the replies.
+    ensures served { OnOk result.served (ServesSome D.honest D.held D.image (λ opened. opened ≡ opened_of D.held D.image desk.volume)
+        (C.taken channel.old) (C.given channel.old) (C.taken channel.new) (C.given channel.new)) }
+    ensures left { IfErr result.served (λ why. LeavesSome D.honest D.held D.image (λ opened. opened ≡ opened_of D.held D.image desk.volume)
+        (C.taken channel.old) (C.given channel.old) (C.taken channel.new) (C.given channel.new) why) }
+    // If all is written, all is durable.
+    ensures written { OnOk result.written (unsynced_of result.desk.volume.queue ≡ []) }
 {
     run_on::<D, Brand, C, F, T, R>(rt, alloc, desk, plan, medium, teller, channel)
 }
@@ -83,10 +91,16 @@ fn run_on<
     channel: &mut C,
 ) -> Ended<D>
     requires { B.begins (opened_of D.held D.image desk.volume) }
-    ensures { Went D.honest D.held D.image B.begins result.desk.volume }
+    ensures went { Went D.honest D.held D.image B.begins result.desk.volume }
+    ensures served { OnOk result.served (ServesSome D.honest D.held D.image B.begins
+        (C.taken channel.old) (C.given channel.old) (C.taken channel.new) (C.given channel.new)) }
+    ensures left { IfErr result.served (λ why. LeavesSome D.honest D.held D.image B.begins
+        (C.taken channel.old) (C.given channel.old) (C.taken channel.new) (C.given channel.new) why) }
+    ensures written { OnOk result.written (unsynced_of result.desk.volume.queue ≡ []) }
 {
+    let mut medium = medium;
     let locked: Locked<D, B> = Locked::new(desk);
-    let (medium, served) = serve_beside(rt, alloc, &locked, plan, medium, teller, channel);
+    let served = serve_beside(rt, alloc, &locked, plan, &mut medium, teller, channel);
     let ended = close(locked.into_desk(), served);
     drop(medium);
     ended
@@ -94,7 +108,9 @@ fn run_on<
 
 /// Closes all files, writes all, and gives what is left.
 fn close<D: Device + Drop>(mut desk: Desk<D>, served: Result<(), LeftError>) -> Ended<D>
-    ensures { (calls : List Call) × GoesBy D.honest D.held D.image desk.volume calls result.desk.volume }
+    ensures goes { (calls : List Call) × GoesBy D.honest D.held D.image desk.volume calls result.desk.volume }
+    ensures served { result.served ≡ served }
+    ensures written { OnOk result.written (unsynced_of result.desk.volume.queue ≡ []) }
 {
     let written = desk.end();
     Ended {
@@ -104,7 +120,7 @@ fn close<D: Device + Drop>(mut desk: Desk<D>, served: Result<(), LeftError>) -> 
     }
 }
 
-/// Runs both threads.
+/// Runs both threads, and tells how the service ended.
 fn serve_beside<
     D: Device + Drop + Send,
     B: Beginning + Send + Sync,
@@ -117,24 +133,40 @@ fn serve_beside<
     alloc: Global,
     locked: &Locked<D, B>,
     plan: Plan,
-    medium: F,
+    medium: &mut F,
     teller: &T,
     channel: &mut C,
-) -> (F, Result<(), LeftError>) {
+) -> Result<(), LeftError>
+    ensures served { OnOk result (ServesSome D.honest D.held D.image B.begins
+        (C.taken channel.old) (C.given channel.old) (C.taken channel.new) (C.given channel.new)) }
+    ensures left { IfErr result (λ why. LeavesSome D.honest D.held D.image B.begins
+        (C.taken channel.old) (C.given channel.old) (C.taken channel.new) (C.given channel.new) why) }
+{
     // Where no thread can be made the first of two comes last, and has nothing left to do.
-    join(
+    let ((), served) = join_mut(
         rt,
-        move || {
-            attend(rt, alloc, locked, plan, &medium, teller);
-            medium
-        },
-        move || {
-            let mut behind = Behind { rt, locked };
-            let served = serve(alloc, &mut behind, channel);
-            locked.end(rt);
-            served
-        },
-    )
+        &mut || attend(rt, alloc, locked, plan, medium, teller),
+        &mut || serve_locked(rt, alloc, locked, channel),
+    );
+    served
+}
+
+/// Serves the desk behind the lock at a channel, and then tells the thread beside that the service is at its end.
+fn serve_locked<D: Device + Drop, B: Beginning, C: Channel, R: Wait>(
+    rt: &R,
+    alloc: Global,
+    locked: &Locked<D, B>,
+    channel: &mut C,
+) -> Result<(), LeftError>
+    ensures served { OnOk result (ServesSome D.honest D.held D.image B.begins
+        (C.taken channel.old) (C.given channel.old) (C.taken channel.new) (C.given channel.new)) }
+    ensures left { IfErr result (λ why. LeavesSome D.honest D.held D.image B.begins
+        (C.taken channel.old) (C.given channel.old) (C.taken channel.new) (C.given channel.new) why) }
+{
+    let mut behind = Behind { rt, locked };
+    let served = serve(alloc, &mut behind, channel);
+    locked.end(rt);
+    served
 }
 
 /// What is done beside the service, until that is at its end.
@@ -144,7 +176,7 @@ fn attend<
     F: OpenFile,
     T: Teller,
     R: Threads + Wait + Clock + Sync,
->(rt: &R, alloc: Global, locked: &Locked<D, B>, plan: Plan, medium: &F, teller: &T) {
+>(rt: &R, alloc: Global, locked: &Locked<D, B>, plan: Plan, medium: &mut F, teller: &T) {
     if !locked.begin(rt) {
         return;
     }

@@ -7,6 +7,7 @@ use Rattle.fuse_wire.specs.declared.bodies.Body.TheVariants as bodies
 use Rattle.fuse_wire.specs.declared.errors.Errno.{Errno}
 use Rattle.fuse_wire.specs.declared.errors.Errno.TheVariants as errors
 use Rattle.machine.specs.Command.{Command as Request, Open}
+use Rattle.model.specs.Layout.{Geometry}
 use Rattle.nodes.specs.Runs.{after_all}
 use Rattle.nodes.specs.Table.{Event, Table}
 use Rattle.snapshot.specs.Asked.{asked}
@@ -15,7 +16,7 @@ use Rattle.snapshot.specs.declared.command.Command.{Command}
 use Rattle.viewing.specs.Said.{Said, Refused, told}
 use Rattle.tending.specs.declared.attributes.Set.{Set}
 use Rattle.tending.specs.declared.session.Session.{Session}
-use Rattle.tending.specs.Doings.{Begins, Came, Change, Does, Doing, IsDone, IsNumber, Leads, NoMemory, Notes, Asks, Says, ToEnd, WasAsked, asks_done, asks_number, go_on, if_done, if_number, noted, refuses, said_by, says_done, set_all}
+use Rattle.tending.specs.Doings.{Begins, Came, Change, Does, Doing, IfMemory, IsDone, IsNumber, Leads, LeadsOn, NoMemory, Notes, Asks, Says, ToEnd, WasAsked, asks_done, asks_number, go_on, go_on_or, if_done, if_done_or, if_number, noted, refuses, said_by, says_done, set_all}
 use Rattle.tending.specs.Replied.{number_in}
 use Rattle.tending.specs.Requests.{if_opened, opens_new}
 use Rattle.tending.specs.Saying.{said_bytes, said_done}
@@ -42,6 +43,7 @@ unfolding Begins
 begun_none (Says f) kept = tt
 begun_none (Asks request f) kept = tt
 begun_none (Notes es cs next) kept = begun_none next kept
+begun_none (IfMemory next none) kept = inl (begun_none next kept)
 
 module _ {D : Type 0} (old new : Turn D) (s s' : Session) (said : Said) where
   -- nothing more was asked, and this is said
@@ -199,3 +201,103 @@ pub listing_left : {D V : Type 0} (old : Turn D) (s : Session) (items : V → Li
 listing_left old s items doing error r e left =
     does_same old old s s (said_bytes items r) doing (refuses error) e
     (does_say old old s s (said_bytes items r) (λ k. Refused error) refl (ap (λ (o : Result _ Errno). said_bytes items o) left.1 ∙ ap Refused left.2) refl)
+
+-- ---- what leads on
+
+module _ {D : Type 0} where
+  pub on_equal : (a b : Doing) (turn : Turn D) (s : Session) → a ≡ b → LeadsOn a turn s b turn s
+  on_equal a b turn s e said new last does = does_same turn new s last said a b e does
+
+  pub on_same : (a b : Doing) (old : Turn D) (s : Session) (next : Doing) (mid : Turn D) (t : Session) → a ≡ b → LeadsOn b old s next mid t → LeadsOn a old s next mid t
+  on_same a b old s next mid t e on said new last does = does_same old new s last said a b e (on said new last does)
+
+  pub on_then : (a b c : Doing) (old mid new : Turn D) (s t u : Session) → LeadsOn a old s b mid t → LeadsOn b mid t c new u → LeadsOn a old s c new u
+  on_then a b c old mid new s t u one two said end last does = one said end last (two said end last does)
+
+  pub on_note : (events : List Event) (changes : List Change) (next : Doing) (turn : Turn D) (s : Session) → LeadsOn (Notes events changes next) turn s next turn (noted events changes s)
+  on_note events changes next turn s said new last does = does_note turn new s last said events changes next does
+
+  -- with memory, and without
+  pub on_memory : (next none : Doing) (turn : Turn D) (s : Session) → LeadsOn (IfMemory next none) turn s next turn s
+  unfolding Leads Begins
+  on_memory next none turn s said new last does = record { calls = does.calls; grew = does.grew; came = by does.came }
+    where
+      by : Came next new.volume.kept s does.calls said last → Came (IfMemory next none) new.volume.kept s does.calls said last
+      by (ToEnd leads) = ToEnd (inl leads)
+      by (NoMemory es cs begins is same) = NoMemory es cs (inl begins) is same
+
+  pub on_no_memory : (next none : Doing) (turn : Turn D) (s : Session) → LeadsOn (IfMemory next none) turn s none turn s
+  unfolding Leads Begins
+  on_no_memory next none turn s said new last does = record { calls = does.calls; grew = does.grew; came = by does.came }
+    where
+      by : Came none new.volume.kept s does.calls said last → Came (IfMemory next none) new.volume.kept s does.calls said last
+      by (ToEnd leads) = ToEnd (inr leads)
+      by (NoMemory es cs begins is same) = NoMemory es cs (inr begins) is same
+
+  -- there was no memory to go on
+  pub on_cut : (doing : Doing) (turn : Turn D) (s : Session) → LeadsOn doing turn s (refuses errors.NoMemory) turn s
+  unfolding Leads Begins
+  on_cut doing turn s said new last does = by does.calls does.grew does.came
+    where
+      by : (calls : List Call) → new.calls ≡ turn.calls ++ calls → Came (refuses errors.NoMemory) new.volume.kept s calls said last → Does doing turn s said new last
+      by [] grew (ToEnd leads) = record { calls = []; grew = grew; came = NoMemory [] [] (begun_none doing new.volume.kept) leads.0 leads.1 }
+      by (call ∷ calls) grew (ToEnd leads) = absurd leads
+      by [] grew (NoMemory es cs begins is same) = record { calls = []; grew = grew; came = NoMemory es cs (begun_none doing new.volume.kept) is same }
+      by (call ∷ calls) grew (NoMemory es cs begins is same) = absurd begins
+
+  -- a path was not given
+  pub on_no_path : (error : Errno) (part : (List ℕ → Doing) → Doing) (next : List ℕ → Doing) (turn : Turn D) (s : Session)
+      → (error ≡ errors.NoMemory) ⊎ ((next : List ℕ → Doing) → part next ≡ refuses error) → LeadsOn (part next) turn s (refuses error) turn s
+  on_no_path error part next turn s (inl none) = subst (λ (e : Errno). LeadsOn (part next) turn s (refuses e) turn s) (sym none) (on_cut (part next) turn s)
+  on_no_path error part next turn s (inr refused) = on_equal (part next) (refuses error) turn s (refused next)
+
+  -- a command was asked
+  pub on_ask : (old mid : Turn D) (s t : Session) (request : Request) (f : Result Answer Refusal → Doing) (command : Command) (reply : Result Answer Refusal)
+      → mid.calls ≡ old.calls ++ (command, reply) ∷ [] → ((geo : Geometry) → asked geo command ≡ request) → t ≡ s → LeadsOn (Asks request f) old s (f reply) mid t
+  on_ask old mid s t request f command reply grew asks same said new last does =
+      does_ask old new s last said mid request f command reply grew (asks new.volume.kept.geometry)
+      (subst (λ (u : Session). Does (f reply) mid u said new last) same does)
+
+  pub on_done : {T : Type 0} (old mid : Turn D) (s t : Session) (request : Request) (command : Command) (outcome : Result T Errno) → WasAsked old.calls mid.calls command (IsDone outcome)
+      → ((geo : Geometry) → asked geo command ≡ request) → t ≡ s → (done : Doing) (refused : Errno → Doing)
+      → LeadsOn (Asks request (λ reply. if_done_or reply done refused)) old s (go_on_or outcome done refused) mid t
+  on_done old mid s t request command outcome was asks same done refused =
+      subst (λ (d : Doing). LeadsOn (Asks request (λ reply. if_done_or reply done refused)) old s d mid t) (was.is done refused)
+      (on_ask old mid s t request (λ reply. if_done_or reply done refused) command was.reply was.grew asks same)
+
+  pub on_number : (old mid : Turn D) (s t : Session) (request : Request) (command : Command) (outcome : Result ℕ Errno) → WasAsked old.calls mid.calls command (IsNumber outcome)
+      → ((geo : Geometry) → asked geo command ≡ request) → t ≡ s → (next : ℕ → Doing) → LeadsOn (asks_number request next) old s (if_number outcome next) mid t
+  on_number old mid s t request command outcome was asks same next =
+      subst (λ (o : Result ℕ Errno). LeadsOn (asks_number request next) old s (if_number o next) mid t) (sym was.is)
+      (on_ask old mid s t request (λ reply. if_number (number_in reply) next) command was.reply was.grew asks same)
+
+  -- an outcome that is known, or handed on
+  module _ (a : Doing) (old mid : Turn D) (s t : Session) where
+    pub on_ok : {T : Type 0} (outcome : Result T Errno) (x : T) (done : Doing) (refused : Errno → Doing) → outcome ≡ Ok x → LeadsOn a old s (go_on_or outcome done refused) mid t
+        → LeadsOn a old s done mid t
+    on_ok outcome x done refused is on = subst (λ (o : Result _ Errno). LeadsOn a old s (go_on_or o done refused) mid t) is on
+
+    pub on_err : {T : Type 0} (outcome : Result T Errno) (error : Errno) (done : Doing) (refused : Errno → Doing) → outcome ≡ Err error → LeadsOn a old s (go_on_or outcome done refused) mid t
+        → LeadsOn a old s (refused error) mid t
+    on_err outcome error done refused is on = subst (λ (o : Result _ Errno). LeadsOn a old s (go_on_or o done refused) mid t) is on
+
+    pub on_given : (outcome : Result ℕ Errno) (n : ℕ) (next : ℕ → Doing) → outcome ≡ Ok n → LeadsOn a old s (if_number outcome next) mid t → LeadsOn a old s (next n) mid t
+    on_given outcome n next is on = subst (λ (o : Result ℕ Errno). LeadsOn a old s (if_number o next) mid t) is on
+
+    pub on_not_given : (outcome : Result ℕ Errno) (error : Errno) (next : ℕ → Doing) → outcome ≡ Err error → LeadsOn a old s (if_number outcome next) mid t → LeadsOn a old s (refuses error) mid t
+    on_not_given outcome error next is on = subst (λ (o : Result ℕ Errno). LeadsOn a old s (if_number o next) mid t) is on
+
+    pub on_left : {U : Type 0} (r : Result U Errno) (error : Errno) (done : Doing) (refused : Errno → Doing) → Left r error → LeadsOn a old s (refused error) mid t
+        → LeadsOn a old s (go_on_or r done refused) mid t
+    on_left r error done refused left on =
+        subst (λ (o : Result _ Errno). LeadsOn a old s (go_on_or o done refused) mid t) (sym left.1)
+        (subst (λ (e : Errno). LeadsOn a old s (refused e) mid t) (sym left.2) on)
+
+-- the outcome of what was done last is said
+pub ends_so : {D T : Type 0} (old mid : Turn D) (s t : Session) (outcome : Result T Errno) (doing : Doing) → LeadsOn doing old s (go_on outcome says_done) mid t
+    → Does doing old s (said_done outcome) mid t
+ends_so old mid s t outcome doing on = on (said_done outcome) mid t (done_last mid mid t t outcome refl refl)
+
+pub ends_err : {D U : Type 0} (old mid : Turn D) (s t : Session) (body : U → Body) (r : Result U Errno) (error : Errno) (doing : Doing) → Left r error → LeadsOn doing old s (refuses error) mid t
+    → Does doing old s (said_by body r) mid t
+ends_err old mid s t body r error doing left on = on (said_by body r) mid t (does_say mid mid t t (said_by body r) (λ k. Refused error) refl (said_left body r error left) refl)

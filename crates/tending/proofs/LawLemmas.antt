@@ -6,18 +6,18 @@ use Rattle.nodes.proofs.Runs.{leads}
 use Rattle.nodes.specs.Table.{found, id_of, known}
 use Rattle.viewing.specs.Said.{Said}
 use Rattle.tending.specs.declared.session.Session.{Session}
-use Rattle.tending.specs.Answers.{ByTurns, Comes, IsNoted, Same, Turned}
-use Rattle.tending.specs.Doings.{Asks, Came, Doing, Leads, NoMemory, Notes, Says, ToEnd, noted, refuses}
+use Rattle.tending.specs.Answers.{ByTurns, IsNoted, Same, Turned}
+use Rattle.tending.specs.Doings.{Asks, Came, Does, Doing, IfMemory, Leads, NoMemory, Notes, Says, ToEnd, noted, refuses}
 use Rattle.tending.specs.Requests.{at_node, on_inode}
 use Rattle.tending.specs.Turns.{Call, Turn}
 use Rattle.tending.proofs.DoingLemmas.{noted_more}
 
 -- ---- each turn notes something
 
-pub noted_none : (s : Session) → IsNoted s s
+noted_none : (s : Session) → IsNoted s s
 noted_none s = record { events = []; changes = []; session = refl }
 
-pub noted_then : (s t u : Session) → IsNoted s t → IsNoted t u → IsNoted s u
+noted_then : (s t u : Session) → IsNoted s t → IsNoted t u → IsNoted s u
 noted_then s t u one two = record {
   events = one.events ++ two.events;
   changes = one.changes ++ two.changes;
@@ -32,14 +32,15 @@ leads_noted (Asks request f) kept s [] said s' leads = absurd leads
 leads_noted (Asks request f) kept s (call ∷ calls) said s' leads = leads_noted (f call.1) kept s calls said s' leads.1
 leads_noted (Notes events changes next) kept s calls said s' leads =
     noted_then s (noted events changes s) s' (record { events = events; changes = changes; session = refl }) (leads_noted next kept (noted events changes s) calls said s' leads)
+leads_noted (IfMemory next none) kept s calls said s' (inl leads) = leads_noted next kept s calls said s' leads
+leads_noted (IfMemory next none) kept s calls said s' (inr leads) = leads_noted none kept s calls said s' leads
 
 came_noted : (doing : Doing) (kept : Kept) (s : Session) (calls : List Call) (said : Said) (s' : Session) → Came doing kept s calls said s' → IsNoted s s'
 came_noted doing kept s calls said s' (ToEnd leads) = leads_noted doing kept s calls said s' leads
 came_noted doing kept s calls said s' (NoMemory events changes begins is same) = record { events = events; changes = changes; session = same }
 
-pub comes_noted : {D : Type 0} (doing : Option Doing) (old : Turn D) (s : Session) (said : Said) (new : Turn D) (s' : Session) → Comes doing old s said new s' → IsNoted s s'
-comes_noted None old s said new s' comes = comes
-comes_noted (Some doing) old s said new s' comes = came_noted doing new.volume.kept s comes.calls said s' comes.came
+pub does_noted : {D : Type 0} (doing : Doing) (old : Turn D) (s : Session) (said : Said) (new : Turn D) (s' : Session) → Does doing old s said new s' → IsNoted s s'
+does_noted doing old s said new s' does = came_noted doing new.volume.kept s does.calls said s' does.came
 
 -- ---- and so do many
 

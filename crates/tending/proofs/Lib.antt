@@ -6,4 +6,6 @@ pub mod TurnLemmas
 pub mod PathLemmas
 pub mod BytesLemmas
 pub mod WriteLemmas
+pub mod SettingLemmas
+pub mod EndLemmas
 pub mod DoneLemmas

@@ -1,5 +1,5 @@
 -- A turn, by what its request leads to.
-use Rattle.std.proofs.Common.{◌≡◌, ℕ, List, Option, Some, None, Result, Ok, Err, [], false, sym, ap, subst, ◌∙◌}
+use Rattle.std.proofs.Common.{◌≡◌, ℕ, List, Result, Ok, Err, [], false, sym, ap, subst, ◌∙◌}
 use Rattle.std.specs.Prelude.{OnOk}
 use Rattle.snapshot.specs.Alive.{Alive}
 use Rattle.fuse_wire.specs.declared.bodies.Body.TheVariants as bodies
@@ -9,27 +9,18 @@ use Rattle.fuse_wire.specs.Requests.{Asked}
 use Rattle.softdep.specs.Queued.{unsynced_of}
 use Rattle.viewing.specs.Said.{Said, spelled, told}
 use Rattle.tending.specs.declared.session.Session.{Session}
-use Rattle.tending.specs.Answers.{Comes, IsNoted, IsTurn, doing_of, is_sync}
+use Rattle.tending.specs.Answers.{IsTurn, doing_of, is_sync}
 use Rattle.tending.specs.Doings.{Does, Doing}
 use Rattle.tending.specs.Saying.{said_done}
 use Rattle.tending.specs.Turns.{Turn}
 
 module _ {D T E : Type 0} (head : Head) (asked : Asked) (old : Turn D) (s : Session) (outcome : Result T E) (reply : List ℕ) (new : Turn D) (s' : Session) where
-  pub turn_does : (a : Asked) (doing : Doing) → asked ≡ a → doing_of old.volume.kept s head.node a ≡ Some doing → is_sync a ≡ false → (said : Said) → Does doing old s said new s'
+  pub turn_does : (a : Asked) (doing : Doing) → asked ≡ a → doing_of old.volume.kept s head.node a ≡ doing → is_sync a ≡ false → (said : Said) → Does doing old s said new s'
       → OnOk outcome (reply ≡ spelled head.unique said) → IsTurn head asked old s outcome reply new s'
   turn_does a doing e is none said does spells = record {
     synced = λ sync _. let other : is_sync asked ≡ false = ap is_sync e ∙ none in absurd cc;
     said = said;
-    comes = subst (λ (o : Option Doing). Comes o old s said new s') (sym (ap (doing_of old.volume.kept s head.node) e ∙ is)) does;
-    spells = spells;
-  }
-
-  pub turn_notes : (a : Asked) → asked ≡ a → doing_of old.volume.kept s head.node a ≡ None → is_sync a ≡ false → (said : Said) → IsNoted s s'
-      → OnOk outcome (reply ≡ spelled head.unique said) → IsTurn head asked old s outcome reply new s'
-  turn_notes a e is none said noted spells = record {
-    synced = λ sync _. let other : is_sync asked ≡ false = ap is_sync e ∙ none in absurd cc;
-    said = said;
-    comes = subst (λ (o : Option Doing). Comes o old s said new s') (sym (ap (doing_of old.volume.kept s head.node) e ∙ is)) noted;
+    comes = subst (λ (d : Doing). Does d old s said new s') (sym (ap (doing_of old.volume.kept s head.node) e ∙ is)) does;
     spells = spells;
   }
 
@@ -39,11 +30,11 @@ module _ {D T E : Type 0} (head : Head) (asked : Asked) (old : Turn D) (s : Sess
     by_done (Ok x) all is = all
     by_done (Err e) all is = absurd cc
 
-    pub turn_syncs : (doing : Option Doing) → doing_of old.volume.kept s head.node asked ≡ doing → Comes doing old s (said_done r) new s'
+    pub turn_syncs : (doing : Doing) → doing_of old.volume.kept s head.node asked ≡ doing → Does doing old s (said_done r) new s'
         → OnOk outcome (reply ≡ spelled head.unique (said_done r)) → IsTurn head asked old s outcome reply new s'
     turn_syncs doing is comes spells = record {
       said = said_done r;
-      comes = subst (λ (o : Option Doing). Comes o old s (said_done r) new s') (sym is) comes;
+      comes = subst (λ (d : Doing). Does d old s (said_done r) new s') (sym is) comes;
       spells = spells;
       synced = λ sync done. by_done r durable done;
     }
@@ -52,8 +43,5 @@ module _ {D T E : Type 0} (head : Head) (asked : Asked) (old : Turn D) (s : Sess
 pub turn_ended : {D T E : Type 0} (head : Head) (asked : Asked) (old : Turn D) (s : Session) (outcome : Result T E) (reply : List ℕ) (new : Turn D) (s' : Session) (start : List (Alive D))
     → IsTurn head asked old s outcome reply new s' → IsTurn head asked old s outcome reply (record { start = start; calls = new.calls; volume = new.volume }) s'
 turn_ended head asked old s outcome reply new s' start turn =
-    record { said = turn.said; comes = by (doing_of old.volume.kept s head.node asked) turn.said turn.comes; spells = turn.spells; synced = turn.synced }
-  where
-    by : (o : Option Doing) (said : Said) → Comes o old s said new s' → Comes o old s said (record { start = start; calls = new.calls; volume = new.volume }) s'
-    by None said noted = noted
-    by (Some doing) said does = record { calls = does.calls; grew = does.grew; came = does.came }
+    let does = turn.comes in
+    record { said = turn.said; comes = record { calls = does.calls; grew = does.grew; came = does.came }; spells = turn.spells; synced = turn.synced }

@@ -1,6 +1,6 @@
 -- The steps of writes.
-use Rattle.std.proofs.Common.{◌≡◌, ◌<◌, ◌≤◌, ◌+◌, ◌-◌, ◌/◌, min, false, ℕ, suc, cond, eq-eqb, List, ◌++◌, length, take, drop, replicate, Result, Ok, Err, refl, sym, ap, subst, ◌∙◌}
-use Rattle.std.proofs.lemmas.Bool.{le-ltb, lt-leb, lt-ltb, ne_eqb}
+use Rattle.std.proofs.Common.{◌≡◌, ◌<◌, ◌≤◌, ◌+◌, ◌-◌, ◌/◌, min, true, false, ℕ, suc, cond, eq-eqb, List, ◌++◌, length, take, drop, replicate, Result, Ok, Err, refl, sym, ap, subst, ◌∙◌}
+use Rattle.std.proofs.lemmas.Bool.{le-leb, le-ltb, lt-leb, lt-ltb, ne_eqb}
 use Rattle.frozen.specs.Kept.{Kept, frozen_view}
 use Rattle.fuse_wire.specs.declared.bodies.Body.TheVariants as bodies
 use Rattle.fuse_wire.specs.declared.errors.Errno.{Errno}
@@ -18,7 +18,7 @@ use Rattle.tending.specs.Doings.{Asks, Does, Doing, IsBytes, IsDone, LeadsOn, Sa
 use Rattle.tending.specs.Replied.{bytes_in}
 use Rattle.tending.specs.Requests.{at_handle, at_node, count_in, filled, fills_blocks, fills_to, if_block, place_in, writes, writes_between, writes_blocks, writes_part, writes_piece, wrote}
 use Rattle.tending.specs.Turns.{Turn}
-use Rattle.tending.proofs.DoingLemmas.{does_ask, does_same, does_say}
+use Rattle.tending.proofs.DoingLemmas.{does_ask, does_same, does_say, on_done, on_memory, on_no_memory, on_then}
 
 module _ (handle k at : ℕ) (bytes : List ℕ) (done : Doing) (refused : Errno → Doing) where
   abbrev behind : Doing
@@ -36,9 +36,6 @@ abbrev more_of : ℕ → ℕ → ℕ → ℕ → List ℕ → ℕ → ℕ → �
 more_of handle from to k rest done count n = writes_blocks handle from to (k + 1) n (drop count rest) (done + count)
 
 module _ {D : Type 0} where
-  pub on_same : (a b : Doing) (old : Turn D) (s : Session) (next_doing : Doing) (mid : Turn D) (t : Session) → a ≡ b → LeadsOn b old s next_doing mid t → LeadsOn a old s next_doing mid t
-  on_same a b old s next_doing mid t e on said new last does = does_same old new s last said a b e (on said new last does)
-
   -- ---- one piece
 
   module _ {T : Type 0} (old mid : Turn D) (s t : Session) (handle k : ℕ) (piece : List ℕ) (command : Command) (outcome : Result T Errno)
@@ -46,9 +43,13 @@ module _ {D : Type 0} where
     pub piece_on : (done : Doing) (refused : Errno → Doing) → LeadsOn (writes_piece handle k piece done refused) old s (go_on_or outcome done refused) mid t
     unfolding writes_piece
     piece_on done refused said new last does =
-        does_ask old new s last said mid (Write handle k piece) (λ reply. if_done_or reply done refused) command was.reply was.grew (asks new.volume.kept.geometry)
-        (subst (λ (d : Doing). Does d mid s said new last) (sym (was.is done refused))
-        (subst (λ (u : Session). Does (go_on_or outcome done refused) mid u said new last) same does))
+        on_memory (Asks (Write handle k piece) (λ reply. if_done_or reply done refused)) (refused errors.NoMemory) old s said new last
+        (on_done old mid s t (Write handle k piece) command outcome was asks same done refused said new last does)
+
+  pub piece_none : (turn : Turn D) (s : Session) (handle k : ℕ) (piece : List ℕ) (done : Doing) (refused : Errno → Doing)
+      → LeadsOn (writes_piece handle k piece done refused) turn s (refused errors.NoMemory) turn s
+  unfolding writes_piece
+  piece_none turn s handle k piece done refused = on_no_memory (Asks (Write handle k piece) (λ reply. if_done_or reply done refused)) (refused errors.NoMemory) turn s
 
   module _ {V : Type 0} (old mid : Turn D) (s t : Session) (handle k : ℕ) (items : V → List ℕ) (command : Command) (outcome : Result V Errno)
       (was : WasAsked old.calls mid.calls command (IsBytes items outcome)) (asks : (geo : Geometry) → asked geo command ≡ Read handle k) (same : t ≡ s)
@@ -68,34 +69,30 @@ module _ {D : Type 0} where
   -- ---- zeroes
 
   module _ (old mid : Turn D) (s t : Session) (handle from to k : ℕ) (zeroes : List ℕ) (are : zeroes ≡ replicate (count_in k from to) 0) where
-    module _ {T : Type 0} (outcome : Result T Errno) (part : (done : Doing) (refused : Errno → Doing)
-        → LeadsOn (writes_part handle k (place_in k from) zeroes done refused) old s (go_on_or outcome done refused) mid t) where
-      pub fill_on : (x : T) → outcome ≡ Ok x → (n : ℕ) (next : Doing) → LeadsOn (fills_blocks handle from to k (suc n) next) old s (fills_blocks handle from to (k + 1) n next) mid t
-      unfolding fills_blocks
-      fill_on x ok n next said new last does =
-          subst (λ zs. Does (writes_part handle k (place_in k from) zs (fills_blocks handle from to (k + 1) n next) refuses) old s said new last) are
-          (part (fills_blocks handle from to (k + 1) n next) refuses said new last
-          (subst (λ (o : Result T Errno). Does (go_on_or o (fills_blocks handle from to (k + 1) n next) refuses) mid t said new last) (sym ok) does))
-
-      pub fill_refused : (e : Errno) → outcome ≡ Err e → (n : ℕ) (next : Doing) → Does (fills_blocks handle from to k (suc n) next) old s (Refused e) mid t
-      unfolding fills_blocks
-      fill_refused e is n next =
-          subst (λ zs. Does (writes_part handle k (place_in k from) zs (fills_blocks handle from to (k + 1) n next) refuses) old s (Refused e) mid t) are
-          (part (fills_blocks handle from to (k + 1) n next) refuses (Refused e) mid t
-          (subst (λ (o : Result T Errno). Does (go_on_or o (fills_blocks handle from to (k + 1) n next) refuses) mid t (Refused e) mid t) (sym is)
-          (does_say mid mid t t (Refused e) (λ kept. Refused e) refl refl refl)))
-
-    pub fill_cut : (said : Said) → ((done : Doing) (refused : Errno → Doing) → Does (writes_part handle k (place_in k from) zeroes done refused) old s said mid t)
-        → (n : ℕ) (next : Doing) → Does (fills_blocks handle from to k (suc n) next) old s said mid t
+    fill_step : {T : Type 0} (outcome : Result T Errno) → ((done : Doing) (refused : Errno → Doing)
+        → LeadsOn (writes_part handle k (place_in k from) zeroes done refused) old s (go_on_or outcome done refused) mid t)
+        → (n : ℕ) (next : Doing) (refused : Errno → Doing)
+        → LeadsOn (fills_blocks handle from to k (suc n) next refused) old s (go_on_or outcome (fills_blocks handle from to (k + 1) n next refused) refused) mid t
     unfolding fills_blocks
-    fill_cut said part n next =
-        subst (λ zs. Does (writes_part handle k (place_in k from) zs (fills_blocks handle from to (k + 1) n next) refuses) old s said mid t) are
-        (part (fills_blocks handle from to (k + 1) n next) refuses)
+    fill_step outcome part n next refused =
+        subst (λ zs. LeadsOn (writes_part handle k (place_in k from) zs (fills_blocks handle from to (k + 1) n next refused) refused) old s
+        (go_on_or outcome (fills_blocks handle from to (k + 1) n next refused) refused) mid t) are
+        (part (fills_blocks handle from to (k + 1) n next refused) refused)
 
-  pub fill_none : (turn : Turn D) (s : Session) (handle from to k n : ℕ) (next : Doing) → n ≡ 0 → LeadsOn (fills_blocks handle from to k n next) turn s next turn s
+    pub fill_more : {T : Type 0} (a : Doing) (begin : Turn D) (u : Session) (outcome : Result T Errno) → ((done : Doing) (refused : Errno → Doing)
+        → LeadsOn (writes_part handle k (place_in k from) zeroes done refused) old s (go_on_or outcome done refused) mid t)
+        → (m n : ℕ) → suc n ≡ m → (next : Doing) (refused : Errno → Doing) → LeadsOn a begin u (fills_blocks handle from to k m next refused) old s
+        → LeadsOn a begin u (go_on_or outcome (fills_blocks handle from to (k + 1) n next refused) refused) mid t
+    fill_more a begin u outcome part m n left next refused before =
+        on_then a (fills_blocks handle from to k m next refused) (go_on_or outcome (fills_blocks handle from to (k + 1) n next refused) refused) begin old mid u s t before
+        (subst (λ j. LeadsOn (fills_blocks handle from to k j next refused) old s (go_on_or outcome (fills_blocks handle from to (k + 1) n next refused) refused) mid t) left
+        (fill_step outcome part n next refused))
+
+  pub fill_none : (turn : Turn D) (s : Session) (handle from to k n : ℕ) (next : Doing) (refused : Errno → Doing) → n ≡ 0
+      → LeadsOn (fills_blocks handle from to k n next refused) turn s next turn s
   unfolding fills_blocks
-  fill_none turn s handle from to k n next none said new last does =
-      subst (λ m. Does (fills_blocks handle from to k m next) turn s said new last) (sym none) does
+  fill_none turn s handle from to k n next refused none said new last does =
+      subst (λ m. Does (fills_blocks handle from to k m next refused) turn s said new last) (sym none) does
 
   -- ---- data
 
@@ -123,10 +120,6 @@ module _ {D : Type 0} where
           whole said mid t n (part (more_of handle from to k rest done count n) (wrote done) said mid t
           (subst (λ (o : Result T Errno). Does (go_on_or o (more_of handle from to k rest done count n) (wrote done)) mid t said mid t) (sym is) does))
 
-    pub write_cut : (said : Said) → ((done : Doing) (refused : Errno → Doing) → Does (writes_part handle k (place_in k from) bytes done refused) old s said mid t)
-        → (n : ℕ) → Does (writes_blocks handle from to k (suc n) rest done) old s said mid t
-    write_cut said part n = whole said mid t n (part (more_of handle from to k rest done count n) (wrote done))
-
   pub write_all : (turn : Turn D) (s : Session) (handle from to k n : ℕ) (rest : List ℕ) (done : ℕ) → n ≡ 0
       → Does (writes_blocks handle from to k n rest done) turn s (told (bodies.Written done)) turn s
   unfolding writes_blocks
@@ -147,21 +140,31 @@ module _ {D : Type 0} where
 
 -- ---- before the first
 
-pub fills_not_allowed : (rules : Rules) (handle own size : ℕ) (next : Doing) → own < size → rules.fills ≡ false → fills_to rules handle own size next ≡ refuses errors.Invalid
-fills_not_allowed rules handle own size next longer none =
-    ap (λ b. cond b next (cond rules.fills (fills_blocks handle own size (own / 1024) (blocks_of size - own / 1024) next) (refuses errors.Invalid))) (lt-leb size own longer)
-    ∙ ap (λ b. cond b (fills_blocks handle own size (own / 1024) (blocks_of size - own / 1024) next) (refuses errors.Invalid)) none
+module _ (rules : Rules) (handle own size : ℕ) (next : Doing) (refused : Errno → Doing) where
+  abbrev filling : Doing
+  filling = fills_blocks handle own size (own / 1024) (blocks_of size - own / 1024) next refused
+
+  pub fills_no_more : size ≤ own → fills_to rules handle own size next refused ≡ next
+  fills_no_more short = ap (λ b. cond b next (cond rules.fills filling (refused errors.Invalid))) (le-leb size own short)
+
+  pub fills_allowed : own < size → rules.fills ≡ true → fills_to rules handle own size next refused ≡ filling
+  fills_allowed longer all =
+      ap (λ b. cond b next (cond rules.fills filling (refused errors.Invalid))) (lt-leb size own longer) ∙ ap (λ b. cond b filling (refused errors.Invalid)) all
+
+  pub fills_not_allowed : own < size → rules.fills ≡ false → fills_to rules handle own size next refused ≡ refused errors.Invalid
+  fills_not_allowed longer none =
+      ap (λ b. cond b next (cond rules.fills filling (refused errors.Invalid))) (lt-leb size own longer) ∙ ap (λ b. cond b filling (refused errors.Invalid)) none
 
 module _ (kept : Kept) (s : Session) (node : NodeId) (offset : ℕ) (bytes : List ℕ) (i handle : ℕ) (at : (next : ℕ → Doing) → at_node s node next ≡ next i)
     (has : (next : ℕ → Doing) → at_handle s i next ≡ next handle) where
   abbrev writing : Doing
-  writing = fills_to s.rules handle ((frozen_view kept).inode i).size offset (writes_between handle offset (offset + length bytes) bytes)
+  writing = fills_to s.rules handle ((frozen_view kept).inode i).size offset (writes_between handle offset (offset + length bytes) bytes) refuses
 
   pub writes_some : offset + length bytes < 4294967296 → (own : ℕ) → own ≡ ((frozen_view kept).inode i).size
-      → writes kept s node offset bytes ≡ fills_to s.rules handle own offset (writes_between handle offset (offset + length bytes) bytes)
+      → writes kept s node offset bytes ≡ fills_to s.rules handle own offset (writes_between handle offset (offset + length bytes) bytes) refuses
   writes_some small own is =
       at _ ∙ has _ ∙ ap (λ b. cond b writing (refuses errors.TooBig)) (lt-ltb (offset + length bytes) 4294967296 small)
-      ∙ ap (λ n. fills_to s.rules handle n offset (writes_between handle offset (offset + length bytes) bytes)) (sym is)
+      ∙ ap (λ n. fills_to s.rules handle n offset (writes_between handle offset (offset + length bytes) bytes) refuses) (sym is)
 
   pub writes_large : 4294967296 ≤ offset + length bytes → writes kept s node offset bytes ≡ refuses errors.TooBig
   writes_large large = at _ ∙ has _ ∙ ap (λ b. cond b writing (refuses errors.TooBig)) (le-ltb (offset + length bytes) 4294967296 large)

@@ -1,5 +1,5 @@
 -- What a turn is: what its request leads to, and the reply.
-use Rattle.std.specs.Prelude.{◌≡◌, ℕ, List, [], ◌∷◌, map, Option, Some, None, OnOk, Result, Bool, true, false}
+use Rattle.std.specs.Prelude.{◌≡◌, ℕ, List, [], ◌∷◌, map, OnOk, Result, Bool, true, false}
 use Rattle.fuse_wire.specs.declared.bodies.Body.TheVariants as bodies
 use Rattle.frozen.specs.Kept.{Kept}
 use Rattle.fuse_wire.specs.declared.errors.Errno.TheVariants as errors
@@ -18,39 +18,39 @@ use Rattle.tending.specs.Requests as does
 use Rattle.tending.specs.Turns.{Turn}
 
 -- it is refused, since the desk does no such thing
-abbrev pub never : Option Doing
-never = Some (refuses errors.NotImplemented)
+abbrev pub never : Doing
+never = refuses errors.NotImplemented
 
--- What a request on a node leads to. Of those that set attributes or unmount the volume this does not say it.
-unfoldable pub doing_of : Kept → Session → NodeId → Asked → Option Doing
-doing_of kept s node (asked.Init offer) = Some (Says (λ kept. agreed offer))
-doing_of kept s node (asked.Lookup name) = Some (does.looks_up kept s node name)
-doing_of kept s node (asked.Forgotten lookups) = Some (Notes (Forgot node.0 lookups ∷ []) [] (Says (λ kept. Nothing)))
-doing_of kept s node (asked.BatchForget forgets) = Some (Notes (map forgot_by forgets) [] (Says (λ kept. Nothing)))
-doing_of kept s node (asked.GetAttributes handle) = Some (does.shows_attributes s node)
-doing_of kept s node (asked.SetAttributes changes) = None
-doing_of kept s node (asked.MakeNode mode device umask name) = Some (does.makes_node kept s node name mode)
-doing_of kept s node (asked.MakeDirectory mode umask name) = Some (does.makes_directory kept s node name mode)
-doing_of kept s node (asked.Unlink name) = Some (does.removes kept s node name Unlink)
-doing_of kept s node (asked.RemoveDirectory name) = Some (does.removes kept s node name Rmdir)
-doing_of kept s node (asked.Rename directory flags old new) = Some (does.renames kept s node old directory new flags)
-doing_of kept s node (asked.Link other name) = Some (does.links kept s node other name)
-doing_of kept s node (asked.Open flags) = Some (does.opens kept s node)
-doing_of kept s node (asked.Read handle offset size) = Some (does.reads kept s node offset size)
-doing_of kept s node (asked.Write handle offset bytes) = Some (does.writes kept s node offset bytes)
-doing_of kept s node asked.Statistics = Some does.shows_room
-doing_of kept s node (asked.Release handle) = Some (does.releases s handle.0)
-doing_of kept s node (asked.Sync handle data_only) = Some does.syncs
+-- what a request on a node leads to
+unfoldable pub doing_of : Kept → Session → NodeId → Asked → Doing
+doing_of kept s node (asked.Init offer) = Says (λ kept. agreed offer)
+doing_of kept s node (asked.Lookup name) = does.looks_up kept s node name
+doing_of kept s node (asked.Forgotten lookups) = Notes (Forgot node.0 lookups ∷ []) [] (Says (λ kept. Nothing))
+doing_of kept s node (asked.BatchForget forgets) = Notes (map forgot_by forgets) [] (Says (λ kept. Nothing))
+doing_of kept s node (asked.GetAttributes handle) = does.shows_attributes s node
+doing_of kept s node (asked.SetAttributes changes) = does.sets_attributes kept s node changes
+doing_of kept s node (asked.MakeNode mode device umask name) = does.makes_node kept s node name mode
+doing_of kept s node (asked.MakeDirectory mode umask name) = does.makes_directory kept s node name mode
+doing_of kept s node (asked.Unlink name) = does.removes kept s node name Unlink
+doing_of kept s node (asked.RemoveDirectory name) = does.removes kept s node name Rmdir
+doing_of kept s node (asked.Rename directory flags old new) = does.renames kept s node old directory new flags
+doing_of kept s node (asked.Link other name) = does.links kept s node other name
+doing_of kept s node (asked.Open flags) = does.opens kept s node
+doing_of kept s node (asked.Read handle offset size) = does.reads kept s node offset size
+doing_of kept s node (asked.Write handle offset bytes) = does.writes kept s node offset bytes
+doing_of kept s node asked.Statistics = does.shows_room
+doing_of kept s node (asked.Release handle) = does.releases s handle.0
+doing_of kept s node (asked.Sync handle data_only) = does.syncs
 doing_of kept s node (asked.Flush handle) = never
-doing_of kept s node (asked.OpenDirectory flags) = Some (does.opens_directory kept s node)
-doing_of kept s node (asked.ReadDirectory handle offset size) = Some (does.lists kept s node offset size)
+doing_of kept s node (asked.OpenDirectory flags) = does.opens_directory kept s node
+doing_of kept s node (asked.ReadDirectory handle offset size) = does.lists kept s node offset size
 doing_of kept s node (asked.ReadDirectoryPlus handle offset size) = never
-doing_of kept s node (asked.ReleaseDirectory handle) = Some says_done
-doing_of kept s node (asked.SyncDirectory handle data_only) = Some does.syncs
-doing_of kept s node (asked.Create flags mode umask name) = Some (does.creates kept s node name mode)
-doing_of kept s node (asked.Interrupt unique) = Some (Says (λ kept. Nothing))
-doing_of kept s node asked.Destroy = None
-doing_of kept s node asked.SyncVolume = Some does.syncs
+doing_of kept s node (asked.ReleaseDirectory handle) = says_done
+doing_of kept s node (asked.SyncDirectory handle data_only) = does.syncs
+doing_of kept s node (asked.Create flags mode umask name) = does.creates kept s node name mode
+doing_of kept s node (asked.Interrupt unique) = Says (λ kept. Nothing)
+doing_of kept s node asked.Destroy = does.ends kept s
+doing_of kept s node asked.SyncVolume = does.syncs
 doing_of kept s node (asked.Other opcode) = never
 
 -- the kernel was told and forgot, names and handles came and went, and attributes were set
@@ -58,10 +58,6 @@ pub record IsNoted (s s' : Session) : Type 0 where
   pub events : List Event
   pub changes : List Change
   pub session : s' ≡ noted events changes s
-
-abbrev pub Comes : {D : Type 0} → Option Doing → Turn D → Session → Said → Turn D → Session → Type 0
-Comes None old s said new s' = IsNoted s s'
-Comes (Some doing) old s said new s' = Does doing old s said new s'
 
 -- it is to write all, and to wait for the medium
 abbrev pub is_sync : Asked → Bool
@@ -75,7 +71,7 @@ is_sync _ = false
 -- done all is durable.
 pub record IsTurn {D T E : Type 0} (head : Head) (asked : Asked) (old : Turn D) (s : Session) (outcome : Result T E) (reply : List ℕ) (new : Turn D) (s' : Session) : Type 0 where
   pub said : Said
-  pub comes : Comes (doing_of old.volume.kept s head.node asked) old s said new s'
+  pub comes : Does (doing_of old.volume.kept s head.node asked) old s said new s'
   pub spells : OnOk outcome (reply ≡ spelled head.unique said)
   pub synced : is_sync asked ≡ true → said ≡ told bodies.Empty → unsynced_of new.volume.queue ≡ []
 

@@ -30,6 +30,8 @@ pub data Doing : Type 0 where
   Asks : Request → (Result Answer Refusal → Doing) → Doing
   -- the kernel was told and forgot, names and handles came and went, and attributes were set
   Notes : List Event → List Change → Doing → Doing
+  -- memory is needed: it goes on so if there is some, and so if there is none
+  IfMemory : Doing → Doing → Doing
 
 -- it is refused
 abbrev pub refuses : Errno → Doing
@@ -82,6 +84,7 @@ Leads (Says f) kept s (call ∷ calls) said s' = ⊥
 Leads (Asks request f) kept s [] said s' = ⊥
 Leads (Asks request f) kept s (call ∷ calls) said s' = (asked kept.geometry call.0 ≡ request) × Leads (f call.1) kept s calls said s'
 Leads (Notes events changes next) kept s calls said s' = Leads next kept (noted events changes s) calls said s'
+Leads (IfMemory next none) kept s calls said s' = Leads next kept s calls said s' ⊎ Leads none kept s calls said s'
 
 -- Its first calls are these.
 unfoldable pub Begins : Doing → Kept → List Call → Type 0
@@ -90,6 +93,7 @@ Begins (Says f) kept (call ∷ calls) = ⊥
 Begins (Asks request f) kept [] = Unit {0}
 Begins (Asks request f) kept (call ∷ calls) = (asked kept.geometry call.0 ≡ request) × Begins (f call.1) kept calls
 Begins (Notes events changes next) kept calls = Begins next kept calls
+Begins (IfMemory next none) kept calls = Begins next kept calls ⊎ Begins none kept calls
 
 -- It came to its end; or there was no memory to go on, and this is said.
 pub data Came (doing : Doing) (kept : Kept) (s : Session) (calls : List Call) (said : Said) (s' : Session) : Type 0 where

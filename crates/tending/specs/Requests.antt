@@ -1,5 +1,6 @@
 -- What each request leads to.
-use Rattle.std.specs.Prelude.{ℕ, drop, take, min, ◌/◌, ◌-◌, ◌*◌, ◌+◌, suc, zero, ◌^◌, ◌==◌, ◌&&◌, ◌||◌, not, Bool, nat_le, nat_lt, bit_and, bit_or, if◌then◌else◌, List, [], ◌∷◌, ◌++◌, length, Option, Some, None, option_map, Ok, Err, Result, slice_index_or, unwrap_or, replicate}
+use Rattle.std.specs.Prelude.{ℕ, drop, take, min, ◌/◌, ◌-◌, ◌*◌, ◌+◌, suc, zero, ◌^◌, ◌==◌, ◌&&◌, ◌||◌, not, Bool, nat_le, nat_lt, bit_and, bit_or, if◌then◌else◌, List, [], ◌∷◌, ◌++◌, length, Option, Some, None, is_some, option_map, Ok, Err, Result, slice_index_or, unwrap_or, replicate}
+use Rattle.std.specs.Option.{option_or}
 use Rattle.frozen.specs.Kept.{Kept, frozen_view}
 use Rattle.fuse_wire.specs.declared.bodies.Attributes.{Attributes}
 use Rattle.fuse_wire.specs.declared.bodies.Body.{Body}
@@ -10,8 +11,12 @@ use Rattle.fuse_wire.specs.declared.errors.Errno.{Errno}
 use Rattle.fuse_wire.specs.declared.errors.Errno.TheVariants as errors
 use Rattle.fuse_wire.specs.declared.numbers.NodeId.{NodeId}
 use Rattle.fuse_wire.specs.declared.numbers.Time.{Time}
+use Rattle.fuse_wire.specs.declared.requests.Changes.{Changes}
+use Rattle.fuse_wire.specs.declared.requests.Moment.{Moment}
+use Rattle.fuse_wire.specs.declared.requests.Moment.TheVariants as moments
 use Rattle.machine.specs.Command as command
 use Rattle.machine.specs.Paths.{lookup}
+use Rattle.model.specs.Layout.{inode_count}
 use Rattle.model.specs.Uses.{blocks_of, is_directory_at}
 use Rattle.nodes.specs.Known.{named, released_by}
 use Rattle.nodes.specs.Table.{Born, Closed, Got, Lost, Opened as WasOpened, Told as WasTold, found, id_of, known, path_of}
@@ -24,7 +29,7 @@ use Rattle.viewing.specs.Shown.{attributes_of as own_attributes, room_of}
 use Rattle.tending.specs.declared.attributes.Set.{Set}
 use Rattle.tending.specs.declared.granted.Rules.{Rules}
 use Rattle.tending.specs.declared.session.Session.{Session}
-use Rattle.tending.specs.Doings.{Doing, Says, Asks, Notes, asks_bytes, asks_done, asks_number, noted, refuses, says_done, if_done_or}
+use Rattle.tending.specs.Doings.{Change, Doing, Says, Asks, IfMemory, Notes, asks_bytes, asks_done, asks_number, noted, refuses, says_done, if_done_or}
 use Rattle.tending.specs.Replied.{bytes_in, number_in}
 use Rattle.tending.specs.Set.{none_set}
 
@@ -121,8 +126,11 @@ found_there s d name (Some i) = tells s d name i bodies.Entry
 abbrev pub looks_up : Kept → Session → NodeId → List ℕ → Doing
 looks_up kept s node name = at_directory kept s node (λ d. where_leads kept d name (found_there s d name))
 
+abbrev pub says_shown : ℕ → Session → Doing
+says_shown i s = Says (λ kept. told (bodies.Attributes second (shown_of kept s i)))
+
 abbrev pub shows_attributes : Session → NodeId → Doing
-shows_attributes s node = at_node s node (λ i. Says (λ kept. told (bodies.Attributes second (shown_of kept s i))))
+shows_attributes s node = at_node s node (λ i. says_shown i s)
 
 -- a listing has as many bytes as a request may have pages, at most
 abbrev pub lists : Kept → Session → NodeId → ℕ → ℕ → Doing
@@ -254,15 +262,18 @@ abbrev pub opens : Kept → Session → NodeId → Doing
 opens kept s node = at_node s node (λ i. if is_directory kept i then refuses errors.IsDirectory else opens_known s i (known s.nodes i).open_by)
 
 -- The last who opened it closes it.
-abbrev pub closes_by : Option ℕ → Doing
-closes_by None = says_done
-closes_by (Some handle) = asks_done (command.Close handle) says_done
+abbrev pub closes_by : Option ℕ → Doing → Doing
+closes_by None next = next
+closes_by (Some handle) next = asks_done (command.Close handle) next
 
-abbrev pub closes : Session → ℕ → Doing
-closes s i = Notes (Closed i ∷ []) [] (closes_by (released_by (known s.nodes i).open_by))
+abbrev pub closes : Session → ℕ → Doing → Doing
+closes s i next = Notes (Closed i ∷ []) [] (closes_by (released_by (known s.nodes i).open_by) next)
+
+abbrev pub closed : Session → ℕ → Session
+closed s i = noted (Closed i ∷ []) [] s
 
 abbrev pub releases : Session → ℕ → Doing
-releases s handle = if nat_lt handle (2 ^ 32) then closes s handle else refuses errors.Stale
+releases s handle = if nat_lt handle (2 ^ 32) then closes s handle says_done else refuses errors.Stale
 
 -- a directory is opened to be listed: the kernel keeps no listing, since names change
 abbrev pub opens_directory : Kept → Session → NodeId → Doing
@@ -305,9 +316,10 @@ reads kept s node offset size =
     at_node s node (λ i. if nat_le size 1048576
     then at_handle s i (λ handle. reads_piece handle offset (piece_end (frozen_view kept) i offset size)) else refuses errors.Invalid)
 
--- a piece is written to the start of block k
+-- a piece is written to the start of block k, if there is memory for it
 unfoldable pub writes_piece : ℕ → ℕ → List ℕ → Doing → (Errno → Doing) → Doing
-writes_piece handle k piece done refused = Asks (command.Write handle k piece) (λ reply. if_done_or reply done refused)
+writes_piece handle k piece done refused =
+    IfMemory (Asks (command.Write handle k piece) (λ reply. if_done_or reply done refused)) (refused errors.NoMemory)
 
 -- what a block has before a place, with zeroes up to it
 abbrev pub filled : ℕ → List ℕ → List ℕ
@@ -328,16 +340,16 @@ abbrev pub count_in : ℕ → ℕ → ℕ → ℕ
 count_in k from to = place_in k to - place_in k from
 
 -- So many blocks from block k on are filled by zeroes between two places.
-unfoldable pub fills_blocks : ℕ → ℕ → ℕ → ℕ → ℕ → Doing → Doing
-fills_blocks handle from to k zero next = next
-fills_blocks handle from to k (suc n) next =
-    writes_part handle k (place_in k from) (replicate (count_in k from to) 0) (fills_blocks handle from to (k + 1) n next) refuses
+unfoldable pub fills_blocks : ℕ → ℕ → ℕ → ℕ → ℕ → Doing → (Errno → Doing) → Doing
+fills_blocks handle from to k zero next refused = next
+fills_blocks handle from to k (suc n) next refused =
+    writes_part handle k (place_in k from) (replicate (count_in k from to) 0) (fills_blocks handle from to (k + 1) n next refused) refused
 
 -- A file of this size is lengthened by zeroes to another one, if it is shorter and that is allowed.
-abbrev pub fills_to : Rules → ℕ → ℕ → ℕ → Doing → Doing
-fills_to rules handle own size next =
+abbrev pub fills_to : Rules → ℕ → ℕ → ℕ → Doing → (Errno → Doing) → Doing
+fills_to rules handle own size next refused =
     if nat_le size own then next
-    else (if rules.fills then fills_blocks handle own size (own / 1024) (blocks_of size - own / 1024) next else refuses errors.Invalid)
+    else (if rules.fills then fills_blocks handle own size (own / 1024) (blocks_of size - own / 1024) next refused else refused errors.Invalid)
 
 -- where a block is refused: how many bytes were written, if there are any
 abbrev pub wrote : ℕ → Errno → Doing
@@ -357,7 +369,7 @@ writes_between handle from to bytes = writes_blocks handle from to (from / 1024)
 abbrev pub writes_at : Kept → Session → ℕ → ℕ → List ℕ → ℕ → Doing
 writes_at kept s i offset bytes handle =
     if nat_lt (offset + length bytes) (2 ^ 32)
-    then fills_to s.rules handle ((frozen_view kept).inode i).size offset (writes_between handle offset (offset + length bytes) bytes)
+    then fills_to s.rules handle ((frozen_view kept).inode i).size offset (writes_between handle offset (offset + length bytes) bytes) refuses
     else refuses errors.TooBig
 
 abbrev pub writes : Kept → Session → NodeId → ℕ → List ℕ → Doing
@@ -368,3 +380,85 @@ writes kept s node offset bytes = at_node s node (λ i. at_handle s i (writes_at
 -- All is written, and the medium is waited for.
 abbrev pub syncs : Doing
 syncs = asks_done command.Sync says_done
+
+-- ---- attributes that are set
+
+-- an open file of this size is cut short, or lengthened by zeroes
+unfoldable pub resizes : Rules → ℕ → ℕ → ℕ → Doing → (Errno → Doing) → Doing
+resizes rules handle own size done refused =
+    if nat_lt size own then Asks (command.Truncate handle size) (λ reply. if_done_or reply done refused)
+    else fills_to rules handle own size done refused
+
+-- A file that is not open is opened for it, and closed, whether it was done or not. The first refusal is told.
+unfoldable pub resizes_by_path : Session → ℕ → ℕ → ℕ → Doing → Doing
+resizes_by_path s i own size next =
+    at_path s i (λ path. asks_number (command.Open path) (λ handle.
+    resizes s.rules handle own size (asks_done (command.Close handle) next) (λ error. Asks (command.Close handle) (λ reply. refuses error))))
+
+abbrev pub resizes_known : Session → ℕ → ℕ → ℕ → Option Open → Doing → Doing
+resizes_known s i own size None next = resizes_by_path s i own size next
+resizes_known s i own size (Some known) next = resizes s.rules known.handle own size next refuses
+
+-- a size that is to be set: that of a file, and one of 32 bits
+unfoldable pub sets_size : Kept → Session → ℕ → Option ℕ → Doing → Doing
+sets_size kept s i None next = next
+sets_size kept s i (Some size) next =
+    if is_directory kept i then refuses errors.IsDirectory
+    else (if nat_lt size (2 ^ 32) then resizes_known s i ((frozen_view kept).inode i).size size (known s.nodes i).open_by next else refuses errors.TooBig)
+
+-- what the volume has no command for
+abbrev pub is_kept_elsewhere : Changes → Bool
+is_kept_elsewhere changes =
+    (((is_some changes.mode || is_some changes.user) || is_some changes.group) || is_some changes.accessed) || is_some changes.modified
+
+-- the time that is meant: for that of the call, the one of the volume's owner
+abbrev pub moment_of : Time → Option Moment → Option Time
+moment_of own None = None
+moment_of own (Some moments.Now) = Some own
+moment_of own (Some (moments.At time)) = Some time
+
+unfoldable pub changed_by : Changes → Time → Set → Set
+changed_by changes own set = record {
+  mode = option_or changes.mode set.mode;
+  user = option_or changes.user set.user;
+  group = option_or changes.group set.group;
+  accessed = option_or (moment_of own changes.accessed) set.accessed;
+  modified = option_or (moment_of own changes.modified) set.modified;
+  changed = option_or changes.changed set.changed;
+}
+
+-- what becomes of those that were set
+abbrev pub change_of : Session → ℕ → Changes → Change
+change_of s i changes = record { number = i; set = changed_by changes s.owner.changed (slice_index_or s.attributes i none_set) }
+
+-- They last until the volume is unmounted, if that is allowed.
+unfoldable pub keeps : Session → ℕ → Changes → (Session → Doing) → Doing
+keeps s i changes next =
+    if s.rules.keeps_attributes then Notes [] (change_of s i changes ∷ []) (next (noted [] (change_of s i changes ∷ []) s)) else next s
+
+abbrev pub sets_attributes : Kept → Session → NodeId → Changes → Doing
+sets_attributes kept s node changes =
+    at_node s node (λ i.
+    if is_kept_elsewhere changes && not s.rules.keeps_attributes then refuses errors.NotPermitted
+    else sets_size kept s i changes.size (keeps s i changes (says_shown i)))
+
+-- ---- the unmount
+
+-- so many of those who opened a file are done
+unfoldable pub closes_often : Session → ℕ → ℕ → (Session → Doing) → Doing
+closes_often s i zero next = next s
+closes_often s i (suc n) next = closes s i (closes_often (closed s i) i n next)
+
+-- how many of them are not done
+abbrev pub opened_often : Option Open → ℕ
+opened_often None = 0
+opened_often (Some known) = known.count
+
+-- the files of so many numbers from k on are closed, each as often as it is open
+unfoldable pub closes_all : Session → ℕ → ℕ → Doing → Doing
+closes_all s k zero next = next
+closes_all s k (suc n) next = closes_often s k (opened_often (known s.nodes k).open_by) (λ t. closes_all t (k + 1) n next)
+
+-- All files are closed, and then all is written.
+abbrev pub ends : Kept → Session → Doing
+ends kept s = closes_all s 0 (inode_count kept.geometry) syncs

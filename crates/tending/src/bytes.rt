@@ -1,8 +1,7 @@
 //! The bytes of files: read, written, and lengthened by zeroes.
-ghost use Rattle.std.specs.Prelude.{◌≡◌, ◌≤◌, ◌<◌, ◌+◌, ◌-◌, ◌/◌, ◌++◌, ◌^◌, ℕ, suc, IfErr, IfOk, OnErr, OnOk, length};
+ghost use Rattle.std.specs.Prelude.{◌≡◌, ◌≤◌, ◌<◌, ◌+◌, ◌-◌, ◌/◌, ◌++◌, ◌^◌, ℕ, suc, IfErr, IfOk, OnOk, length};
 ghost use Rattle.fuse_wire.specs.declared.bodies.Body.TheVariants.{Written};
 ghost use Rattle.fuse_wire.specs.declared.errors.Errno.{Errno as Number};
-ghost use Rattle.fuse_wire.specs.declared.errors.Errno.TheVariants.{NoMemory};
 ghost use Rattle.model.specs.Uses.{blocks_of};
 ghost use Rattle.viewing.specs.Said.{Refused};
 ghost use Rattle.tending.specs.Doings.{Does, Doing, LeadsOn, go_on_or, said_by};
@@ -163,17 +162,16 @@ fn write_between<D: Device>(
     for index in first..last {
         let count = count_in(index, span).min(rest.len());
         match write_part(mounted, handle, index, span.from, &rest[..count]) {
-            Ok(Ok(())) => {
+            Ok(()) => {
                 rest = &rest[count..];
                 done += count as u32;
             }
-            Ok(Err(error)) => {
+            Err(error) => {
                 if done == 0 {
                     return Err(error);
                 }
                 return Ok(done);
             }
-            Err(AllocError) => return Err(Errno::NoMemory),
         }
     }
     Ok(done)
@@ -189,35 +187,31 @@ fn count_in(index: u32, span: Span) -> usize
 }
 
 /// Writes bytes into a block of an open file from the place in it on that this place of the file is: what stands before is read, and
-/// written with them. The error is that there is no memory for it.
+/// written with them.
 fn write_part<D: Device>(
     mounted: &mut Mounted<D>,
     handle: u32,
     index: u32,
     from: u32,
     bytes: &[u8],
-) -> Result<Result<(), Errno>, AllocError>
+) -> Result<(), Errno>
     ensures start { mounted.new.asking.start ≡ mounted.old.asking.start }
     ensures session { mounted.new.session ≡ mounted.old.session }
-    ensures written { IfOk result (λ outcome. (done : Doing) (refused : Number → Doing)
-        → LeadsOn (writes_part handle index (place_in index from) bytes.now done refused)
-        mounted.old.asking mounted.old.session (go_on_or outcome done refused) mounted.new.asking mounted.new.session) }
-    ensures none { OnErr result ((done : Doing) (refused : Number → Doing)
-        → Does (writes_part handle index (place_in index from) bytes.now done refused)
-        mounted.old.asking mounted.old.session (Refused NoMemory) mounted.new.asking mounted.new.session) }
+    ensures written { (done : Doing) (refused : Number → Doing) → LeadsOn (writes_part handle index (place_in index from) bytes.now done refused)
+        mounted.old.asking mounted.old.session (go_on_or result done refused) mounted.new.asking mounted.new.session }
 {
     let at = place_in(index, from);
     if at == 0 {
-        let piece = Vec::from_slice(mounted.alloc, bytes)?;
-        return Ok(write_piece(mounted, handle, index, piece));
+        let Ok(piece) = Vec::from_slice(mounted.alloc, bytes) else {
+            return Err(Errno::NoMemory);
+        };
+        return write_piece(mounted, handle, index, piece);
     }
-    match mounted.ask_bytes(Command::Read { handle, index }) {
-        Ok(block) => {
-            let piece = filled(block, at, bytes)?;
-            Ok(write_piece(mounted, handle, index, piece))
-        }
-        Err(error) => Ok(Err(error)),
-    }
+    let block = mounted.ask_bytes(Command::Read { handle, index })?;
+    let Ok(piece) = filled(block, at, bytes) else {
+        return Err(Errno::NoMemory);
+    };
+    write_piece(mounted, handle, index, piece)
 }
 
 /// What a block has before a place, with zeroes up to it, and these bytes behind.
@@ -258,10 +252,8 @@ pub(crate) fn fill_to<D: Device>(
 ) -> Result<(), Errno>
     ensures start { mounted.new.asking.start ≡ mounted.old.asking.start }
     ensures session { mounted.new.session ≡ mounted.old.session }
-    ensures filled { OnOk result ((next : Doing) → LeadsOn (fills_to mounted.old.session.rules handle own size next)
-        mounted.old.asking mounted.old.session next mounted.new.asking mounted.new.session) }
-    ensures refused { IfErr result (λ error. (next : Doing) → Does (fills_to mounted.old.session.rules handle own size next)
-        mounted.old.asking mounted.old.session (Refused error) mounted.new.asking mounted.new.session) }
+    ensures filled { (next : Doing) (refused : Number → Doing) → LeadsOn (fills_to mounted.old.session.rules handle own size next refused)
+        mounted.old.asking mounted.old.session (go_on_or result next refused) mounted.new.asking mounted.new.session }
 {
     if size <= own {
         return Ok(());
@@ -280,23 +272,16 @@ pub(crate) fn fill_to<D: Device>(
 fn fill_between<D: Device>(mounted: &mut Mounted<D>, handle: u32, span: Span) -> Result<(), Errno>
     ensures start { mounted.new.asking.start ≡ mounted.old.asking.start }
     ensures session { mounted.new.session ≡ mounted.old.session }
-    ensures filled { OnOk result ((next : Doing)
-        → LeadsOn (fills_blocks handle span.from span.to (span.from / 1024) (blocks_of span.to - span.from / 1024) next)
-        mounted.old.asking mounted.old.session next mounted.new.asking mounted.new.session) }
-    ensures refused { IfErr result (λ error. (next : Doing)
-        → Does (fills_blocks handle span.from span.to (span.from / 1024) (blocks_of span.to - span.from / 1024) next)
-        mounted.old.asking mounted.old.session (Refused error) mounted.new.asking mounted.new.session) }
+    ensures filled { (next : Doing) (refused : Number → Doing)
+        → LeadsOn (fills_blocks handle span.from span.to (span.from / 1024) (blocks_of span.to - span.from / 1024) next refused)
+        mounted.old.asking mounted.old.session (go_on_or result next refused) mounted.new.asking mounted.new.session }
 {
     let zeroes = [0; BLOCK_BYTES];
     let first = span.from / BLOCK_BYTES as u32;
     let last = blocks_of_size(span.to);
     for index in first..last {
         let count = count_in(index, span);
-        match write_part(mounted, handle, index, span.from, &zeroes[..count]) {
-            Ok(Ok(())) => {}
-            Ok(Err(error)) => return Err(error),
-            Err(AllocError) => return Err(Errno::NoMemory),
-        }
+        write_part(mounted, handle, index, span.from, &zeroes[..count])?;
     }
     Ok(())
 }

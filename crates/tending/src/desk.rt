@@ -1,10 +1,14 @@
 //! One request after another.
-ghost use Rattle.std.specs.Prelude.{◌≡◌, ◌↔◌, ◌∷◌, [], None, Some, IfOk};
+ghost use Rattle.std.specs.Prelude.{◌≡◌, ◌↔◌, ◌∷◌, [], None, Some, IfOk, OnOk};
 ghost use Rattle.fuse_wire.specs.declared.requests.Head.{Head as Front};
 ghost use Rattle.fuse_wire.specs.Requests.{Asked, decode};
 ghost use Rattle.model.specs.Layout.{inode_count};
+ghost use Rattle.softdep.specs.Queued.{unsynced_of};
 ghost use Rattle.tending.specs.Answers.{IsNoted, IsTurn};
 ghost use Rattle.tending.specs.Desks.{begun, ended, new_session};
+ghost use Rattle.tending.specs.Doings.{Does};
+ghost use Rattle.tending.specs.Requests.{ends};
+ghost use Rattle.tending.specs.Saying.{said_done};
 ghost use Rattle.tending.specs.Turns.{GoesBy};
 ghost use Rattle.viewing.specs.Desks.{turned_of};
 
@@ -102,6 +106,9 @@ impl<D: Device + Drop> Desk<D> {
     /// came there is nothing left to do.
     pub fn end(&mut self) -> Result<(), Errno>
         ensures goes { GoesBy D.honest D.held D.image self.old.volume self.new.calls self.new.volume }
+        ensures does { Does (ends self.old.volume.kept self.old.session) (begun self.old) self.old.session (said_done result)
+            (ended self.new) self.new.session }
+        ensures synced { OnOk result (unsynced_of self.new.volume.queue ≡ []) }
     {
         self.mounted.asking.begin();
         let outcome = end(&mut self.mounted);

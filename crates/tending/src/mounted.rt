@@ -1,5 +1,6 @@
 //! A mounted volume, and what the kernel was told of it.
 ghost use Rattle.std.specs.Prelude.{◌≡◌, [], OnOk};
+ghost use Rattle.model.specs.Layout.{inode_count};
 ghost use Rattle.softdep.specs.Queued.{unsynced_of};
 ghost use Rattle.tending.specs.Doings.{Gives, IsBytes, IsDone, IsNumber, WasAsked};
 ghost use Rattle.tending.specs.Requests.{at_directory, at_node};
@@ -27,6 +28,13 @@ impl<D: Device> Mounted<D> {
         ensures { result.now ≡ self.now.asking.volume.kept }
     {
         self.asking.metadata()
+    }
+
+    /// How many numbers of inodes the volume has.
+    pub(crate) fn inodes(&self) -> u32
+        ensures { result ≡ inode_count self.now.asking.volume.kept.geometry }
+    {
+        self.metadata().geometry().inodes()
     }
 
     /// The inode that the kernel means by a node.

@@ -1,8 +1,8 @@
 //! Files that are open.
 ghost use Rattle.std.specs.Prelude.{◌≡◌};
 ghost use Rattle.fuse_wire.specs.declared.bodies.Body.TheVariants as bodies;
-ghost use Rattle.tending.specs.Doings.{Does, Gives, said_by};
-ghost use Rattle.tending.specs.Requests.{at_handle, closes, open_file, opens, opens_directory, releases};
+ghost use Rattle.tending.specs.Doings.{Does, Doing, Gives, LeadsOn, go_on, said_by};
+ghost use Rattle.tending.specs.Requests.{at_handle, closed, closes, open_file, opens, opens_directory, releases};
 ghost use Rattle.tending.specs.Saying.{said_done};
 
 use crate::mounted::Mounted;
@@ -57,8 +57,9 @@ pub(crate) fn release<D: Device>(mounted: &mut Mounted<D>, handle: Handle) -> Re
 /// One of those who opened the file of this number is done: the last closes the volume's handle.
 pub(crate) fn close<D: Device>(mounted: &mut Mounted<D>, number: u32) -> Result<(), Errno>
     ensures start { mounted.new.asking.start ≡ mounted.old.asking.start }
-    ensures does { Does (closes mounted.old.session number)
-        mounted.old.asking mounted.old.session (said_done result) mounted.new.asking mounted.new.session }
+    ensures session { mounted.new.session ≡ closed mounted.old.session number }
+    ensures does { (next : Doing) → LeadsOn (closes mounted.old.session number next)
+        mounted.old.asking mounted.old.session (go_on result next) mounted.new.asking mounted.new.session }
 {
     match mounted.session.nodes.close(number) {
         Some(handle) => mounted.ask_done(Command::Close(handle)),

@@ -1,9 +1,14 @@
 //! Attributes that are set, the size among them.
-ghost use Rattle.std.specs.Prelude.{◌≡◌};
-ghost use Rattle.tending.specs.Answers.{IsNoted};
+ghost use Rattle.std.specs.Prelude.{◌≡◌, ◌&&◌, not};
+ghost use Rattle.fuse_wire.specs.declared.bodies.Body.TheVariants as bodies;
+ghost use Rattle.fuse_wire.specs.declared.errors.Errno.{Errno as Number};
+ghost use Rattle.tending.specs.declared.session.Session.{Session};
+ghost use Rattle.tending.specs.Doings.{Does, Doing, LeadsOn, go_on, go_on_or, said_by};
+ghost use Rattle.tending.specs.Requests.{changed_by, is_kept_elsewhere, keeps, moment_of, resizes, resizes_by_path, second, sets_attributes, sets_size};
 
 use crate::attributes::Set;
 use crate::bytes::fill_to;
+use crate::granted::Rules;
 use crate::mounted::Mounted;
 use crate::paths::path_of;
 use crate::showing::shown_of;
@@ -12,17 +17,18 @@ use fuse_wire::{Attributes, Changes, Errno, Moment, NodeId, Time};
 use reading::record_of;
 use snapshot::Command;
 
-/// Sets attributes of an inode.
+/// Sets attributes of an inode: its size first, and then those that the volume does not keep.
 pub(crate) fn set_attributes<D: Device>(
     mounted: &mut Mounted<D>,
     node: NodeId,
     changes: &Changes,
 ) -> Result<Attributes, Errno>
     ensures start { mounted.new.asking.start ≡ mounted.old.asking.start }
-    ensures session { IsNoted mounted.old.session mounted.new.session }
+    ensures does { Does (sets_attributes mounted.old.asking.volume.kept mounted.old.session node changes.now)
+        mounted.old.asking mounted.old.session (said_by (bodies.Attributes second) result) mounted.new.asking mounted.new.session }
 {
     let number = mounted.inode(node)?;
-    if is_kept_elsewhere(changes) && !mounted.session.rules.keeps_attributes {
+    if is_forbidden(mounted.session.rules, changes) {
         return Err(Errno::NotPermitted);
     }
     set_size(mounted, number, changes.size)?;
@@ -32,8 +38,9 @@ pub(crate) fn set_attributes<D: Device>(
 
 /// Keeps attributes that are set, if that is allowed.
 fn keep<D: Device>(mounted: &mut Mounted<D>, number: u32, changes: &Changes)
-    ensures asking { mounted.new.asking ≡ mounted.old.asking }
-    ensures session { IsNoted mounted.old.session mounted.new.session }
+    ensures start { mounted.new.asking.start ≡ mounted.old.asking.start }
+    ensures does { (next : Session → Doing) → LeadsOn (keeps mounted.old.session number changes.now next)
+        mounted.old.asking mounted.old.session (next mounted.new.session) mounted.new.asking mounted.new.session }
 {
     if !mounted.session.rules.keeps_attributes {
         return;
@@ -46,8 +53,17 @@ fn keep<D: Device>(mounted: &mut Mounted<D>, number: u32, changes: &Changes)
     mounted.session.attributes.set(number, set);
 }
 
-/// Whether what is to be set is nothing that the volume keeps.
-fn is_kept_elsewhere(changes: &Changes) -> bool {
+/// Whether something is to be set for which the volume has no command, and that is not kept elsewhere.
+fn is_forbidden(rules: Rules, changes: &Changes) -> bool
+    ensures { result ≡ (is_kept_elsewhere changes.now && not rules.keeps_attributes) }
+{
+    is_kept_elsewhere(changes) && !rules.keeps_attributes
+}
+
+/// Whether something is to be set for which the volume has no command.
+fn is_kept_elsewhere(changes: &Changes) -> bool
+    ensures { result ≡ is_kept_elsewhere changes.now }
+{
     changes.mode.is_some()
         || changes.user.is_some()
         || changes.group.is_some()
@@ -63,6 +79,8 @@ fn set_size<D: Device>(
 ) -> Result<(), Errno>
     ensures start { mounted.new.asking.start ≡ mounted.old.asking.start }
     ensures session { mounted.new.session ≡ mounted.old.session }
+    ensures does { (next : Doing) → LeadsOn (sets_size mounted.old.asking.volume.kept mounted.old.session number size next)
+        mounted.old.asking mounted.old.session (go_on result next) mounted.new.asking mounted.new.session }
 {
     let Some(size) = size else {
         return Ok(());
@@ -80,7 +98,7 @@ fn set_size<D: Device>(
     }
 }
 
-/// The same of a file that is not open: it is opened for it.
+/// The same of a file that is not open: it is opened for it, and closed in any case. The first refusal is told.
 fn resize_by_path<D: Device>(
     mounted: &mut Mounted<D>,
     number: u32,
@@ -89,12 +107,15 @@ fn resize_by_path<D: Device>(
 ) -> Result<(), Errno>
     ensures start { mounted.new.asking.start ≡ mounted.old.asking.start }
     ensures session { mounted.new.session ≡ mounted.old.session }
+    ensures does { (next : Doing) → LeadsOn (resizes_by_path mounted.old.session number own size next)
+        mounted.old.asking mounted.old.session (go_on result next) mounted.new.asking mounted.new.session }
 {
     let path = path_of(mounted, number)?;
     let handle = mounted.ask_number(Command::Open(path))?;
     let outcome = resize(mounted, handle, own, size);
-    mounted.ask_done(Command::Close(handle))?;
-    outcome
+    let closed = mounted.ask_done(Command::Close(handle));
+    outcome?;
+    closed
 }
 
 /// Cuts an open file of this size short, or lengthens it by zeroes.
@@ -106,6 +127,8 @@ fn resize<D: Device>(
 ) -> Result<(), Errno>
     ensures start { mounted.new.asking.start ≡ mounted.old.asking.start }
     ensures session { mounted.new.session ≡ mounted.old.session }
+    ensures does { (done : Doing) (refused : Number → Doing) → LeadsOn (resizes mounted.old.session.rules handle own size done refused)
+        mounted.old.asking mounted.old.session (go_on_or result done refused) mounted.new.asking mounted.new.session }
 {
     if size < own {
         return mounted.ask_done(Command::Truncate { handle, size });
@@ -114,21 +137,26 @@ fn resize<D: Device>(
 }
 
 /// What is set then.
-fn with_changes(set: Set, changes: &Changes, now: Time) -> Set {
+#[tactic(auto, unfolding(crate::specs::Requests::changed_by))]
+fn with_changes(set: Set, changes: &Changes, own: Time) -> Set
+    ensures { result ≡ changed_by changes.now own set }
+{
     Set {
         mode: changes.mode.or(set.mode),
         user: changes.user.or(set.user),
         group: changes.group.or(set.group),
-        accessed: moment(changes.accessed, now).or(set.accessed),
-        modified: moment(changes.modified, now).or(set.modified),
+        accessed: moment(changes.accessed, own).or(set.accessed),
+        modified: moment(changes.modified, own).or(set.modified),
         changed: changes.changed.or(set.changed),
     }
 }
 
-/// The time that is meant.
-fn moment(moment: Option<Moment>, now: Time) -> Option<Time> {
+/// The time that is meant: for that of the call, the one of the volume's owner, since the desk has no clock.
+fn moment(moment: Option<Moment>, own: Time) -> Option<Time>
+    ensures { result ≡ moment_of own moment }
+{
     match moment {
-        Some(Moment::Now) => Some(now),
+        Some(Moment::Now) => Some(own),
         Some(Moment::At(time)) => Some(time),
         None => None,
     }

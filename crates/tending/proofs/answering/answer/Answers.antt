@@ -10,7 +10,7 @@ use Rattle.tending.specs.Doings.{said_by}
 use Rattle.tending.specs.Requests.{second}
 use Rattle.tending.specs.Saying.{said_bytes, said_created, said_done, said_found}
 use Rattle.tending.proofs.DoingLemmas.{does_note, does_say}
-use Rattle.tending.proofs.TurnLemmas.{turn_does, turn_notes, turn_syncs}
+use Rattle.tending.proofs.TurnLemmas.{turn_does, turn_syncs}
 use Rattle.tending.proofs.answering.answer.Goals as goal
 
 pub returns-in-Init-clause-turn : goal.returns-in-Init-clause-turn
@@ -41,7 +41,7 @@ returns-in-GetAttributes-clause-turn g c =
 pub returns-in-SetAttributes-clause-turn : goal.returns-in-SetAttributes-clause-turn
 unfolding doing_of
 returns-in-SetAttributes-clause-turn g c =
-    turn_notes _ _ _ _ _ _ _ _ (asked.SetAttributes c.in-SetAttributes.changes) (ap seen c.in-SetAttributes.is) refl refl (said_by (bodies.Attributes second) c.set_attributes.result) c.set_attributes.ensures.session c.say_attributes-in-SetAttributes.ensures
+    turn_does _ _ _ _ _ _ _ _ (asked.SetAttributes c.in-SetAttributes.changes) _ (ap seen c.in-SetAttributes.is) refl refl (said_by (bodies.Attributes second) c.set_attributes.result) c.set_attributes.ensures.does c.say_attributes-in-SetAttributes.ensures
 
 pub returns-in-MakeNode-clause-turn : goal.returns-in-MakeNode-clause-turn
 unfolding doing_of
@@ -127,7 +127,7 @@ pub returns-in-Destroy-clause-turn : goal.returns-in-Destroy-clause-turn
 unfolding doing_of
 returns-in-Destroy-clause-turn g c =
     turn_syncs _ _ _ _ _ _ _ _ c.end.result c.end.ensures.synced _ (ap (doing_of c.args.mounted.now.asking.volume.kept c.args.mounted.now.session c.args.head.node) (ap seen c.in-Destroy.is))
-    c.end.ensures.session c.say_done-in-Destroy.ensures
+    c.end.ensures.does c.say_done-in-Destroy.ensures
 
 pub returns-in-Sync-clause-turn : goal.returns-in-Sync-clause-turn
 unfolding doing_of

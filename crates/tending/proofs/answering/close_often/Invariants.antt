@@ -1,9 +1,12 @@
-use Rattle.std.proofs.Common.{◌≡◌}
-use Rattle.tending.specs.Answers.{IsNoted}
+use Rattle.std.proofs.Common.{◌≡◌, ◌-◌}
+use Rattle.tending.specs.declared.session.Session.{Session}
+use Rattle.tending.specs.Doings.{Doing, LeadsOn}
+use Rattle.tending.specs.Requests.{closes_often}
 use Rattle.tending.proofs.answering.close_often.Given as goal
 
 abbrev pub invariant-loop-closed : goal.invariant-loop-closed
 invariant-loop-closed g l = record {
   start : l.mounted.asking.start ≡ l.fn.mounted.asking.start;
-  noted : IsNoted l.fn.mounted.session l.mounted.session;
+  on : (next : Session → Doing) → LeadsOn (closes_often l.fn.mounted.session l.number l.count next) l.fn.mounted.asking l.fn.mounted.session
+      (closes_often l.mounted.session l.number (l.count - l._closed) next) l.mounted.asking l.mounted.session;
 }

@@ -1,9 +1,16 @@
-use Rattle.tending.proofs.DoingLemmas.{does_same, does_say}
-use Rattle.std.proofs.Common.{refl}
-use Rattle.tending.proofs.WriteLemmas.{fills_not_allowed}
+use Rattle.tending.proofs.DoingLemmas.{on_equal, on_same}
+use Rattle.tending.proofs.WriteLemmas.{fills_allowed, fills_no_more, fills_not_allowed}
 use Rattle.tending.proofs.bytes.fill_to.Goals as goal
 
-pub returns-then-not-mounted-clause-refused : goal.returns-then-not-mounted-clause-refused
-returns-then-not-mounted-clause-refused g c = λ next.
-    does_same _ _ _ _ _ _ _ (fills_not_allowed c.args.mounted.now.session.rules c.args.handle c.args.own c.args.size next c.if-size-own.false c.if-not-mounted.true)
-    (does_say _ _ _ _ _ _ refl refl refl)
+pub returns-then-size-own-clause-filled : goal.returns-then-size-own-clause-filled
+returns-then-size-own-clause-filled g c = λ next refused.
+    on_equal _ _ _ _ (fills_no_more c.args.mounted.now.session.rules c.args.handle c.args.own c.args.size next refused c.if-size-own.true)
+
+pub returns-then-not-mounted-clause-filled : goal.returns-then-not-mounted-clause-filled
+returns-then-not-mounted-clause-filled g c = λ next refused.
+    on_equal _ _ _ _ (fills_not_allowed c.args.mounted.now.session.rules c.args.handle c.args.own c.args.size next refused c.if-size-own.false c.if-not-mounted.true)
+
+pub returns-clause-filled : goal.returns-clause-filled
+returns-clause-filled g c = λ next refused.
+    on_same _ _ _ _ _ _ _ (fills_allowed c.args.mounted.now.session.rules c.args.handle c.args.own c.args.size next refused c.if-size-own.false c.if-not-mounted.false)
+    (c.fill_between.ensures.filled next refused)

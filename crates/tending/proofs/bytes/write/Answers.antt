@@ -3,7 +3,9 @@ use Rattle.std.proofs.lemmas.Result.{err_from_is_err_and}
 use Rattle.frozen.specs.Kept.{Kept, frozen_view}
 use Rattle.fuse_wire.specs.declared.bodies.Body.TheVariants as bodies
 use Rattle.model.specs.View.{Inode}
-use Rattle.tending.proofs.DoingLemmas.{does_same, does_say, exit_early}
+use Rattle.tending.proofs.DoingLemmas.{does_same, does_say, ends_err, exit_early, on_err, on_ok}
+use Rattle.tending.specs.Doings.{refuses}
+use Rattle.tending.specs.Requests.{writes_between}
 use Rattle.tending.proofs.WriteLemmas.{writes_large, writes_some}
 use Rattle.tending.proofs.bytes.write.Goals as goal
 
@@ -30,8 +32,9 @@ returns-in_err-fill_to-clause-does g c =
     let small : c.args.offset + length c.args.bytes.now < 4294967296 = omega (arith, c.if-saturating_add-from.false, c.from.ensures, c.saturating_add.ensures) in
     let e = writes_some kept c.args.mounted.now.session c.args.node c.args.offset c.args.bytes.now i c.in_ok-handle.handle c.in_ok-number.ensures c.in_ok-handle.ensures small
     c.own.inside.size own in
-    let p = err_from_is_err_and c.from_residual-in_err-fill_to.result c.from_residual-in_err-fill_to.ensures.1 in
-    rw (p.1, p.2) (does_same _ _ _ _ _ _ _ e (c.in_err-fill_to.ensures.refused _))
+    does_same _ _ _ _ _ _ _ e (ends_err _ _ _ _ bodies.Written _ _ _ (err_from_is_err_and c.from_residual-in_err-fill_to.result c.from_residual-in_err-fill_to.ensures.1)
+    (on_err _ _ _ _ _ _ _ _ _ c.in_err-fill_to.was
+    (c.fill_to.ensures.filled (writes_between c.in_ok-handle.handle c.args.offset (c.args.offset + length c.args.bytes.now) c.args.bytes.now) refuses)))
 
 pub returns-clause-does : goal.returns-clause-does
 returns-clause-does g c =
@@ -42,4 +45,5 @@ returns-clause-does g c =
     let small : c.args.offset + length c.args.bytes.now < 4294967296 = omega (arith, c.if-saturating_add-from.false, c.from.ensures, c.saturating_add.ensures) in
     let e = writes_some kept c.args.mounted.now.session c.args.node c.args.offset c.args.bytes.now i c.in_ok-handle.handle c.in_ok-number.ensures c.in_ok-handle.ensures small
     c.own.inside.size own in
-    does_same _ _ _ _ _ _ _ e (c.in_ok-fill_to.ensures.filled _ _ _ _ c.write_between.ensures.does)
+    does_same _ _ _ _ _ _ _ e (on_ok _ _ _ _ _ _ _ _ _ c.in_ok-fill_to.was
+    (c.fill_to.ensures.filled (writes_between c.in_ok-handle.handle c.args.offset (c.args.offset + length c.args.bytes.now) c.args.bytes.now) refuses) _ _ _ c.write_between.ensures.does)

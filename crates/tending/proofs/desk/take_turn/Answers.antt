@@ -1,11 +1,12 @@
-use Rattle.tending.proofs.LawLemmas.{comes_noted, noted_none}
+use Rattle.std.proofs.Common.{[], refl}
+use Rattle.tending.proofs.LawLemmas.{does_noted}
 use Rattle.tending.proofs.desk.take_turn.Goals as goal
 
 pub returns-in_default-clause-noted : goal.returns-in_default-clause-noted
-returns-in_default-clause-noted g c = noted_none _
+returns-in_default-clause-noted g c = record { events = []; changes = []; session = refl }
 
 pub returns-in_err-answer-clause-noted : goal.returns-in_err-answer-clause-noted
-returns-in_err-answer-clause-noted g c = comes_noted _ _ _ _ _ _ c.answer.ensures.turn.comes
+returns-in_err-answer-clause-noted g c = does_noted _ _ _ _ _ _ c.answer.ensures.turn.comes
 
 pub returns-clause-noted : goal.returns-clause-noted
-returns-clause-noted g c = comes_noted _ _ _ _ _ _ c.answer.ensures.turn.comes
+returns-clause-noted g c = does_noted _ _ _ _ _ _ c.answer.ensures.turn.comes

@@ -1,13 +1,19 @@
-use Rattle.std.proofs.Common.{[], ◌∷◌, ap}
-use Rattle.tending.proofs.LawLemmas.{noted_none}
+use Rattle.std.proofs.Common.{◌≡◌, List, ap, slice_index_or, slice_set, ◌∙◌}
+use Rattle.tending.specs.declared.attributes.Set.{Set}
+use Rattle.tending.specs.Requests.{changed_by}
+use Rattle.tending.specs.Set.{none_set}
+use Rattle.tending.proofs.DoingLemmas.{on_equal}
+use Rattle.tending.proofs.SettingLemmas.{keeps_none, keeps_on}
 use Rattle.tending.proofs.setting.keep.Goals as goal
 
-pub returns-then-not-mounted-clause-session : goal.returns-then-not-mounted-clause-session
-returns-then-not-mounted-clause-session g c = noted_none _
+pub returns-then-not-mounted-clause-does : goal.returns-then-not-mounted-clause-does
+returns-then-not-mounted-clause-does g c = λ next.
+    on_equal _ _ _ _ (keeps_none c.args.mounted.now.session c.args.number c.args.changes.now next c.if-not-mounted.true)
 
-pub returns-clause-session : goal.returns-clause-session
-returns-clause-session g c = record {
-  events = [];
-  changes = record { number = c.args.number; set = c.with_changes-set.result } ∷ [];
-  session = ap (λ sets. record c.args.mounted.now.session { attributes = sets }) c.set.ensures;
-}
+pub returns-clause-does : goal.returns-clause-does
+returns-clause-does g c = λ next.
+    let s = c.args.mounted.now.session in
+    let set : c.with_changes-set.result ≡ changed_by c.args.changes.now s.owner.changed (slice_index_or s.attributes c.args.number none_set) =
+    c.with_changes-set.ensures ∙ ap (changed_by c.args.changes.now s.owner.changed) c.of.ensures in
+    keeps_on s c.args.number c.args.changes.now next _ _ c.if-not-mounted.false
+    (ap (λ (sets : List Set). record s { attributes = sets }) (c.set.ensures ∙ ap (slice_set s.attributes c.args.number) set))
