@@ -251,11 +251,11 @@ module _ (kept : Kept) (s : Session) (node : NodeId) (from size d : ℕ) (at_d :
   lists_long large = at_d _ ∙ ap (λ b. cond b listing (refuses errors.Invalid)) (lt-leb size 1048576 large)
 
 module _ (s : Session) (handle : ℕ) where
-  pub releases_file : handle < 2 ^ 32 → releases s handle ≡ closes s handle says_done
-  releases_file small = ap (λ b. cond b (closes s handle says_done) (refuses errors.Stale)) (lt-ltb handle 4294967296 small)
+  pub releases_file : handle < 2 ^ 32 → releases s handle ≡ closes s handle says_done refuses
+  releases_file small = ap (λ b. cond b (closes s handle says_done refuses) (refuses errors.Stale)) (lt-ltb handle 4294967296 small)
 
   pub releases_none : 2 ^ 32 ≤ handle → releases s handle ≡ refuses errors.Stale
-  releases_none large = ap (λ b. cond b (closes s handle says_done) (refuses errors.Stale)) (le-ltb handle 4294967296 large)
+  releases_none large = ap (λ b. cond b (closes s handle says_done refuses) (refuses errors.Stale)) (le-ltb handle 4294967296 large)
 
 module _ (kept : Kept) (s : Session) (node : NodeId) (old : List ℕ) (target : NodeId) (new : List ℕ) (flags : ℕ) where
   abbrev renaming : Doing

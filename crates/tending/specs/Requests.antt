@@ -262,18 +262,18 @@ abbrev pub opens : Kept → Session → NodeId → Doing
 opens kept s node = at_node s node (λ i. if is_directory kept i then refuses errors.IsDirectory else opens_known s i (known s.nodes i).open_by)
 
 -- The last who opened it closes it.
-abbrev pub closes_by : Option ℕ → Doing → Doing
-closes_by None next = next
-closes_by (Some handle) next = asks_done (command.Close handle) next
+abbrev pub closes_by : Option ℕ → Doing → (Errno → Doing) → Doing
+closes_by None next refused = next
+closes_by (Some handle) next refused = Asks (command.Close handle) (λ reply. if_done_or reply next refused)
 
-abbrev pub closes : Session → ℕ → Doing → Doing
-closes s i next = Notes (Closed i ∷ []) [] (closes_by (released_by (known s.nodes i).open_by) next)
+abbrev pub closes : Session → ℕ → Doing → (Errno → Doing) → Doing
+closes s i next refused = Notes (Closed i ∷ []) [] (closes_by (released_by (known s.nodes i).open_by) next refused)
 
 abbrev pub closed : Session → ℕ → Session
 closed s i = noted (Closed i ∷ []) [] s
 
 abbrev pub releases : Session → ℕ → Doing
-releases s handle = if nat_lt handle (2 ^ 32) then closes s handle says_done else refuses errors.Stale
+releases s handle = if nat_lt handle (2 ^ 32) then closes s handle says_done refuses else refuses errors.Stale
 
 -- a directory is opened to be listed: the kernel keeps no listing, since names change
 abbrev pub opens_directory : Kept → Session → NodeId → Doing
@@ -445,9 +445,9 @@ sets_attributes kept s node changes =
 -- ---- the unmount
 
 -- so many of those who opened a file are done
-unfoldable pub closes_often : Session → ℕ → ℕ → (Session → Doing) → Doing
-closes_often s i zero next = next s
-closes_often s i (suc n) next = closes s i (closes_often (closed s i) i n next)
+unfoldable pub closes_often : Session → ℕ → ℕ → (Session → Doing) → (Errno → Doing) → Doing
+closes_often s i zero next refused = next s
+closes_often s i (suc n) next refused = closes s i (closes_often (closed s i) i n next refused) refused
 
 -- how many of them are not done
 abbrev pub opened_often : Option Open → ℕ
@@ -455,10 +455,10 @@ opened_often None = 0
 opened_often (Some known) = known.count
 
 -- the files of so many numbers from k on are closed, each as often as it is open
-unfoldable pub closes_all : Session → ℕ → ℕ → Doing → Doing
-closes_all s k zero next = next
-closes_all s k (suc n) next = closes_often s k (opened_often (known s.nodes k).open_by) (λ t. closes_all t (k + 1) n next)
+unfoldable pub closes_all : Session → ℕ → ℕ → Doing → (Errno → Doing) → Doing
+closes_all s k zero next refused = next
+closes_all s k (suc n) next refused = closes_often s k (opened_often (known s.nodes k).open_by) (λ t. closes_all t (k + 1) n next refused) refused
 
--- All files are closed, and then all is written.
+-- All files are closed, as far as that is not refused, and all is written in any case. The first refusal is told.
 abbrev pub ends : Kept → Session → Doing
-ends kept s = closes_all s 0 (inode_count kept.geometry) syncs
+ends kept s = closes_all s 0 (inode_count kept.geometry) syncs (λ error. Asks command.Sync (λ reply. refuses error))

@@ -1,13 +1,14 @@
 //! What is answered to a request.
 ghost use Rattle.std.specs.Prelude.{◌≡◌, ◌≤◌, ◌^◌, [], IfOk, OnOk, length};
 ghost use Rattle.fuse_wire.specs.declared.bodies.Body.TheVariants as bodies;
+ghost use Rattle.fuse_wire.specs.declared.errors.Errno.{Errno as Number};
 ghost use Rattle.fuse_wire.specs.Requests.{seen};
 ghost use Rattle.model.specs.Layout.{inode_count};
 ghost use Rattle.nodes.specs.Table.{known};
 ghost use Rattle.softdep.specs.Queued.{unsynced_of};
 ghost use Rattle.tending.specs.declared.session.Session.{Session};
 ghost use Rattle.tending.specs.Answers.{IsTurn};
-ghost use Rattle.tending.specs.Doings.{Does, Doing, LeadsOn, go_on, said_by};
+ghost use Rattle.tending.specs.Doings.{Does, Doing, LeadsOn, go_on_or, said_by};
 ghost use Rattle.tending.specs.Requests.{closes_all, closes_often, ends, lists, opened_often, second, shows_attributes, syncs};
 ghost use Rattle.tending.specs.Saying.{said_bytes, said_done};
 
@@ -155,23 +156,26 @@ fn sync<D: Device>(mounted: &mut Mounted<D>) -> Result<(), Errno>
     mounted.ask_done(Command::Sync)
 }
 
-/// Closes all files, writes all, and waits for the medium. Where a close is refused the files behind it stay open, and nothing is
-/// written; the next end goes on there.
+/// Closes all files, writes all, and waits for the medium. Where a close is refused the files behind it stay open, but all is written
+/// in any case; the first refusal is told. A second end goes on where the first stopped.
 pub(crate) fn end<D: Device>(mounted: &mut Mounted<D>) -> Result<(), Errno>
     ensures start { mounted.new.asking.start ≡ mounted.old.asking.start }
     ensures synced { OnOk result (unsynced_of mounted.new.asking.volume.queue ≡ []) }
     ensures does { Does (ends mounted.old.asking.volume.kept mounted.old.session)
         mounted.old.asking mounted.old.session (said_done result) mounted.new.asking mounted.new.session }
 {
-    close_all(mounted)?;
-    sync(mounted)
+    let closed = close_all(mounted);
+    let synced = mounted.ask_done(Command::Sync);
+    closed?;
+    synced
 }
 
 /// Closes each file as often as it was opened.
 fn close_all<D: Device>(mounted: &mut Mounted<D>) -> Result<(), Errno>
     ensures start { mounted.new.asking.start ≡ mounted.old.asking.start }
-    ensures does { (next : Doing) → LeadsOn (closes_all mounted.old.session 0 (inode_count mounted.old.asking.volume.kept.geometry) next)
-        mounted.old.asking mounted.old.session (go_on result next) mounted.new.asking mounted.new.session }
+    ensures does { (next : Doing) (refused : Number → Doing)
+        → LeadsOn (closes_all mounted.old.session 0 (inode_count mounted.old.asking.volume.kept.geometry) next refused)
+        mounted.old.asking mounted.old.session (go_on_or result next refused) mounted.new.asking mounted.new.session }
 {
     let inodes = mounted.inodes();
     for number in 0..inodes {
@@ -194,8 +198,8 @@ fn count_of<D: Device>(mounted: &Mounted<D>, number: u32) -> u64
 /// Closes a file so many times.
 fn close_often<D: Device>(mounted: &mut Mounted<D>, number: u32, count: u64) -> Result<(), Errno>
     ensures start { mounted.new.asking.start ≡ mounted.old.asking.start }
-    ensures does { (next : Session → Doing) → LeadsOn (closes_often mounted.old.session number count next)
-        mounted.old.asking mounted.old.session (go_on result (next mounted.new.session)) mounted.new.asking mounted.new.session }
+    ensures does { (next : Session → Doing) (refused : Number → Doing) → LeadsOn (closes_often mounted.old.session number count next refused)
+        mounted.old.asking mounted.old.session (go_on_or result (next mounted.new.session) refused) mounted.new.asking mounted.new.session }
 {
     for _closed in 0..count {
         close(mounted, number)?;

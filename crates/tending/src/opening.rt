@@ -1,7 +1,8 @@
 //! Files that are open.
 ghost use Rattle.std.specs.Prelude.{◌≡◌};
 ghost use Rattle.fuse_wire.specs.declared.bodies.Body.TheVariants as bodies;
-ghost use Rattle.tending.specs.Doings.{Does, Doing, Gives, LeadsOn, go_on, said_by};
+ghost use Rattle.fuse_wire.specs.declared.errors.Errno.{Errno as Number};
+ghost use Rattle.tending.specs.Doings.{Does, Doing, Gives, LeadsOn, go_on_or, said_by};
 ghost use Rattle.tending.specs.Requests.{at_handle, closed, closes, open_file, opens, opens_directory, releases};
 ghost use Rattle.tending.specs.Saying.{said_done};
 
@@ -58,8 +59,8 @@ pub(crate) fn release<D: Device>(mounted: &mut Mounted<D>, handle: Handle) -> Re
 pub(crate) fn close<D: Device>(mounted: &mut Mounted<D>, number: u32) -> Result<(), Errno>
     ensures start { mounted.new.asking.start ≡ mounted.old.asking.start }
     ensures session { mounted.new.session ≡ closed mounted.old.session number }
-    ensures does { (next : Doing) → LeadsOn (closes mounted.old.session number next)
-        mounted.old.asking mounted.old.session (go_on result next) mounted.new.asking mounted.new.session }
+    ensures does { (next : Doing) (refused : Number → Doing) → LeadsOn (closes mounted.old.session number next refused)
+        mounted.old.asking mounted.old.session (go_on_or result next refused) mounted.new.asking mounted.new.session }
 {
     match mounted.session.nodes.close(number) {
         Some(handle) => mounted.ask_done(Command::Close(handle)),

@@ -1,7 +1,7 @@
 use Rattle.std.proofs.Common.{refl, arith}
 use Rattle.tending.proofs.DoingLemmas.{does_same, does_say, ends_so}
 use Rattle.tending.proofs.RequestLemmas.{releases_file, releases_none}
-use Rattle.tending.specs.Doings.{says_done}
+use Rattle.tending.specs.Doings.{refuses, says_done}
 use Rattle.tending.proofs.opening.release.Goals as goal
 
 pub returns-then-handle-from-clause-does : goal.returns-then-handle-from-clause-does
@@ -11,4 +11,4 @@ returns-then-handle-from-clause-does g c =
 pub returns-clause-does : goal.returns-clause-does
 returns-clause-does g c =
     does_same _ _ _ _ _ _ _ (releases_file c.args.mounted.now.session c.args.handle.0 (omega (arith, c.if-handle-from.false)))
-    (ends_so _ _ _ _ c.close.result _ (c.close.ensures.does says_done))
+    (ends_so _ _ _ _ c.close.result _ (c.close.ensures.does says_done refuses))
