@@ -1,8 +1,8 @@
 -- Which refusal an image gets that cannot be loaded, and the steps of loading one.
-use Rattle.std.specs.Prelude.{◌≡◌, ◌≢◌, ℕ, ◌<◌, List, length, ◌⊎◌, Option, Some, None, IsTrue, IsFalse}
+use Rattle.std.specs.Prelude.{◌≡◌, ◌≢◌, ℕ, ◌+◌, ◌<◌, List, length, ◌⊎◌, Option, Some, None, IsTrue, IsFalse}
 use Rattle.layout.specs.declared.refusal.Refusal.{Refusal}
 use Rattle.layout.specs.declared.refusal.Refusal.TheVariants.{NoMemory, Device, BadLength, BadSuper, BadGroup}
-use Rattle.model.specs.Layout.{Geometry, IsGeometry, block_count, group_block, is_data_address}
+use Rattle.model.specs.Layout.{Geometry, IsGeometry, block_count, group_block, header_blocks, is_data_address}
 use Rattle.model.specs.Image.{IsBlock, IsSuper, IsGroupBlock, block_at}
 use Rattle.frozen.specs.Kept.{kept_at}
 
@@ -44,6 +44,13 @@ LoadRefuses honest image _ = ⊥
 
 -- ---- the steps of loading
 
+-- what is refused once the superblock was read
+abbrev pub FirstRefuses : Type 0 → List (List ℕ) → Refusal → Type 0
+FirstRefuses honest image Device = Unit {0}
+FirstRefuses honest image BadLength = honest → HasBadLength image
+FirstRefuses honest image BadSuper = honest → HasBadSuper image
+FirstRefuses honest image _ = ⊥
+
 -- the machine gave out: there was no memory, or the device failed
 abbrev pub GivesOut : Refusal → Type 0
 GivesOut refusal = (refusal ≡ NoMemory) ⊎ (refusal ≡ Device)
@@ -82,6 +89,22 @@ BlockRefuses honest geo image a NoMemory = Unit {0}
 BlockRefuses honest geo image a Device = Unit {0}
 BlockRefuses honest geo image a (BadGroup g) = (g < geo.groups) × (group_block geo g ≡ a) × (honest → IsGroupBlock g (block_at image a) → ⊥)
 BlockRefuses honest geo image a _ = ⊥
+
+-- The blocks of group g that come before its data blocks, each as it has to be.
+pub record IsHeader (geo : Geometry) (g : ℕ) (blocks : List (Option (List ℕ))) : Type 0 where
+  pub count : length blocks ≡ header_blocks geo
+  pub each : (k : ℕ) → k < header_blocks geo → IsKeptBlock geo (group_block geo g + k) (kept_at blocks k)
+
+-- and each is the one of the image
+abbrev pub IsHeaderOf : Geometry → List (List ℕ) → ℕ → List (Option (List ℕ)) → Type 0
+IsHeaderOf geo image g blocks = (k : ℕ) (b : List ℕ) → kept_at blocks k ≡ Some b → b ≡ block_at image (group_block geo g + k)
+
+-- The blocks of group g are refused with its number where its block of maps is wrong, and with no other that tells of the image.
+abbrev pub HeaderRefuses : Type 0 → Geometry → List (List ℕ) → ℕ → Refusal → Type 0
+HeaderRefuses honest geo image g NoMemory = Unit {0}
+HeaderRefuses honest geo image g Device = Unit {0}
+HeaderRefuses honest geo image g (BadGroup j) = (j ≡ g) × (honest → IsGroupBlock g (block_at image (group_block geo g)) → ⊥)
+HeaderRefuses honest geo image g _ = ⊥
 
 -- and of all blocks that each volume has
 abbrev pub FrameRefuses : Type 0 → Geometry → List (List ℕ) → Refusal → Type 0

@@ -27,7 +27,7 @@ use std::sync::Arc;
 
 /// Blocks of an image by address, shared: those that each volume has, and those data blocks that were kept so far.
 #[derive(Drop)]
-pub(crate) struct Held {
+pub struct Held {
     geometry: Geometry,
     blocks: Vec<Option<Arc<Block>>>,
 }
@@ -47,7 +47,7 @@ impl Held {
     ghost use Rattle.frozen.specs.Shared.{shared_blocks};
 
     /// These blocks of a volume of this geometry.
-    pub(crate) fn new(geometry: Geometry, blocks: Vec<Option<Arc<Block>>>) -> Held
+    pub fn new(geometry: Geometry, blocks: Vec<Option<Arc<Block>>>) -> Held
         requires { KeepsFrame (record { geometry = geometry; blocks = shared_blocks blocks.items }) }
         ensures { result ≡ record { geometry = geometry; blocks = shared_blocks blocks.items } }
     {
@@ -65,7 +65,7 @@ impl Held {
     }
 
     /// Its geometry.
-    pub(crate) fn geometry(&self) -> Geometry
+    pub fn geometry(&self) -> Geometry
         ensures geometry { result ≡ self.now.geometry }
         ensures frame { KeepsFrame self.now }
     {
@@ -171,7 +171,7 @@ impl Held {
     }
 
     /// What its record tells of an inode number, by one look at it.
-    pub(crate) fn kind(&self, number: u32) -> Kind
+    pub fn kind(&self, number: u32) -> Kind
         ensures { IsKind self.now.geometry (frozen_view self.now) number result }
     {
         if !self.is_number(number) {

@@ -11,14 +11,14 @@ use std::alloc::{AllocError, Global};
 
 /// Whether an inode number is that of a sound inode, whether that one has tables, and whether it is a directory.
 #[derive(Clone, Copy)]
-pub(crate) struct Kind {
-    pub(crate) is_sound: bool,
-    pub(crate) has_tables: bool,
-    pub(crate) is_directory: bool,
+pub struct Kind {
+    pub is_sound: bool,
+    pub has_tables: bool,
+    pub is_directory: bool,
 }
 
 /// What the records tell of all inode numbers.
-pub(crate) fn kinds_of(alloc: Global, held: &Held) -> Result<Vec<Kind>, AllocError>
+pub fn kinds_of(alloc: Global, held: &Held) -> Result<Vec<Kind>, AllocError>
     ensures known { IfOk result (λ kinds. AreKinds held.now.geometry (frozen_view held.now) kinds.items) }
     ensures frame { KeepsFrame held.now }
 {

@@ -7,5 +7,6 @@ mod kinds;
 mod loading;
 
 pub use frozen::{Frozen, Placed};
-pub(crate) use held::Held;
-pub use loading::load;
+pub use held::Held;
+pub use kinds::{Kind, kinds_of};
+pub use loading::{add_group, fill, load, read_first, read_header};

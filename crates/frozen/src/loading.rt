@@ -1,4 +1,4 @@
-ghost use Rattle.std.specs.Prelude.{◌≡◌, ◌<◌, ◌+◌, ℕ, List, length, IfOk, IfErr, OnOk, IsErrOf, Some};
+ghost use Rattle.std.specs.Prelude.{◌≡◌, ◌<◌, ◌+◌, ℕ, All, List, length, IfOk, IfErr, OnOk, IsErrOf, Some};
 ghost use Rattle.std.specs.Option.{option_map};
 ghost use Rattle.std.specs.Arc.{arc_value};
 ghost use Rattle.model.specs.Layout.{block_count, data_address, group_block};
@@ -9,7 +9,7 @@ ghost use Rattle.frozen.specs.Kinds.{AreKinds};
 ghost use Rattle.frozen.specs.Shared.{shared_blocks};
 ghost use Rattle.device.specs.Reading.{ReadsOnly};
 ghost use Rattle.device.specs.Writes.{HasFailed};
-ghost use Rattle.frozen.specs.Loading.{AreBlocksOf, AreReadFrom, BlockRefuses, FrameRefuses, GivesOut, IsKeptBlock, KeepsOn, KeptBelow, LoadRefuses, MapsRefuse};
+ghost use Rattle.frozen.specs.Loading.{AreBlocksOf, AreReadFrom, BlockRefuses, FirstRefuses, FrameRefuses, GivesOut, HeaderRefuses, IsHeader, IsHeaderOf, IsKeptBlock, KeepsOn, LoadRefuses, MapsRefuse, TellsGeometry};
 
 use crate::kinds::{Kind, kinds_of, may_be_directory, may_have_tables};
 use crate::{Frozen, Held};
@@ -35,6 +35,26 @@ pub fn load<D: Device>(alloc: Global, device: &mut D) -> Result<Frozen, Refusal>
 
     ensures reads { ReadsOnly D.honest D.image D.held device.old device.new }
 {
+    let (geometry, first) = read_first(device)?;
+    let held = Held::new(geometry, read_frame(alloc, device, &geometry, &first)?);
+    let kinds = kinds_of(alloc, &held)?;
+    Ok(fill(alloc, device, held, kinds)?)
+}
+
+/// Reads the superblock of a device's image, and the geometry that it tells. It is refused with `BadLength` where the device has
+/// no block, or not as many as that; with `BadSuper` where block 0 is no superblock; and with `Device` where the device failed.
+pub fn read_first<D: Device>(device: &mut D) -> Result<(Geometry, Block), Refusal>
+    ensures count { IfOk result (λ first. length (D.image device.old) ≡ block_count first.0) }
+    ensures is_super { IfOk result (λ first. IsSuper first.0 first.1) }
+    ensures whole { IfOk result (λ first. All IsBlock (D.image device.old)) }
+    ensures block { IfOk result (λ first. D.honest device.new → first.1 ≡ block_at (D.image device.old) 0) }
+    ensures told { IfOk result (λ first. D.honest device.new → TellsGeometry (D.image device.old) first.0) }
+    ensures refused { IfErr result (λ refusal. FirstRefuses (D.honest device.new) (D.image device.old) refusal) }
+    ensures cause { IsErrOf result Refusal.Device → HasFailed (D.failures device.old) (D.failures device.new) }
+    ensures failures { OnOk result (D.failures device.new ≡ D.failures device.old) }
+
+    ensures reads { ReadsOnly D.honest D.image D.held device.old device.new }
+{
     let count = device.blocks();
     if count == 0 {
         return Err(Refusal::BadLength);
@@ -45,14 +65,21 @@ pub fn load<D: Device>(alloc: Global, device: &mut D) -> Result<Frozen, Refusal>
     if count != geometry.blocks() {
         return Err(Refusal::BadLength);
     }
-    let blocks = read_frame(alloc, device, &geometry, &first)?;
-    Ok(fill(alloc, device, Held::new(geometry, blocks))?)
+    Ok((geometry, first))
 }
 
 /// Reads what else is kept of the image whose frame is held: the tables that sound inodes claim, then the blocks that sound
-/// directories claim. What the records tell of their numbers is found out first, so few of them are looked at again.
-fn fill<D: Device>(alloc: Global, device: &mut D, held: Held) -> Result<Frozen, Refusal>
-    requires { length (D.image device.old) ≡ block_count held.geometry }
+/// directories claim. What the records tell of their numbers is known by then, so few of them are looked at again. It is refused
+/// with `Device` where the device failed, and with `NoMemory`.
+pub fn fill<D: Device>(
+    alloc: Global,
+    device: &mut D,
+    held: Held,
+    kinds: Vec<Kind>,
+) -> Result<Frozen, Refusal>
+    requires count { length (D.image device.old) ≡ block_count held.geometry }
+    requires frame { KeepsFrame held }
+    requires known { AreKinds held.geometry (frozen_view held) kinds.items }
 
     ensures metadata { IfOk result (λ frozen. KeepsMetadata frozen) }
     ensures more { IfOk result (λ frozen. KeepsMore held frozen) }
@@ -65,7 +92,6 @@ fn fill<D: Device>(alloc: Global, device: &mut D, held: Held) -> Result<Frozen, 
     ensures reads { ReadsOnly D.honest D.image D.held device.old device.new }
 {
     let mut held = held;
-    let kinds = kinds_of(alloc, &held)?;
     read_tables(alloc, device, &mut held, kinds.as_slice())?;
     read_directories(alloc, device, &mut held, kinds.as_slice())?;
     Ok(Frozen::new(held, kinds))
@@ -253,31 +279,27 @@ fn read_frame<D: Device>(
     let mut blocks = Vec::with_capacity(alloc, geometry.blocks() as usize)?;
     blocks.push(Some(Arc::new(alloc, *first)?))?;
     for group in 0..geometry.groups() {
-        read_header(alloc, device, geometry, group, &mut blocks)?;
-        leave_data(geometry, group, &mut blocks)?;
+        let header = read_header(alloc, device, geometry, group)?;
+        add_group(geometry, group, header, &mut blocks)?;
     }
     Ok(blocks)
 }
 
-/// Reads the blocks of a group that come before its data blocks, behind those of the blocks before.
-fn read_header<D: Device>(
+/// Reads the blocks of a group that come before its data blocks. It is refused with `BadGroup` where its block of maps is not its
+/// own, with `Device` where the device failed, and with `NoMemory`.
+pub fn read_header<D: Device>(
     alloc: Global,
     device: &mut D,
     geometry: &Geometry,
     group: u32,
-    blocks: &mut Vec<Option<Arc<Block>>>,
-) -> Result<(), Refusal>
+) -> Result<Vec<Option<Arc<Block>>>, Refusal>
     requires count { length (D.image device.old) ≡ block_count geometry.now }
     requires in_volume { group < geometry.now.groups }
 
-    ensures kept { OnOk result (KeepsOn geometry.now (shared_blocks blocks.old.items) (group_block geometry.now group)
-        (shared_blocks blocks.new.items) (data_address geometry.now group 0)) }
-    ensures told { OnOk result (D.honest device.new → AreReadFrom (shared_blocks blocks.old.items) (D.image device.old)
-        → (first : List ℕ) → KeptBelow geometry.now first (shared_blocks blocks.old.items) (group_block geometry.now group)
-        → AreReadFrom (shared_blocks blocks.new.items) (D.image device.old)) }
-    ensures refused { IfErr result (λ refusal. (D.honest device.new → AreReadFrom (shared_blocks blocks.old.items) (D.image device.old))
-        → (first : List ℕ) → KeptBelow geometry.now first (shared_blocks blocks.old.items) (group_block geometry.now group)
-        → FrameRefuses (D.honest device.new) geometry.now (D.image device.old) refusal) }
+    ensures header { IfOk result (λ header. IsHeader geometry.now group (shared_blocks header.items)) }
+    ensures blocks { IfOk result (λ header. D.honest device.new
+        → IsHeaderOf geometry.now (D.image device.old) group (shared_blocks header.items)) }
+    ensures refused { IfErr result (λ refusal. HeaderRefuses (D.honest device.new) geometry.now (D.image device.old) group refusal) }
     ensures cause { IsErrOf result Refusal.Device → HasFailed (D.failures device.old) (D.failures device.new) }
     ensures failures { OnOk result (D.failures device.new ≡ D.failures device.old) }
 
@@ -285,10 +307,34 @@ fn read_header<D: Device>(
 {
     let start = geometry.group_block(group);
     let header = geometry.header_blocks();
+    let mut blocks = Vec::with_capacity(alloc, header as usize)?;
     for address in start..start + header {
         let kept = keep_block(alloc, device, geometry, address)?;
         blocks.push(kept)?;
     }
+    Ok(blocks)
+}
+
+/// Adds the blocks of a group behind those of the groups before: these, which come before its data blocks, and the empty places
+/// of its data blocks.
+pub fn add_group(
+    geometry: &Geometry,
+    group: u32,
+    header: Vec<Option<Arc<Block>>>,
+    blocks: &mut Vec<Option<Arc<Block>>>,
+) -> Result<(), AllocError>
+    requires in_volume { group < geometry.now.groups }
+    requires header { IsHeader geometry.now group (shared_blocks header.items) }
+
+    ensures kept { OnOk result (KeepsOn geometry.now (shared_blocks blocks.old.items) (group_block geometry.now group)
+        (shared_blocks blocks.new.items) (group_block geometry.now (group + 1))) }
+    ensures told { OnOk result ((image : List (List ℕ)) → length (shared_blocks blocks.old.items) ≡ group_block geometry.now group
+        → IsHeaderOf geometry.now image group (shared_blocks header.items)
+        → AreReadFrom (shared_blocks blocks.old.items) image → AreReadFrom (shared_blocks blocks.new.items) image) }
+{
+    let mut header = header;
+    blocks.append(&mut header)?;
+    leave_data(geometry, group, blocks)?;
     Ok(())
 }
 

@@ -11,19 +11,19 @@ use Rattle.frozen.proofs.loading.fill.Goals as goal
 pub read_tables-requires-clause-known : goal.read_tables-requires-clause-known
 read_tables-requires-clause-known g c =
     let held = c.args.held in
-    subst (λ (kinds : List Kind). AreKinds held.geometry (frozen_view held) kinds) (sym c.as_slice.ensures.value) c.in_ok-kinds.ensures.known
+    subst (λ (kinds : List Kind). AreKinds held.geometry (frozen_view held) kinds) (sym c.as_slice.ensures.value) c.requires.known
 
 pub read_directories-requires-clause-known : goal.read_directories-requires-clause-known
 read_directories-requires-clause-known g c =
     let middle = c.read_tables.new.held in
     subst (λ (kinds : List Kind). AreKinds middle.geometry (frozen_view middle) kinds) (sym c.as_slice-2.ensures.value)
-    (kinds_kept c.args.held middle c.kinds_of.ensures.frame c.in_ok-read_tables.ensures.more c.in_ok-kinds.kinds.items c.in_ok-kinds.ensures.known)
+    (kinds_kept c.args.held middle c.requires.frame c.in_ok-read_tables.ensures.more c.args.kinds.items c.requires.known)
 
 pub new-requires-clause-known : goal.new-requires-clause-known
 new-requires-clause-known g c =
     let middle = c.read_tables.new.held in
-    kinds_kept middle c.read_directories.new.held c.in_ok-read_tables.ensures.frame c.in_ok-read_directories.ensures.more c.in_ok-kinds.kinds.items
-    (kinds_kept c.args.held middle c.kinds_of.ensures.frame c.in_ok-read_tables.ensures.more c.in_ok-kinds.kinds.items c.in_ok-kinds.ensures.known)
+    kinds_kept middle c.read_directories.new.held c.in_ok-read_tables.ensures.frame c.in_ok-read_directories.ensures.more c.args.kinds.items
+    (kinds_kept c.args.held middle c.requires.frame c.in_ok-read_tables.ensures.more c.args.kinds.items c.requires.known)
 
 pub returns-clause-more : goal.returns-clause-more
 returns-clause-more g c =
