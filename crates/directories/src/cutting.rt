@@ -81,8 +81,13 @@ pub fn pieces(alloc: Global, frozen: &Frozen) -> Result<Vec<Piece>, AllocError>
         first: 0,
         blocks: 0,
     };
+    let of_group = frozen.geometry().inodes_a_group();
+    let mut next = of_group;
     for number in 0..inodes {
-        let begins = number > 0 && begins_group(frozen, number);
+        let begins = number == next;
+        if begins {
+            next = next.saturating_add(of_group);
+        }
         let blocks = by_number.get(number as usize).copied().unwrap_or(0);
         cutting.reach(number, blocks, begins, most)?;
     }
@@ -138,9 +143,4 @@ fn blocks_of(frozen: &Frozen, number: u32) -> u32 {
     } else {
         0
     }
-}
-
-/// Whether the number is the first one of a group.
-fn begins_group(frozen: &Frozen, number: u32) -> bool {
-    number % frozen.geometry().inodes_a_group() == 0
 }
