@@ -7,7 +7,7 @@ ghost use Rattle.device.specs.Media.{settled_on};
 ghost use Rattle.device.specs.Writes.{CountsFaults};
 ghost use Rattle.device.specs.Memory.{IsWholeBlocks};
 ghost use Rattle.device.specs.Zeroes.{zeroes_are_whole};
-ghost use Rattle.file_device.specs.Calls.{GoesOn, IsHonestFile, call_at, calls_of, has_refused, held_so_far, image_now, no_block};
+ghost use Rattle.file_device.specs.Calls.{GoesOn, IsHonestFile, all_writes, call_at, calls_of, has_refused, held_so_far, image_now, no_block};
 ghost use Rattle.file_device.specs.CallLaws.{file_answers};
 ghost use Rattle.file_device.specs.Opening.{IsOfCall, MayNotOpen};
 ghost use Rattle.file_device.specs.Runs.{IsUntouched, writes_of_run};
@@ -379,6 +379,20 @@ impl<F: OpenFile, S: Start> FileDevice<F, S> {
                 let count = blocks_in(&file)?;
                 Ok(FileDevice::over(file, count))
             }
+            Err(error) => Err(OpenError::of_call(error)),
+        }
+    }
+
+    /// Another device over the same open file, with no call made yet. Nothing may have been written through this one, so both show
+    /// the same. It is refused where the host gives no further handle of the file.
+    pub fn again(&self) -> Result<FileDevice<F, S>, OpenError>
+        requires { all_writes self.now ≡ [] }
+        ensures new { IfOk result (λ device. (device.answered ≡ []) × (device.waiting ≡ []) × (device.failures ≡ 0)) }
+        ensures image { IfOk result (λ device. image_now S.first device ≡ image_now S.first self.now) }
+        ensures error { IfErr result IsOfCall }
+    {
+        match self.file.try_clone() {
+            Ok(file) => Ok(FileDevice::over(file, self.count)),
             Err(error) => Err(OpenError::of_call(error)),
         }
     }
