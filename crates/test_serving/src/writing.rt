@@ -579,6 +579,47 @@ fn what_cannot_be_is_refused(rt: HostRuntime) -> Result<(), Fail> {
 }
 
 #[test]
+fn a_size_without_room_is_refused_and_leaves_no_file_open(rt: HostRuntime) -> Result<(), Fail> {
+    let alloc = rt.alloc();
+    let mut desk = desk_of(alloc, FREE)?;
+    let mut session = Session::new(alloc)?;
+    session.finds(
+        MAKE_NODE,
+        ROOT,
+        &[Word(0o100_640), Word(0), Word(0), Word(0), Name(b"a")],
+        A,
+        file(3, 0, 0),
+        &[],
+    )?;
+    // 25 data blocks are left, of which one becomes a block of pointers.
+    session.is_refused(SET_ATTRIBUTES, A, &sized(25 * 1024), NO_SPACE)?;
+    // Only a file that is not open gives its blocks back with its last name.
+    session.asks(UNLINK, ROOT, &[Name(b"a")], &[])?;
+    session.asks(SYNC_VOLUME, ROOT, &[Zeroes(8)], &[])?;
+    session.asks(
+        STATISTICS,
+        ROOT,
+        &[],
+        &[
+            Long(26),
+            Long(25),
+            Long(25),
+            Long(30),
+            Long(29),
+            Word(1024),
+            Word(56),
+            Word(1024),
+            Word(0),
+            Zeroes(24),
+        ],
+    )?;
+    session.asks(DESTROY, 0, &[], &[])?;
+    session.is_served(&rt, &mut desk)?;
+    is_clean(&rt, alloc, &desk)?;
+    Ok(())
+}
+
+#[test]
 fn strictly_no_more_is_done_than_the_volume_has_commands_for(rt: HostRuntime) -> Result<(), Fail> {
     let alloc = rt.alloc();
     let mut desk = desk_of(alloc, STRICT)?;
