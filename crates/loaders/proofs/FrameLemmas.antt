@@ -6,7 +6,7 @@ use Rattle.std.specs.Global.{Vec}
 use Rattle.std.specs.declared.sync.Arc.{Arc}
 use Rattle.std.specs.declared.alloc.Global.{Global}
 use Rattle.layout.specs.declared.refusal.Refusal.{Refusal}
-use Rattle.layout.specs.declared.refusal.Refusal.TheVariants.{NoMemory, Device, BadGroup}
+use Rattle.layout.specs.declared.refusal.Refusal.TheVariants.{NoMemory, Device, BadLength, BadSuper, BadGroup}
 use Rattle.model.specs.Layout.{Geometry, IsGeometry, block_count, group_block, header_blocks, is_data_address}
 use Rattle.model.specs.Image.{IsGroupBlock, block_at}
 use Rattle.model.proofs.Places.{maps_are_no_data}
@@ -62,3 +62,12 @@ frame_to_load honest others geo image NoMemory told count h = tt
 frame_to_load honest others geo image Device told count h = tt
 frame_to_load honest others geo image (BadGroup g) told count h = λ t. record { geometry = geo; told = told t.0; count = count; in_volume = h.0; least = h.1 t.1 }
 frame_to_load honest others geo image _ told count h = absurd h
+
+-- what is refused where one device was honest is refused where all were
+pub alone_to_load : (honest others : Type 0) (image : List (List ℕ)) (refusal : Refusal) → LoadRefuses honest image refusal → LoadRefuses (honest × others) image refusal
+alone_to_load honest others image NoMemory h = tt
+alone_to_load honest others image Device h = tt
+alone_to_load honest others image BadLength h = λ t. h t.0
+alone_to_load honest others image BadSuper h = λ t. h t.0
+alone_to_load honest others image (BadGroup g) h = λ t. h t.0
+alone_to_load honest others image _ h = absurd h

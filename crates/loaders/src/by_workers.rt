@@ -1,6 +1,7 @@
 //! How an image is loaded by workers.
-ghost use Rattle.std.specs.Prelude.{◌≡◌, ◌⊎◌, ℕ, List, All, IfErr, IfOk, IsTrue, Ok, Some, length, slice_get, vec_len};
+ghost use Rattle.std.specs.Prelude.{◌≡◌, ◌⊎◌, ℕ, List, All, IfErr, IfOk, IsErrOf, IsTrue, Ok, OnOk, Some, length, slice_get, vec_len};
 ghost use Rattle.device.specs.Reading.{ReadsOnly};
+ghost use Rattle.device.specs.Writes.{HasFailed};
 ghost use Rattle.frozen.specs.Kept.{IsKeptOf, KeepsFrame};
 ghost use Rattle.frozen.specs.Loading.{AreBlocksOf, FrameRefuses, IsHeader, IsHeaderOf, LoadRefuses};
 ghost use Rattle.frozen.specs.Shared.{shared_blocks};
@@ -24,8 +25,8 @@ use workers::{MOST_WORKERS, OpenGate, each_group};
 /// image: each reads the blocks that each volume has of the groups that it draws, through its own device, and `device` what comes
 /// before and behind. Without other devices, and with more than 64 of them, all is read through `device`.
 ///
-/// It is refused as `load` refuses, whichever worker met a refusal first: of several groups the first one's is told. Where
-/// memory runs out the other devices are lost.
+/// It is refused as `load` refuses, whichever worker met a refusal first: of several groups the first one's is told. Where it was
+/// another device that failed, all is read through `device`. Where memory runs out the other devices are lost.
 pub fn load_by<D: Device + Send + Drop>(
     rt: &(impl Threads + Sync),
     alloc: Global,
@@ -40,16 +41,38 @@ pub fn load_by<D: Device + Send + Drop>(
     ensures refused { IfErr result (λ refusal.
         LoadRefuses (D.honest device.new × All D.honest others.new.items) (D.image device.old) refusal) }
 
+    ensures cause { IsErrOf result Refusal.Device → HasFailed (D.failures device.old) (D.failures device.new) }
+
     ensures reads { ReadsOnly D.honest D.image D.held device.old device.new }
-    ensures others { IfOk result (λ _. AreRead D.honest D.image D.held others.old.items others.new.items) }
+    ensures others { OnOk result (AreRead D.honest D.image D.held others.old.items others.new.items) }
 {
     if others.is_empty() || others.len() > MOST_WORKERS {
         return Ok(load(alloc, device)?);
     }
     let (geometry, first) = read_first(device)?;
-    let held = Held::new(geometry, read_frame(rt, alloc, &geometry, &first, others)?);
+    let blocks = match read_frame(rt, alloc, &geometry, &first, others) {
+        Ok(blocks) => blocks,
+        Err(refusal) => return read_alone(alloc, device, refusal),
+    };
+    let held = Held::new(geometry, blocks);
     let kinds = kinds_of(alloc, &held)?;
     Ok(fill(alloc, device, held, kinds)?)
+}
+
+/// Reads all through one device where it was another one that failed; any other refusal stands.
+fn read_alone<D: Device>(alloc: Global, device: &mut D, refusal: Refusal) -> Result<Frozen, Refusal>
+    ensures ok { IfOk result (λ frozen. D.honest device.new → IsKeptOf frozen (D.image device.old)) }
+    ensures count { IfOk result (λ frozen. length (D.image device.old) ≡ block_count frozen.geometry) }
+    ensures again { OnOk result (refusal ≡ Refusal.Device) }
+    ensures refused { IfErr result (λ told. (told ≡ refusal) ⊎ LoadRefuses (D.honest device.new) (D.image device.old) told) }
+    ensures cause { IsErrOf result Refusal.Device → HasFailed (D.failures device.old) (D.failures device.new) }
+
+    ensures reads { ReadsOnly D.honest D.image D.held device.old device.new }
+{
+    match refusal {
+        Refusal::Device => Ok(load(alloc, device)?),
+        other => Err(other),
+    }
 }
 
 /// Reads the blocks that each volume has, behind its superblock, which was read before, by as many workers as there are devices.
@@ -69,7 +92,8 @@ fn read_frame<D: Device + Send + Drop>(
         → All D.honest devices.new.items → first.now ≡ block_at image 0 → AreBlocksOf (shared_blocks blocks.items) image) }
     ensures refused { IfErr result (λ refusal. (image : List (List ℕ)) → Show D.image image devices.old.items
         → FrameRefuses (All D.honest devices.new.items) geometry.now image refusal) }
-    ensures read { IfOk result (λ _. AreRead D.honest D.image D.held devices.old.items devices.new.items) }
+    ensures read { OnOk result (AreRead D.honest D.image D.held devices.old.items devices.new.items) }
+    ensures lost { IfErr result (λ refusal. (refusal ≡ NoMemory) ⊎ AreRead D.honest D.image D.held devices.old.items devices.new.items) }
 {
     let works = readers(alloc, geometry, mem::replace(devices, Vec::new(alloc)))?;
     let (headers, works) = each_group(rt, alloc, 0, geometry.groups(), works, &OpenGate)?;

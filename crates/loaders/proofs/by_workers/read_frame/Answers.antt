@@ -51,3 +51,13 @@ returns-clause-read g c =
     subst (λ olds. AreRead d.honest d.image d.held olds c.in_ok-devices.field-0.items) old
     (subst (AreRead d.honest d.image d.held _) (sym c.in_ok-devices.ensures)
     (all_read d.honest d.image d.held c.args.geometry.now c.groups.result c.in_ok-works.works.items c.in_ok-headers.headers.items c.in_ok-headers.works.items c.in_ok-headers.ensures.done))
+
+pub returns-in_err-joined-clause-lost : goal.returns-in_err-joined-clause-lost
+returns-in_err-joined-clause-lost g c =
+    let p = err_from_is_err_and c.from_residual-in_err-joined.result c.from_residual-in_err-joined.ensures.1 in
+    let d = g.D.Device in
+    let old = c.in_ok-works.ensures.devices ∙ ap (λ v. v.items) c.replace.ensures.value in
+    rw (p.1, p.2)
+    (inr (subst (λ olds. AreRead d.honest d.image d.held olds c.in_ok-devices.field-0.items) old
+    (subst (AreRead d.honest d.image d.held _) (sym c.in_ok-devices.ensures)
+    (all_read d.honest d.image d.held c.args.geometry.now c.groups.result c.in_ok-works.works.items c.in_ok-headers.headers.items c.in_ok-headers.works.items c.in_ok-headers.ensures.done))))
