@@ -1,2 +1,3 @@
 mod StopLemmas
 pub mod AskingLemmas
+pub mod MountLemmas

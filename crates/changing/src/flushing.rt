@@ -18,6 +18,16 @@ pub fn flush_in_passes<D: Device>(alloc: Global, volume: &mut Volume<D>) -> Resu
     ensures honest { D.honest volume.new.device → D.honest volume.old.device }
 {
     wait_for_writes(alloc, volume)?;
+    flush_ready(alloc, volume)
+}
+
+/// Flushes blocks in passes until none is ready, and waits for nothing: what waits for writes that are not known to be durable is
+/// left.
+pub fn flush_ready<D: Device>(alloc: Global, volume: &mut Volume<D>) -> Result<(), Refusal>
+    ensures flushed { OnOk result (D.honest volume.new.device
+        → AddsFlushes (D.held volume.old.device) (D.image volume.old.device) volume.old (D.held volume.new.device) (D.image volume.new.device) volume.new) }
+    ensures honest { D.honest volume.new.device → D.honest volume.old.device }
+{
     // Each pass writes an update, and no queue has more of them.
     for _pass in 0..u32::MAX {
         if !has_ready(volume) {

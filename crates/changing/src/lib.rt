@@ -15,9 +15,9 @@ mod mounted;
 
 pub use asking::{answer_to, ask};
 use device::Device;
-pub use flushing::flush_in_passes;
+pub use flushing::{flush_in_passes, flush_ready};
 use layout::Refusal;
-pub use mounted::{Changed, change_device, mount};
+pub use mounted::{Changed, change_device, mount, mount_by};
 use snapshot::{Command, Reply, Volume};
 use std::alloc::Global;
 

@@ -18,8 +18,8 @@ use std::alloc::{AllocError, Global};
 use std::marker::Brand;
 use std::os::unix::fs::FileExt;
 use std::rt::Files;
+use std::sync::Wait;
 use std::thread::Threads;
-use std::time::Clock;
 
 /// What the line asks for: a fresh image of this geometry, in this version of the layout, with what a folder of the host holds, if
 /// one is named.
@@ -83,7 +83,7 @@ pub fn line_of<'a>(options: &ArgMatches<'a>) -> Option<MkfsLine<'a>> {
 
 /// Makes a file with a fresh image, in place of what was there, and of what a folder of the host holds, if one is named. The watcher
 /// is told what goes into it.
-pub fn answer<R: Files + AllocGlobal + Clock + Threads + Sync + Clone + Drop>(
+pub fn answer<R: Files + AllocGlobal + Threads + Wait + Sync + Clone + Drop>(
     rt: &R,
     line: &MkfsLine<'_>,
     watcher: &impl Watcher,
@@ -161,7 +161,7 @@ fn given<F: FileExt + Drop>(
 }
 
 /// Makes a file with an image of what a folder of the host holds. All names in the folder are looked at before the file is made.
-fn make_from_folder<R: Files + AllocGlobal + Clock + Threads + Sync + Clone + Drop>(
+fn make_from_folder<R: Files + AllocGlobal + Threads + Wait + Sync + Clone + Drop>(
     rt: &R,
     image: &str,
     geometry: &Geometry,
@@ -178,7 +178,7 @@ where
 }
 
 /// Makes a file with an image that has these items. The file is opened once.
-fn make_of_items<R: Files + AllocGlobal + Clock + Threads + Sync>(
+fn make_of_items<R: Files + AllocGlobal + Threads + Wait + Sync>(
     rt: &R,
     image: &str,
     geometry: &Geometry,

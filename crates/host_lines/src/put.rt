@@ -11,8 +11,8 @@ use putting::{put_archive_into_file, put_into_file};
 use std::alloc::{AllocError, Global};
 use std::os::unix::fs::FileExt;
 use std::rt::Files;
+use std::sync::Wait;
 use std::thread::Threads;
-use std::time::Clock;
 
 /// What the line asks for: what stands at a path of the host, and all below it, at a path in this image.
 #[derive(Clone, Copy)]
@@ -44,7 +44,7 @@ pub fn line_of<'a>(options: &ArgMatches<'a>) -> Option<PutLine<'a>> {
 
 /// Puts what stands on the host, or in a tar archive on standard input, into a file's image. The watcher is told what goes into
 /// it.
-pub fn answer<R: Files + AllocGlobal + Clock + Threads + Sync + Clone + Drop>(
+pub fn answer<R: Files + AllocGlobal + Threads + Wait + Sync + Clone + Drop>(
     rt: &R,
     line: &PutLine<'_>,
     watcher: &impl Watcher,
@@ -63,7 +63,7 @@ where
 }
 
 /// Puts what stands in the tar archive on standard input into a file's image.
-fn put_archive<R: Files + AllocGlobal + Clock + Threads + Sync>(
+fn put_archive<R: Files + AllocGlobal + Threads + Wait + Sync>(
     rt: &R,
     line: &PutLine<'_>,
     watcher: &impl Watcher,

@@ -1,5 +1,5 @@
 -- What is printed of an image that was to be mended, and what stands on its device then.
-use Rattle.std.proofs.Common.{IfOk, Result, Ok, Err, ◌≡◌, ℕ, List, [], ◌++◌, ◌⊎◌, inl, inr, ◌↔◌, sym, ap, ◌∙◌, subst}
+use Rattle.std.proofs.Common.{◌≡◌, ℕ, List, [], ◌++◌, ◌⊎◌, inl, inr, ◌↔◌, sym, ap, ◌∙◌, subst}
 use Rattle.findings.specs.declared.finding.Finding.{Finding}
 use Rattle.findings.specs.declared.verdicts.Verdict.{Verdict}
 use Rattle.findings.specs.declared.verdicts.Verdict.TheVariants.{Clean, Soft, Damaged}
@@ -17,11 +17,6 @@ use Rattle.snapshot.specs.Mounting.{IsMountable}
 use Rattle.image_lines.specs.Repaired.{IsRepaired, done_text, repair_text_of}
 use Rattle.image_lines.specs.Status.{status_of_verdict}
 use Rattle.image_lines.specs.declared.repair.Outcome.TheVariants.{Left, Mended}
-
--- what follows from two clauses on a result
-pub of_both : {T E : Type 0} (r : Result T E) (P Q R : T → Type 0) → ((t : T) → P t → Q t → R t) → IfOk r P → IfOk r Q → IfOk r R
-of_both (Ok t) P Q R f p q = f t p q
-of_both (Err e) P Q R f p q = tt
 
 pub soft_text : (v : Verdict) (x : CheckedImage) → v ≡ Soft → repair_text_of v x ≡ x.report ++ done_text x.repairs
 soft_text v x is = ap (λ w. repair_text_of w x) is

@@ -1,29 +1,30 @@
 //! The line `check`: the report of an image.
-ghost use Rattle.std.specs.Prelude.{◌≡◌, ◌<◌, ◌↔◌, Err, IfOk, IfErr, IsFalse, IsTrue, OkIff, IsErrOf, IsOkUnless, length};
+ghost use Rattle.std.specs.Prelude.{◌≡◌, ◌<◌, ◌↔◌, ℕ, All, Err, IfOk, IfErr, IsFalse, IsTrue, OkIff, IsErrOf, IsOkUnless, List, OnOk, length};
 ghost use Rattle.layout.specs.declared.refusal.Refusal.TheVariants.{BadWorkers};
-ghost use Rattle.model.specs.Layout.{Geometry as Numbers};
 ghost use Rattle.frozen.specs.Kept.{IsKeptOf};
 ghost use Rattle.model.specs.Layout.{block_count};
-ghost use Rattle.model.specs.Image.{IsImage, image_view};
 ghost use Rattle.device.specs.Reading.{ReadsOnly};
 ghost use Rattle.device.specs.Writes.{HasFailed};
 ghost use Rattle.failures.specs.Status.{plain};
 ghost use Rattle.frozen.specs.Loading.{LoadRefuses};
-ghost use Rattle.fsck.specs.Checked.{IsChecked};
 ghost use Rattle.workers.specs.Workers.{may_work};
+ghost use Rattle.loaders.specs.Readers.{AreRead, Show};
+ghost use Rattle.image_lines.specs.Checks.{IsCheckOf};
 ghost use Rattle.image_lines.specs.Status.{status_of_verdict};
 
 use clap::{ArgMatches, Command};
-use command_line::{Answer, DAMAGED, Failure, SOFT, Watched, arguments, words};
+use command_line::{Answer, DAMAGED, Failure, SOFT, Watched, arguments, others_of, words};
 use device::Device;
 use file_device::FileDevice;
 use findings::Verdict;
-use frozen::load;
+use frozen::{Frozen, load};
 use fsck::Checked;
 use layout::Refusal;
+use loaders::load_by;
 use progress::Watcher;
 use std::alloc::{AllocError, Global};
 use std::marker::Brand;
+use std::mem;
 use std::os::unix::fs::FileExt;
 use std::rt::Files;
 use std::sync::Arc;
@@ -70,7 +71,7 @@ pub fn answer<R: Files + AllocGlobal + Threads + Sync, T: Watcher + Sync>(
     watcher: &T,
 ) -> Result<Answer, Failure>
 where
-    R::File: FileExt,
+    R::File: FileExt + Send,
     ensures status { IfOk result (λ answer. answer.status < 3) }
     ensures workers { IsFalse (may_work line.now.workers) → result ≡ Err (plain BadWorkers) }
 {
@@ -88,25 +89,32 @@ pub(crate) fn check_file<R: Files + AllocGlobal + Threads + Sync, G: Gate>(
     gate: &G,
 ) -> Result<Answer, Failure>
 where
-    R::File: FileExt,
+    R::File: FileExt + Send,
     ensures { IfOk result (λ answer. answer.status < 3) }
 {
+    let alloc = rt.alloc();
     let mut device: FileDevice<R::File, Brand> = FileDevice::open(rt, image)?;
-    check_device(rt, rt.alloc(), &mut device, workers, gate)
+    let mut others = others_of(alloc, &device, workers)?;
+    check_devices(rt, alloc, &mut device, &mut others, workers, gate)
 }
 
-/// Checks a device's image, and tells what is found.
-fn check_device<D: Device, G: Gate>(
+/// Checks the image of devices, and tells what is found. What was kept of the image is not given back block by block: the program
+/// ends soon, and then the system takes all of it at once.
+fn check_devices<D: Device + Send + Drop, G: Gate>(
     rt: &(impl Threads + Sync),
     alloc: Global,
     device: &mut D,
+    others: &mut Vec<D>,
     workers: u32,
     gate: &G,
 ) -> Result<Answer, Failure>
+    requires { Show D.image (D.image device.old) others.old.items }
     ensures { IfOk result (λ answer. answer.status < 3) }
 {
-    let checked = check(rt, alloc, device, workers, gate)?;
-    Ok(told(alloc, &checked)?)
+    let checked = check_by(rt, alloc, device, others, workers, gate)?;
+    let answer = told(alloc, &checked)?;
+    mem::forget(checked);
+    Ok(answer)
 }
 
 /// Refuses, with `BadWorkers`, other than 1 to 64 workers.
@@ -130,8 +138,7 @@ pub fn check<D: Device, G: Gate>(
 ) -> Result<Checked, Refusal>
     // Where each read gave what stood there, the blocks are an image, and the findings, the report, the verdict and the
     // repairs are those of this image.
-    ensures checked { IfOk result (λ checked. D.honest device.new → (geo : Numbers) × IsImage geo (D.image device.old)
-        × IsChecked geo (image_view geo (D.image device.old)) checked) }
+    ensures checked { IfOk result (λ checked. D.honest device.new → IsCheckOf (D.image device.old) checked) }
     // The metadata that were checked are those of the image; the device has as many blocks as its volume, honest or not.
     ensures loaded { IfOk result (λ checked. D.honest device.new → IsKeptOf checked.frozen (D.image device.old)) }
     ensures count { IfOk result (λ checked. length (D.image device.old) ≡ block_count checked.frozen.geometry) }
@@ -142,7 +149,53 @@ pub fn check<D: Device, G: Gate>(
     ensures reads { ReadsOnly D.honest D.image D.held device.old device.new }
 {
     allow_workers(workers)?;
-    let frozen = Arc::new(alloc, load(alloc, device)?)?;
+    let frozen = load(alloc, device)?;
+    check_loaded(rt, alloc, frozen, workers, gate)
+}
+
+/// Checks a device's image as `check` does, and refuses as it does. The image is loaded by as many workers as there are other
+/// devices, which show the same: as `loaders::load_by` does it. No device is written.
+pub fn check_by<D: Device + Send + Drop, G: Gate>(
+    rt: &(impl Threads + Sync),
+    alloc: Global,
+    device: &mut D,
+    others: &mut Vec<D>,
+    workers: u32,
+    gate: &G,
+) -> Result<Checked, Refusal>
+    requires { Show D.image (D.image device.old) others.old.items }
+
+    // As of `check`, where each read of each device gave what stood there.
+    ensures checked { IfOk result (λ checked. D.honest device.new → All D.honest others.new.items → IsCheckOf (D.image device.old) checked) }
+    ensures loaded { IfOk result (λ checked. D.honest device.new → All D.honest others.new.items → IsKeptOf checked.frozen (D.image device.old)) }
+    ensures count { IfOk result (λ checked. length (D.image device.old) ≡ block_count checked.frozen.geometry) }
+    ensures workers { IsErrOf result Refusal.BadWorkers ↔ IsFalse (may_work workers) }
+    ensures refused { IsTrue (may_work workers) → IfErr result (λ refusal.
+        LoadRefuses (D.honest device.new × All D.honest others.new.items) (D.image device.old) refusal) }
+    ensures cause { IsErrOf result Refusal.Device → HasFailed (D.failures device.old) (D.failures device.new) }
+
+    ensures reads { ReadsOnly D.honest D.image D.held device.old device.new }
+    ensures others { OnOk result (AreRead D.honest D.image D.held others.old.items others.new.items) }
+{
+    allow_workers(workers)?;
+    let frozen = load_by(rt, alloc, device, others)?;
+    check_loaded(rt, alloc, frozen, workers, gate)
+}
+
+/// Checks what was loaded of an image.
+fn check_loaded<G: Gate>(
+    rt: &(impl Threads + Sync),
+    alloc: Global,
+    frozen: Frozen,
+    workers: u32,
+    gate: &G,
+) -> Result<Checked, Refusal>
+    requires { IsTrue (may_work workers) }
+    ensures checked { IfOk result (λ checked. (image : List (List ℕ)) → IsKeptOf frozen image → IsCheckOf image checked) }
+    ensures frozen { IfOk result (λ checked. checked.frozen ≡ frozen) }
+    ensures error { IsOkUnless result Refusal.NoMemory }
+{
+    let frozen = Arc::new(alloc, frozen)?;
     fsck::check(rt, alloc, &frozen, workers, gate)
 }
 

@@ -2,17 +2,20 @@
 ghost use Rattle.std.specs.Prelude.{◌≡◌, [], IfErr, IfOk, IsTrue, length};
 ghost use Rattle.findings.specs.declared.verdicts.Verdict.TheVariants.{Damaged};
 ghost use Rattle.frozen.specs.Kept.{IsKeptOf};
+ghost use Rattle.joint_devices.specs.Joined.{AllHonest, of_device};
 ghost use Rattle.layout.specs.declared.refusal.Refusal.TheVariants.{NoMemory};
 ghost use Rattle.live_states.specs.Holdings.{IsIdle};
+ghost use Rattle.loaders.specs.Readers.{Show};
 ghost use Rattle.model.specs.Layout.{block_count};
 ghost use Rattle.snapshot.specs.Mounting.{IsMountable, IsNotMounted};
 ghost use Rattle.softdep.specs.Queued.{pending_of};
 ghost use Rattle.workers.specs.Workers.{may_work};
 
-use crate::check::check;
+use crate::check::check_by;
 use device::Device;
 use findings::Verdict;
 use fsck::Checked;
+use joint_devices::Joint;
 use layout::Refusal;
 use snapshot::{Live, NotMounted, tells_its_image};
 use std::alloc::Global;
@@ -21,21 +24,28 @@ use workers::Gate;
 
 /// Mounts the volume of a device once its image is checked with this many workers, which pass the gate as in `fsck::check`.
 /// Refused as `Live::mount` is; then the device is let go.
-pub fn mount<D: Device + Drop, G: Gate>(
+///
+/// The image is loaded by as many workers as there are other devices, which show the same. These are let go before the volume is
+/// used.
+pub fn mount<D: Device + Send + Drop, G: Gate>(
     rt: &(impl Threads + Sync),
     alloc: Global,
     mut device: D,
+    mut others: Vec<D>,
     workers: u32,
     gate: &G,
-) -> Result<Live<D>, Refusal>
+) -> Result<Live<Joint<D>>, Refusal>
     requires workers { IsTrue (may_work workers) }
-    ensures image { IfOk result (λ live. D.image live.device ≡ D.image device) }
+    requires show { Show D.image (D.image device) others.items }
+    ensures image { IfOk result (λ live. D.image live.device.device ≡ D.image device) }
     ensures pending { IfOk result (λ live. pending_of live.queue ≡ []) }
     ensures idle { IfOk result (λ live. IsIdle live.holdings) }
-    ensures mounted { IfOk result (λ live. D.honest live.device → IsMountable live.kept.geometry (D.image device)) }
-    ensures refused { IfErr result (IsNotMounted D.honest D.image D.held D.failures device) }
+    ensures mounted { IfOk result (λ live. AllHonest D.honest live.device → IsMountable live.kept.geometry (D.image device)) }
+    ensures refused { IfErr result (IsNotMounted (AllHonest D.honest) (of_device D.image) (of_device D.held) (of_device D.failures)
+        (record { device = device; readers = others.items })) }
 {
-    let checked = check(rt, alloc, &mut device, workers, gate)?;
+    let checked = check_by(rt, alloc, &mut device, &mut others, workers, gate)?;
+    let device = Joint::new(device, others);
     match checked.verdict() {
         Verdict::Damaged => Err(Refusal::Damaged),
         Verdict::Clean | Verdict::Soft => mount_checked(alloc, device, &checked),

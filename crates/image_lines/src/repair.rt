@@ -2,11 +2,14 @@
 ghost use Rattle.std.specs.Prelude.{◌≡◌, ◌++◌, ◌<◌, [], Err, IfErr, IfOk, IsFalse, IsOkUnless, IsTrue, OnOk, length};
 ghost use Rattle.std.specs.String.{string_bytes};
 ghost use Rattle.failures.specs.Status.{plain};
+ghost use Rattle.file_device.specs.Calls.{all_writes};
 ghost use Rattle.findings.specs.declared.verdicts.Verdict.TheVariants.{Soft};
 ghost use Rattle.frozen.specs.Kept.{IsKeptOf};
 ghost use Rattle.frozen.specs.Loading.{GivesOut};
 ghost use Rattle.layout.specs.declared.refusal.Refusal.TheVariants.{BadWorkers};
+ghost use Rattle.joint_devices.specs.Joined.{AllHonest};
 ghost use Rattle.live_states.specs.Holdings.{IsIdle};
+ghost use Rattle.loaders.specs.Readers.{Show};
 ghost use Rattle.model.specs.Layout.{block_count};
 ghost use Rattle.snapshot.specs.Mounting.{IsMountable};
 ghost use Rattle.softdep.specs.Queued.{pending_of};
@@ -15,20 +18,23 @@ ghost use Rattle.image_lines.specs.Status.{status_of_verdict};
 ghost use Rattle.image_lines.specs.declared.repair.Outcome.TheVariants.{Mended};
 ghost use Rattle.image_lines.specs.Repaired.{IsNotRepaired, IsRepaired, device_of, done_text, repair_lines, repair_text_of};
 
-use crate::check::{allow_workers, by_workers, check, check_file, told};
+use crate::check::{allow_workers, by_workers, check_by, check_file, told};
 use crate::mounting::mount_checked;
 use clap::{ArgMatches, Command};
-use command_line::{Answer, Failure, SOFT, Watched};
+use command_line::{Answer, Failure, SOFT, Watched, others_of};
 use device::Device;
-use file_device::{FileDevice, OpenError};
+use file_device::{FileDevice, OpenError, Start};
 use findings::{Repair, Verdict};
 use fsck::Checked;
+use joint_devices::Joint;
 use layout::Refusal;
 use mending::mend_checked;
 use progress::Watcher;
 use snapshot::{Volume, tells_its_image};
 use std::alloc::{AllocError, Global};
+use std::fs::OpenFile;
 use std::marker::Brand;
+use std::mem;
 use std::os::unix::fs::FileExt;
 use std::rt::Files;
 use std::thread::Threads;
@@ -68,7 +74,7 @@ pub fn answer<R: Files + AllocGlobal + Threads + Sync, T: Watcher + Sync>(
     watcher: &T,
 ) -> Result<Answer, Failure>
 where
-    R::File: FileExt,
+    R::File: FileExt + Send,
     ensures status { IfOk result (λ answer. answer.status < 3) }
     ensures workers { IsFalse (may_work line.now.workers) → result ≡ Err (plain BadWorkers) }
 {
@@ -87,16 +93,34 @@ fn repair_file<R: Files + AllocGlobal + Threads + Sync, G: Gate>(
     gate: &G,
 ) -> Result<Answer, Failure>
 where
-    R::File: FileExt,
+    R::File: FileExt + Send,
     ensures { IfOk result (λ answer. answer.status < 3) }
 {
     let opened: Result<FileDevice<R::File, Brand>, OpenError> = FileDevice::open_to_write(
         rt, image,
     );
     match opened {
-        Ok(device) => Ok(repair(rt, rt.alloc(), device, workers, gate)?.answer),
+        Ok(device) => repair_device(rt, rt.alloc(), device, workers, gate),
         Err(refused) => check_unwritable(rt, image, workers, gate, refused),
     }
+}
+
+/// Checks the image of a device over a file, and mends it where it is soft. What was kept of the image is not given back, as the
+/// line `check` does not.
+fn repair_device<F: FileExt + OpenFile + Send + Drop, S: Start + Send, G: Gate>(
+    rt: &(impl Threads + Sync),
+    alloc: Global,
+    device: FileDevice<F, S>,
+    workers: u32,
+    gate: &G,
+) -> Result<Answer, Failure>
+    requires { all_writes device ≡ [] }
+    ensures { IfOk result (λ answer. answer.status < 3) }
+{
+    let others = others_of(alloc, &device, workers)?;
+    let Repaired { answer, outcome } = repair(rt, alloc, device, others, workers, gate)?;
+    mem::forget(outcome);
+    Ok(answer)
 }
 
 /// Checks the image of a file that was refused to be written, and refuses it so where there is something to be mended.
@@ -108,7 +132,7 @@ fn check_unwritable<R: Files + AllocGlobal + Threads + Sync, G: Gate>(
     refused: OpenError,
 ) -> Result<Answer, Failure>
 where
-    R::File: FileExt,
+    R::File: FileExt + Send,
     ensures { IfOk result (λ answer. answer.status < 3) }
 {
     let answer = check_file(rt, image, workers, gate)?;
@@ -137,23 +161,30 @@ pub struct Repaired<D: Device> {
 /// Checks a device's image with this many workers, which pass the gate as in `fsck::check`. Where it is soft, the volume is
 /// mounted and mended by this check: the image is read once, and checked once. Refused with `BadWorkers`, as an image that
 /// cannot be loaded, with `NoMemory` and with `Device`.
-pub fn repair<D: Device + Drop, G: Gate>(
+///
+/// The image is loaded by as many workers as there are other devices, which show the same. These are read alone, and let go
+/// before the first write.
+pub fn repair<D: Device + Send + Drop, G: Gate>(
     rt: &(impl Threads + Sync),
     alloc: Global,
     mut device: D,
+    mut others: Vec<D>,
     workers: u32,
     gate: &G,
-) -> Result<Repaired<D>, Refusal>
-    // Where the device was honest, it held an image, and what is printed is this image's. Where it is soft, a check finds
+) -> Result<Repaired<Joint<D>>, Refusal>
+    requires { Show D.image (D.image device) others.items }
+
+    // Where each device was honest, they showed an image, and what is printed is this image's. Where it is soft, a check finds
     // nothing on what the device holds now; else it was not written.
-    ensures repaired { IfOk result (λ repaired. D.honest (device_of repaired.outcome)
-        → IsRepaired (D.image device) repaired.answer.text.items repaired.answer.status repaired.outcome (D.image (device_of repaired.outcome))) }
+    ensures repaired { IfOk result (λ repaired. AllHonest D.honest (device_of repaired.outcome)
+        → IsRepaired (D.image device) repaired.answer.text.items repaired.answer.status repaired.outcome (D.image (device_of repaired.outcome).device)) }
     ensures status { IfOk result (λ repaired. repaired.answer.status < 3) }
     ensures workers { IsFalse (may_work workers) → result ≡ Err BadWorkers }
-    ensures refused { IsTrue (may_work workers) → IfErr result (IsNotRepaired D.honest (D.image device)) }
+    ensures refused { IsTrue (may_work workers) → IfErr result (IsNotRepaired (AllHonest D.honest) (D.image device)) }
 {
     allow_workers(workers)?;
-    let checked = check(rt, alloc, &mut device, workers, gate)?;
+    let checked = check_by(rt, alloc, &mut device, &mut others, workers, gate)?;
+    let device = Joint::new(device, others);
     match checked.verdict() {
         Verdict::Soft => mend_device(alloc, device, &checked),
         Verdict::Clean | Verdict::Damaged => Ok(Repaired {

@@ -1,10 +1,7 @@
 -- The blocks of all groups, joined in their order.
-use Rattle.std.proofs.Common.{◌≡◌, ◌<◌, ◌+◌, ◌≤◌, ◌*◌, ℕ, List, [], ◌∷◌, ◌++◌, length, Option, Some, None, Ok, Err, slice_get, zero, suc, refl, sym, ap, ◌∙◌, subst, arith, inl, inr, IsFalse, IsTrue}
-use Rattle.std.proofs.lemmas.Bool.{both_ways, cases_lt, false_from_ne_true}
-use Rattle.std.proofs.lemmas.Option.{same_Some, slice_get_within}
-use Rattle.std.specs.Global.{Vec}
-use Rattle.std.specs.declared.sync.Arc.{Arc}
-use Rattle.std.specs.declared.alloc.Global.{Global}
+use Rattle.std.proofs.Common.{◌≡◌, ◌<◌, ◌+◌, ℕ, List, [], ◌∷◌, ◌++◌, length, Option, Some, None, Ok, Err, slice_get, refl, sym, ap, ◌∙◌, subst, arith}
+use Rattle.std.proofs.lemmas.Bool.{both_ways, false_from_ne_true}
+use Rattle.std.proofs.lemmas.Option.{slice_get_within}
 use Rattle.layout.specs.declared.refusal.Refusal.{Refusal}
 use Rattle.layout.specs.declared.refusal.Refusal.TheVariants.{NoMemory, Device, BadLength, BadSuper, BadGroup}
 use Rattle.model.specs.Layout.{Geometry, IsGeometry, block_count, group_block, header_blocks, is_data_address}

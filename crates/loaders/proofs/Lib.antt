@@ -1,2 +1,5 @@
 mod ReadLemmas
 mod FrameLemmas
+mod AheadLemmas
+mod LookLemmas
+mod PlaceLemmas

@@ -6,6 +6,8 @@ use Rattle.std.specs.Option.{option_map}
 use Rattle.layout.specs.declared.refusal.Refusal.{Refusal}
 use Rattle.layout.specs.declared.refusal.Refusal.TheVariants.{NoMemory, Device, BadGroup}
 use Rattle.model.specs.Layout.{Geometry, block_count}
+use Rattle.frozen.specs.declared.frozen.Placed.{Placed}
+use Rattle.std.specs.Global.{Vec}
 use Rattle.device.specs.Media.{Held}
 use Rattle.device.specs.Reading.{ReadsOnly}
 use Rattle.device.proofs.ReadingLemmas.{reads_on}
@@ -14,7 +16,8 @@ use Rattle.frozen.specs.Shared.{shared_blocks}
 use Rattle.workers.specs.Turns.{AreDone, Runs, calls_of}
 use Rattle.workers.proofs.EveryPart.{in_calls}
 use Rattle.loaders.specs.declared.reader.Reader.{Reader}
-use Rattle.loaders.specs.Readers.{AreRead, GivesHeader, Header, IsRead, Show}
+use Rattle.loaders.specs.Readers.{AreAhead, AreRead, GivesHeader, Header, IsOfData, IsPlacedOf, IsRead, Show, StaysAhead}
+use Rattle.loaders.proofs.AheadLemmas.{ahead_nothing, ahead_same}
 
 -- what is said of honest devices holds of those that are honest for a better reason
 refuses_less : (more less : Type 0) → (less → more) → (geo : Geometry) (image : List (List ℕ)) (g : ℕ) (refusal : Refusal) → HeaderRefuses more geo image g refusal → HeaderRefuses less geo image g refusal
@@ -33,9 +36,17 @@ there [] k b = absurd (omega (arith, b))
 there (x ∷ xs) zero b = (x, refl)
 there (x ∷ xs) (suc k) b = there xs k (omega (arith, b))
 
+-- what each element gives
+all_mapped : {X Y : Type 0} (f : X → Y) (P : Y → Type 0) (xs : List X) (ys : List Y) → ys ≡ map f xs → ((k : ℕ) (x : X) → slice_get xs k ≡ Some x → P (f x)) → All P ys
+all_mapped {X} {Y} f P xs ys same each k d within =
+    let x = there xs k (subst (λ (n : ℕ). k < n) (ap length same ∙ length-map xs f) within) in
+    let at : slice_get ys k ≡ Some (f x.0) = ap (λ (l : List Y). slice_get l k) same ∙ slice_get-map f xs k ∙ ap (option_map f) x.1 in
+    subst P (sym (get_or_from_slice_get ys k (f x.0) d at)) (each k x.0 x.1)
+
 module _ {D : Type 0} (honest_of : D → Type 0) (image_of : D → List (List ℕ)) (held_of : D → Held) (geo : Geometry) where
   abbrev pub Gives : Reader D → ℕ → Header → Reader D → Type 0
   Gives before unit part after = (after.geometry ≡ before.geometry) × GivesHeader honest_of image_of held_of before.geometry unit part before.device after.device
+      × StaysAhead honest_of image_of before.geometry before.device before.ahead.items after.device after.ahead.items
 
   abbrev pub device_of : Reader D → D
   device_of reader = reader.device
@@ -71,6 +82,21 @@ module _ {D : Type 0} (honest_of : D → Type 0) (image_of : D → List (List �
   runs_told before (call ∷ calls) after is runs (suc i) unit part at low =
       subst (λ (image : List (List ℕ)). IsRead (honest_of after.device) geo image unit part) runs.1.1.reads.same
       (runs_told runs.0 calls after (next_reads before call.0 call.1 runs.0 is runs.1) runs.2 i unit part at low)
+
+  -- what a worker read ahead
+  abbrev pub ahead_of : Reader D → Vec Placed
+  ahead_of reader = reader.ahead
+
+  pub runs_ahead : (before : Reader D) (calls : List (ℕ × Header)) (after : Reader D) → before.geometry ≡ geo → Runs Gives before calls after
+      → AreAhead (honest_of before.device) geo (image_of before.device) before.ahead.items → AreAhead (honest_of after.device) geo (image_of before.device) after.ahead.items
+  runs_ahead before [] after is runs all = subst (λ (reader : Reader D). AreAhead (honest_of reader.device) geo (image_of before.device) reader.ahead.items) runs all
+  runs_ahead before (call ∷ calls) after is runs all =
+      let next = runs.0 in
+      let same = runs.1.1.reads.same in
+      let here = runs.1.2 (ahead_same (honest_of before.device) geo before.geometry (image_of before.device) (image_of before.device) before.ahead.items (sym is) refl all) in
+      ahead_same (honest_of after.device) geo geo (image_of next.device) (image_of before.device) after.ahead.items refl same
+      (runs_ahead next calls after (runs.1.0 ∙ is) runs.2
+      (ahead_same (honest_of next.device) before.geometry geo (image_of before.device) (image_of next.device) next.ahead.items is (sym same) here))
 
   module _ (units : ℕ) (befores : List (Reader D)) (parts : List Header) (afters : List (Reader D)) (done : AreDone Gives units befores parts afters) where
     -- the devices that come back were only read
@@ -138,3 +164,34 @@ module _ {D : Type 0} (honest_of : D → Type 0) (image_of : D → List (List �
 
     pub every_of : (image : List (List ℕ)) → Show image_of image olds → All honest_of news → (g : ℕ) (blocks : _) → slice_get parts g ≡ Some (Ok blocks) → IsHeaderOf geo image g (shared_blocks blocks.items)
     every_of image shown honest g blocks at = (every_told image shown g (Ok blocks) at).1 honest
+
+  module _ (units : ℕ) (befores : List (Reader D)) (parts : List Header) (afters : List (Reader D)) (done : AreDone Gives units befores parts afters)
+      (alike : All Reads befores) (fresh : All (λ (reader : Reader D). reader.ahead.items ≡ []) befores) (aheads : List (Vec Placed)) (placed : aheads ≡ map ahead_of afters) where
+    every_ahead : (w : ℕ) (after : Reader D) → slice_get afters w ≡ Some after
+        → (before : Reader D) × (slice_get befores w ≡ Some before) × AreAhead (honest_of after.device) geo (image_of before.device) after.ahead.items
+    every_ahead w after at =
+        let less : w < length befores = subst (λ (k : ℕ). w < k) done.workers (slice_get_within afters w after at) in
+        let before = there befores w less in
+        let is : get_or befores w before.0 ≡ before.0 = get_or_from_slice_get befores w before.0 before.0 before.1 in
+        let none = subst (λ (reader : Reader D). reader.ahead.items ≡ []) is (fresh w before.0 less) in (
+          before.0,
+          before.1,
+          runs_ahead before.0 (calls_of done.dealt w parts) after (subst (λ (reader : Reader D). reader.geometry ≡ geo) is (alike w before.0 less).0) (done.each w before.0 after before.1 at)
+              (ahead_nothing (honest_of before.0.device) geo (image_of before.0.device) before.0.ahead.items none),
+        )
+
+    -- all that was read ahead stands at addresses of data blocks
+    pub ahead_of_data : All (λ (one : Vec Placed). All (IsOfData geo) one.items) aheads
+    ahead_of_data =
+        all_mapped ahead_of (λ (one : Vec Placed). All (IsOfData geo) one.items) afters aheads placed
+        (λ w after at k d low. ((every_ahead w after at).2 k d low).0)
+
+    -- and is of the image that all devices show
+    pub ahead_of_image : (olds news : List D) → map device_of befores ≡ olds → map device_of afters ≡ news → (image : List (List ℕ)) → Show image_of image olds → All honest_of news
+        → All (λ (one : Vec Placed). All (IsPlacedOf image) one.items) aheads
+    ahead_of_image olds news old new image shown honest =
+        all_mapped ahead_of (λ (one : Vec Placed). All (IsPlacedOf image) one.items) afters aheads placed
+        (λ w after at k d low.
+        let e = every_ahead w after at in
+        let is : image_of e.0.device ≡ image = of_all (λ (device : D). image_of device ≡ image) olds befores old shown w e.0 e.1 in
+        subst (λ (i : List (List ℕ)). IsPlacedOf i (get_or after.ahead.items k d)) is ((e.2 k d low).1 (of_all honest_of news afters new honest w after at)))

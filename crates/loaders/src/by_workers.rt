@@ -11,9 +11,11 @@ ghost use Rattle.model.specs.Layout.{block_count};
 ghost use Rattle.loaders.specs.Readers.{AreRead, IsFirstRefusal, Show};
 ghost use Rattle.workers.specs.Workers.{may_work};
 
-use crate::reader::{Header, devices_of, readers};
+use crate::looking::kinds_by;
+use crate::placing::place_all;
+use crate::reader::{Header, apart, readers};
 use device::Device;
-use frozen::{Frozen, Held, add_group, fill, kinds_of, load, read_first};
+use frozen::{Frozen, Held, add_group, fill, load, read_first};
 use layout::{Block, Geometry, Refusal};
 use std::alloc::Global;
 use std::mem;
@@ -22,8 +24,9 @@ use std::thread::Threads;
 use workers::{MOST_WORKERS, OpenGate, each_group};
 
 /// Reads the metadata of a device's image as `load` does, by as many workers as there are other devices, which show the same
-/// image: each reads the blocks that each volume has of the groups that it draws, through its own device, and `device` what comes
-/// before and behind. Without other devices, and with more than 64 of them, all is read through `device`.
+/// image: each reads the blocks that each volume has of the groups that it draws, and those of the directories whose records stand
+/// there, through its own device, and `device` the superblock, the tables of files and what they left out. Without other devices,
+/// and with more than 64 of them, all is read through `device`.
 ///
 /// It is refused as `load` refuses, whichever worker met a refusal first: of several groups the first one's is told. Where it was
 /// another device that failed, all is read through `device`. Where memory runs out the other devices are lost.
@@ -49,13 +52,14 @@ pub fn load_by<D: Device + Send + Drop>(
     if others.is_empty() || others.len() > MOST_WORKERS {
         return Ok(load(alloc, device)?);
     }
+    let workers = others.len();
     let (geometry, first) = read_first(device)?;
     let blocks = match read_frame(rt, alloc, &geometry, &first, others) {
         Ok(blocks) => blocks,
         Err(refusal) => return read_alone(alloc, device, refusal),
     };
     let held = Held::new(geometry, blocks);
-    let kinds = kinds_of(alloc, &held)?;
+    let kinds = kinds_by(rt, alloc, &held, workers)?;
     Ok(fill(alloc, device, held, kinds)?)
 }
 
@@ -75,7 +79,8 @@ fn read_alone<D: Device>(alloc: Global, device: &mut D, refusal: Refusal) -> Res
     }
 }
 
-/// Reads the blocks that each volume has, behind its superblock, which was read before, by as many workers as there are devices.
+/// Reads the blocks that each volume has, behind its superblock, which was read before, and blocks of directories, by as many
+/// workers as there are devices.
 fn read_frame<D: Device + Send + Drop>(
     rt: &(impl Threads + Sync),
     alloc: Global,
@@ -97,8 +102,11 @@ fn read_frame<D: Device + Send + Drop>(
 {
     let works = readers(alloc, geometry, mem::replace(devices, Vec::new(alloc)))?;
     let (headers, works) = each_group(rt, alloc, 0, geometry.groups(), works, &OpenGate)?;
-    *devices = devices_of(alloc, works)?;
-    Ok(joined(alloc, geometry, first, headers)?)
+    let (back, ahead) = apart(alloc, works)?;
+    *devices = back;
+    let mut blocks = joined(alloc, geometry, first, headers)?;
+    place_all(geometry, ahead, &mut blocks);
+    Ok(blocks)
 }
 
 /// The superblock, and behind it the blocks of all groups, in their order. The refusal of the first group that is refused is told.

@@ -1,11 +1,11 @@
 use crate::pusher::Pusher;
 use std::fs::OpenFile;
+use std::sync::Wait;
 use std::thread::{Threads, join};
-use std::time::Clock;
 
 /// Does work, while a second thread brings to the medium what a file is given by it. The file is opened for that alone; without one,
 /// the work is done alone.
-pub fn push_beside<R: Threads + Clock + Sync, F: OpenFile + Drop + Send, A, W: FnOnce() -> A>(
+pub fn push_beside<R: Threads + Wait + Sync, F: OpenFile + Drop + Send, A, W: FnOnce() -> A>(
     rt: &R,
     pusher: &Pusher,
     file: Option<F>,
@@ -31,7 +31,7 @@ pub fn push_beside<R: Threads + Clock + Sync, F: OpenFile + Drop + Send, A, W: F
 }
 
 /// Brings to the medium what a file is given, if there is one.
-fn push<R: Clock, F: OpenFile + Drop>(rt: &R, pusher: &Pusher, file: Option<F>) {
+fn push<R: Wait, F: OpenFile + Drop>(rt: &R, pusher: &Pusher, file: Option<F>) {
     if let Some(file) = file {
         pusher.push(rt, &file);
     }

@@ -2,6 +2,7 @@ use crate::{Pushed, Pusher};
 use std::fs::{Metadata, OpenFile};
 use std::io;
 use std::os::unix::fs::FileExt;
+use std::sync::Wait;
 use std::sync::atomic::{AtomicU64, Ordering};
 use std::test::*;
 
@@ -57,10 +58,11 @@ impl OpenFile for &Counting<'_> {
 }
 
 /// How many syncs a file is asked for once a pusher went to its end, by a sync before a write and by one behind it.
-fn syncs_asked_for(rt: &HostRuntime, refuses: bool) -> (u64, u64) {
+fn syncs_asked_for(rt: &impl Wait, refuses: bool) -> (u64, u64) {
     let pusher = &Pusher::new();
     let own = &Counting::new(pusher, false);
     let file = Pushed::new(own, pusher);
+    pusher.ask();
     pusher.push(rt, &&Counting::new(pusher, refuses));
     let _ = file.sync_data();
     let before = own.syncs.load(Ordering::SeqCst);

@@ -10,6 +10,7 @@ ghost use Rattle.putting.specs.Putting.{AddsBlocks, MakesFile};
 
 use crate::given::Given;
 use crate::making::{close, create, open, write_blocks};
+use crate::writing::Turns;
 use changing::ask;
 use device::Device;
 use failures::Failure;
@@ -64,6 +65,7 @@ pub(crate) fn copy_file<R: Files + AllocGlobal, D: Device>(
     path: &[u8],
     host: &str,
     room: &mut Vec<u8>,
+    turns: &mut Turns<'_>,
 ) -> Result<Given, Stop>
     requires room { length room.old.items ≡ 131072 }
     ensures made { IfOk result (λ given. D.honest volume.new.device → (more : List Request) × MakesFile path.now given more
@@ -72,7 +74,7 @@ pub(crate) fn copy_file<R: Files + AllocGlobal, D: Device>(
     ensures room { length room.new.items ≡ 131072 }
 {
     match fs::open(rt, host) {
-        Ok(mut file) => copy(rt.alloc(), volume, path, host, &mut file, room),
+        Ok(mut file) => copy(volume, path, host, &mut file, room, turns),
         Err(error) => Err(unread(rt.alloc(), host, &error)),
     }
 }
@@ -80,12 +82,12 @@ pub(crate) fn copy_file<R: Files + AllocGlobal, D: Device>(
 /// Makes a file with what is left to read, up to its end, and gives it. The first part is read before the file is made: a reader
 /// that gives nothing at all changes nothing. Where bytes are refused or are not read, the file is taken away again.
 fn copy<F: Read, D: Device>(
-    alloc: Global,
     volume: &mut Volume<D>,
     path: &[u8],
     host: &str,
     reader: &mut F,
     room: &mut Vec<u8>,
+    turns: &mut Turns<'_>,
 ) -> Result<Given, Stop>
     requires room { length room.old.items ≡ 131072 }
     ensures all { IfOk result (λ given. IfSome (F.remaining reader.old) (λ left. given ≡ left)) }
@@ -95,12 +97,13 @@ fn copy<F: Read, D: Device>(
     ensures honest { D.honest volume.new.device → D.honest volume.old.device }
     ensures room { length room.new.items ≡ 131072 }
 {
+    let alloc = *room.allocator();
     let count = match read_part(reader, room.as_mut_slice()) {
         Ok(count) => count,
         Err(error) => return Err(unread(alloc, host, &error)),
     };
     create(alloc, volume, path)?;
-    match fill_from(alloc, volume, path, host, reader, room, count) {
+    match fill_from(volume, path, host, reader, room, count, turns) {
         Ok(given) => Ok(given),
         Err(stop) => {
             ask(alloc, volume, &Command::Unlink(path.to_vec(alloc)?))?;
@@ -111,13 +114,13 @@ fn copy<F: Read, D: Device>(
 
 /// Gives an empty file so many bytes of this room, and then what is left to read.
 fn fill_from<F: Read, D: Device>(
-    alloc: Global,
     volume: &mut Volume<D>,
     path: &[u8],
     host: &str,
     reader: &mut F,
     room: &mut Vec<u8>,
     count: usize,
+    turns: &mut Turns<'_>,
 ) -> Result<Given, Stop>
     requires room { length room.old.items ≡ 131072 }
     requires within { count ≤ 131072 }
@@ -133,21 +136,22 @@ fn fill_from<F: Read, D: Device>(
     if count == 0 {
         return Ok(Given::none());
     }
+    let alloc = *room.allocator();
     let handle = open(alloc, volume, path)?;
-    let copied = copy_parts(alloc, volume, handle, host, reader, room, count);
+    let copied = copy_parts(volume, handle, host, reader, room, count, turns);
     close(alloc, volume, handle)?;
     copied
 }
 
 /// Writes so many bytes of this room to the empty file of a handle, and then what is left to read, and gives all of them.
 fn copy_parts<F: Read, D: Device>(
-    alloc: Global,
     volume: &mut Volume<D>,
     handle: u32,
     host: &str,
     reader: &mut F,
     room: &mut Vec<u8>,
     first: usize,
+    turns: &mut Turns<'_>,
 ) -> Result<Given, Stop>
     requires room { length room.old.items ≡ 131072 }
     requires within { first ≤ 131072 }
@@ -160,12 +164,20 @@ fn copy_parts<F: Read, D: Device>(
     ensures honest { D.honest volume.new.device → D.honest volume.old.device }
     ensures room { length room.new.items ≡ 131072 }
 {
+    let alloc = *room.allocator();
     let mut given = Given::none();
     let mut index = 0;
     let mut count = first;
     // No file of an image has as many parts.
     for _part in 0..u32::MAX {
-        index = write_blocks(alloc, volume, handle, index, &room.as_slice()[..count])?;
+        index = write_blocks(
+            alloc,
+            volume,
+            handle,
+            index,
+            &room.as_slice()[..count],
+            turns,
+        )?;
         given = given.and(room, count);
         if count < PART_BYTES {
             return Ok(given);

@@ -8,7 +8,7 @@ use crate::copying::{Stop, copy_file, room_for_parts};
 use crate::given::Given;
 use crate::items::{Item, Source};
 use crate::making::{make_file, make_folder};
-use crate::writing::{write_rest, write_some};
+use crate::writing::{Turns, write_rest};
 use archives::Kind;
 use changing::{flush_in_passes, mount, write_all};
 use device::Device;
@@ -17,10 +17,11 @@ use http_server::Log;
 use layout::Refusal;
 use outcomes::with;
 use progress::{Tally, Watcher};
+use pushing::Pusher;
 use snapshot::Volume;
 use std::rt::Files;
 
-/// How many bytes a file or folder adds to what waits by itself.
+/// How many bytes a file or folder adds to what waits beside its own.
 const BYTES_OF_ITEM: usize = 1 << 12;
 
 /// How many items went into an image, and why the next one did not, if it did not.
@@ -52,6 +53,7 @@ pub fn put_on_device<R: Files + AllocGlobal, D: Device + Drop>(
     device: D,
     items: &[Item],
     watcher: &impl Watcher,
+    pusher: &Pusher,
 ) -> Result<Holding<D>, Refusal>
     // Where none is refused and the device was honest, the volume of its image took them, with the bytes that the host gave.
     ensures read { IfOk result (λ holding. holding.filled.stopped ≡ None → map item_of holding.filled.readings.items.items ≡ items.now) }
@@ -60,7 +62,7 @@ pub fn put_on_device<R: Files + AllocGlobal, D: Device + Drop>(
         → PutMounted (D.image device) holding.filled.readings.items.items (D.held holding.volume.device) (D.image holding.volume.device) holding.volume) }
 {
     let mut volume = mount(rt.alloc(), device)?;
-    let filled = put(rt, &mut volume, items, watcher);
+    let filled = put(rt, &mut volume, items, watcher, pusher);
     let (filled, volume) = with(filled, volume)?;
     Ok(Holding { filled, volume })
 }
@@ -72,6 +74,7 @@ pub fn put<R: Files + AllocGlobal, D: Device>(
     volume: &mut Volume<D>,
     items: &[Item],
     watcher: &impl Watcher,
+    pusher: &Pusher,
 ) -> Result<Filled, Refusal>
     // Where none is refused they were put, with the bytes that the host gave, by commands of which each was answered.
     ensures read { IfOk result (λ filled. filled.stopped ≡ None → map item_of filled.readings.items.items ≡ items.now) }
@@ -82,13 +85,13 @@ pub fn put<R: Files + AllocGlobal, D: Device>(
         → TookIn filled.readings.items.items (D.held volume.old.device) (D.image volume.old.device) volume.old (D.held volume.new.device) (D.image volume.new.device) volume.new) }
     ensures honest { D.honest volume.new.device → D.honest volume.old.device }
 {
-    let mut pending = 0;
     let mut done = 0;
     let mut tally = Tally::new();
     let mut readings = Readings { items: Log::new() };
+    let mut turns = Turns::new(pusher);
     let mut room = room_for_parts(rt.alloc())?;
     for item in items {
-        let bytes = match put_item(rt, volume, item, &mut room, &mut readings) {
+        let bytes = match put_item(rt, volume, item, &mut room, &mut turns, &mut readings) {
             Ok(bytes) => bytes,
             Err(error) => {
                 write_all(rt.alloc(), volume)?;
@@ -99,8 +102,7 @@ pub fn put<R: Files + AllocGlobal, D: Device>(
                 });
             }
         };
-        let more = bytes.saturating_add(BYTES_OF_ITEM);
-        pending = write_some(rt.alloc(), volume, more.saturating_add(pending))?;
+        turns.count(rt.alloc(), volume, BYTES_OF_ITEM)?;
         done += 1;
         tally.count(bytes, watcher);
     }
@@ -119,6 +121,7 @@ fn put_item<R: Files + AllocGlobal, D: Device>(
     volume: &mut Volume<D>,
     item: &Item,
     room: &mut Vec<u8>,
+    turns: &mut Turns<'_>,
     readings: &mut Readings,
 ) -> Result<usize, Failure>
     requires room { length room.old.items ≡ 131072 }
@@ -129,7 +132,7 @@ fn put_item<R: Files + AllocGlobal, D: Device>(
     ensures honest { D.honest volume.new.device → D.honest volume.old.device }
     ensures room { length room.new.items ≡ 131072 }
 {
-    match make_item(rt, volume, item, room) {
+    match make_item(rt, volume, item, room, turns) {
         Ok(given) => {
             readings.items = readings.items.and(item, &given);
             Ok(given.count())
@@ -147,6 +150,7 @@ fn make_item<R: Files + AllocGlobal, D: Device>(
     volume: &mut Volume<D>,
     item: &Item,
     room: &mut Vec<u8>,
+    turns: &mut Turns<'_>,
 ) -> Result<Given, Stop>
     requires room { length room.old.items ≡ 131072 }
     ensures source { IfOk result (λ given. IsTrueTo item.now.source given) }
@@ -160,7 +164,9 @@ fn make_item<R: Files + AllocGlobal, D: Device>(
             make_folder(rt.alloc(), volume, item.path.as_slice())?;
             Ok(held_in(&item.source))
         }
-        Kind::File => make_file_from(rt, volume, item.path.as_slice(), &item.source, room),
+        Kind::File => {
+            make_file_from(rt, volume, item.path.as_slice(), &item.source, room, turns)
+        }
     }
 }
 
@@ -171,6 +177,7 @@ fn make_file_from<R: Files + AllocGlobal, D: Device>(
     path: &[u8],
     source: &Source,
     room: &mut Vec<u8>,
+    turns: &mut Turns<'_>,
 ) -> Result<Given, Stop>
     requires room { length room.old.items ≡ 131072 }
     ensures source { IfOk result (λ given. IsTrueTo source.now given) }
@@ -180,9 +187,9 @@ fn make_file_from<R: Files + AllocGlobal, D: Device>(
     ensures room { length room.new.items ≡ 131072 }
 {
     match source {
-        Source::Host(host) => copy_file(rt, volume, path, host.as_str(), room),
+        Source::Host(host) => copy_file(rt, volume, path, host.as_str(), room, turns),
         Source::Held(bytes) => {
-            make_file(rt.alloc(), volume, path, bytes.as_slice())?;
+            make_file(rt.alloc(), volume, path, bytes.as_slice(), turns)?;
             Ok(Given::all(bytes))
         }
     }

@@ -17,12 +17,12 @@ use std::fs;
 use std::marker::Brand;
 use std::os::unix::fs::FileExt;
 use std::rt::Files;
+use std::sync::Wait;
 use std::thread::Threads;
-use std::time::Clock;
 
 /// Puts what stands at a path of the host, and all below it, at a path in a file's image. All names are looked at before anything
 /// is written.
-pub fn put_into_file<R: Files + AllocGlobal + Clock + Threads + Sync + Clone + Drop>(
+pub fn put_into_file<R: Files + AllocGlobal + Threads + Wait + Sync + Clone + Drop>(
     rt: &R,
     image: &str,
     path: &str,
@@ -37,7 +37,7 @@ where
 }
 
 /// Puts what stands in an archive at a path in a file's image. All names are looked at before anything is written.
-pub fn put_archive_into_file<R: Files + AllocGlobal + Clock + Threads + Sync>(
+pub fn put_archive_into_file<R: Files + AllocGlobal + Threads + Wait + Sync>(
     rt: &R,
     image: &str,
     path: &str,
@@ -104,7 +104,7 @@ where
 }
 
 /// Puts items into the volume of a device over this file's image. Where one is refused, what went before it is written.
-pub fn put_items<R: Files + AllocGlobal + Clock + Threads + Sync>(
+pub fn put_items<R: Files + AllocGlobal + Threads + Wait + Sync>(
     rt: &R,
     image: &str,
     device: FileDevice<R::File, Brand>,
@@ -117,7 +117,7 @@ where
     let pusher = &Pusher::new();
     let device = device.through(move |file| Pushed::new(file, pusher));
     let put = push_beside(rt, pusher, fs::open(rt, image).ok(), move || {
-        put_on_device(rt, device, items, watcher)
+        put_on_device(rt, device, items, watcher, pusher)
     });
     match put {
         Ok(holding) => end_of(holding.filled, items.len()),
@@ -127,7 +127,7 @@ where
 
 /// Puts items into the volume of a file's image, where none of them may stand yet. Where one is refused, what went before it is
 /// written.
-fn put_new_items<R: Files + AllocGlobal + Clock + Threads + Sync>(
+fn put_new_items<R: Files + AllocGlobal + Threads + Wait + Sync>(
     rt: &R,
     image: &str,
     items: &[Item],
@@ -143,7 +143,7 @@ where
 }
 
 /// Puts items into the volume of a file's image, where none of them may stand yet, and tells how many went into it.
-fn put_new_in_file<R: Files + AllocGlobal + Clock + Threads + Sync>(
+fn put_new_in_file<R: Files + AllocGlobal + Threads + Wait + Sync>(
     rt: &R,
     image: &str,
     items: &[Item],
@@ -170,7 +170,7 @@ where
     R::File: FileExt,
 {
     match mount_file(rt, image, pusher) {
-        Ok(mut volume) => put_new_in_volume(rt, &mut volume, items, watcher),
+        Ok(mut volume) => put_new_in_volume(rt, &mut volume, items, watcher, pusher),
         Err(failure) => {
             // An item that the image cannot have is told of first.
             allow_in_file(rt, image, items)?;
@@ -185,9 +185,10 @@ fn put_new_in_volume<R: Files + AllocGlobal, D: Device>(
     volume: &mut Volume<D>,
     items: &[Item],
     watcher: &impl Watcher,
+    pusher: &Pusher,
 ) -> Result<Filled, Failure> {
     allow_items(rt.alloc(), volume.live().metadata(), items)?;
-    Ok(put(rt, volume, items, watcher)?)
+    Ok(put(rt, volume, items, watcher, pusher)?)
 }
 
 /// Mounts the volume of a file's image. The pusher is told of each write.

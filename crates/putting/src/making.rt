@@ -5,7 +5,7 @@ ghost use Rattle.model.specs.Uses.{blocks_of};
 ghost use Rattle.changing.specs.Asking.{Adds};
 ghost use Rattle.putting.specs.Putting.{AddsPart, MakesFile};
 
-use crate::writing::write_behind;
+use crate::writing::Turns;
 use changing::{answer_to, ask};
 use device::Device;
 use layout::{BLOCK_BYTES, Refusal};
@@ -31,13 +31,14 @@ pub(crate) fn make_file<D: Device>(
     volume: &mut Volume<D>,
     path: &[u8],
     bytes: &[u8],
+    turns: &mut Turns<'_>,
 ) -> Result<(), Refusal>
     ensures made { OnOk result (D.honest volume.new.device → (more : List Request) × MakesFile path.now bytes.now more
         × Adds (D.held volume.old.device) (D.image volume.old.device) volume.old more (D.held volume.new.device) (D.image volume.new.device) volume.new) }
     ensures honest { D.honest volume.new.device → D.honest volume.old.device }
 {
     create(alloc, volume, path)?;
-    match fill(alloc, volume, path, bytes) {
+    match fill(alloc, volume, path, bytes, turns) {
         Ok(()) => Ok(()),
         Err(refusal) => {
             ask(alloc, volume, &Command::Unlink(path.to_vec(alloc)?))?;
@@ -65,6 +66,7 @@ fn fill<D: Device>(
     volume: &mut Volume<D>,
     path: &[u8],
     bytes: &[u8],
+    turns: &mut Turns<'_>,
 ) -> Result<(), Refusal>
     ensures filled { OnOk result (D.honest volume.new.device → (more : List Request) × MakesFile path.now bytes.now (AsksCreate path.now ∷ more)
         × Adds (D.held volume.old.device) (D.image volume.old.device) volume.old more (D.held volume.new.device) (D.image volume.new.device) volume.new) }
@@ -74,7 +76,7 @@ fn fill<D: Device>(
         return Ok(());
     }
     let handle = open(alloc, volume, path)?;
-    let written = write_blocks(alloc, volume, handle, 0, bytes);
+    let written = write_blocks(alloc, volume, handle, 0, bytes, turns);
     close(alloc, volume, handle)?;
     written?;
     Ok(())
@@ -100,14 +102,15 @@ pub(crate) fn open<D: Device>(
     }
 }
 
-/// Writes these bytes to the file of a handle, block by block from this one on, and flushes what waits now and then: what waits at
-/// once is bounded, however long the file is. It gives the index of the block behind them.
+/// Writes these bytes to the file of a handle, block by block from this one on, and flushes what waits at the end of each turn:
+/// what waits at once is bounded, however long the file is. It gives the index of the block behind them.
 pub(crate) fn write_blocks<D: Device>(
     alloc: Global,
     volume: &mut Volume<D>,
     handle: u32,
     first: u32,
     bytes: &[u8],
+    turns: &mut Turns<'_>,
 ) -> Result<u32, Refusal>
     ensures next { IfOk result (λ next. next ≡ first + blocks_of (length bytes.now)) }
     ensures written { OnOk result (D.honest volume.new.device → AddsPart handle first bytes.now (blocks_of (length bytes.now))
@@ -120,7 +123,7 @@ pub(crate) fn write_blocks<D: Device>(
     };
     for piece in bytes.chunks(BLOCK_BYTES) {
         next = write_piece(alloc, volume, handle, next, piece)?;
-        write_behind(alloc, volume, next.index)?;
+        turns.count(alloc, volume, piece.len())?;
     }
     Ok(next.index)
 }

@@ -1,53 +1,78 @@
 //! How what waits in a volume's queue is written while items go into it.
-ghost use Rattle.std.specs.Prelude.{◌≡◌, [], ◌∷◌, IfOk, OnOk};
+ghost use Rattle.std.specs.Prelude.{◌≡◌, [], ◌∷◌, OnOk};
 ghost use Rattle.changing.specs.Asking.{Adds, AddsFlushes};
 ghost use Rattle.machine.specs.Command.{Sync as AsksSync};
 
-use changing::{flush_in_passes, write_all};
+use changing::{flush_in_passes, flush_ready, write_all};
 use device::Device;
-use layout::{BLOCK_BYTES, Refusal};
+use layout::Refusal;
+use pushing::Pusher;
 use snapshot::Volume;
 use std::alloc::Global;
 
-/// After how many bytes what waits is flushed, so that the queue of updates stays short. A device that does not keep order is
-/// waited for each time.
-const BYTES_AT_ONCE: usize = 1 << 19;
+/// After how many bytes what waits is flushed, so that what is looked at again once it is durable is still in the processor's cache.
+const BYTES_A_TURN: usize = 1 << 17;
 
-/// After how many blocks of a file it is.
-const BLOCKS_AT_ONCE: u32 = (BYTES_AT_ONCE / BLOCK_BYTES) as u32;
+/// After how many bytes a device that does not keep order is waited for, if they are not on the medium before: so the queue of updates
+/// stays short.
+const MOST_LOOSE_BYTES: usize = 1 << 19;
 
-/// Flushes what waits, if it is this many bytes or more, and tells how many wait then. Each image that the device holds on the way
-/// is one that a stop may leave.
-pub(crate) fn write_some<D: Device>(
-    alloc: Global,
-    volume: &mut Volume<D>,
-    pending: usize,
-) -> Result<usize, Refusal>
-    ensures written { IfOk result (λ _. D.honest volume.new.device
-        → AddsFlushes (D.held volume.old.device) (D.image volume.old.device) volume.old (D.held volume.new.device) (D.image volume.new.device) volume.new) }
-    ensures honest { D.honest volume.new.device → D.honest volume.old.device }
-{
-    if pending < BYTES_AT_ONCE {
-        return Ok(pending);
-    }
-    flush_in_passes(alloc, volume)?;
-    Ok(0)
+/// What is written while items go into a volume, a turn of bytes after the other.
+#[derive(Drop)]
+pub(crate) struct Turns<'a> {
+    /// Who brings what the device is given to the medium.
+    pusher: &'a Pusher,
+    /// How many bytes went into the volume since what waits was flushed last.
+    waiting: usize,
+    /// How many bytes were flushed since the medium was waited for last.
+    loose: usize,
 }
 
-/// Flushes what waits after a block of a file, each time so many have been written.
-pub(crate) fn write_behind<D: Device>(
-    alloc: Global,
-    volume: &mut Volume<D>,
-    blocks: u32,
-) -> Result<(), Refusal>
-    ensures written { OnOk result (D.honest volume.new.device
-        → AddsFlushes (D.held volume.old.device) (D.image volume.old.device) volume.old (D.held volume.new.device) (D.image volume.new.device) volume.new) }
-    ensures honest { D.honest volume.new.device → D.honest volume.old.device }
-{
-    if blocks % BLOCKS_AT_ONCE != 0 {
-        return Ok(());
+impl<'a> Turns<'a> {
+    /// Nothing went into the volume yet.
+    pub(crate) fn new(pusher: &'a Pusher) -> Turns<'a> {
+        Turns {
+            pusher,
+            waiting: 0,
+            loose: 0,
+        }
     }
-    flush_in_passes(alloc, volume)
+
+    /// Counts so many bytes that went into the volume, and flushes what waits at the end of a turn. Each image that the device holds on
+    /// the way is one that a stop may leave.
+    pub(crate) fn count<D: Device>(
+        &mut self,
+        alloc: Global,
+        volume: &mut Volume<D>,
+        bytes: usize,
+    ) -> Result<(), Refusal>
+        ensures written { OnOk result (D.honest volume.new.device
+            → AddsFlushes (D.held volume.old.device) (D.image volume.old.device) volume.old (D.held volume.new.device) (D.image volume.new.device) volume.new) }
+        ensures honest { D.honest volume.new.device → D.honest volume.old.device }
+    {
+        self.waiting = self.waiting.saturating_add(bytes);
+        if self.waiting < BYTES_A_TURN {
+            return Ok(());
+        }
+        self.loose = self.loose.saturating_add(self.waiting);
+        self.waiting = 0;
+        self.flush(alloc, volume)?;
+        self.pusher.ask();
+        Ok(())
+    }
+
+    /// Flushes what waits. The medium is waited for where all that it was given is there, which takes no time, or much is not.
+    fn flush<D: Device>(&mut self, alloc: Global, volume: &mut Volume<D>) -> Result<(), Refusal>
+        ensures written { OnOk result (D.honest volume.new.device
+            → AddsFlushes (D.held volume.old.device) (D.image volume.old.device) volume.old (D.held volume.new.device) (D.image volume.new.device) volume.new) }
+        ensures honest { D.honest volume.new.device → D.honest volume.old.device }
+    {
+        if self.loose < MOST_LOOSE_BYTES && !self.pusher.has_all() {
+            return flush_ready(alloc, volume);
+        }
+        self.loose = 0;
+        flush_in_passes(alloc, volume)
+    }
 }
 
 /// Writes all that waits, and waits for the medium.

@@ -2,11 +2,12 @@
 ghost use Rattle.std.specs.Prelude.{◌≡◌, Err, IfOk, IsFalse};
 ghost use Rattle.failures.specs.Status.{plain};
 ghost use Rattle.layout.specs.declared.refusal.Refusal.TheVariants.{BadWorkers};
+ghost use Rattle.loaders.specs.Readers.{Show};
 ghost use Rattle.workers.specs.Workers.{may_work};
 
 use crate::scripts::{lines_of_file, of_script};
 use clap::{ArgMatches, Command};
-use command_line::{Answer, Failure, arguments};
+use command_line::{Answer, Failure, arguments, others_of};
 use command_text::write_reply;
 use device::Device;
 use file_device::FileDevice;
@@ -81,25 +82,30 @@ where
     R::File: FileExt + Send,
     ensures { IfOk result (λ answer. answer.status ≡ 0) }
 {
+    let alloc = rt.alloc();
     let device: FileDevice<R::File, Brand> = FileDevice::open_to_write(rt, image)?;
-    Ok(run(rt, rt.alloc(), device, script, workers)?)
+    let others = others_of(alloc, &device, workers)?;
+    Ok(run(rt, alloc, device, others, script, workers)?)
 }
 
 /// Mounts the volume of a device, whose image as many workers check first, and carries out the lines of a script, those of each
-/// user by a thread of its own, while the volume is frozen, checked by this many workers and mended once, and flushed; then all is written. What is printed has each
-/// user's lines with their answers, the report of the check, its repairs, and how many of them were carried out.
+/// user by a thread of its own, while the volume is frozen, checked by this many workers and mended once, and flushed; then all
+/// is written. What is printed has each user's lines with their answers, the report of the check, its repairs, and how many of
+/// them were carried out. The image is loaded by as many workers as there are other devices, which show the same.
 pub fn run<D: Device + Drop + Send>(
     rt: &(impl Threads + Wait + Sync),
     alloc: Global,
     device: D,
+    others: Vec<D>,
     script: Vec<UserLine>,
     workers: u32,
 ) -> Result<Answer, Refusal>
+    requires { Show D.image (D.image device) others.items }
     ensures status { IfOk result (λ answer. answer.status ≡ 0) }
     ensures workers { IsFalse (may_work workers) → result ≡ Err BadWorkers }
 {
     allow_workers(workers)?;
-    let volume = Volume::new(mount(rt, alloc, device, workers, &OpenGate)?);
+    let volume = Volume::new(mount(rt, alloc, device, others, workers, &OpenGate)?);
     let Ran {
         answered,
         mended,

@@ -5,24 +5,25 @@ ghost use Rattle.serve_lines.specs.Ends.{MayEndService};
 use crate::owner::{Numbers, owner_of};
 use crate::serve::failure_of;
 use channels::Channel;
-use command_line::Failure;
+use command_line::{Failure, others_of, workers_here};
 use file_device::FileDevice;
-use frozen::load;
+use loaders::load_by;
 use serving::serve;
 use std::marker::Brand;
 use std::os::unix::fs::FileExt;
 use std::rt::Files;
+use std::thread::Threads;
 use viewing::Desk;
 
 /// Answers the messages of a channel from a file's image.
-pub(crate) fn serve_file<R: Files + AllocGlobal, C: Channel>(
+pub(crate) fn serve_file<R: Files + AllocGlobal + Threads + Sync, C: Channel>(
     rt: &R,
     image: &str,
     owner: Option<Numbers>,
     channel: &mut C,
 ) -> Result<(), Failure>
 where
-    R::File: FileExt,
+    R::File: FileExt + Send,
     ensures { IfErr result (λ failure. MayEndService failure ⊎ (channel.new ≡ channel.old)) }
 {
     let mut desk = desk_of(rt, image, owner)?;
@@ -33,16 +34,18 @@ where
 }
 
 /// A desk over a file's image.
-fn desk_of<R: Files + AllocGlobal>(
+fn desk_of<R: Files + AllocGlobal + Threads + Sync>(
     rt: &R,
     image: &str,
     owner: Option<Numbers>,
 ) -> Result<Desk<FileDevice<R::File, Brand>>, Failure>
 where
-    R::File: FileExt,
+    R::File: FileExt + Send,
 {
+    let alloc = rt.alloc();
     let mut device: FileDevice<R::File, Brand> = FileDevice::open(rt, image)?;
-    let frozen = load(rt.alloc(), &mut device)?;
+    let mut others = others_of(alloc, &device, workers_here(rt))?;
+    let frozen = load_by(rt, alloc, &mut device, &mut others)?;
     let owner = owner_of(rt, image, owner)?;
-    Ok(Desk::new(rt.alloc(), device, frozen, owner)?)
+    Ok(Desk::new(alloc, device, frozen, owner)?)
 }

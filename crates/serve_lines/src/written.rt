@@ -7,11 +7,12 @@ use crate::owner::{Numbers, owner_of};
 use crate::serve::failure_of;
 use crate::telling::Told;
 use background::{Ended, Plan, run};
-use changing::mount;
+use changing::mount_by;
 use channels::Channel;
-use command_line::Failure;
+use command_line::{Failure, others_of, workers_here};
 use file_device::FileDevice;
 use fuse_wire::Errno;
+use joint_devices::Joint;
 use layout::Refusal;
 use serving::LeftError;
 use std::alloc::Global;
@@ -70,17 +71,19 @@ fn outcome_of(
 }
 
 /// A desk over the volume of a file's image.
-fn desk_of<R: Files + AllocGlobal>(
+fn desk_of<R: Files + AllocGlobal + Threads + Sync>(
     rt: &R,
     image: &str,
     owner: Option<Numbers>,
     rules: Rules,
-) -> Result<Desk<FileDevice<R::File, Brand>>, Failure>
+) -> Result<Desk<Joint<FileDevice<R::File, Brand>>>, Failure>
 where
-    R::File: FileExt,
+    R::File: FileExt + Send,
 {
+    let alloc = rt.alloc();
     let owner = owner_of(rt, image, owner)?;
     let device: FileDevice<R::File, Brand> = FileDevice::open_to_write(rt, image)?;
-    let volume = mount(rt.alloc(), device)?;
-    Ok(Desk::new(rt.alloc(), volume, owner, rules)?)
+    let others = others_of(alloc, &device, workers_here(rt))?;
+    let volume = mount_by(rt, alloc, device, others)?;
+    Ok(Desk::new(alloc, volume, owner, rules)?)
 }

@@ -3,8 +3,8 @@ use device::{Device, MemDevice, set_byte};
 use inode::{DIRECT_POINTERS, FILE, RECORD_BYTES, Record};
 use layout::{BLOCK_BYTES, DOUBLE, Geometry, INODES_PER_BLOCK, Refusal};
 use pictures::{Picture, Use, draw, look};
-use std::alloc::Global;
 use std::test::Fail;
+use std::thread::Threads;
 
 /// What the blocks of the image of `used` are used for.
 const CELLS: &[Use] = &[
@@ -93,18 +93,19 @@ fn damage(device: &mut MemDevice, geometry: &Geometry) -> Result<(), Refusal> {
 
 /// The picture of that image, which is else a fresh one of two groups of 16 blocks and 16 inodes: the maps stand in
 /// blocks 1 and 17, the records in 2, 3, 18 and 19, and the root claims block 4.
-fn used(alloc: Global) -> Result<Picture, Refusal> {
+fn used<R: AllocGlobal + Threads + Sync>(rt: &R) -> Result<Picture, Refusal> {
+    let alloc = rt.alloc();
     let geometry = Geometry::new(2, 16, 16)?;
     let mut device = MemDevice::formatted(alloc, &geometry, &[])?;
     match damage(&mut device, &geometry) {
-        Ok(()) => look(alloc, &mut device),
+        Ok(()) => look(rt, alloc, &mut device, &mut Vec::new(alloc)),
         Err(refusal) => Err(refusal),
     }
 }
 
 #[test]
 fn each_block_has_its_use(rt: HostRuntime) -> Result<(), Fail> {
-    let picture = used(rt.alloc())?;
+    let picture = used(&rt)?;
     same(&rt, "cells", picture.cells(), CELLS);
     same(&rt, "free", picture.count(Use::Free), 18);
     Ok(())
@@ -147,7 +148,7 @@ const TABLES: &[(u32, usize, u8)] = &[
 fn tables_of_version_2_have_their_use(rt: HostRuntime) -> Result<(), Fail> {
     let geometry = Geometry::new(1, 16, 16)?.with_version(DOUBLE)?;
     let mut device = MemDevice::formatted(rt.alloc(), &geometry, TABLES)?;
-    let picture = look(rt.alloc(), &mut device)?;
+    let picture = look(&rt, rt.alloc(), &mut device, &mut Vec::new(rt.alloc()))?;
     same(&rt, "cells", picture.cells(), BY_TABLES);
     Ok(())
 }
@@ -163,14 +164,14 @@ const PARTS: &[&str] = &[
 ];
 
 /// The drawing of that image.
-fn drawn(alloc: Global) -> Result<String, Fail> {
-    let picture = used(alloc)?;
-    Ok(draw(alloc, &picture)?)
+fn drawn<R: AllocGlobal + Threads + Sync>(rt: &R) -> Result<String, Fail> {
+    let picture = used(rt)?;
+    Ok(draw(rt.alloc(), &picture)?)
 }
 
 #[test]
 fn rows_are_drawn_by_runs(rt: HostRuntime) -> Result<(), Fail> {
-    let text = drawn(rt.alloc())?;
+    let text = drawn(&rt)?;
     let text = text.as_str();
     let start = "<svg xmlns=\"http://www.w3.org/2000/svg\" ";
     holds(&rt, start, text.starts_with(start));
@@ -182,14 +183,15 @@ fn rows_are_drawn_by_runs(rt: HostRuntime) -> Result<(), Fail> {
 }
 
 /// Why an image has no picture whose second block of maps is not its own.
-fn refused(alloc: Global) -> Result<Option<Refusal>, Refusal> {
+fn refused<R: AllocGlobal + Threads + Sync>(rt: &R) -> Result<Option<Refusal>, Refusal> {
+    let alloc = rt.alloc();
     let mut device = MemDevice::formatted(alloc, &Geometry::new(2, 16, 16)?, &[(17, 4, 7)])?;
-    Ok(look(alloc, &mut device).err())
+    Ok(look(rt, alloc, &mut device, &mut Vec::new(alloc)).err())
 }
 
 #[test]
 fn what_is_no_image_has_no_picture(rt: HostRuntime) -> Result<(), Fail> {
-    let refused = refused(rt.alloc())?;
+    let refused = refused(&rt)?;
     same(&rt, "look", refused, Some(Refusal::BadGroup(1)));
     Ok(())
 }

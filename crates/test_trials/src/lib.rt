@@ -4,6 +4,7 @@
 
 mod beginning;
 mod carrying;
+mod files;
 mod images;
 mod long_rows;
 mod power_cuts;
@@ -20,12 +21,12 @@ pub use beginning::beginning_of;
 pub use carrying::{Told, carry_out, write_told};
 pub use images::{Put, bytes_of, mount};
 pub use long_rows::{FULL, FULL_OF_ONE_FILE, PAST_268_BLOCKS, PAST_524_BLOCKS, UNDER_A_SNAPSHOT};
-pub use power_cuts::{PowerCuts, is_loose, is_synced, power_cuts_of};
+pub use power_cuts::{PowerCuts, is_loose, is_synced, power_cuts_of, power_cuts_of_steps};
 pub use rows::{
     COUNT_TOO_HIGH, FOUR_SNAPSHOTS, INTO_NEW_DIRECTORY, LOST_FILE, NUMBER_OF_ANOTHER, SECOND_BLOCK,
     TWO_USERS, UNLINKED_AND_OPEN,
 };
 pub use seen::Seen;
 pub use stops::{Fault, fault_of};
-pub use trial::{Action, Step, Trial, behind_name, is_asked, steps_of};
+pub use trial::{Action, Step, Trial, behind_name, is_asked, steps_in, steps_of};
 pub use watched::Watched;

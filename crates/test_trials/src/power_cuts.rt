@@ -1,6 +1,7 @@
 //! What a loss of power may leave of a trial, at each moment.
 use crate::beginning::beginning_of;
 use crate::carrying::{Told, carry_out};
+use crate::files::Files;
 use crate::images::mount;
 use crate::stays::Stays;
 use crate::stops::{Fault, Looked, look_at};
@@ -17,12 +18,18 @@ use std::thread::Threads;
 /// What was looked at of what losses of power may leave, and what was wrong.
 #[derive(Clone, Copy, Debug, PartialEq, Eq)]
 pub struct PowerCuts {
+    /// How many steps were not refused.
+    pub answered: u64,
     /// At how many moments.
     pub moments: u64,
     /// How many images.
     pub images: u64,
     /// How many of them a check finds soft.
     pub soft: u64,
+    /// How many files had to have a name, in all of them together.
+    pub names: u64,
+    /// How many bytes of files had to be there, in all of them together.
+    pub bytes: u64,
     /// How much was wrong.
     pub wrong: u64,
     /// The first of what was wrong.
@@ -33,9 +40,12 @@ impl PowerCuts {
     /// Before the first look.
     fn new() -> PowerCuts {
         PowerCuts {
+            answered: 0,
             moments: 0,
             images: 0,
             soft: 0,
+            names: 0,
+            bytes: 0,
             wrong: 0,
             fault: None,
         }
@@ -52,9 +62,12 @@ impl PowerCuts {
         }
     }
 
-    /// Counts an image of which this is said, and gives the verdict: what is wrong is damaged.
-    fn count(&mut self, looked: &Looked) -> Verdict {
+    /// Counts an image of which this is said and that had to have this, and gives the verdict: what is wrong is damaged.
+    fn count(&mut self, looked: &Looked, stays: &Stays) -> Verdict {
+        let (names, bytes) = stays.files().count();
         self.images = self.images.saturating_add(1);
+        self.names = self.names.saturating_add(names);
+        self.bytes = self.bytes.saturating_add(bytes);
         if let Some(fault) = looked.fault {
             self.count_fault(fault);
             return Verdict::Damaged;
@@ -63,6 +76,11 @@ impl PowerCuts {
             self.soft = self.soft.saturating_add(1);
         }
         looked.verdict
+    }
+
+    /// Counts a step that was refused or not.
+    fn count_answer(&mut self, is_answered: bool) {
+        self.answered = self.answered.saturating_add(u64::from(is_answered));
     }
 
     /// Counts what is wrong.
@@ -78,9 +96,7 @@ struct Looks {
     alloc: Global,
     /// How many images are looked at at each moment at most.
     most: u32,
-    /// How many steps the device had made when the sync was answered.
-    from: usize,
-    /// What users saw then, and at each step since.
+    /// What users saw when the sync was answered, and at each step since.
     stays: Stays,
     cuts: PowerCuts,
 }
@@ -90,7 +106,52 @@ impl Judge for Looks {
 
     fn judge<R: Threads + Sync>(&mut self, rt: &R, device: MemDevice) -> Result<Verdict, Refusal> {
         let looked = look_at(rt, self.alloc, device, &self.stays)?;
-        Ok(self.cuts.count(&looked))
+        Ok(self.cuts.count(&looked, &self.stays))
+    }
+}
+
+/// What a device was given since a sync of its volume was answered.
+#[derive(Drop)]
+struct Since {
+    /// How many steps it had made then.
+    from: u64,
+    /// How many of its steps were taken over.
+    taken: usize,
+    /// The last of so many steps is not; each is where this is 0.
+    losing: usize,
+    /// A device that began with what was on the medium when the sync was answered, and has made the steps that were taken over.
+    copy: CacheDevice,
+}
+
+impl Since {
+    /// Nothing, over an image.
+    fn over(alloc: Global, image: &MemDevice, losing: usize) -> Result<Since, Refusal> {
+        let copy = image.image_after(alloc, image.writes())?;
+        Ok(Since {
+            from: 0,
+            taken: 0,
+            losing,
+            copy: CacheDevice::over(alloc, copy)?,
+        })
+    }
+
+    /// Takes over what the device was given.
+    fn take(&mut self, device: &CacheDevice) -> Result<(), Refusal> {
+        for step in device.steps().get(self.taken..).ok_or(Refusal::BadIndex)? {
+            self.taken = self.taken.saturating_add(1);
+            if self.taken.checked_rem(self.losing) != Some(0) {
+                repeat(&mut self.copy, step)?;
+            }
+        }
+        Ok(())
+    }
+
+    /// Begins with what is on the medium now.
+    fn begin(&mut self, alloc: Global) -> Result<(), Refusal> {
+        let steps = self.copy.steps().len();
+        self.from = self.taken as u64;
+        self.copy = CacheDevice::over(alloc, self.copy.left(alloc, steps, &[])?)?;
+        Ok(())
     }
 }
 
@@ -108,30 +169,63 @@ pub fn power_cuts_of(
 ) -> Result<PowerCuts, Refusal> {
     let image = beginning_of(rt, alloc, trial, version)?;
     let steps = steps_of(alloc, trial)?;
-    let mut volume = Volume::new(mount(alloc, CacheDevice::over(alloc, image)?)?);
-    power_cuts_of_steps(rt, alloc, &mut volume, steps.as_slice(), most)
+    power_cuts_of_steps(rt, alloc, image, steps.as_slice(), most, 0)
 }
 
-/// Carries steps out on a mounted volume, and looks at what a loss of power may leave.
-fn power_cuts_of_steps(
+/// Carries steps out on the volume of an image, whatever they are answered, and looks at what a loss of power may leave, as
+/// `power_cuts_of` does. Where `losing` is not 0, the medium is a faulty one: of so many writes and syncs of the device the last one
+/// does not reach it, and the looks are to find that.
+pub fn power_cuts_of_steps(
+    rt: &(impl Threads + Sync),
+    alloc: Global,
+    image: MemDevice,
+    steps: &[Step],
+    most: u32,
+    losing: usize,
+) -> Result<PowerCuts, Refusal> {
+    let mut since = Since::over(alloc, &image, losing)?;
+    let mut volume = Volume::new(mount(alloc, CacheDevice::over(alloc, image)?)?);
+    power_cuts_since(rt, alloc, &mut volume, steps, most, &mut since)
+}
+
+/// Carries steps out on a volume that is mounted, and looks at what a loss of power may leave.
+fn power_cuts_since(
     rt: &(impl Threads + Sync),
     alloc: Global,
     volume: &mut Volume<CacheDevice>,
     steps: &[Step],
     most: u32,
+    since: &mut Since,
 ) -> Result<PowerCuts, Refusal> {
     let mut looks = Looks {
         alloc,
         most,
-        from: 0,
-        stays: Stays::of(alloc, &volume.live().view(alloc)?)?,
+        stays: stays_of(alloc, volume)?,
         cuts: PowerCuts::new(),
     };
+    let done = carry_out_all(rt, volume, steps, since, &mut looks);
+    done.and(Ok(looks.cuts))
+}
+
+/// Carries steps out, and looks at what comes behind the last sync too.
+fn carry_out_all(
+    rt: &(impl Threads + Sync),
+    volume: &mut Volume<CacheDevice>,
+    steps: &[Step],
+    since: &mut Since,
+    looks: &mut Looks,
+) -> Result<(), Refusal> {
     for step in steps {
-        carry_out_step(rt, volume, step, &mut looks)?;
+        carry_out_step(rt, volume, step, since, looks)?;
     }
-    looks.look(rt, volume.live().device())?;
-    Ok(looks.cuts)
+    look(rt, volume.live().device(), since, looks)
+}
+
+/// All that users see of a volume.
+fn stays_of(alloc: Global, volume: &mut Volume<CacheDevice>) -> Result<Stays, Refusal> {
+    let files = Files::of(alloc, volume)?;
+    let view = volume.live().view(alloc)?;
+    Ok(Stays::of(alloc, &view, files)?)
 }
 
 /// Carries a step out. What comes behind a sync that was answered is looked at by itself.
@@ -139,16 +233,80 @@ fn carry_out_step(
     rt: &(impl Threads + Sync),
     volume: &mut Volume<CacheDevice>,
     step: &Step,
+    since: &mut Since,
     looks: &mut Looks,
 ) -> Result<(), Refusal> {
-    let told = carry_out(rt, looks.alloc, volume, &step.action);
-    let view = volume.live().view(looks.alloc)?;
-    looks.stays.leave_out(looks.alloc, &view)?;
-    if is_synced(&step.action, &told) {
-        looks.look(rt, volume.live().device())?;
-        looks.begin(volume.live().device());
-        looks.stays = Stays::of(looks.alloc, &view)?;
+    let is_synced = carry_out_action(rt, volume, &step.action, looks)?;
+    leave_out(volume, looks)?;
+    if is_synced {
+        look_behind_sync(rt, volume, since, looks)?;
     }
+    Ok(())
+}
+
+/// Carries an action out, and tells whether it is a sync that was answered: that changes nothing of what users see of files.
+fn carry_out_action(
+    rt: &(impl Threads + Sync),
+    volume: &mut Volume<CacheDevice>,
+    action: &Action,
+    looks: &mut Looks,
+) -> Result<bool, Refusal> {
+    let before = Files::of(looks.alloc, volume)?;
+    let told = carry_out(rt, looks.alloc, volume, action);
+    looks.cuts.count_answer(told.is_ok());
+    let is_synced = is_synced(action, &told);
+    if is_synced && !stay(looks.alloc, volume, before)? {
+        looks.cuts.count_fault(Fault::LosesSynced);
+    }
+    Ok(is_synced)
+}
+
+/// Whether users see of these files what they saw.
+fn stay(
+    alloc: Global,
+    volume: &mut Volume<CacheDevice>,
+    mut before: Files,
+) -> Result<bool, Refusal> {
+    let now = Files::of(alloc, volume)?;
+    let count = before.count();
+    before.leave_out(&now);
+    Ok(before.count() == count)
+}
+
+/// Leaves out what users do not see now as they did.
+fn leave_out(volume: &mut Volume<CacheDevice>, looks: &mut Looks) -> Result<(), Refusal> {
+    let files = Files::of(looks.alloc, volume)?;
+    let view = volume.live().view(looks.alloc)?;
+    looks.stays.leave_out(looks.alloc, &view, &files)?;
+    Ok(())
+}
+
+/// Looks at what comes before a sync that was answered, and begins behind it.
+fn look_behind_sync(
+    rt: &(impl Threads + Sync),
+    volume: &mut Volume<CacheDevice>,
+    since: &mut Since,
+    looks: &mut Looks,
+) -> Result<(), Refusal> {
+    look(rt, volume.live().device(), since, looks)?;
+    since.begin(looks.alloc)?;
+    looks.stays = stays_of(looks.alloc, volume)?;
+    if is_loose(volume.live().device()) {
+        looks.cuts.count_fault(Fault::IsLoose);
+    }
+    Ok(())
+}
+
+/// Looks at what a loss of power may leave from the last sync of the volume on.
+fn look(
+    rt: &(impl Threads + Sync),
+    device: &CacheDevice,
+    since: &mut Since,
+    looks: &mut Looks,
+) -> Result<(), Refusal> {
+    since.take(device)?;
+    let told = cuts(rt, looks.alloc, &since.copy, looks.most, since.from, looks)?;
+    looks.cuts.moments = looks.cuts.moments.saturating_add(told.len() as u64);
     Ok(())
 }
 
@@ -160,33 +318,6 @@ pub fn is_synced(action: &Action, told: &Result<Told, Refusal>) -> bool {
 /// Whether a device has writes that a loss of power may take back.
 pub fn is_loose(device: &CacheDevice) -> bool {
     matches!(device.steps().last(), Some(device::Step::Wrote(..)))
-}
-
-impl Looks {
-    /// Looks at what a loss of power may leave from the last sync of the volume on.
-    fn look(&mut self, rt: &(impl Threads + Sync), device: &CacheDevice) -> Result<(), Refusal> {
-        let since = since(self.alloc, device, self.from)?;
-        let told = cuts(rt, self.alloc, &since, self.most, self.from as u64, self)?;
-        self.cuts.moments = self.cuts.moments.saturating_add(told.len() as u64);
-        Ok(())
-    }
-
-    /// Begins behind a sync of the volume.
-    fn begin(&mut self, device: &CacheDevice) {
-        self.from = device.steps().len();
-        if is_loose(device) {
-            self.cuts.count_fault(Fault::IsLoose);
-        }
-    }
-}
-
-/// A device that begins with what was on the medium after so many steps of this one, and has made those that came then.
-fn since(alloc: Global, device: &CacheDevice, steps: usize) -> Result<CacheDevice, Refusal> {
-    let mut since = CacheDevice::over(alloc, device.left(alloc, steps, &[])?)?;
-    for step in device.steps().get(steps..).ok_or(Refusal::BadIndex)? {
-        repeat(&mut since, step)?;
-    }
-    Ok(since)
 }
 
 /// Makes a step once more.

@@ -1,16 +1,19 @@
 //! What users see of a volume throughout.
+use crate::files::Files;
+use device::MemDevice;
 use frozen::Frozen;
 use inode::Record;
-use layout::{BLOCK_BYTES, Block, ROOT};
+use layout::{BLOCK_BYTES, Block, ROOT, Refusal};
 use std::alloc::{AllocError, Global};
 
 /// What users saw of a volume at each of several moments: the records of inodes, but for their links, since a rename counts one
-/// more for a while, and the bytes of directories.
+/// more for a while, the bytes of directories, and the files that have names.
 #[derive(Drop)]
 pub struct Stays {
     /// Those of the inodes from the root on.
     records: Vec<Option<Record>>,
     names: Vec<Names>,
+    files: Files,
 }
 
 /// A block of a directory.
@@ -28,19 +31,28 @@ impl Stays {
         Stays {
             records: Vec::new(alloc),
             names: Vec::new(alloc),
+            files: Files::none(alloc),
         }
     }
 
-    /// All that users see now.
-    pub fn of(alloc: Global, view: &Frozen) -> Result<Stays, AllocError> {
+    /// All that users see now: this metadata, and these files.
+    pub fn of(alloc: Global, view: &Frozen, files: Files) -> Result<Stays, AllocError> {
+        let records = records_of(alloc, view)?;
+        let names = names_of(alloc, view)?;
         Ok(Stays {
-            records: records_of(alloc, view)?,
-            names: names_of(alloc, view)?,
+            records,
+            names,
+            files,
         })
     }
 
-    /// Leaves out what users do not see now as they did.
-    pub fn leave_out(&mut self, alloc: Global, view: &Frozen) -> Result<(), AllocError> {
+    /// Leaves out what users do not see now as they did, where they see this metadata and these files.
+    pub fn leave_out(
+        &mut self,
+        alloc: Global,
+        view: &Frozen,
+        files: &Files,
+    ) -> Result<(), AllocError> {
         let records = records_of(alloc, view)?;
         for (record, now) in self.records.iter_mut().zip(records.as_slice()) {
             if *record != *now {
@@ -48,6 +60,7 @@ impl Stays {
             }
         }
         self.leave_out_names(view);
+        self.files.leave_out(files);
         Ok(())
     }
 
@@ -59,10 +72,23 @@ impl Stays {
         }
     }
 
-    /// Whether an image has all of it.
-    pub fn is_in(&self, alloc: Global, image: &Frozen) -> Result<bool, AllocError> {
+    /// The files.
+    pub fn files(&self) -> &Files {
+        &self.files
+    }
+
+    /// Whether the image of a device, of which this is the metadata, has all of it.
+    pub fn is_in(
+        &self,
+        alloc: Global,
+        image: &Frozen,
+        device: &mut MemDevice,
+    ) -> Result<bool, Refusal> {
         let records = records_of(alloc, image)?;
-        Ok(self.has_records(records.as_slice()) && self.has_names(image))
+        if !self.has_records(records.as_slice()) || !self.has_names(image) {
+            return Ok(false);
+        }
+        self.files.are_in(alloc, image, device)
     }
 
     /// Whether these records have those that stay.

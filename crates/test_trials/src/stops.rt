@@ -78,7 +78,7 @@ fn look_through(
     stays: &Stays,
 ) -> Result<Looked, Refusal> {
     let checked = checked_of(rt, alloc, &mut image)?;
-    let fault = match fault_of_checked(alloc, &checked, stays)? {
+    let fault = match fault_of_checked(alloc, &checked, &mut image, stays)? {
         Some(fault) => Some(fault),
         None => fault_once_mended(rt, alloc, image)?,
     };
@@ -92,6 +92,7 @@ fn look_through(
 fn fault_of_checked(
     alloc: Global,
     checked: &Checked,
+    image: &mut MemDevice,
     stays: &Stays,
 ) -> Result<Option<Fault>, Refusal> {
     if let Some(rule) = obeys(alloc, checked.frozen())? {
@@ -100,7 +101,7 @@ fn fault_of_checked(
     if checked.verdict() == Verdict::Damaged {
         return Ok(Some(Fault::IsDamaged));
     }
-    let has_all = stays.is_in(alloc, checked.frozen())?;
+    let has_all = stays.is_in(alloc, checked.frozen(), image)?;
     Ok((!has_all).then_some(Fault::LosesSynced))
 }
 

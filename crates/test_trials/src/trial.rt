@@ -80,6 +80,18 @@ pub fn steps_of(alloc: Global, trial: &Trial) -> Result<Vec<Step>, Refusal> {
     Ok(steps)
 }
 
+/// The steps of the lines of a text, each of which may have any answer: commands, and the other lines that a trial may have.
+/// Refused with `NoMemory`, and with `BadName` where a line is of another form.
+pub fn steps_in(alloc: Global, text: &[u8]) -> Result<Vec<Step>, Refusal> {
+    let mut steps = Vec::new(alloc);
+    for line in text.split(|byte| *byte == b'\n') {
+        if !line.is_empty() {
+            add_steps(alloc, &mut steps, line, "")?;
+        }
+    }
+    Ok(steps)
+}
+
 /// Adds the steps of a line.
 fn add_steps(
     alloc: Global,

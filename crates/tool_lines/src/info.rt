@@ -2,12 +2,13 @@
 ghost use Rattle.std.specs.Prelude.{◌≡◌, IfOk};
 
 use clap::{ArgMatches, Command};
-use command_line::{Answer, Failure, words};
+use command_line::{Answer, Failure, others_of, words, workers_here};
 use file_device::FileDevice;
 use std::alloc::{AllocError, Global};
 use std::marker::Brand;
 use std::os::unix::fs::FileExt;
 use std::rt::Files;
+use std::thread::Threads;
 use tools::info;
 
 /// What the line asks for: the numbers of this image.
@@ -29,9 +30,12 @@ pub fn line_of<'a>(options: &ArgMatches<'a>) -> Option<InfoLine<'a>> {
 }
 
 /// Tells the numbers of a file's image, which is opened to be read alone.
-pub fn answer<R: Files + AllocGlobal>(rt: &R, line: &InfoLine<'_>) -> Result<Answer, Failure>
+pub fn answer<R: Files + AllocGlobal + Threads + Sync>(
+    rt: &R,
+    line: &InfoLine<'_>,
+) -> Result<Answer, Failure>
 where
-    R::File: FileExt,
+    R::File: FileExt + Send,
     ensures { IfOk result (λ answer. answer.status ≡ 0) }
 {
     match numbers_in_file(rt, line.image) {
@@ -41,10 +45,15 @@ where
 }
 
 /// The numbers of a file's image, as they are printed.
-fn numbers_in_file<R: Files + AllocGlobal>(rt: &R, image: &str) -> Result<Vec<u8>, Failure>
+fn numbers_in_file<R: Files + AllocGlobal + Threads + Sync>(
+    rt: &R,
+    image: &str,
+) -> Result<Vec<u8>, Failure>
 where
-    R::File: FileExt,
+    R::File: FileExt + Send,
 {
+    let alloc = rt.alloc();
     let mut device: FileDevice<R::File, Brand> = FileDevice::open(rt, image)?;
-    Ok(info(rt.alloc(), &mut device)?)
+    let mut others = others_of(alloc, &device, workers_here(rt))?;
+    Ok(info(rt, alloc, &mut device, &mut others)?)
 }

@@ -2,15 +2,14 @@
 ghost use Rattle.std.specs.Prelude.{◌≡◌, IfOk};
 
 use clap::{ArgMatches, Command};
-use command_line::{Answer, Failure, words};
-use device::Device;
+use command_line::{Answer, Failure, others_of, words, workers_here};
 use file_device::FileDevice;
-use layout::Refusal;
 use pictures::{draw, look};
 use std::alloc::{AllocError, Global};
 use std::marker::Brand;
 use std::os::unix::fs::FileExt;
 use std::rt::Files;
+use std::thread::Threads;
 
 /// What the line asks for: a picture of what each block of this image is used for.
 #[derive(Clone, Copy)]
@@ -35,9 +34,12 @@ pub fn line_of<'a>(options: &ArgMatches<'a>) -> Option<MapLine<'a>> {
 }
 
 /// Draws a file's image, which is opened to be read alone.
-pub fn answer<R: Files + AllocGlobal>(rt: &R, line: &MapLine<'_>) -> Result<Answer, Failure>
+pub fn answer<R: Files + AllocGlobal + Threads + Sync>(
+    rt: &R,
+    line: &MapLine<'_>,
+) -> Result<Answer, Failure>
 where
-    R::File: FileExt,
+    R::File: FileExt + Send,
     ensures { IfOk result (λ answer. answer.status ≡ 0) }
 {
     match picture_of_file(rt, line.image) {
@@ -47,15 +49,16 @@ where
 }
 
 /// A picture of a file's image.
-fn picture_of_file<R: Files + AllocGlobal>(rt: &R, image: &str) -> Result<Vec<u8>, Failure>
+fn picture_of_file<R: Files + AllocGlobal + Threads + Sync>(
+    rt: &R,
+    image: &str,
+) -> Result<Vec<u8>, Failure>
 where
-    R::File: FileExt,
+    R::File: FileExt + Send,
 {
+    let alloc = rt.alloc();
     let mut device: FileDevice<R::File, Brand> = FileDevice::open(rt, image)?;
-    Ok(picture_of(rt.alloc(), &mut device)?)
-}
-
-/// A picture of a device's image.
-fn picture_of<D: Device>(alloc: Global, device: &mut D) -> Result<Vec<u8>, Refusal> {
-    Ok(draw(alloc, &look(alloc, device)?)?.into_bytes())
+    let mut others = others_of(alloc, &device, workers_here(rt))?;
+    let picture = look(rt, alloc, &mut device, &mut others)?;
+    Ok(draw(alloc, &picture)?.into_bytes())
 }

@@ -1,10 +1,11 @@
 //! What stands in the image of a device, which is read alone.
-ghost use Rattle.std.specs.Prelude.{◌≡◌, ◌++◌, ◌⊎◌, ℕ, Err, false, true, IfErr, IfOk, IsErrOf, List, OnOk, map};
+ghost use Rattle.std.specs.Prelude.{◌≡◌, ◌++◌, ◌⊎◌, ℕ, All, Err, false, true, IfErr, IfOk, IsErrOf, List, OnOk, map};
 ghost use Rattle.device.specs.Reading.{ReadsOnly};
 ghost use Rattle.device.specs.Writes.{HasFailed};
 ghost use Rattle.frozen.specs.Kept.{IsKeptOf};
 ghost use Rattle.frozen.specs.Loading.{LoadRefuses};
 ghost use Rattle.live_paths.specs.Listed.{name_of};
+ghost use Rattle.loaders.specs.Readers.{Show};
 ghost use Rattle.machine.specs.Command.{ListNames, Open, Stat};
 ghost use Rattle.model.specs.Image.{IsImage, image_view};
 ghost use Rattle.model.specs.Layout.{Geometry as Numbers};
@@ -13,13 +14,15 @@ ghost use Rattle.reading.specs.Replies.{Replies};
 ghost use Rattle.tools.specs.Told.{IsListed, Refuses, name_lines};
 
 use crate::texts::{status_text, write_head, write_long_names, write_names};
-use census::census_of;
+use census::take_census;
 use device::Device;
 use frozen::{Frozen, load};
 use layout::Refusal;
 use live_paths::Named;
+use loaders::load_by;
 use reading::{Listing, list, tree};
 use std::alloc::{AllocError, Global};
+use std::thread::Threads;
 
 /// How names are listed.
 #[derive(Clone, Copy, Debug, PartialEq, Eq)]
@@ -30,16 +33,23 @@ pub struct Style {
     pub recursive: bool,
 }
 
-/// The numbers of a device's image, a line for each. Refused as an image that cannot be loaded.
-pub fn info<D: Device>(alloc: Global, device: &mut D) -> Result<Vec<u8>, Refusal>
-    ensures refused { IfErr result (λ refusal. LoadRefuses (D.honest device.new) (D.image device.old) refusal) }
+/// The numbers of a device's image, a line for each. The image is loaded by as many workers as there are other devices, which
+/// show the same. Refused as an image that cannot be loaded.
+pub fn info<D: Device + Send + Drop>(
+    rt: &(impl Threads + Sync),
+    alloc: Global,
+    device: &mut D,
+    others: &mut Vec<D>,
+) -> Result<Vec<u8>, Refusal>
+    requires { Show D.image (D.image device.old) others.old.items }
+    ensures refused { IfErr result (λ refusal. LoadRefuses (D.honest device.new × All D.honest others.new.items) (D.image device.old) refusal) }
     ensures cause { IsErrOf result Refusal.Device → HasFailed (D.failures device.old) (D.failures device.new) }
 
     ensures reads { ReadsOnly D.honest D.image D.held device.old device.new }
 {
-    let census = census_of(alloc, device)?;
+    let frozen = load_by(rt, alloc, device, others)?;
     let mut text = String::new(alloc);
-    census.write(&mut text)?;
+    take_census(&frozen).write(&mut text)?;
     Ok(text.into_bytes())
 }
 

@@ -11,6 +11,7 @@ use command_line::DAMAGED;
 use device::MemDevice;
 use findings::Verdict;
 use image_lines::check::check;
+use joint_devices::Joint;
 use layout::Refusal;
 use std::alloc::{AllocError, Global};
 use std::sync::Wait;
@@ -121,14 +122,18 @@ fn tell_ran(
     rt: &(impl Threads + Sync),
     alloc: Global,
     text: &mut Vec<u8>,
-    ran: &Ran<MemDevice>,
+    ran: &Ran<Joint<MemDevice>>,
 ) -> Result<(), Refusal> {
     tell_answers(alloc, text, ran)?;
     tell_repaired(rt, alloc, text, ran)
 }
 
 /// Tells the script of the users, and what came of it.
-fn tell_answers(alloc: Global, text: &mut Vec<u8>, ran: &Ran<MemDevice>) -> Result<(), Refusal> {
+fn tell_answers(
+    alloc: Global,
+    text: &mut Vec<u8>,
+    ran: &Ran<Joint<MemDevice>>,
+) -> Result<(), Refusal> {
     say(text, USERS_GIVEN)?;
     show(text, USERS_SCRIPT.as_bytes())?;
     say(text, ANSWERED)?;
@@ -142,7 +147,7 @@ fn tell_repaired(
     rt: &(impl Threads + Sync),
     alloc: Global,
     text: &mut Vec<u8>,
-    ran: &Ran<MemDevice>,
+    ran: &Ran<Joint<MemDevice>>,
 ) -> Result<(), Refusal> {
     say(text, REPAIRED)?;
     let mut device = held_by(alloc, &ran.volume)?;

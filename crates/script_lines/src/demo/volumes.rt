@@ -4,6 +4,7 @@ use crate::stops::carry_out;
 use changing::mount;
 use device::MemDevice;
 use image_lines::mounting::mount as mount_by_workers;
+use joint_devices::Joint;
 use layout::{BLOCK_BYTES, Block, Geometry, Refusal, fresh_block};
 use outcomes::with;
 use snapshot::{Command, Volume};
@@ -63,14 +64,24 @@ pub(crate) fn run_of_users(
     rt: &(impl Threads + Wait + Sync),
     alloc: Global,
     device: MemDevice,
-) -> Result<Ran<MemDevice>, Refusal> {
-    let volume = Volume::new(mount_by_workers(rt, alloc, device, WORKERS, &OpenGate)?);
+) -> Result<Ran<Joint<MemDevice>>, Refusal> {
+    let volume = Volume::new(mount_by_workers(
+        rt,
+        alloc,
+        device,
+        Vec::new(alloc),
+        WORKERS,
+        &OpenGate,
+    )?);
     let (script, volume) = with(lines_of(alloc, USERS_SCRIPT, Commands::OfUsers), volume)?;
     run(rt, alloc, volume, script, WORKERS)
 }
 
 /// What the device of a volume holds.
-pub(crate) fn held_by(alloc: Global, volume: &Volume<MemDevice>) -> Result<MemDevice, Refusal> {
-    let device = volume.live().device();
+pub(crate) fn held_by(
+    alloc: Global,
+    volume: &Volume<Joint<MemDevice>>,
+) -> Result<MemDevice, Refusal> {
+    let device = volume.live().device().device();
     device.image_after(alloc, device.writes())
 }

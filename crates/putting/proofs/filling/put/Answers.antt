@@ -24,7 +24,7 @@ loop-item-preserved g c =
     let old = c.args.volume.now in
     let here = c.loop-item.volume in
     let mid = c.put_item.new.volume in
-    let new = c.write_some.new.volume in
+    let new = c.count.new.volume in
     let items = c.args.items.now in
     let item = c.item-item.result in
     let i = c.loop-item.item-index in
@@ -35,13 +35,13 @@ loop-item-preserved g c =
     record {
       done = omega (arith, inv.done);
       room = c.put_item.ensures.room;
-      honest = λ h. inv.honest (c.put_item.ensures.honest (c.write_some.ensures.honest h));
+      honest = λ h. inv.honest (c.put_item.ensures.honest (c.count.ensures.honest h));
       read = read_next items i item added.0 readings next within c.item-item.is added.1 inv.read;
       held = next_true readings next (item, added.0) added.1 added.2 inv.held;
-      put = λ h. let then = c.write_some.ensures.honest h in
+      put = λ h. let then = c.count.ensures.honest h in
           put_next (held old.device) (held here.device) (held mid.device) (held new.device) (image old.device) (image here.device) (image mid.device) (image new.device) old here mid new
           readings next (item, added.0) added.1 (inv.put (c.put_item.ensures.honest then)) (added.3 then)
-          (adds_flushes (held mid.device) (held new.device) (image mid.device) (image new.device) mid new (c.in_ok-pending.ensures.written h));
+          (adds_flushes (held mid.device) (held new.device) (image mid.device) (image new.device) mid new (c.in_ok-count.ensures.written h));
     }
 
 pub returns-clause-read : goal.returns-clause-read
@@ -75,8 +75,8 @@ returns-in_err-write_all-in-Err-clause-honest g c = λ h. c.loop-item.invariant.
 pub returns-in-Err-clause-honest : goal.returns-in-Err-clause-honest
 returns-in-Err-clause-honest g c = λ h. c.loop-item.invariant.honest (c.put_item.ensures.honest (c.write_all.ensures.honest h))
 
-pub returns-in_err-pending-clause-honest : goal.returns-in_err-pending-clause-honest
-returns-in_err-pending-clause-honest g c = λ h. c.loop-item.invariant.honest (c.put_item.ensures.honest (c.write_some.ensures.honest h))
+pub returns-in_err-count-clause-honest : goal.returns-in_err-count-clause-honest
+returns-in_err-count-clause-honest g c = λ h. c.loop-item.invariant.honest (c.put_item.ensures.honest (c.count.ensures.honest h))
 
 pub returns-in_err-flush_in_passes-clause-honest : goal.returns-in_err-flush_in_passes-clause-honest
 returns-in_err-flush_in_passes-clause-honest g c = λ h. c.loop-item.invariant.honest (c.flush_in_passes.ensures.honest h)

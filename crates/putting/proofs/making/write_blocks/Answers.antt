@@ -14,7 +14,7 @@ loop-piece-preserved g c =
     let old = c.args.volume.now in
     let mid = c.loop-piece.volume in
     let wrote = c.write_piece.new.volume in
-    let new = c.write_behind.new.volume in
+    let new = c.count.new.volume in
     let bytes = c.args.bytes.now in
     let first = c.args.first in
     let index = c.loop-piece.next.index in
@@ -29,11 +29,11 @@ loop-piece-preserved g c =
       omega (arith, more, inv.3),
       cut.rest,
       cut.within,
-      λ h. inv.6 (c.write_piece.ensures.honest (c.write_behind.ensures.honest h)),
-      λ h. let then = c.write_behind.ensures.honest h in
+      λ h. inv.6 (c.write_piece.ensures.honest (c.count.ensures.honest h)),
+      λ h. let then = c.count.ensures.honest h in
           then_flushed (held old.device) (held wrote.device) (held new.device) (image old.device) (image wrote.device) (image new.device) old wrote new c.args.handle first next bytes
           (wrote_more (held old.device) (held mid.device) (held wrote.device) (image old.device) (image mid.device) (image wrote.device) old mid wrote c.args.handle first n index next bytes c.in-Some.piece.now
-          (omega (arith, inv.3)) on cut.piece_is (inv.7 (c.write_piece.ensures.honest then)) (c.in_ok-next.ensures.written then)) (c.in_ok-write_behind.ensures.written h),
+          (omega (arith, inv.3)) on cut.piece_is (inv.7 (c.write_piece.ensures.honest then)) (c.in_ok-next.ensures.written then)) (c.in_ok-count.ensures.written h),
     )
 
 pub loop-piece-init : goal.loop-piece-init

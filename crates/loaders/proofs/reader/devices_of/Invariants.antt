@@ -1,8 +1,0 @@
-use Rattle.std.proofs.Common.{◌≡◌, ◌++◌, map}
-use Rattle.loaders.proofs.reader.devices_of.Given as goal
-
-abbrev pub invariant-loop-reader : goal.invariant-loop-reader
-invariant-loop-reader g l = record {
-  rest : l.yielded ++ l.reader-iterator.rest.items ≡ l.fn.readers.items;
-  made : l.devices.items ≡ map (λ (reader : _). reader.device) l.yielded;
-}
