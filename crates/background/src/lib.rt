@@ -15,6 +15,3 @@ mod telling;
 pub use mending::Mended;
 pub use running::{Ended, Plan, run};
 pub use telling::{News, Teller};
-
-#[cfg(test)]
-mod tests;

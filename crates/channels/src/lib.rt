@@ -10,6 +10,3 @@ pub use device::DeviceChannel;
 pub use interface::{Channel, Received, Replied};
 pub use memory::MemoryChannel;
 pub use message::Message;
-
-#[cfg(test)]
-mod tests;

@@ -3,8 +3,6 @@
 
 mod answers;
 mod commands;
-#[cfg(test)]
-mod tests;
 mod words;
 
 pub use answers::{write_answer, write_reply};

@@ -29,5 +29,3 @@ pub use requests::{Changes, Forgets, Head, Moment, Offer, Request};
 pub use writing::write;
 
 pub mod flags;
-#[cfg(test)]
-mod tests;

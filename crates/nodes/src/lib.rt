@@ -13,6 +13,3 @@ pub use known::Open;
 pub use table::{
     Nodes, ToldError, a_node_is_found_until_it_is_forgotten, a_node_leads_to_its_inode,
 };
-
-#[cfg(test)]
-mod tests;

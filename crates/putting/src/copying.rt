@@ -191,7 +191,7 @@ fn copy_parts<F: Read, D: Device>(
 }
 
 /// Fills a room with the next bytes of a reader, and tells how many they are: fewer than it has room for at the end alone.
-pub(crate) fn read_part<F: Read>(reader: &mut F, room: &mut [u8]) -> io::Result<usize>
+pub fn read_part<F: Read>(reader: &mut F, room: &mut [u8]) -> io::Result<usize>
     ensures room { length room.new ≡ length room.old }
     ensures within { IfOk result (λ count. count ≤ length room.new) }
     ensures read { IfOk result (λ count. Consumes (F.remaining reader.old) (F.remaining reader.new) (take count room.new)) }

@@ -12,15 +12,14 @@ mod items;
 mod limits;
 mod lines;
 mod making;
-#[cfg(test)]
-mod tests;
 mod writing;
 
 pub use archived::items_in_archive;
+pub use copying::read_part;
 pub use filling::{Filled, Holding, Readings, put, put_on_device};
 pub use given::Given;
 pub use items::{Item, Source, allow_items, items_of};
-pub use limits::{Destination, file_bytes};
+pub use limits::{Destination, MOST_BYTES, SHORT_BYTES, file_bytes};
 pub use lines::{
     items_of_archive, items_of_folder, put_archive_into_file, put_into_file, put_items,
 };

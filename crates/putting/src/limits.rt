@@ -11,11 +11,11 @@ use std::os::unix::fs::FileExt;
 use std::rt::Files;
 
 /// How many bytes a file may have in the image that allows the longest files.
-pub(crate) const MOST_BYTES: u64 = MOST_BLOCKS as u64 * BLOCK_BYTES as u64;
+pub const MOST_BYTES: u64 = MOST_BLOCKS as u64 * BLOCK_BYTES as u64;
 
 /// How many bytes a file may have in each image, whatever version its layout has: their pointers stand in the record and in the
 /// indirect block.
-pub(crate) const SHORT_BYTES: u64 = (DIRECT_POINTERS as u64 + 256) * BLOCK_BYTES as u64;
+pub const SHORT_BYTES: u64 = (DIRECT_POINTERS as u64 + 256) * BLOCK_BYTES as u64;
 
 /// Where the items of a line go.
 #[derive(Clone, Copy, Debug)]

@@ -5,9 +5,8 @@ mod holding;
 mod owner;
 pub mod serve;
 mod telling;
-#[cfg(test)]
-mod tests;
 mod viewed;
 mod written;
 
 pub use holding::Holdable;
+pub use owner::{Numbers, numbers_of};

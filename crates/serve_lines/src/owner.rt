@@ -10,7 +10,7 @@ use viewing::Owner;
 
 /// A user and a group, by their numbers.
 #[derive(Clone, Copy, Debug, PartialEq, Eq)]
-pub(crate) struct Numbers {
+pub struct Numbers {
     pub user: u32,
     pub group: u32,
 }
@@ -26,7 +26,7 @@ pub(crate) fn numbers_given(alloc: Global, word: &str) -> Result<Numbers, Failur
 }
 
 /// The numbers that a word gives.
-pub(crate) fn numbers_of(word: &str) -> Option<Numbers> {
+pub fn numbers_of(word: &str) -> Option<Numbers> {
     let (user, group) = word.split_once(':')?;
     Some(Numbers {
         user: user.parse().ok()?,

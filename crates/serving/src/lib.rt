@@ -17,9 +17,6 @@ pub use laws::sessions_of_a_desk_that_reads;
 use std::alloc::Global;
 pub use viewing::Turned;
 
-#[cfg(test)]
-mod tests;
-
 /// How many bytes the longest request has: a head, and a piece to be written of the most bytes that were agreed on.
 pub const MESSAGE_BYTES: usize = 131_072 + 4096;
 

@@ -24,6 +24,3 @@ pub use desk::Desk;
 pub use granted::Rules;
 pub use laws::a_request_acts_on_the_inode_that_was_told;
 pub use session::Session;
-
-#[cfg(test)]
-mod tests;

@@ -4,6 +4,8 @@
 #[cfg(test)]
 mod accepting;
 #[cfg(test)]
+mod owners;
+#[cfg(test)]
 mod refusing;
 #[cfg(test)]
 mod telling;

@@ -28,6 +28,3 @@ pub use owner::Owner;
 pub use piece::cut;
 pub use saying::{refuse, tell, tell_bytes};
 pub use showing::{attributes_of, room_of};
-
-#[cfg(test)]
-mod tests;

@@ -1,0 +1,241 @@
+use fuse_wire::{
+    Agreement, Attributes, Body, Changes, DirectoryEntry, Entry, Errno, Handle, Kind, NodeId,
+    Offer, Request, Statistics, Time, Unique, flags, push_entry, push_entry_plus, read, write,
+};
+use std::test::*;
+
+// Requests that a kernel of Linux 6.18 sent, and replies that it took.
+
+const INIT: [u8; 104] = [
+    104, 0, 0, 0, 26, 0, 0, 0, 2, 0, 0, 0, 0, 0, 0, 0, 0, 0, 0, 0, 0, 0, 0, 0, 0, 0, 0, 0, 0, 0, 0,
+    0, 0, 0, 0, 0, 0, 0, 0, 0, 7, 0, 0, 0, 45, 0, 0, 0, 0, 0, 2, 0, 251, 255, 255, 115, 253, 5, 0,
+    0, 0, 0, 0, 0, 0, 0, 0, 0, 0, 0, 0, 0, 0, 0, 0, 0, 0, 0, 0, 0, 0, 0, 0, 0, 0, 0, 0, 0, 0, 0, 0,
+    0, 0, 0, 0, 0, 0, 0, 0, 0, 0, 0, 0, 0,
+];
+
+const LOOKUP: [u8; 42] = [
+    42, 0, 0, 0, 1, 0, 0, 0, 52, 0, 0, 0, 0, 0, 0, 0, 1, 0, 0, 0, 0, 0, 0, 0, 0, 0, 0, 0, 0, 0, 0,
+    0, 226, 83, 0, 0, 0, 0, 0, 0, 97, 0,
+];
+
+const CREATE: [u8; 58] = [
+    58, 0, 0, 0, 35, 0, 0, 0, 54, 0, 0, 0, 0, 0, 0, 0, 1, 0, 0, 0, 0, 0, 0, 0, 0, 0, 0, 0, 0, 0, 0,
+    0, 226, 83, 0, 0, 0, 0, 0, 0, 65, 130, 0, 0, 164, 129, 0, 0, 18, 0, 0, 0, 0, 0, 0, 0, 97, 0,
+];
+
+const WRITE: [u8; 86] = [
+    86, 0, 0, 0, 16, 0, 0, 0, 60, 0, 0, 0, 0, 0, 0, 0, 2, 0, 0, 0, 0, 0, 0, 0, 0, 0, 0, 0, 0, 0, 0,
+    0, 226, 83, 0, 0, 0, 0, 0, 0, 2, 0, 0, 0, 0, 0, 0, 0, 0, 0, 0, 0, 0, 0, 0, 0, 6, 0, 0, 0, 0, 0,
+    0, 0, 0, 0, 0, 0, 0, 0, 0, 0, 1, 128, 0, 0, 0, 0, 0, 0, 104, 101, 108, 108, 111, 10,
+];
+
+const RENAME: [u8; 60] = [
+    60, 0, 0, 0, 45, 0, 0, 0, 110, 0, 0, 0, 0, 0, 0, 0, 1, 0, 0, 0, 0, 0, 0, 0, 0, 0, 0, 0, 0, 0,
+    0, 0, 245, 83, 0, 0, 0, 0, 0, 0, 3, 0, 0, 0, 0, 0, 0, 0, 1, 0, 0, 0, 0, 0, 0, 0, 97, 0, 98, 0,
+];
+
+const TRUNCATE: [u8; 128] = [
+    128, 0, 0, 0, 4, 0, 0, 0, 146, 0, 0, 0, 0, 0, 0, 0, 2, 0, 0, 0, 0, 0, 0, 0, 0, 0, 0, 0, 0, 0,
+    0, 0, 247, 83, 0, 0, 0, 0, 0, 0, 72, 2, 0, 0, 0, 0, 0, 0, 2, 0, 0, 0, 0, 0, 0, 0, 3, 0, 0, 0,
+    0, 0, 0, 0, 236, 51, 92, 61, 202, 240, 205, 42, 0, 0, 0, 0, 0, 0, 0, 0, 0, 0, 0, 0, 0, 0, 0, 0,
+    0, 0, 0, 0, 0, 0, 0, 0, 0, 0, 0, 0, 0, 0, 0, 0, 0, 0, 0, 0, 0, 0, 0, 0, 0, 0, 0, 0, 0, 0, 0, 0,
+    0, 0, 0, 0, 0, 0, 0, 0,
+];
+
+const FORGET: [u8; 48] = [
+    48, 0, 0, 0, 2, 0, 0, 0, 8, 1, 0, 0, 0, 0, 0, 0, 4, 0, 0, 0, 0, 0, 0, 0, 0, 0, 0, 0, 0, 0, 0,
+    0, 0, 0, 0, 0, 0, 0, 0, 0, 2, 0, 0, 0, 0, 0, 0, 0,
+];
+
+const AGREED: [u8; 80] = [
+    80, 0, 0, 0, 0, 0, 0, 0, 2, 0, 0, 0, 0, 0, 0, 0, 7, 0, 0, 0, 31, 0, 0, 0, 0, 0, 2, 0, 33, 96,
+    68, 0, 12, 0, 9, 0, 0, 0, 2, 0, 1, 0, 0, 0, 32, 0, 0, 0, 0, 0, 0, 0, 0, 0, 0, 0, 0, 0, 0, 0, 0,
+    0, 0, 0, 0, 0, 0, 0, 0, 0, 0, 0, 0, 0, 0, 0, 0, 0, 0, 0,
+];
+
+const ROOT: [u8; 120] = [
+    120, 0, 0, 0, 0, 0, 0, 0, 4, 0, 0, 0, 0, 0, 0, 0, 0, 0, 0, 0, 0, 0, 0, 0, 0, 0, 0, 0, 0, 0, 0,
+    0, 1, 0, 0, 0, 0, 0, 0, 0, 0, 0, 0, 0, 0, 0, 0, 0, 1, 0, 0, 0, 0, 0, 0, 0, 0, 0, 0, 0, 0, 0, 0,
+    0, 0, 0, 0, 0, 0, 0, 0, 0, 0, 0, 0, 0, 0, 0, 0, 0, 0, 0, 0, 0, 0, 0, 0, 0, 0, 0, 0, 0, 237, 65,
+    0, 0, 2, 0, 0, 0, 0, 0, 0, 0, 0, 0, 0, 0, 0, 0, 0, 0, 0, 4, 0, 0, 0, 0, 0, 0,
+];
+
+const ROOM: [u8; 96] = [
+    96, 0, 0, 0, 0, 0, 0, 0, 228, 0, 0, 0, 0, 0, 0, 0, 100, 0, 0, 0, 0, 0, 0, 0, 50, 0, 0, 0, 0, 0,
+    0, 0, 50, 0, 0, 0, 0, 0, 0, 0, 20, 0, 0, 0, 0, 0, 0, 0, 10, 0, 0, 0, 0, 0, 0, 0, 0, 4, 0, 0,
+    56, 0, 0, 0, 0, 4, 0, 0, 0, 0, 0, 0, 0, 0, 0, 0, 0, 0, 0, 0, 0, 0, 0, 0, 0, 0, 0, 0, 0, 0, 0,
+    0, 0, 0, 0, 0,
+];
+
+// A listing of a file, with what its name leads to.
+const LISTED: [u8; 160] = [
+    2, 0, 0, 0, 0, 0, 0, 0, 0, 0, 0, 0, 0, 0, 0, 0, 0, 0, 0, 0, 0, 0, 0, 0, 0, 0, 0, 0, 0, 0, 0, 0,
+    0, 0, 0, 0, 0, 0, 0, 0, 2, 0, 0, 0, 0, 0, 0, 0, 4, 0, 0, 0, 0, 0, 0, 0, 1, 0, 0, 0, 0, 0, 0, 0,
+    0, 0, 0, 0, 0, 0, 0, 0, 0, 0, 0, 0, 0, 0, 0, 0, 0, 0, 0, 0, 0, 0, 0, 0, 0, 0, 0, 0, 0, 0, 0, 0,
+    0, 0, 0, 0, 128, 129, 0, 0, 1, 0, 0, 0, 0, 0, 0, 0, 0, 0, 0, 0, 0, 0, 0, 0, 0, 4, 0, 0, 0, 0,
+    0, 0, 2, 0, 0, 0, 0, 0, 0, 0, 3, 0, 0, 0, 0, 0, 0, 0, 1, 0, 0, 0, 8, 0, 0, 0, 98, 0, 0, 0, 0,
+    0, 0, 0,
+];
+
+const NEVER: Time = Time {
+    seconds: 0,
+    nanoseconds: 0,
+};
+
+/// The attributes of a file, or of a directory, of which nothing else is known.
+fn attributes(inode: u64, mode: u32, links: u32) -> Attributes {
+    Attributes {
+        inode,
+        size: 0,
+        blocks: 1,
+        accessed: NEVER,
+        modified: NEVER,
+        changed: NEVER,
+        mode,
+        links,
+        user: 0,
+        group: 0,
+        block_bytes: 1024,
+    }
+}
+
+fn request(message: &[u8]) -> Option<Request<'_>> {
+    let (_, request) = read(message)?;
+    Some(request)
+}
+
+#[test]
+fn the_first_request_is_answered(rt: HostRuntime) -> Result<(), Fail> {
+    let (head, asked) = read(&INIT).ok_or("a request")?;
+    assert_eq!(rt; head.unique, Unique(2));
+    assert_eq!(rt; head.node, NodeId(0));
+    let offer = Offer {
+        major: 7,
+        minor: 45,
+        readahead: 131_072,
+        flags: 0x73ff_fffb,
+    };
+    assert!(rt; asked == Request::Init(offer));
+    let agreed = Agreement {
+        major: 7,
+        minor: 31,
+        readahead: 131_072,
+        flags: flags::ASYNC_READ
+            | flags::BIG_WRITES
+            | flags::PARALLEL_DIROPS
+            | flags::DO_READDIRPLUS
+            | flags::READDIRPLUS_AUTO
+            | flags::MAX_PAGES,
+        background: 12,
+        congestion: 9,
+        most_written: 131_072,
+        time_step: 1,
+        pages: 32,
+    };
+    let mut out = Vec::new(rt.alloc());
+    write(&mut out, head.unique, Ok(Body::Agreement(agreed)))?;
+    assert_eq!(rt; out.as_slice(), AGREED.as_slice());
+    Ok(())
+}
+
+#[test]
+fn requests_are_read(rt: HostRuntime) {
+    assert!(rt;
+        request(&LOOKUP)
+            == Some(Request::Lookup {
+                name: b"a".as_slice()
+            })
+    );
+    let created = Request::Create {
+        flags: 0x8241,
+        mode: 0o100_644,
+        umask: 0o22,
+        name: b"a".as_slice(),
+    };
+    assert!(rt; request(&CREATE) == Some(created));
+    let written = Request::Write {
+        handle: Handle(2),
+        offset: 0,
+        bytes: b"hello\n".as_slice(),
+    };
+    assert!(rt; request(&WRITE) == Some(written));
+    let renamed = Request::Rename {
+        directory: NodeId(3),
+        flags: flags::NO_REPLACE,
+        old: b"a".as_slice(),
+        new: b"b".as_slice(),
+    };
+    assert!(rt; request(&RENAME) == Some(renamed));
+    assert!(rt; request(&FORGET) == Some(Request::Forget { lookups: 2 }));
+    assert!(rt; request(&WRITE[..85]).is_none());
+}
+
+#[test]
+fn attributes_are_read(rt: HostRuntime) {
+    let changes = Changes {
+        handle: Some(Handle(2)),
+        size: Some(3),
+        mode: None,
+        user: None,
+        group: None,
+        accessed: None,
+        modified: None,
+        changed: None,
+    };
+    assert!(rt; request(&TRUNCATE) == Some(Request::SetAttributes(changes)));
+}
+
+#[test]
+fn replies_are_written(rt: HostRuntime) -> Result<(), Fail> {
+    let mut out = Vec::new(rt.alloc());
+    let root = Body::Attributes {
+        kept: NEVER,
+        attributes: attributes(1, 0o40_755, 2),
+    };
+    write(&mut out, Unique(4), Ok(root))?;
+    assert_eq!(rt; out.as_slice(), ROOT.as_slice());
+    let room = Statistics {
+        blocks: 100,
+        free_blocks: 50,
+        available_blocks: 50,
+        inodes: 20,
+        free_inodes: 10,
+        block_bytes: 1024,
+        name_bytes: 56,
+    };
+    write(&mut out, Unique(228), Ok(Body::Statistics(room)))?;
+    assert_eq!(rt; out.as_slice(), ROOM.as_slice());
+    write(&mut out, Unique(7), Err(Errno::NotFound))?;
+    assert_eq!(rt;
+        out.as_slice(),
+        [16, 0, 0, 0, 254, 255, 255, 255, 7, 0, 0, 0, 0, 0, 0, 0].as_slice()
+    );
+    Ok(())
+}
+
+#[test]
+fn a_listing_ends_where_no_room_is(rt: HostRuntime) -> Result<(), Fail> {
+    let entry = Entry {
+        node: NodeId(2),
+        generation: 0,
+        name_kept: NEVER,
+        attributes_kept: NEVER,
+        attributes: Attributes {
+            size: 4,
+            ..attributes(2, 0o100_600, 1)
+        },
+    };
+    let listed = DirectoryEntry {
+        inode: 2,
+        next: 3,
+        kind: Kind::File,
+        name: b"b".as_slice(),
+    };
+    let mut listing = Vec::new(rt.alloc());
+    assert!(rt; push_entry_plus(&mut listing, 168, Some(&entry), &listed)?);
+    assert!(rt; !push_entry(&mut listing, 191, &listed)?);
+    assert_eq!(rt; listing.as_slice(), LISTED.as_slice());
+    assert!(rt; push_entry(&mut listing, 192, &listed)?);
+    assert_eq!(rt; listing.len(), 192);
+    Ok(())
+}
