@@ -3,7 +3,7 @@ use crate::command::Command;
 use crate::files::File;
 use inode::{DIRECT_POINTERS, FILE, FREE, Record};
 use layout::{BLOCK_BYTES, Geometry, Refusal};
-use softdep::{Cell, Change, Update};
+use softdep::{Cell, Cells, Change, Update};
 use std::alloc::{AllocError, Global};
 use std::sync::Arc;
 
@@ -27,7 +27,7 @@ impl List {
         self.updates.push(Update {
             change,
             file: None,
-            after: after.to_vec(self.alloc)?,
+            after: Cells::from_slice(self.alloc, after)?,
         })?;
         Ok(())
     }
@@ -45,7 +45,7 @@ impl List {
         self.updates.push(Update {
             change: Change::SetBytes(address, Arc::new(self.alloc, bytes)?),
             file,
-            after: after.to_vec(self.alloc)?,
+            after: Cells::from_slice(self.alloc, after)?,
         })?;
         Ok(())
     }

@@ -32,7 +32,7 @@ use layout::{BLOCK_BYTES, Block, Geometry, Refusal};
 use live_plans::Plan;
 use std::alloc::{AllocError, Global};
 use std::sync::Arc;
-use updates::Change;
+use updates::{Cells, Change};
 
 /// The file that updates name which are none's: those that clear the bits of blocks that are held no more.
 const NO_FILE: u32 = 0;
@@ -208,7 +208,7 @@ fn clearing(alloc: Global, geometry: Geometry, blocks: &[u32]) -> Result<Plan, A
 {
     let mut plan = Plan::new(alloc, geometry, NO_FILE);
     for block in blocks {
-        plan.push(Change::SetBlock(*block, false), Vec::new(alloc))?;
+        plan.push(Change::SetBlock(*block, false), Cells::new(alloc))?;
     }
     Ok(plan)
 }

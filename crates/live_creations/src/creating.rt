@@ -13,8 +13,9 @@ use live_paths::Path;
 use live_places::choose;
 use live_plans::{NewEntry, Plan, enter};
 use metadata::Metadata;
+use smallvec::smallvec;
 use std::alloc::{AllocError, Global};
-use updates::{Cell, Change};
+use updates::{Cell, Cells, Change};
 
 /// The plan by which a file is created; its number is the plan's file.
 ///
@@ -50,7 +51,7 @@ fn created(alloc: Global, metadata: &Metadata, new: &NewEntry) -> Result<Plan, A
     ensures { IfOk result (λ plan. (view : View) → Shows metadata.now view → Created metadata.now.geometry view new.now plan) }
 {
     let mut plan = Plan::new(alloc, metadata.frozen().geometry(), new.number);
-    plan.push(Change::SetNumber(new.number, true), Vec::new(alloc))?;
+    plan.push(Change::SetNumber(new.number, true), Cells::new(alloc))?;
     let file = Record {
         mode: FILE,
         links: 1,
@@ -59,7 +60,7 @@ fn created(alloc: Global, metadata: &Metadata, new: &NewEntry) -> Result<Plan, A
         indirect: 0,
         double: 0,
     };
-    let after = vec![in alloc; Cell::NumberBit(new.number)]?;
+    let after = smallvec![in alloc; Cell::NumberBit(new.number)]?;
     plan.push(Change::SetInode(new.number, file), after)?;
     enter(alloc, metadata, &mut plan, new)?;
     Ok(plan)

@@ -18,9 +18,10 @@ use live_paths::Path;
 use live_places::choose;
 use live_plans::{NewEntry, Plan, enter, entry};
 use metadata::Metadata;
+use smallvec::smallvec;
 use std::alloc::{AllocError, Global};
 use std::sync::Arc;
-use updates::{Cell, Change};
+use updates::{Cell, Cells, Change};
 
 /// The plan by which a directory is made; its number is the plan's file.
 ///
@@ -67,13 +68,16 @@ fn made(alloc: Global, metadata: &Metadata, new: &NewEntry, own: u32) -> Result<
     ensures { IfOk result (λ plan. (view : View) → Shows metadata.now view → DirectoryMade metadata.now.geometry view new.now own plan) }
 {
     let mut plan = Plan::new(alloc, metadata.frozen().geometry(), new.number);
-    plan.push(Change::SetNumber(new.number, true), Vec::new(alloc))?;
-    plan.push(Change::SetBlock(own, true), Vec::new(alloc))?;
-    plan.push(Change::SetInode(new.directory, new.parent), Vec::new(alloc))?;
+    plan.push(Change::SetNumber(new.number, true), Cells::new(alloc))?;
+    plan.push(Change::SetBlock(own, true), Cells::new(alloc))?;
+    plan.push(
+        Change::SetInode(new.directory, new.parent),
+        Cells::new(alloc),
+    )?;
     let dots = Arc::new(alloc, dots(new.number, new.directory))?;
-    let after = vec![in alloc; Cell::BlockBit(own), Cell::Record(new.directory)]?;
+    let after = smallvec![in alloc; Cell::BlockBit(own), Cell::Record(new.directory)]?;
     plan.push(Change::SetBytes(own, dots), after)?;
-    let after = vec![in alloc; Cell::NumberBit(new.number), Cell::Block(own)]?;
+    let after = smallvec![in alloc; Cell::NumberBit(new.number), Cell::Block(own)]?;
     plan.push(Change::SetInode(new.number, new_directory(own)), after)?;
     enter(alloc, metadata, &mut plan, new)?;
     Ok(plan)

@@ -18,8 +18,9 @@ use inode::Record;
 use layout::BLOCK_BYTES;
 use live_places::Place;
 use metadata::Metadata;
+use smallvec::smallvec;
 use std::alloc::{AllocError, Global};
-use updates::Cell;
+use updates::{Cell, Cells};
 
 /// A name that a directory is to get.
 #[derive(Clone, Copy, Debug)]
@@ -78,7 +79,7 @@ pub(crate) fn enter_at(
     ensures { OnOk result ((view : View) → Shows metadata.now view
         → EntersAt metadata.now.geometry view new.now.directory new.now.parent new.now.number new.now.name.now new.now.place plan.old plan.new) }
 {
-    let mut after = vec![in alloc; Cell::Record(new.number)]?;
+    let mut after = smallvec![in alloc; Cell::Record(new.number)]?;
     add_blocks(metadata, new.directory, &mut after)?;
     let entry = entry(new.number, new.name);
     match new.place {

@@ -21,7 +21,7 @@ use layout::Block;
 use metadata::Metadata;
 use std::alloc::{AllocError, Global};
 use std::sync::Arc;
-use updates::{Cell, Change};
+use updates::{Cell, Cells, Change};
 
 /// The bytes of an entry that gives a number this name.
 pub fn entry(number: u32, name: &[u8]) -> [u8; SLOT_BYTES]
@@ -51,7 +51,7 @@ pub fn put_slot(
     bytes: &Block,
     slot: u32,
     entry: &[u8; SLOT_BYTES],
-    after: Vec<Cell>,
+    after: Cells,
 ) -> Result<(), AllocError>
     requires block { IsTrue (is_data_address plan.old.geometry block) }
     requires after { All (IsCell plan.old.geometry) (map cell after.items) }
@@ -64,11 +64,7 @@ pub fn put_slot(
 }
 
 /// Adds the cells of a directory's blocks of slots behind these, and no others.
-pub fn add_blocks(
-    metadata: &Metadata,
-    directory: u32,
-    cells: &mut Vec<Cell>,
-) -> Result<(), AllocError>
+pub fn add_blocks(metadata: &Metadata, directory: u32, cells: &mut Cells) -> Result<(), AllocError>
     ensures kept { OnOk result ((c : OrderedCell) → Contains (map cell cells.old.items) c → Contains (map cell cells.new.items) c) }
     ensures blocks { OnOk result ((view : View) → Shows metadata.now view → HasBlocks metadata.now.geometry view directory (map cell cells.new.items)) }
     ensures only { OnOk result ((view : View) → Shows metadata.now view

@@ -18,10 +18,11 @@ use inode::Record;
 use layout::{BLOCK_BYTES, Block};
 use live_places::Tables;
 use metadata::Metadata;
+use smallvec::smallvec;
 use spares::Spares;
 use std::alloc::{AllocError, Global};
 use std::sync::Arc;
-use updates::{Cell, Change};
+use updates::{Cell, Cells, Change};
 
 /// Adds the updates by which a directory gets a block of zeroes: the block, the pointer to it, and the record.
 pub(crate) fn grow(
@@ -69,7 +70,7 @@ pub fn fill(alloc: Global, plan: &mut Plan, block: u32, bytes: Arc<Block>) -> Re
     requires { IsTrue (is_data_address plan.old.geometry block) }
     ensures { OnOk result (GoesOn plan.old plan.new (filled block (arc_value bytes))) }
 {
-    plan.push(Change::SetBlock(block, true), Vec::new(alloc))?;
-    let after = vec![in alloc; Cell::BlockBit(block)]?;
+    plan.push(Change::SetBlock(block, true), Cells::new(alloc))?;
+    let after = smallvec![in alloc; Cell::BlockBit(block)]?;
     plan.push(Change::SetBytes(block, bytes), after)
 }

@@ -22,10 +22,11 @@ use inode::Record;
 use layout::{BLOCK_BYTES, Block, Geometry, u32_at};
 use live_places::Tables;
 use metadata::Metadata;
+use smallvec::smallvec;
 use spares::Spares;
 use std::alloc::{AllocError, Global};
 use std::sync::Arc;
-use updates::{Cell, Change};
+use updates::{Cell, Cells, Change};
 
 /// How many bytes a pointer has.
 const POINTER_BYTES: usize = 4;
@@ -34,7 +35,7 @@ const POINTER_BYTES: usize = 4;
 #[derive(Drop)]
 pub struct Linked {
     pub record: Record,
-    pub after: Vec<Cell>,
+    pub after: Cells,
 }
 
 /// Adds the updates by which a position of an inode with this record points to a new block. The pointer goes into the
@@ -114,7 +115,7 @@ fn link_there(
 {
     let geometry = frozen.geometry();
     let Some(place) = geometry.pointer_place(position) else {
-        let mut after = Vec::new(alloc);
+        let mut after = Cells::new(alloc);
         after.push(Cell::Block(block))?;
         let record = owner.with_field(&geometry, position, block);
         return Ok(Linked { record, after });
@@ -206,16 +207,16 @@ pub(crate) fn pointer_after(
     block: u32,
     pointers: &Block,
     over: Option<u32>,
-) -> Result<Vec<Cell>, AllocError>
+) -> Result<Cells, AllocError>
     requires { place < 256 }
     ensures { IfOk result (λ after. map cell after.items ≡ pointer_after number place block pointers.now (option_to_list over)) }
 {
     if u32_at(pointers, POINTER_BYTES * place) == 0 {
-        return Ok(vec![in alloc; Cell::Block(block)]?);
+        return Ok(smallvec![in alloc; Cell::Block(block)]?);
     }
     match over {
-        None => Ok(vec![in alloc; Cell::Block(block), Cell::Record(number)]?),
-        Some(over) => Ok(vec![in alloc;
+        None => Ok(smallvec![in alloc; Cell::Block(block), Cell::Record(number)]?),
+        Some(over) => Ok(smallvec![in alloc;
             Cell::Block(block),
             Cell::Record(number),
             Cell::Block(over),
@@ -224,17 +225,12 @@ pub(crate) fn pointer_after(
 }
 
 /// The tables on the way and the block itself, which a record comes after.
-fn cells_of(
-    alloc: Global,
-    over: Option<u32>,
-    table: u32,
-    block: u32,
-) -> Result<Vec<Cell>, AllocError>
+fn cells_of(alloc: Global, over: Option<u32>, table: u32, block: u32) -> Result<Cells, AllocError>
     ensures { IfOk result (λ after. map cell after.items ≡ map BlockCell (option_to_list over) ++ BlockCell table ∷ BlockCell block ∷ []) }
 {
     match over {
-        None => Ok(vec![in alloc; Cell::Block(table), Cell::Block(block)]?),
-        Some(over) => Ok(vec![in alloc;
+        None => Ok(smallvec![in alloc; Cell::Block(table), Cell::Block(block)]?),
+        Some(over) => Ok(smallvec![in alloc;
             Cell::Block(over),
             Cell::Block(table),
             Cell::Block(block),
@@ -259,11 +255,11 @@ fn start_table(
     }
         ∷ record { change = SetBlock table true; after = [] } ∷ q)) }
 {
-    plan.push(Change::SetBlock(table, true), Vec::new(alloc))?;
+    plan.push(Change::SetBlock(table, true), Cells::new(alloc))?;
     let mut pointers = [0; BLOCK_BYTES];
     put_pointer(&mut pointers, 0, block);
     let bytes = spares.share(alloc, &pointers)?;
-    let after = vec![in alloc; Cell::BlockBit(table), Cell::Block(block)]?;
+    let after = smallvec![in alloc; Cell::BlockBit(table), Cell::Block(block)]?;
     plan.push(Change::SetBytes(table, bytes), after)
 }
 

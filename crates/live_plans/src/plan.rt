@@ -8,7 +8,7 @@ ghost use Rattle.live_states.specs.Drafts.{AreOf, GoesOn};
 use layout::Geometry;
 use std::alloc::{AllocError, Global};
 use std::marker::Model;
-use updates::{Cell, Change, Update};
+use updates::{Cell, Cells, Change, Update};
 
 /// The updates of a command in the making, in the order of their issue, each in the name of one file.
 #[derive(Drop)]
@@ -48,7 +48,7 @@ impl Plan {
     }
 
     /// Adds one more update, which has to reach the device after the last updates of these cells.
-    pub fn push(&mut self, change: Change, after: Vec<Cell>) -> Result<(), AllocError>
+    pub fn push(&mut self, change: Change, after: Cells) -> Result<(), AllocError>
         requires changed { IsCell self.old.geometry (cell_of (change_of change)) }
         requires fits { FitsVolume self.old.geometry (change_of change) }
         requires after { All (IsCell self.old.geometry) (map cell after.items) }

@@ -23,7 +23,7 @@ use live_holdings::Holdings;
 use live_plans::{Found, Plan, bytes_of, put_slot};
 use metadata::Metadata;
 use std::alloc::{AllocError, Global};
-use updates::{Cell, Change};
+use updates::{Cell, Cells, Change};
 
 /// Adds the update that empties the slot of an entry, after these cells.
 pub(crate) fn empty(
@@ -31,7 +31,7 @@ pub(crate) fn empty(
     metadata: &Metadata,
     plan: &mut Plan,
     found: &Found,
-    after: Vec<Cell>,
+    after: Cells,
 ) -> Result<(), AllocError>
     requires geometry { plan.old.geometry ≡ metadata.now.geometry }
     requires entry { IsEntry metadata.now.geometry (frozen_view metadata.now) found.now }
@@ -74,7 +74,7 @@ pub(crate) fn lose_links(
         lower(alloc, metadata, plan, number, fewer, block)?;
         Ok(Vec::new(alloc))
     } else {
-        let mut after = Vec::new(alloc);
+        let mut after = Cells::new(alloc);
         after.push(Cell::Block(block))?;
         free(alloc, metadata.frozen(), holdings, plan, number, after)
     }
@@ -97,7 +97,7 @@ pub(crate) fn lower(
 {
     let mut record = metadata.frozen().record(number);
     record.links -= fewer;
-    let mut after = Vec::new(alloc);
+    let mut after = Cells::new(alloc);
     after.push(Cell::Block(block))?;
     plan.push(Change::SetInode(number, record), after)
 }
@@ -110,7 +110,7 @@ pub fn free(
     holdings: &Holdings,
     plan: &mut Plan,
     number: u32,
-    after: Vec<Cell>,
+    after: Cells,
 ) -> Result<Vec<u32>, AllocError>
     requires geometry { plan.old.geometry ≡ frozen.now.geometry }
     requires number { IsTrue (is_number frozen.now.geometry number) }
@@ -191,10 +191,10 @@ fn give_up_at(
 }
 
 /// A list of one cell, the record of a number.
-fn after_record(alloc: Global, number: u32) -> Result<Vec<Cell>, AllocError>
+fn after_record(alloc: Global, number: u32) -> Result<Cells, AllocError>
     ensures { IfOk result (λ cells. map cell cells.items ≡ RecordCell number ∷ []) }
 {
-    let mut cells = Vec::new(alloc);
+    let mut cells = Cells::new(alloc);
     cells.push(Cell::Record(number))?;
     Ok(cells)
 }

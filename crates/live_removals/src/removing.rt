@@ -20,6 +20,7 @@ use live_plans::{Found, Plan, Planned, add_blocks, locate};
 use metadata::Metadata;
 use plans_naming::accepted_removals;
 use std::alloc::{AllocError, Global};
+use updates::Cells;
 
 /// The plan by which a directory without names goes, with its name; of its blocks those are held that a snapshot keeps.
 /// Refused in this order with `BadName` where the bytes are no path, with `IsRoot` for `/`, with why the path leads
@@ -77,7 +78,7 @@ pub(crate) fn removed(
 {
     let frozen = metadata.frozen();
     let mut plan = Plan::new(alloc, frozen.geometry(), found.number);
-    let mut after = Vec::new(alloc);
+    let mut after = Cells::new(alloc);
     add_blocks(metadata, found.number, &mut after)?;
     empty(alloc, metadata, &mut plan, found, after)?;
     let holds = lose_links(

@@ -17,7 +17,7 @@ use live_holdings::Holdings;
 use live_plans::{Plan, Planned};
 use metadata::Metadata;
 use std::alloc::{AllocError, Global};
-use updates::Change;
+use updates::{Cells, Change};
 
 /// The plan by which a handle is closed, and with its last one a file that has no names goes; of its blocks those are held
 /// that a snapshot keeps. A file that stays needs no updates. Refused with `BadHandle` where the handle is not open. At
@@ -83,7 +83,7 @@ pub(crate) fn let_go(
     if frozen.record(number).links > 0 || holdings.is_open_besides(number, handle) {
         return Ok(plan.without_holds(alloc));
     }
-    let after = Vec::new(alloc);
+    let after = Cells::new(alloc);
     let holds = free(alloc, frozen, holdings, &mut plan, number, after)?;
     Ok(Planned { plan, holds })
 }
@@ -104,7 +104,7 @@ pub(crate) fn shortened(
     let mut plan = Plan::new(alloc, frozen.geometry(), number);
     let mut record = frozen.record(number);
     record.size = size;
-    plan.push(Change::SetInode(number, record), Vec::new(alloc))?;
+    plan.push(Change::SetInode(number, record), Cells::new(alloc))?;
     let left = blocks_of_size(size);
     let holds = give_up(alloc, frozen, holdings, &mut plan, number, left)?;
     Ok(Planned { plan, holds })

@@ -20,6 +20,7 @@ use live_plans::{Found, Plan, Planned, locate};
 use metadata::Metadata;
 use plans_naming::accepted_unlinks;
 use std::alloc::{AllocError, Global};
+use updates::Cells;
 
 /// The plan by which the name of a file goes, and with its last one a file that is not open; of its blocks those are held
 /// that a snapshot keeps. Refused in this order with `BadName` where the bytes are no path, with `IsRoot` for `/`, with
@@ -74,7 +75,7 @@ pub(crate) fn unlinked(
         → Unlinked metadata.now.geometry view holdings.now found.now planned.plan planned.holds.items) }
 {
     let mut plan = Plan::new(alloc, metadata.frozen().geometry(), found.number);
-    let after = Vec::new(alloc);
+    let after = Cells::new(alloc);
     empty(alloc, metadata, &mut plan, found, after)?;
     let holds = lose_links(
         alloc,
@@ -95,7 +96,7 @@ pub(crate) fn unnamed(alloc: Global, metadata: &Metadata, found: &Found) -> Resu
     ensures { IfOk result (λ plan. (view : View) → Shows metadata.now view → Unnamed metadata.now.geometry view found.now plan) }
 {
     let mut plan = Plan::new(alloc, metadata.frozen().geometry(), found.number);
-    let after = Vec::new(alloc);
+    let after = Cells::new(alloc);
     empty(alloc, metadata, &mut plan, found, after)?;
     lower(alloc, metadata, &mut plan, found.number, 1, found.block)?;
     Ok(plan)

@@ -14,15 +14,11 @@ use frozen::Frozen;
 use layout::ROOT;
 use live_paths::{Path, find};
 use std::alloc::AllocError;
-use updates::Cell;
+use updates::{Cell, Cells};
 
 /// Adds the grounds of the directory that holds the last part of a path, behind these cells: for each directory from the
 /// root to it its record, its tables, and the block in which its name stands. Nothing else is added.
-pub(crate) fn add_grounds(
-    frozen: &Frozen,
-    path: &Path,
-    cells: &mut Vec<Cell>,
-) -> Result<(), AllocError>
+pub(crate) fn add_grounds(frozen: &Frozen, path: &Path, cells: &mut Cells) -> Result<(), AllocError>
     requires { (d : ℕ) × (machine_walk frozen.now.geometry (frozen_view frozen.now) root path.now ≡ Ok d) }
     ensures gathers { OnOk result (Gathers frozen.now.geometry (map cell cells.old.items) (map cell cells.new.items)) }
     ensures grounds { OnOk result ((d : ℕ) → machine_walk frozen.now.geometry (frozen_view frozen.now) root path.now ≡ Ok d
@@ -48,7 +44,7 @@ fn add_name(
     frozen: &Frozen,
     directory: u32,
     name: &[u8],
-    cells: &mut Vec<Cell>,
+    cells: &mut Cells,
 ) -> Result<u32, AllocError>
     requires named { (i : ℕ) × (lookup frozen.now.geometry (frozen_view frozen.now) directory name.now ≡ Some i)
         × IsTrue (is_directory_at frozen.now.geometry (frozen_view frozen.now) i) }
@@ -71,7 +67,7 @@ fn add_name(
 }
 
 /// Adds the record of a directory, and each of its tables, and nothing else.
-fn add_directory(frozen: &Frozen, directory: u32, cells: &mut Vec<Cell>) -> Result<(), AllocError>
+fn add_directory(frozen: &Frozen, directory: u32, cells: &mut Cells) -> Result<(), AllocError>
     requires { IsTrue (is_directory_at frozen.now.geometry (frozen_view frozen.now) directory) }
     ensures gathers { OnOk result (Gathers frozen.now.geometry (map cell cells.old.items) (map cell cells.new.items)) }
     ensures directory { OnOk result (HasDirectory frozen.now.geometry (frozen_view frozen.now) directory (map cell cells.new.items)) }

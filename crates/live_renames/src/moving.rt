@@ -30,7 +30,7 @@ use live_places::{Place, Tables, choose};
 use live_plans::{Found, NewEntry, Plan, bytes_of, enter, put_slot};
 use metadata::Metadata;
 use std::alloc::{AllocError, Global};
-use updates::{Cell, Change};
+use updates::{Cell, Cells, Change};
 
 /// How many links an inode has at most.
 const MOST_LINKS: u16 = 32767;
@@ -113,7 +113,7 @@ fn raise(alloc: Global, metadata: &Metadata, plan: &mut Plan, number: u32) -> Re
 {
     let mut record = metadata.frozen().record(number);
     record.links += 1;
-    plan.push(Change::SetInode(number, record), Vec::new(alloc))
+    plan.push(Change::SetInode(number, record), Cells::new(alloc))
 }
 
 /// The cells that come before an old name goes: the block of the new entry in this place, and the grounds of its
@@ -123,13 +123,13 @@ fn first_cells(
     frozen: &Frozen,
     to: &Path,
     place: &Place,
-) -> Result<Vec<Cell>, AllocError>
+) -> Result<Cells, AllocError>
     requires walk { (d : ℕ) × (machine_walk frozen.now.geometry (frozen_view frozen.now) root to.now ≡ Ok d) }
     requires place { (d : ℕ) × IsPlace frozen.now.geometry (frozen_view frozen.now) d place.now }
     ensures cells { IfOk result (λ cells. All (IsCell frozen.now.geometry) (map cell cells.items)) }
     ensures first { IfOk result (λ cells. AreFirst frozen.now.geometry (frozen_view frozen.now) to.now place.now (map cell cells.items)) }
 {
-    let mut cells = Vec::new(alloc);
+    let mut cells = Cells::new(alloc);
     match *place {
         Place::Slot { block, .. } => cells.push(Cell::Block(block))?,
         Place::NewBlock { block, tables } => {
@@ -142,7 +142,7 @@ fn first_cells(
 }
 
 /// Adds the block of each of these tables, behind these cells.
-fn add_tables(tables: Tables, cells: &mut Vec<Cell>) -> Result<(), AllocError>
+fn add_tables(tables: Tables, cells: &mut Cells) -> Result<(), AllocError>
     ensures { OnOk result (map cell cells.new.items ≡ map cell cells.old.items ++ map BlockCell tables) }
 {
     let Some(table) = tables.first() else {
@@ -159,7 +159,7 @@ fn leave(
     metadata: &Metadata,
     plan: &mut Plan,
     found: &Found,
-    after: Vec<Cell>,
+    after: Cells,
 ) -> Result<(), AllocError>
     requires geometry { plan.old.geometry ≡ metadata.now.geometry }
     requires found { (ps : List (List ℕ)) × IsFoundAt metadata.now.geometry (frozen_view metadata.now) ps found.now }
@@ -178,7 +178,7 @@ fn leave(
         &[0; SLOT_BYTES],
         after,
     )?;
-    let mut emptied = Vec::new(alloc);
+    let mut emptied = Cells::new(alloc);
     emptied.push(Cell::Block(found.block))?;
     let record = metadata.frozen().record(found.number);
     plan.push(Change::SetInode(found.number, record), emptied)?;

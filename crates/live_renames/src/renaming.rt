@@ -17,6 +17,7 @@ use live_paths::{Path, walk};
 use live_plans::{Found, Plan, add_blocks, bytes_of, entry, locate, put_slot};
 use metadata::Metadata;
 use std::alloc::{AllocError, Global};
+use updates::Cells;
 
 /// Between what a rename goes on.
 #[derive(Clone, Copy)]
@@ -84,7 +85,7 @@ pub(crate) fn rename_in_slot(
 {
     let frozen = metadata.frozen();
     let mut plan = Plan::new(alloc, frozen.geometry(), found.number);
-    let mut after = Vec::new(alloc);
+    let mut after = Cells::new(alloc);
     add_blocks(metadata, found.directory, &mut after)?;
     let position = found.slot / SLOTS as u32;
     let bytes = bytes_of(metadata, found.directory, position, found.block);

@@ -9,7 +9,7 @@ use live_plans::{Plan, Planned};
 use live_removals::free;
 use metadata::Metadata;
 use std::alloc::{AllocError, Global};
-use updates::Change;
+use updates::{Cells, Change};
 
 /// The plan by which an inode that nothing reaches loses all its links: it is freed, unless it is open.
 pub fn drop_inode(
@@ -57,7 +57,7 @@ fn relink(
 {
     let frozen = metadata.frozen();
     let mut plan = Plan::new(alloc, frozen.geometry(), number);
-    let after = Vec::new(alloc);
+    let after = Cells::new(alloc);
     if links == 0 && !holdings.is_open(number) {
         let holds = free(alloc, frozen, holdings, &mut plan, number, after)?;
         return Ok(Planned { plan, holds });

@@ -9,7 +9,7 @@ ghost use Rattle.live_repairs.specs.Repaired.{Unmarks};
 use live_plans::{Plan, Planned};
 use metadata::Metadata;
 use std::alloc::{AllocError, Global};
-use updates::Change;
+use updates::{Cells, Change};
 
 /// The plan by which a block is unmarked that nothing uses.
 pub fn free_block(alloc: Global, metadata: &Metadata, address: u32) -> Result<Planned, AllocError>
@@ -39,6 +39,6 @@ fn unmark(
     ensures { IfOk result (λ planned. Unmarks metadata.now.geometry file (change_of change) planned.plan planned.holds.items) }
 {
     let mut plan = Plan::new(alloc, metadata.frozen().geometry(), file);
-    plan.push(change, Vec::new(alloc))?;
+    plan.push(change, Cells::new(alloc))?;
     Ok(plan.without_holds(alloc))
 }

@@ -12,7 +12,7 @@ use live_holdings::Holdings;
 use metadata::Metadata;
 use spares::Spares;
 use std::alloc::{AllocError, Global};
-use updates::{Change, Update};
+use updates::{Cells, Change, Update};
 
 /// The metadata without the open inodes that have no links: each is freed, with its number and its blocks. Takes memory
 /// for the table of blocks, and for each update that this needs.
@@ -135,7 +135,7 @@ fn push(alloc: Global, updates: &mut Vec<Update>, change: Change) -> Result<(), 
     let update = Update {
         change,
         file: None,
-        after: Vec::new(alloc),
+        after: Cells::new(alloc),
     };
     updates.push(update)?;
     Ok(())

@@ -25,10 +25,11 @@ use live_holdings::Holdings;
 use live_places::Tables;
 use live_plans::{Plan, Planned, fill, link};
 use metadata::Metadata;
+use smallvec::smallvec;
 use spares::Spares;
 use std::alloc::{AllocError, Global};
 use std::sync::Arc;
-use updates::{Cell, Change};
+use updates::{Cell, Cells, Change};
 
 /// The plan by which a piece is written where `aim` has settled, over these bytes of the block that is seen there. Behind
 /// the last block it is put over zeroes. What is behind the piece stays, also behind the file's size: a stop may show an
@@ -130,7 +131,7 @@ fn updates(
     match target.place {
         Place::InPlace { block } => {
             replace(alloc, &mut plan, block, bytes)?;
-            let after = vec![in alloc; Cell::Block(block)]?;
+            let after = smallvec![in alloc; Cell::Block(block)]?;
             enlarge(&mut plan, target.file, owner, size, after)?;
         }
         Place::Behind { block, tables } => {
@@ -162,7 +163,7 @@ fn replace(alloc: Global, plan: &mut Plan, block: u32, bytes: Arc<Block>) -> Res
     requires { IsTrue (is_data_address plan.old.geometry block) }
     ensures { OnOk result (GoesOn plan.old plan.new (λ q. record { change = SetBytes block (arc_value bytes); after = [] } ∷ q)) }
 {
-    plan.push(Change::SetBytes(block, bytes), Vec::new(alloc))
+    plan.push(Change::SetBytes(block, bytes), Cells::new(alloc))
 }
 
 /// Adds the update that gives an inode with this record a larger size, after these cells, where it is larger.
@@ -171,7 +172,7 @@ fn enlarge(
     number: u32,
     owner: &Record,
     size: u32,
-    after: Vec<Cell>,
+    after: Cells,
 ) -> Result<(), AllocError>
     requires number { IsTrue (is_number plan.old.geometry number) }
     requires fits { FitsVolume plan.old.geometry (SetInode number owner.now) }

@@ -8,7 +8,7 @@ use layout::{BLOCK_BYTES, Geometry, ROOT, Refusal};
 use spares::Spares;
 use std::alloc::Global;
 use std::test::Fail;
-use updates::{Change, Update};
+use updates::{Cells, Change, Update};
 
 /// The metadata of a fresh image of one group of 16 blocks and 16 inodes.
 fn fresh(alloc: Global) -> Result<Frozen, Refusal> {
@@ -32,7 +32,7 @@ fn marked(alloc: Global, geometry: &Geometry, number: u32) -> Result<Update, Ref
     Ok(Update {
         change: Change::SetNumber(number, true),
         file: None,
-        after: Vec::new(alloc),
+        after: Cells::new(alloc),
     })
 }
 

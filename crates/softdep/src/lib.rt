@@ -8,4 +8,4 @@ mod queue;
 
 pub use laws::{a_flush_clears_a_freed_record, what_a_power_cut_leaves_is_safe};
 pub use queue::Queue;
-pub use updates::{Cell, Change, Update};
+pub use updates::{Cell, Cells, Change, Update};

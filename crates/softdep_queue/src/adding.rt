@@ -1,4 +1,4 @@
-ghost use Rattle.std.specs.Prelude.{◌≡◌, ℕ, ◌+◌, ◌<◌, ◌≤◌, Bool, false, List, [], ◌∷◌, length, map, OnOk, IfOk};
+ghost use Rattle.std.specs.Prelude.{◌≡◌, ℕ, ◌+◌, ◌<◌, ◌≤◌, ◌^◌, Bool, false, List, [], ◌∷◌, length, map, OnOk, IfOk};
 ghost use Rattle.std.specs.List.{All};
 ghost use Rattle.model.specs.Layout.{Geometry as Numbers};
 ghost use Rattle.ordering.specs.Cuts.{Pending, cell_of};
@@ -102,6 +102,7 @@ impl Table {
         requires room { 1 + length after.now ≤ self.old.chains.room }
         ensures behind { IsBehind self.old self.new number (lasts geometry.now self.old (cell own ∷ map cell after.now)) }
         ensures count { result ≡ counted self.old home (lasts geometry.now self.old (cell own ∷ map cell after.now)) }
+        ensures few { 1 + length after.now < 2 ^ 64 }
     {
         let mut waiting = self.wait_for(geometry, home, own, number);
         for earlier in after {

@@ -8,7 +8,7 @@ use crate::expect::{holds, same};
 use device::{Device, Fuse, MemDevice};
 use inode::{DIRECT_POINTERS, FILE, FREE, Record};
 use layout::{BLOCK_BYTES, Block, DOUBLE, Geometry, ROOT, Refusal, SINGLE};
-use softdep::{Cell, Change, Queue, Update};
+use softdep::{Cell, Cells, Change, Queue, Update};
 use spares::Spares;
 use std::alloc::Global;
 use std::process::Abort;
@@ -136,7 +136,7 @@ fn updates_of(alloc: Global, list: &[Told]) -> Result<Vec<Update>, Refusal> {
         updates.push(Update {
             change: change_of(alloc, *put)?,
             file: None,
-            after: Vec::from_slice(alloc, after)?,
+            after: Cells::from_slice(alloc, after)?,
         })?;
     }
     Ok(updates)

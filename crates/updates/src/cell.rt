@@ -20,6 +20,13 @@ pub enum Cell {
     Block(u32),
 }
 
+/// What stands in the places of a list that are not in use.
+impl Default for Cell {
+    fn default() -> Cell {
+        Cell::Record(0)
+    }
+}
+
 impl Cell {
     /// The address of the block in which the cell stands.
     pub fn home(self, geometry: &Geometry) -> u32

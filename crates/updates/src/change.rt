@@ -14,7 +14,11 @@ use crate::Cell;
 use cgmaps::{Map, put_bit};
 use inode::{DIRECT_POINTERS, FREE, RECORD_BYTES, Record};
 use layout::{Block, Geometry, INODES_PER_BLOCK};
+use smallvec::SmallVec;
 use std::sync::Arc;
+
+/// A list of cells, which takes memory of its own only for more than three: an update that comes after more is one of a directory.
+pub type Cells = SmallVec<Cell, 3>;
 
 /// A freed record.
 const FREED: Record = Record {
@@ -47,7 +51,7 @@ pub struct Update {
     /// The number of the file whose contents it writes, if it writes a file's.
     pub file: Option<u32>,
     /// The cells after whose last updates it has to reach the device.
-    pub after: Vec<Cell>,
+    pub after: Cells,
 }
 
 impl Change {

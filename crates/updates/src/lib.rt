@@ -10,4 +10,4 @@ mod change;
 mod tests;
 
 pub use cell::{Cell, cells_have_places_of_their_own, places};
-pub use change::{Change, Update};
+pub use change::{Cells, Change, Update};

@@ -3,6 +3,7 @@ ghost use Rattle.std.specs.Prelude.{◌≡◌};
 use crate::{Cell, Change, Update, places};
 use inode::{DIRECT_POINTERS, FILE, RECORD_BYTES, Record};
 use layout::{BLOCK_BYTES, Block, DOUBLE, Geometry, SINGLE};
+use smallvec::smallvec;
 use std::alloc::{AllocError, Global};
 use std::process::Abort;
 use std::sync::Arc;
@@ -145,7 +146,7 @@ fn a_block_is_put_whole(rt: HostRuntime) -> Result<(), AllocError> {
 
 /// An update by which block 32 gets other bytes, once it is marked.
 fn update_of_a_block(alloc: Global) -> Result<Update, AllocError> {
-    let after = vec![in alloc; Cell::BlockBit(32)]?;
+    let after = smallvec![in alloc; Cell::BlockBit(32)]?;
     Ok(Update {
         change: whole_block(alloc, [7; BLOCK_BYTES])?,
         file: Some(9),

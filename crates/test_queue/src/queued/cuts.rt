@@ -5,7 +5,7 @@ use super::{addresses, are_updates, change_of, device_of, read_block};
 use crate::expect::{holds, same};
 use device::{CacheDevice, Device, MemDevice};
 use layout::{Geometry, Refusal, SINGLE};
-use softdep::{Cell, Queue, Update};
+use softdep::{Cell, Cells, Queue, Update};
 use spares::Spares;
 use std::alloc::Global;
 use std::process::Abort;
@@ -197,7 +197,7 @@ impl CutBed {
         let place = PLACES.get(at).copied().ok_or(Refusal::BadIndex)?;
         let number = count_at(&self.counts, at).saturating_add(1);
         let mut after = [0; 10];
-        let mut names = Vec::new(alloc);
+        let mut names = Cells::new(alloc);
         for earlier in cells {
             let other = PLACES.get(*earlier).copied().ok_or(Refusal::BadIndex)?;
             names.push(other.cell)?;

@@ -3,7 +3,7 @@ use super::{Bed, NONE, block_of, read_block, record_of};
 use crate::expect::{holds, same};
 use inode::Record;
 use layout::{Block, DOUBLE, Refusal, SINGLE};
-use softdep::{Change, Update};
+use softdep::{Cells, Change, Update};
 use std::alloc::Global;
 use std::process::Abort;
 use std::test::Fail;
@@ -14,7 +14,7 @@ fn of_record_9(alloc: Global, record: Record) -> Result<Vec<Update>, Refusal> {
     updates.push(Update {
         change: Change::SetInode(9, record),
         file: None,
-        after: Vec::new(alloc),
+        after: Cells::new(alloc),
     })?;
     Ok(updates)
 }

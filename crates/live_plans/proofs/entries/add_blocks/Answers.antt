@@ -1,5 +1,6 @@
 -- Each turn adds the block at its position, if there is one.
-use Rattle.std.proofs.Common.{◌≡◌, ◌≤◌, ◌<◌, ◌∷◌, [], ◌++◌, ◌+◌, Vec, Global, map, sym, ap, ◌∙◌, subst, arith, IsTrue, false}
+use Rattle.std.proofs.Common.{◌≡◌, ◌≤◌, ◌<◌, ◌∷◌, [], ◌++◌, ◌+◌, map, sym, ap, ◌∙◌, subst, arith, IsTrue, false}
+use Rattle.smallvec.specs.SmallVec.{SmallVec}
 use Rattle.std.proofs.lemmas.Bool.{and_parts, both_ways}
 use Rattle.std.proofs.lemmas.List.{map-append}
 use Rattle.frozen.specs.Kept.{Kept, frozen_view}
@@ -40,10 +41,10 @@ loop-position-preserved c =
     elim c.match-claim_of.branch [
       | in-Some+in_ok-push w ↦
           let items : map cell c.match-claim_of.cells.items ≡ map cell so_far ++ Block w.in-Some.block ∷ [] =
-          ap (λ (v : Vec Cell Global). map cell v.items) w.cells-is ∙ ap (map cell) w.in_ok-push.ensures.items ∙ map-append cell so_far (variants.Block w.in-Some.block ∷ []) in
+          ap (λ (v : SmallVec Cell). map cell v.items) w.cells-is ∙ ap (map cell) w.in_ok-push.ensures.ok ∙ map-append cell so_far (variants.Block w.in-Some.block ∷ []) in
           subst (AddsBlocks geo view d (k + 1) old) (sym items) (adds_block geo view d old k w.in-Some.block (map cell so_far) below (sym claimed ∙ w.in-Some.is) c.loop-position.invariant)
       | in_default w ↦
-          let items : map cell c.match-claim_of.cells.items ≡ map cell so_far = ap (λ (v : Vec Cell Global). map cell v.items) w.cells-is in
+          let items : map cell c.match-claim_of.cells.items ≡ map cell so_far = ap (λ (v : SmallVec Cell). map cell v.items) w.cells-is in
           subst (AddsBlocks geo view d (k + 1) old) (sym items) (adds_nothing geo view d old k (map cell so_far) (sym claimed ∙ w.in_default.is) c.loop-position.invariant)
     ]
 

@@ -41,7 +41,7 @@ returns-clause-links t c =
     let cells = map cell c.in_ok-linked.linked.after.items in
     let one : table_of kept.geometry k ≡ Some m =
     sym (ap (λ (g : Geometry). table_of g k) (c.geometry.ensures.geometry ∙ ap (λ (held : Kept). held.geometry) c.frozen-2.ensures.same)) ∙ sym c.in-Some-pointer_place.ensures.table in
-    let items : map cell c.push.new.self.items ≡ cells ++ Block b ∷ [] = ap (map cell) c.in_ok-push.ensures.items ∙ map-append cell c.in_ok-linked.linked.after.items (variants.Block b ∷ []) in
+    let items : map cell c.push.new.self.items ≡ cells ++ Block b ∷ [] = ap (map cell) c.in_ok-push.ensures.ok ∙ map-append cell c.in_ok-linked.linked.after.items (variants.Block b ∷ []) in
     subst (λ (ts : List ℕ). IsLinked kept.geometry n c.args.owner.now k b (holder_of kept.geometry (frozen_view kept) n k b ts) c.args.plan.now c.link.new.plan given (map cell c.push.new.self.items)) (sym c.in-Some.ensures)
     (subst (λ (cs : List Cell). IsLinked kept.geometry n c.args.owner.now k b (holder_of kept.geometry (frozen_view kept) n k b (x ∷ drop 1 c.args.tables)) c.args.plan.now c.link.new.plan given cs) (sym items)
     (links_new kept.geometry (frozen_view kept) n c.args.owner.now k b m x (drop 1 c.args.tables) c.args.plan.now c.start_table.new.plan c.link.new.plan given cells one c.requires.block c.in_ok-start_table.ensures

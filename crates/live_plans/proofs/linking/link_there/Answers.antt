@@ -64,7 +64,7 @@ returns-in_default-clause-links c =
     let none : table_of kept.geometry k ≡ None = sym (ap (λ (g : Geometry). table_of g k) c.geometry-geometry.ensures.geometry) ∙ sym c.in_default.ensures.table in
     links_record kept.geometry (frozen_view kept) c.args.number c.args.owner.now k b c.args.plan.now c.with_field-record.result (map cell c.push.new.self.items) c.requires.position none c.requires.block
     (c.with_field-record.ensures ∙ ap (λ (g : Geometry). with_field g c.args.owner.now k b) c.geometry-geometry.ensures.geometry)
-    (ap (map cell) (c.in_ok-push.ensures.items ∙ ap (λ (xs : List Cell). xs ++ cells.Block b ∷ []) c.new-after.ensures.items))
+    (ap (map cell) (c.in_ok-push.ensures.ok ∙ ap (λ (xs : List Cell). xs ++ cells.Block b ∷ []) c.new-after.ensures.items))
 
 pub returns-clause-links : goal.returns-clause-links
 returns-clause-links c =

@@ -20,7 +20,7 @@ returns-in_ok-push c =
     let is : (record { mode = c.record.inside.mode; links = c.record.inside.links; size = c.record.inside.size; direct = c.record.inside.direct; indirect = c.record.inside.indirect; double = c.record.inside.double }) ≡ (frozen_view kept).inode n =
     c.record.view_is ∙ c.record-record.ensures ∙ ap (λ (k : Kept). (frozen_view k).inode n) c.frozen.ensures.same in
     let after : map cell c.push.new.self.items ≡ Block c.args.block ∷ [] =
-    ap (map cell) (c.in_ok-push.ensures.items ∙ ap (λ (xs : List Cell). xs ++ cells.Block c.args.block ∷ []) c.new-after.ensures.items) in
+    ap (map cell) (c.in_ok-push.ensures.ok ∙ ap (λ (xs : List Cell). xs ++ cells.Block c.args.block ∷ []) c.new-after.ensures.items) in
     with_both c.free.result (GoesOn c.args.plan.now c.free.new.plan (freeing n (freed f.geometry (frozen_view f) holdings n 0) (map cell c.push.new.self.items)))
     (λ holds. holds.items ≡ held_back f.geometry (frozen_view f) holdings n 0) _ c.free.ensures.plan c.free.ensures.holds
     (λ holds frees held view shows. goes kept view shows holdings n c.args.fewer c.args.block c.args.plan.now c.free.new.plan holds.items c.frozen.ensures.metadata f c.frozen-else-record-fewer.ensures.same _ is c.if-record-fewer.false

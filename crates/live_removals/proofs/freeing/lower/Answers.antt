@@ -25,5 +25,5 @@ returns c =
     let is : (record { mode = c.record.inside.mode; links = c.record.inside.links; size = c.record.inside.size; direct = c.record.inside.direct; indirect = c.record.inside.indirect; double = c.record.inside.double }) ≡ (frozen_view kept).inode n =
     c.record.view_is ∙ c.record-record.ensures ∙ ap (λ (k : Kept). (frozen_view k).inode n) c.frozen.ensures.same in
     let after : map cell c.push.new.self.items ≡ Block c.args.block ∷ [] =
-    ap (map cell) (c.in_ok-push.ensures.items ∙ ap (λ (xs : List Cell). xs ++ cells.Block c.args.block ∷ []) c.new-after.ensures.items) in
+    ap (map cell) (c.in_ok-push.ensures.ok ∙ ap (λ (xs : List Cell). xs ++ cells.Block c.args.block ∷ []) c.new-after.ensures.items) in
     on_ok_weaker c.push-2.result (lowers n c.args.fewer c.args.block _ ((frozen_view kept).inode n) (map cell c.push.new.self.items) c.args.plan.now c.push-2.new.self is after) c.push-2.ensures

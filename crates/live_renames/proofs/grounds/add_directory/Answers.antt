@@ -20,7 +20,7 @@ loop-table-init c =
     let first : c.most_blocks-table.result ≡ most_blocks geo = c.most_blocks-table.ensures.count ∙ ap most_blocks c.geometry-geometry.ensures.geometry in
     let end = c.tables_end-end.ensures.end ∙ ap (λ g. most_blocks g + tables c.blocks-2.result) c.geometry-geometry.ensures.geometry in (
       subst (λ m. HasTables geo (frozen_view c.args.frozen.now) d (map cell c.args.cells.now.items) (map cell c.push.new.self.items) m) (sym first)
-          (record_alone geo (frozen_view c.args.frozen.now) d c.args.cells.now.items c.push.new.self.items (directory_number geo (frozen_view c.args.frozen.now) d c.requires) c.in_ok-push.ensures.items),
+          (record_alone geo (frozen_view c.args.frozen.now) d c.args.cells.now.items c.push.new.self.items (directory_number geo (frozen_view c.args.frozen.now) d c.requires) c.in_ok-push.ensures.ok),
       omega (arith, first),
       omega (arith, first, end),
     )
@@ -36,7 +36,7 @@ loop-table-preserved c =
     let table : IsTrue (is_table geo m) = le-leb (most_blocks geo) m inv.1 in (
       elim c.match-claim_at.branch [
         | in-Some+in_ok-push-2 w ↦ rw (w.cells-is)
-            (table_more geo view d xs c.loop-table.cells.items w.push-in-Some.new.self.items m w.in-Some.block table (sym c.claim_at.ensures ∙ w.in-Some.is) w.in_ok-push-2.ensures.items inv.0)
+            (table_more geo view d xs c.loop-table.cells.items w.push-in-Some.new.self.items m w.in-Some.block table (sym c.claim_at.ensures ∙ w.in-Some.is) w.in_ok-push-2.ensures.ok inv.0)
         | in_default w ↦ rw (w.cells-is) (no_table_more geo view d xs c.loop-table.cells.items m (sym c.claim_at.ensures ∙ w.in_default.is) inv.0)
       ],
       omega (arith, inv.1),

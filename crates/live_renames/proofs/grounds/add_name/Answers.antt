@@ -38,7 +38,7 @@ returns-clause-gathers c =
     let kept = c.args.frozen.now in
     let claim = sym c.claim_at.ensures ∙ c.in-Some-claim_at.is in
     gathers_both kept.geometry _ (map cell c.push.new.self.items) _
-    (pushed kept.geometry c.args.cells.now.items c.push.new.self.items (Block c.in-Some-claim_at.block) c.in_ok-push.ensures.items
+    (pushed kept.geometry c.args.cells.now.items c.push.new.self.items (Block c.in-Some-claim_at.block) c.in_ok-push.ensures.ok
     (claim_parts kept.geometry (frozen_view kept) c.args.directory (c.in-Some.entry.slot / 16) c.in-Some-claim_at.block claim).1)
     c.in_ok-add_directory.ensures.gathers
 
@@ -53,10 +53,10 @@ returns-clause-grounds c = λ first grounded.
     let b = c.in-Some-claim_at.block in
     let claim = sym c.claim_at.ensures ∙ c.in-Some-claim_at.is in
     let good = c.in-Some.ensures.entry view (self_shown kept) in
-    let one = pushed kept.geometry c.args.cells.now.items c.push.new.self.items (Block b) c.in_ok-push.ensures.items (claim_parts kept.geometry view d (s / 16) b claim).1 in
+    let one = pushed kept.geometry c.args.cells.now.items c.push.new.self.items (Block b) c.in_ok-push.ensures.ok (claim_parts kept.geometry view d (s / 16) b claim).1 in
     let both = gathers_both kept.geometry _ (map cell c.push.new.self.items) _ one c.in_ok-add_directory.ensures.gathers in
     let dir = named_directory kept.geometry view d c.requires.named.0 i name c.requires.named.1 (lookup_at kept.geometry view d s i name (c.in-Some.ensures.found view (self_shown kept)).0 good) c.requires.named.2 in
     next_grounded kept.geometry view first (map cell c.args.cells.now.items) (map cell c.add_directory.new.cells.items) d s i b name grounded both.kept
     c.requires.part good dir c.in_ok-add_directory.ensures.directory claim
-    (c.in_ok-add_directory.ensures.gathers.kept _ (holds_pushed kept.geometry c.args.cells.now.items c.push.new.self.items (Block b) c.in_ok-push.ensures.items))
-    (only_next kept.geometry view c.args.cells.now.items c.push.new.self.items i b (map cell c.add_directory.new.cells.items) c.in_ok-push.ensures.items c.in_ok-add_directory.ensures.only)
+    (c.in_ok-add_directory.ensures.gathers.kept _ (holds_pushed kept.geometry c.args.cells.now.items c.push.new.self.items (Block b) c.in_ok-push.ensures.ok))
+    (only_next kept.geometry view c.args.cells.now.items c.push.new.self.items i b (map cell c.add_directory.new.cells.items) c.in_ok-push.ensures.ok c.in_ok-add_directory.ensures.only)

@@ -15,7 +15,7 @@ returns t c =
     let old = c.args.cells.now.items in
     let table = c.in-Some.table in
     let over = c.rest.result in
-    let pushed = ap (map cell) c.in_ok-push.ensures.items ∙ map-append cell old (variants.Block table ∷ []) in
+    let pushed = ap (map cell) c.in_ok-push.ensures.ok ∙ map-append cell old (variants.Block table ∷ []) in
     on_ok_weaker c.add_tables.result
     (λ adds. adds ∙ ap (λ xs. xs ++ map Block over) pushed ∙ append_assoc (map cell old) (Block table ∷ []) (map Block over)
     ∙ ap (λ xs. map cell old ++ Block table ∷ map Block xs) c.rest.ensures ∙ ap (λ xs. map cell old ++ map Block xs) (sym c.in-Some.ensures))

@@ -1,6 +1,8 @@
 -- The blocks of the place come first, and the grounds behind them.
-use Rattle.std.proofs.Common.{◌∙◌, ap, map, subst, vec_items}
+use Rattle.std.proofs.Common.{◌∙◌, ap, map, subst}
+use Rattle.smallvec.specs.SmallVec.{SmallVec}
 use Rattle.frozen.specs.Kept.{frozen_view}
+use Rattle.updates.specs.declared.cell.Cell.{Cell}
 use Rattle.updates.specs.Values.{cell}
 use Rattle.live_renames.specs.Gathered.{IsGrounded}
 use Rattle.live_renames.proofs.MoveLemmas.{none_cells}
@@ -17,9 +19,9 @@ returns-clause-cells c =
     let none = c.new-cells.result.items in
     let cells = c.match-place.cells.items in
     let placed : Placed geo place none cells = elim c.match-place.branch [
-      | in-Slot+in_ok-push-in-Slot w ↦ slot_placed geo view d place c.requires.place.1 none w.in-Slot.slot w.in-Slot.block cells w.in-Slot.is (ap vec_items w.cells-is ∙ w.in_ok-push-in-Slot.ensures.items)
+      | in-Slot+in_ok-push-in-Slot w ↦ slot_placed geo view d place c.requires.place.1 none w.in-Slot.slot w.in-Slot.block cells w.in-Slot.is (ap (λ (v : SmallVec Cell). v.items) w.cells-is ∙ w.in_ok-push-in-Slot.ensures.ok)
       | in-NewBlock+in_ok-push-in-NewBlock+in_ok-add_tables-in-NewBlock w ↦ blocks_placed geo view d place c.requires.place.1 none w.in-NewBlock.block w.in-NewBlock.tables w.push-in-NewBlock.new.self.items cells
-          w.in-NewBlock.is w.in_ok-push-in-NewBlock.ensures.items (ap (λ v. map cell (vec_items v)) w.cells-is ∙ w.in_ok-add_tables-in-NewBlock.ensures)
+          w.in-NewBlock.is w.in_ok-push-in-NewBlock.ensures.ok (ap (λ (v : SmallVec Cell). map cell v.items) w.cells-is ∙ w.in_ok-add_tables-in-NewBlock.ensures)
     ] in
     c.in_ok-add_grounds.ensures.gathers.cells (placed.0.cells (none_cells geo none c.new-cells.ensures.items))
 
@@ -32,9 +34,9 @@ returns-clause-first c =
     let none = c.new-cells.result.items in
     let cells = c.match-place.cells.items in
     let placed : Placed geo place none cells = elim c.match-place.branch [
-      | in-Slot+in_ok-push-in-Slot w ↦ slot_placed geo view d place c.requires.place.1 none w.in-Slot.slot w.in-Slot.block cells w.in-Slot.is (ap vec_items w.cells-is ∙ w.in_ok-push-in-Slot.ensures.items)
+      | in-Slot+in_ok-push-in-Slot w ↦ slot_placed geo view d place c.requires.place.1 none w.in-Slot.slot w.in-Slot.block cells w.in-Slot.is (ap (λ (v : SmallVec Cell). v.items) w.cells-is ∙ w.in_ok-push-in-Slot.ensures.ok)
       | in-NewBlock+in_ok-push-in-NewBlock+in_ok-add_tables-in-NewBlock w ↦ blocks_placed geo view d place c.requires.place.1 none w.in-NewBlock.block w.in-NewBlock.tables w.push-in-NewBlock.new.self.items cells
-          w.in-NewBlock.is w.in_ok-push-in-NewBlock.ensures.items (ap (λ v. map cell (vec_items v)) w.cells-is ∙ w.in_ok-add_tables-in-NewBlock.ensures)
+          w.in-NewBlock.is w.in_ok-push-in-NewBlock.ensures.ok (ap (λ (v : SmallVec Cell). map cell v.items) w.cells-is ∙ w.in_ok-add_tables-in-NewBlock.ensures)
     ] in
     record {
       place_first = place_more place (map cell cells) (map cell c.add_grounds.new.cells.items) c.in_ok-add_grounds.ensures.gathers.kept placed.1;

@@ -49,7 +49,7 @@ push-requires-2-clause-after c =
     let kept = c.args.metadata.now in
     let geo = c.put_slot.new.plan.geometry in
     let address = subst (λ g. IsTrue (is_data_address g c.args.found.now.block)) (sym (c.in_ok-put_slot.ensures.geometry ∙ c.requires.geometry)) (found_claim kept.geometry (frozen_view kept) c.requires.found.0 c.args.found.now c.requires.found.1).1 in
-    (pushed geo c.new-emptied.result.items c.push.new.self.items (Block c.args.found.now.block) c.in_ok-push.ensures.items address).cells (none_cells geo c.new-emptied.result.items c.new-emptied.ensures.items)
+    (pushed geo c.new-emptied.result.items c.push.new.self.items (Block c.args.found.now.block) c.in_ok-push.ensures.ok address).cells (none_cells geo c.new-emptied.result.items c.new-emptied.ensures.items)
 
 pub returns : goal.returns
 returns c = λ view shows.
@@ -58,5 +58,5 @@ returns c = λ view shows.
     left_goes_on c.args.plan.now c.put_slot.new.plan c.push-2.new.self found.number found.block found.slot (view.inode found.number) c.record-record.result (view.bytes found.block) c.bytes_of-bytes.result.now (map cell c.args.after.items) (map cell c.push.new.self.items)
     (c.record-record.ensures ∙ record_there c.frozen.result.now kept found.number c.frozen.ensures.same ∙ shows.inode found.number)
     (c.bytes_of-bytes.ensures.bytes view shows)
-    (ap (map cell) (c.in_ok-push.ensures.items ∙ ap (λ xs. xs ++ Block found.block ∷ []) c.new-emptied.ensures.items))
+    (ap (map cell) (c.in_ok-push.ensures.ok ∙ ap (λ xs. xs ++ Block found.block ∷ []) c.new-emptied.ensures.items))
     c.in_ok-put_slot.ensures c.in_ok-push-2.ensures

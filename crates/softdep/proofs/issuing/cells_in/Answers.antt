@@ -9,7 +9,7 @@ loop-update-preserved c =
     let more = cells_take c.args.updates.now c.loop-update.update-index c.update-item.result c.loop-update-test.true in
     let first = c.in_ok-checked_add.ensures.1 in
     let second = c.in_ok-cells.ensures.1 in
-    let len = c.len.ensures in
+    let len = c.len.ensures.value in
     let same = ap (λ u. length u.after.items) c.update-item.is in
-    let all : c.in_ok-cells.cells ≡ cells_of (take (c.loop-update.update-index + 1) c.args.updates.now) = omega (arith, before, more, first, second, len, same, c.update-item.result.after.ok) in
+    let all : c.in_ok-cells.cells ≡ cells_of (take (c.loop-update.update-index + 1) c.args.updates.now) = omega (arith, before, more, first, second, len, same) in
     all

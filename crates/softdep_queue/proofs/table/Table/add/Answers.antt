@@ -54,7 +54,7 @@ module _ (c : goal.After-self-2-1) where
   behind =
       subst (λ n. IsBehind t c.wait-waiting.new.self n (lasts geo t (cell_of u.change ∷ u.after))) number
       (subst (λ x. IsBehind t c.wait-waiting.new.self c.len-number.result (lasts geo t (x ∷ u.after))) c.cell-own.ensures
-      (subst (λ l. IsBehind t c.wait-waiting.new.self c.len-number.result (lasts geo t (cell c.cell-own.result ∷ map cell l))) c.as_slice.ensures.value c.wait-waiting.ensures.behind))
+      (subst (λ l. IsBehind t c.wait-waiting.new.self c.len-number.result (lasts geo t (cell c.cell-own.result ∷ map cell l))) c.as_slice.ensures c.wait-waiting.ensures.behind))
 
   place : c.place.result ≡ place_of geo (cell_of u.change)
   place = c.place.ensures.place ∙ ap (place_of geo) c.cell-own.ensures
@@ -97,7 +97,7 @@ module _ (c : goal.After-self-2-1) where
     on_volume = c.home-home.ensures.on_volume;
     update = refl;
     change = refl;
-    waiting = c.wait-waiting.ensures.count ∙ ap (λ l. counted t c.home-home.result (lasts geo t (cell c.cell-own.result ∷ map cell l))) c.as_slice.ensures.value
+    waiting = c.wait-waiting.ensures.count ∙ ap (λ l. counted t c.home-home.result (lasts geo t (cell c.cell-own.result ∷ map cell l))) c.as_slice.ensures
         ∙ ap₂ (λ h x. counted t h (lasts geo t (x ∷ u.after))) (c.home-home.ensures.address ∙ ap (home_of geo) c.cell-own.ensures) c.cell-own.ensures;
     flag = refl;
     few = c.wait-waiting.type_inv;
@@ -132,7 +132,8 @@ returns-clause-held c queue q loose holds =
         let same = ap length (waits_are (geo c) (t c) queue q holds.written holds.takes (u c) c.requires.cells) in
         let few = lasts_few (geo c) (t c) (cell_of (u c).change ∷ (u c).after) in
         let count = length-map c.args.update.after.items cell in
-        omega (arith, same, few, count, c.args.update.after.ok, c.args.update.after.small)
+        let short = c.wait-waiting.ensures.few in
+        omega (arith, same, few, count, short, ap length c.as_slice.ensures)
 
 pub returns-clause-room : goal.returns-clause-room
 returns-clause-room c updates cells has =
