@@ -32,6 +32,13 @@ def fsvol():
     return os.path.join(TOP, 'crates', 'fsvol', 'out', 'fsvol')
 
 
+def environment(words):
+    """The environment of a child with these words: fsvol runs as bin/fsvol runs it, with a heap of huge pages, and a peer as it is."""
+    if words[0] != fsvol():
+        return None
+    return {'GLIBC_TUNABLES': 'glibc.malloc.hugetlb=1', **os.environ}
+
+
 def test_lists():
     """The path of the program that carries out lists of commands; or what TEST_LISTS names."""
     if 'TEST_LISTS' in os.environ:
