@@ -1,22 +1,9 @@
--- A set that is made of a list, and what holds of each number of a list.
-use Rattle.std.proofs.Common.{ℕ, ◌<◌, List, [], ◌∷◌, Contains, All, refl, sym, arith, ◌∙◌}
-use Rattle.std.specs.BTreeSet.{BTreeSet, IsFromIterResult}
-use Rattle.std.specs.Ordering.{nat_cmp}
+-- What holds of each number of a list.
+use Rattle.std.proofs.Common.{ℕ, ◌<◌, List, [], ◌∷◌, Contains, All, refl, arith}
 use Rattle.std.proofs.lemmas.List.Elements.{All-nil, All-cons}
 use Rattle.findings.proofs.Sorted.{Contains-here, Contains-there}
 use Rattle.claims.specs.Counting.{times}
 use Rattle.claims.proofs.CountLemmas.{one_where}
-use Rattle.connectivity.specs.Asked.{IsSetOf}
-use Rattle.connectivity.proofs.VisitLemmas.{is_member}
-
-pub set_of_all : (numbers : List ℕ) (set : BTreeSet ℕ) → IsFromIterResult nat_cmp numbers set → IsSetOf numbers set.keys
-set_of_all numbers set is = record {
-  in_order = is.1;
-  same = λ i. (
-    (λ c. (is_member (record { keys = numbers }) i).0 (sym (is.0 i) ∙ (is_member set i).1 c)),
-    (λ c. (is_member set i).0 (is.0 i ∙ (is_member (record { keys = numbers }) i).1 c)),
-  );
-}
 
 -- what holds of each number that stands in a list
 pub all_standing : (P : ℕ → Type 0) (xs : List ℕ) → ((n : ℕ) → 0 < times n xs → P n) → All P xs

@@ -1,7 +1,9 @@
 -- What holds between the rounds of a shared walk, and once all seats are back.
 use Rattle.std.proofs.Common.{◌≡◌, ℕ, zero, suc, ◌+◌, ◌<◌, ◌≤◌, Bool, true, false, cond, eqb, List, [], ◌∷◌, map, length, Contains, Some, slice_get, All, refl, sym, ap, ◌∙◌, subst, arith, inl, inr, ◌⊎◌, IsTrue, IsFalse}
 use Rattle.std.proofs.lemmas.Bool.{and_parts, cases_lt, cases_Bool}
+use Rattle.std.proofs.lemmas.Map.Keys.{sorted_from_strictly_increasing}
 use Rattle.std.proofs.lemmas.Option.{slice_get_within, get_or_from_slice_get}
+use Rattle.std.specs.List.Sorted.{IsStrictlyIncreasing}
 use Rattle.findings.proofs.Sorted.{Contains-here, Contains-cases, Contains-none}
 use Rattle.claims.specs.Counting.{one_if, times, total}
 use Rattle.claims.specs.Seats.{Claimed, Seated, AreBack, all_taken, all_met}
@@ -15,7 +17,7 @@ use Rattle.model.specs.Reached.{AreReached}
 use Rattle.model.proofs.NamedLemmas.{named_are_names}
 use Rattle.model.proofs.ReachLemmas.{entry_reached, IsClosed, closed_reachable, reachable_sound}
 use Rattle.model.proofs.SlotLemmas.{number_below, directory_number}
-use Rattle.connectivity.specs.Asked.{all_told, all_given, opening_round, claimed, IsFollowed, HaveAsked, IsSharedWalk, HasWalked, IsSetOf}
+use Rattle.connectivity.specs.Asked.{all_told, all_given, opening_round, claimed, IsFollowed, HaveAsked, IsSharedWalk, HasWalked}
 use Rattle.connectivity.proofs.FlatLemmas.{contains_times, times_contains, total-has, total-map}
 
 -- ---- sums
@@ -212,27 +214,27 @@ module _ (geo : Geometry) (view : View) where
           | inr lacks ↦ omega arith
         ]
 
-    pub walk_reached : (marked keys : List ℕ) → ((n : ℕ) → times n marked ≡ claimed all.opening seats n) → IsSetOf marked keys
-        → (IsTrue (is_directory_at geo view root) → all.opening ≡ root ∷ []) → AreReached geo view keys
-    walk_reached marked keys is set at_root = record {
-      in_order = set.in_order;
+    pub walk_reached : (marked : List ℕ) → IsStrictlyIncreasing marked → ((n : ℕ) → times n marked ≡ claimed all.opening seats n)
+        → (IsTrue (is_directory_at geo view root) → all.opening ≡ root ∷ []) → AreReached geo view marked
+    walk_reached marked rising is at_root = record {
+      in_order = sorted_from_strictly_increasing marked rising;
       exactly = λ i. (
         (λ c. walked.reachable i (claimed_of i c)),
-        closed_reachable geo view (λ j. Contains keys j) closed i,
+        closed_reachable geo view (λ j. Contains marked j) closed i,
       );
     }
       where
-        claimed_of : (i : ℕ) → Contains keys i → 0 < claimed all.opening seats i
-        claimed_of i c = subst (λ (n : ℕ). 0 < n) (is i) (contains_times i marked ((set.same i).0 c))
+        claimed_of : (i : ℕ) → Contains marked i → 0 < claimed all.opening seats i
+        claimed_of i c = subst (λ (n : ℕ). 0 < n) (is i) (contains_times i marked c)
 
-        key_of : (i : ℕ) → 0 < claimed all.opening seats i → Contains keys i
-        key_of i stands = (set.same i).1 (times_contains i marked (subst (λ (n : ℕ). 0 < n) (sym (is i)) stands))
+        marked_of : (i : ℕ) → 0 < claimed all.opening seats i → Contains marked i
+        marked_of i stands = times_contains i marked (subst (λ (n : ℕ). 0 < n) (sym (is i)) stands)
 
         opened : (o : List ℕ) → o ≡ root ∷ [] → 0 < times root o
         opened o e = contains_times root o (subst (λ (r : List ℕ). Contains r root) (sym e) (Contains-here root []))
 
-        closed : IsClosed geo view (λ j. Contains keys j)
+        closed : IsClosed geo view (λ j. Contains marked j)
         closed = record {
-          at_root = λ t. key_of root (let there = opened all.opening (at_root t) in omega arith);
-          at_entries = λ d s i c t after names sound. key_of i (told_claimed i (walked.followed few d (claimed_of d c) t i ((named_are_names geo view d 2 i).1 (s, after, names)) sound));
+          at_root = λ t. marked_of root (let there = opened all.opening (at_root t) in omega arith);
+          at_entries = λ d s i c t after names sound. marked_of i (told_claimed i (walked.followed few d (claimed_of d c) t i ((named_are_names geo view d 2 i).1 (s, after, names)) sound));
         }

@@ -1,9 +1,7 @@
 -- A walk that workers share in rounds: what they ask for, what they are told, and what holds between the rounds.
-use Rattle.std.specs.Prelude.{◌≡◌, ℕ, ◌+◌, ◌<◌, ◌≤◌, List, [], ◌∷◌, length, slice_get, ◌⊎◌, ◌↔◌, IsTrue, if◌then◌else◌}
+use Rattle.std.specs.Prelude.{◌≡◌, ℕ, ◌+◌, ◌<◌, ◌≤◌, List, [], ◌∷◌, length, slice_get, ◌⊎◌, IsTrue, if◌then◌else◌}
 use Rattle.std.specs.Option.{option_map_or}
 use Rattle.std.specs.List.{Contains, flat_map}
-use Rattle.std.specs.List.Sorted.{IsStrictlySortedBy}
-use Rattle.std.specs.Ordering.{nat_cmp}
 use Rattle.claims.specs.Counting.{times, total}
 use Rattle.claims.specs.Seats.{Seated, all_taken}
 use Rattle.model.specs.Layout.{Geometry, inode_count, root}
@@ -89,8 +87,3 @@ pub record IsSharedWalk (geo : Geometry) (view : View) (opening : List ℕ) (sea
 pub record HasWalked (geo : Geometry) (view : View) (opening : List ℕ) (seats : List Seated) : Type 0 where
   pub reachable : (i : ℕ) → 0 < claimed opening seats i → IsReachable geo view i
   pub followed : length opening + all_given seats ≤ inode_count geo → (d : ℕ) → 0 < claimed opening seats d → IsTrue (is_directory_at geo view d) → IsFollowed geo view seats d
-
--- the set has these numbers, in order
-pub record IsSetOf (numbers keys : List ℕ) : Type 0 where
-  pub in_order : IsStrictlySortedBy nat_cmp keys
-  pub same : (i : ℕ) → Contains keys i ↔ Contains numbers i

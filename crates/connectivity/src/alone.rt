@@ -9,6 +9,7 @@ use crate::Part;
 use directories::whole_tables_have_every_directory;
 use frozen::Frozen;
 use layout::{ROOT, Refusal};
+use sets::Members;
 use std::alloc::Global;
 use std::collections::BTreeSet;
 
@@ -17,10 +18,10 @@ use std::collections::BTreeSet;
 ///
 /// The walk goes in rounds, from the root on: each round follows the entries of the directories that the one before
 /// reached first. So each directory is followed once, and the work is that of the entries, whatever they name.
-pub fn walk(alloc: Global, frozen: &Frozen, whole: &Part) -> Result<BTreeSet<u32>, Refusal>
+pub fn walk(alloc: Global, frozen: &Frozen, whole: &Part) -> Result<Members, Refusal>
     ensures reached { IfOk result (λ reached. (numbers : Numbers) → IsNamed frozen.now.geometry (frozen_view frozen.now) 2 numbers whole.now
         → HasEveryNumber frozen.now.geometry numbers
-        → AreReached frozen.now.geometry (frozen_view frozen.now) reached.keys) }
+        → AreReached frozen.now.geometry (frozen_view frozen.now) reached) }
     ensures error { IsOkUnless result Refusal.NoMemory }
 {
     whole_tables_have_every_directory();
@@ -32,7 +33,7 @@ pub fn walk(alloc: Global, frozen: &Frozen, whole: &Part) -> Result<BTreeSet<u32
     while !round.is_empty() {
         round = next_round(alloc, frozen, whole, round.as_slice(), &mut reached)?;
     }
-    Ok(reached)
+    Ok(Members::of_set(alloc, &reached)?)
 }
 
 /// Follows the entries of the directories of a round. The result has the directories that they reach first.

@@ -9,23 +9,17 @@ use frozen::Frozen;
 use layout::Refusal;
 use sets::Members;
 use std::alloc::Global;
-use std::collections::BTreeSet;
 
 /// The sound inodes that are not reachable, in order of their numbers.
-pub fn findings(
-    alloc: Global,
-    frozen: &Frozen,
-    reached: &BTreeSet<u32>,
-) -> Result<Vec<Finding>, Refusal>
-    ensures found { IfOk result (λ found. AreReached frozen.now.geometry (frozen_view frozen.now) reached.now.keys
+pub fn findings(alloc: Global, frozen: &Frozen, reached: &Members) -> Result<Vec<Finding>, Refusal>
+    ensures found { IfOk result (λ found. AreReached frozen.now.geometry (frozen_view frozen.now) reached.now
         → AreFindingsOf is_of_connectivity frozen.now.geometry (frozen_view frozen.now) found.items) }
     ensures error { IsOkUnless result Refusal.NoMemory }
 {
     let inodes = frozen.geometry().inodes();
-    let members = Members::of_set(alloc, reached)?;
     let mut found = Vec::new(alloc);
     for number in 0..inodes {
-        if is_lost(frozen, number, &members) {
+        if is_lost(frozen, number, reached) {
             found.push(Finding::LostInode(number))?;
         }
     }

@@ -7,46 +7,49 @@ ghost use Rattle.model.specs.Reached.{AreReached};
 ghost use Rattle.model.specs.Uses.{is_directory_at};
 ghost use Rattle.directories.specs.Pieces.{AreCut};
 ghost use Rattle.workers.specs.Workers.{may_work};
-ghost use Rattle.connectivity.specs.Asked.{HasWalked, HaveAsked, IsSetOf, opening_round};
+ghost use Rattle.connectivity.specs.Asked.{HasWalked, HaveAsked, opening_round};
 
 use crate::lone_round::{is_short, lone_round};
 use crate::walkers::{hired, paid};
 use claims::{Claims, Seat};
-use directories::{Piece, groups_of, pieces};
+use directories::Piece;
 use frozen::Frozen;
 use layout::{ROOT, Refusal};
+use sets::Members;
 use std::alloc::{AllocError, Global};
-use std::collections::BTreeSet;
 use std::thread::Threads;
-use workers::{ByGroup, Gate, MOST_WORKERS, each_group};
+use workers::{Gate, MOST_WORKERS, each_group};
 
 /// The number of the phase, with which the gate is passed.
 pub(crate) const PHASE: u8 = 3;
 
 /// The reachable inodes, by 1 to 64 workers: what `walk` finds.
 ///
-/// The walk goes in rounds, from the root on. In each the workers draw the pieces of the groups, and of a piece they follow
-/// those directories that the round before reached first: they claim each sound inode that an entry names, and a directory that
-/// is given to one of them is for the next round. So each directory is followed once. They pass the gate before each piece in
-/// each round, as its group. A round after the first whose directories have few blocks is followed on the calling thread alone,
-/// as by one worker that draws all pieces.
+/// The walk goes in rounds, from the root on. In each the workers draw the pieces that the volume's numbers are cut in, and of a
+/// piece they follow those directories that the round before reached first: they claim each sound inode that an entry names, and
+/// a directory that is given to one of them is for the next round. So each directory is followed once. They pass the gate before
+/// each piece in each round, with its index as the unit: the caller's gate may pass it as its group (`ByGroup`). A round after
+/// the first whose directories have few blocks is followed on the calling thread alone, as by one worker that draws all pieces.
 ///
 /// `BadWorkers` is refused where there are not 1 to 64 workers, and `NoMemory` where memory ran out.
 pub fn rounds<R: Threads + Sync, G: Gate>(
     rt: &R,
     alloc: Global,
     frozen: &Frozen,
+    pieces: &[Piece],
     workers: u32,
     gate: &G,
-) -> Result<BTreeSet<u32>, Refusal>
-    ensures reached { IfOk result (λ reached. AreReached frozen.now.geometry (frozen_view frozen.now) reached.keys) }
+) -> Result<Members, Refusal>
+    requires pieces { AreCut 0 pieces.now (inode_count frozen.now.geometry) }
+    requires few { length pieces.now ≤ 65_537 }
+    ensures reached { IfOk result (λ reached. AreReached frozen.now.geometry (frozen_view frozen.now) reached) }
     ensures workers { IsErrOf result Refusal.BadWorkers ↔ IsFalse (may_work workers) }
     ensures error { IsTrue (may_work workers) → IsOkUnless result Refusal.NoMemory }
 {
     if workers == 0 || workers as usize > MOST_WORKERS {
         return Err(Refusal::BadWorkers);
     }
-    shared_walk(rt, alloc, frozen, workers, gate)
+    shared_walk(rt, alloc, frozen, pieces, workers, gate)
 }
 
 /// The same, where there are 1 to 64 workers.
@@ -54,22 +57,22 @@ fn shared_walk<R: Threads + Sync, G: Gate>(
     rt: &R,
     alloc: Global,
     frozen: &Frozen,
+    pieces: &[Piece],
     workers: u32,
     gate: &G,
-) -> Result<BTreeSet<u32>, Refusal>
-    requires { IsTrue (may_work workers) }
-    ensures reached { IfOk result (λ reached. AreReached frozen.now.geometry (frozen_view frozen.now) reached.keys) }
+) -> Result<Members, Refusal>
+    requires workers { IsTrue (may_work workers) }
+    requires pieces { AreCut 0 pieces.now (inode_count frozen.now.geometry) }
+    requires few { length pieces.now ≤ 65_537 }
+    ensures reached { IfOk result (λ reached. AreReached frozen.now.geometry (frozen_view frozen.now) reached) }
     ensures error { IsOkUnless result Refusal.NoMemory }
 {
     let geometry = frozen.geometry();
     let opening = first_round(alloc, frozen)?;
     let (claims, seats) = Claims::new(alloc, &geometry, 0, workers, opening)?;
-    let pieces = pieces(alloc, frozen)?;
-    let groups = groups_of(alloc, frozen, pieces.as_slice())?;
-    let gate = ByGroup::new(gate, groups.as_slice());
-    let seats = all_rounds(rt, alloc, frozen, &claims, seats, pieces.as_slice(), &gate)?;
+    let seats = all_rounds(rt, alloc, frozen, &claims, seats, pieces, gate)?;
     let marked = claims.gather(alloc, seats)?;
-    Ok(set_of(alloc, marked)?)
+    Ok(Members::new(alloc, marked)?)
 }
 
 /// The root, if it is a sound directory.
@@ -186,11 +189,4 @@ fn shared_round<R: Threads + Sync, G: Gate>(
     let units = pieces.len() as u32;
     let (_parts, walkers) = each_group(rt, alloc, PHASE, units, walkers, gate)?;
     Ok(paid(alloc, walkers)?)
-}
-
-/// The set of these numbers. It is made of all of them at once, which takes much less time than to insert each.
-fn set_of(alloc: Global, numbers: Vec<u32>) -> Result<BTreeSet<u32>, AllocError>
-    ensures { IfOk result (λ set. IsSetOf numbers.items set.keys) }
-{
-    numbers.into_iter().collect(alloc)
 }

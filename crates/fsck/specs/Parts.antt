@@ -1,6 +1,5 @@
 -- The parts of a phase's work, one for each group, or for each piece of the groups.
-use Rattle.std.specs.Prelude.{◌≡◌, ℕ, ◌<◌, List, Option, Some, Result, Vec, IfOk, IsOkUnless, slice_get}
-use Rattle.std.specs.BTreeSet.{BTreeSet}
+use Rattle.std.specs.Prelude.{◌≡◌, ℕ, ◌<◌, ◌≤◌, List, length, Option, Some, Result, Vec, IfOk, IsOkUnless, slice_get}
 use Rattle.std.specs.declared.alloc.Global.{Global}
 use Rattle.layout.specs.declared.refusal.Refusal.{Refusal}
 use Rattle.layout.specs.declared.refusal.Refusal.TheVariants.{NoMemory}
@@ -13,7 +12,7 @@ use Rattle.findings.specs.Groups.{AreFoundIn, IsEach}
 use Rattle.frozen.specs.Kept.{Kept, frozen_view}
 use Rattle.directories.specs.Named.{IsNamed}
 use Rattle.directories.specs.declared.cutting.Piece.{Piece}
-use Rattle.directories.specs.Pieces.{AreOfPieces, Numbers, in_piece}
+use Rattle.directories.specs.Pieces.{AreCut, AreOfPieces, Numbers, in_piece}
 use Rattle.phase_blocks.specs.declared.parts.Claim.{Claim}
 use Rattle.phase_blocks.specs.Owners.{AreGathered, AreOwners}
 use Rattle.phase_blocks.specs.Parts as phase_blocks
@@ -61,6 +60,10 @@ are_links_if kept reached unit found = AreReached kept.geometry (frozen_view kep
 abbrev pub are_maps_of : Kept → List (List (Option Claim)) → ℕ → List Finding → Type 0
 are_maps_of kept owners unit found = IsEach (AreOwners kept.geometry (frozen_view kept)) kept.geometry.groups owners → unit < kept.geometry.groups → are_maps kept unit found
 
+-- The numbers of an image are cut in these pieces, which are no more than a check makes.
+abbrev pub ArePiecesOf : Kept → List Piece → Type 0
+ArePiecesOf kept pieces = AreCut 0 pieces (inode_count kept.geometry) × (length pieces ≤ 65537)
+
 -- The part of a unit is that of its piece, where `is_part` says what the part of some numbers is.
 abbrev pub IsOfPiece : {P : Type 0} → (Numbers → P → Type 0) → List Piece → ℕ → P → Type 0
 IsOfPiece is_part pieces unit part = (piece : Piece) → slice_get pieces unit ≡ Some piece → is_part (in_piece piece) part
@@ -83,6 +86,6 @@ pub record MakesPieces {P : Type 0} (is_part : Numbers → P → Type 0) (geo : 
   pub error : IsOkUnless result NoMemory
 
 -- The reachable inodes were found, unless memory ran out.
-pub record Reaches (kept : Kept) (result : Result (BTreeSet ℕ) Refusal) : Type 0 where
-  pub reached : IfOk result (λ reached. AreReached kept.geometry (frozen_view kept) reached.keys)
+pub record Reaches (kept : Kept) (result : Result (List ℕ) Refusal) : Type 0 where
+  pub reached : IfOk result (λ reached. AreReached kept.geometry (frozen_view kept) reached)
   pub error : IsOkUnless result NoMemory

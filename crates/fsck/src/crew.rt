@@ -2,20 +2,19 @@
 ghost use Rattle.std.specs.Prelude.{◌≡◌, IsTrue};
 ghost use Rattle.workers.specs.Workers.{may_work};
 ghost use Rattle.frozen.specs.Kept.{KeepsFrame};
-ghost use Rattle.fsck.specs.Parts.{MakesParts, MakesPieces, are_links_if, are_maps_of, is_counts_part, is_names_part, is_owned};
+ghost use Rattle.fsck.specs.Parts.{ArePiecesOf, MakesParts, MakesPieces, are_links_if, are_maps_of, is_counts_part, is_names_part, is_owned};
 
 use crate::hands::parts_of_crew;
 use crate::works::{Blocks, Counts, Links, Maps, Names, Owners};
-use directories::{groups_of, pieces};
+use directories::Piece;
 use findings::{Finding, OfGroup};
 use frozen::Frozen;
 use layout::Refusal;
 use phase_blocks::BlockOwners;
 use sets::Members;
 use std::alloc::Global;
-use std::collections::BTreeSet;
 use std::thread::Threads;
-use workers::{ByGroup, Gate};
+use workers::Gate;
 
 /// Who owns the blocks of each group, and what phase 1 finds of it. The workers pass the gate in both passes.
 pub(crate) fn owners_by_crew<R: Threads + Sync, G: Gate>(
@@ -46,24 +45,23 @@ pub(crate) fn owners_by_crew<R: Threads + Sync, G: Gate>(
     )
 }
 
-/// What the slots of the directories of each piece tell. The workers pass the gate before each piece, as its group.
+/// What the slots of the directories of each of these pieces tell. The workers pass the gate before each piece.
 pub(crate) fn names_by_crew<R: Threads + Sync, G: Gate>(
     rt: &R,
     workers: u32,
     gate: &G,
     alloc: Global,
     frozen: &Frozen,
+    pieces: &[Piece],
 ) -> Result<Vec<phase_names::Part>, Refusal>
-    requires { IsTrue (may_work workers) }
+    requires workers { IsTrue (may_work workers) }
+    requires pieces { ArePiecesOf frozen.now pieces.now }
     ensures { MakesPieces (is_names_part frozen.now) frozen.now.geometry result }
 {
-    let pieces = pieces(alloc, frozen)?;
-    let pieces = pieces.as_slice();
-    let groups = groups_of(alloc, frozen, pieces)?;
     parts_of_crew(
         rt,
         workers,
-        &ByGroup::new(gate, groups.as_slice()),
+        gate,
         alloc,
         pieces.len() as u32,
         Names {
@@ -74,25 +72,24 @@ pub(crate) fn names_by_crew<R: Threads + Sync, G: Gate>(
     )
 }
 
-/// What the reachable directories of each piece name. The workers pass the gate before each piece, as its group.
+/// What the reachable directories of each of these pieces name. The workers pass the gate before each piece.
 fn counts_by_crew<R: Threads + Sync, G: Gate>(
     rt: &R,
     workers: u32,
     gate: &G,
     alloc: Global,
     frozen: &Frozen,
+    pieces: &[Piece],
     reached: &Members,
 ) -> Result<Vec<refcounts::Part>, Refusal>
-    requires { IsTrue (may_work workers) }
+    requires workers { IsTrue (may_work workers) }
+    requires pieces { ArePiecesOf frozen.now pieces.now }
     ensures { MakesPieces (is_counts_part frozen.now reached.now) frozen.now.geometry result }
 {
-    let pieces = pieces(alloc, frozen)?;
-    let pieces = pieces.as_slice();
-    let groups = groups_of(alloc, frozen, pieces)?;
     parts_of_crew(
         rt,
         workers,
-        &ByGroup::new(gate, groups.as_slice()),
+        gate,
         alloc,
         pieces.len() as u32,
         Counts {
@@ -104,21 +101,23 @@ fn counts_by_crew<R: Threads + Sync, G: Gate>(
     )
 }
 
-/// What phase 4 finds of each group, where these are the reachable inodes. The workers pass the gate in both passes.
-pub(crate) fn links_by_crew<R: Threads + Sync, G: Gate>(
+/// What phase 4 finds of each group, where these are the reachable inodes. In the first pass the workers pass the gate of the
+/// pieces, and in the second that of the groups.
+pub(crate) fn links_by_crew<R: Threads + Sync, G: Gate, P: Gate>(
     rt: &R,
     workers: u32,
     gate: &G,
+    gate_of_pieces: &P,
     alloc: Global,
     frozen: &Frozen,
-    reached: &BTreeSet<u32>,
+    pieces: &[Piece],
+    reached: &Members,
 ) -> Result<Vec<Vec<Finding>>, Refusal>
-    requires { IsTrue (may_work workers) }
-    ensures { MakesParts (λ unit found. are_links_if frozen.now reached.now.keys unit found.items) frozen.now.geometry.groups result }
+    requires workers { IsTrue (may_work workers) }
+    requires pieces { ArePiecesOf frozen.now pieces.now }
+    ensures { MakesParts (λ unit found. are_links_if frozen.now reached.now unit found.items) frozen.now.geometry.groups result }
 {
-    let members = Members::of_set(alloc, reached)?;
-    let reached = &members;
-    let parts = counts_by_crew(rt, workers, gate, alloc, frozen, reached)?;
+    let parts = counts_by_crew(rt, workers, gate_of_pieces, alloc, frozen, pieces, reached)?;
     let parts = parts.as_slice();
     parts_of_crew(
         rt,

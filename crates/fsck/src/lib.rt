@@ -17,7 +17,7 @@ ghost use Rattle.model.specs.Rules.{ObeysRules};
 ghost use Rattle.model.specs.View.{View};
 ghost use Rattle.workers.specs.Workers.{may_work};
 ghost use Rattle.fsck.specs.Checked.{CheckedImage, IsChecked, IsFoundIn};
-ghost use Rattle.fsck.specs.Parts.{MakesParts, MakesPieces, Reaches, are_links_if, are_maps_of, is_names_part, is_owned};
+ghost use Rattle.fsck.specs.Parts.{ArePiecesOf, MakesParts, MakesPieces, Reaches, are_links_if, are_maps_of, is_names_part, is_owned};
 
 mod checked;
 mod crew;
@@ -29,6 +29,7 @@ mod works;
 
 pub use checked::Checked;
 use crew::{links_by_crew, maps_by_crew, names_by_crew, owners_by_crew};
+use directories::{Piece, groups_of, pieces};
 use findings::{Finding, OfGroup, all_found, joined};
 use frozen::Frozen;
 use layout::Refusal;
@@ -36,11 +37,11 @@ use lone::{links_by_one, maps_by_one, names_by_one, owners_by_one, reach};
 use order::in_order;
 use phase_blocks::BlockOwners;
 use phases::check_names;
+use sets::Members;
 use std::alloc::Global;
-use std::collections::BTreeSet;
 use std::sync::Arc;
 use std::thread::Threads;
-use workers::{Gate, MOST_WORKERS};
+use workers::{ByGroup, Gate, MOST_WORKERS};
 
 /// Checks an image with 1 to 64 workers, which share the groups. `BadWorkers` is refused for any other number, and
 /// otherwise `NoMemory` alone. What is found is the same for every number of workers.
@@ -116,11 +117,11 @@ pub fn find(alloc: Global, frozen: &Frozen) -> Result<Vec<Finding>, Refusal>
         || -> Result<Vec<phase_names::Part>, Refusal>
             ensures { MakesPieces (is_names_part frozen.entry.now) frozen.entry.now.geometry result }
         { names_by_one(alloc, frozen) },
-        || -> Result<BTreeSet<u32>, Refusal>
+        || -> Result<Members, Refusal>
             ensures { Reaches frozen.entry.now result }
         { reach(alloc, frozen) },
-        |reached: BTreeSet<u32>| -> Result<Vec<Vec<Finding>>, Refusal>
-            ensures { MakesParts (λ unit found. are_links_if frozen.entry.now reached.keys unit found.items) frozen.entry.now.geometry.groups result }
+        |reached: Members| -> Result<Vec<Vec<Finding>>, Refusal>
+            ensures { MakesParts (λ unit found. are_links_if frozen.entry.now reached unit found.items) frozen.entry.now.geometry.groups result }
         { links_by_one(alloc, frozen, &reached) },
         |owners: Vec<BlockOwners>| -> Result<Vec<Vec<Finding>>, Refusal>
             ensures { MakesParts (λ unit found. are_maps_of frozen.entry.now owners.items unit found.items) frozen.entry.now.geometry.groups result }
@@ -128,7 +129,7 @@ pub fn find(alloc: Global, frozen: &Frozen) -> Result<Vec<Finding>, Refusal>
     )
 }
 
-/// The same, with a crew.
+/// The same, with a crew. The numbers of the image are cut in pieces once, for all phases that look at directories.
 fn find_shared<R: Threads + Sync, G: Gate>(
     rt: &R,
     workers: u32,
@@ -137,6 +138,29 @@ fn find_shared<R: Threads + Sync, G: Gate>(
     frozen: &Frozen,
 ) -> Result<Vec<Finding>, Refusal>
     requires { IsTrue (may_work workers) }
+    ensures found { IfOk result (λ found. (f : Found) → IsFoundIn frozen.now f found.items) }
+    ensures error { IsOkUnless result Refusal.NoMemory }
+{
+    let pieces = pieces(alloc, frozen)?;
+    let pieces = pieces.as_slice();
+    let groups = groups_of(alloc, frozen, pieces)?;
+    let gate_of_pieces = ByGroup::new(gate, groups.as_slice());
+    find_in_pieces(rt, workers, gate, &gate_of_pieces, alloc, frozen, pieces)
+}
+
+/// The same, with these pieces. Where the units are pieces, the workers pass the gate of the pieces, and otherwise that of the
+/// groups.
+fn find_in_pieces<R: Threads + Sync, G: Gate, P: Gate>(
+    rt: &R,
+    workers: u32,
+    gate: &G,
+    gate_of_pieces: &P,
+    alloc: Global,
+    frozen: &Frozen,
+    pieces: &[Piece],
+) -> Result<Vec<Finding>, Refusal>
+    requires workers { IsTrue (may_work workers) }
+    requires pieces { ArePiecesOf frozen.now pieces.now }
     ensures found { IfOk result (λ found. (f : Found) → IsFoundIn frozen.now f found.items) }
     ensures error { IsOkUnless result Refusal.NoMemory }
 {
@@ -149,17 +173,31 @@ fn find_shared<R: Threads + Sync, G: Gate>(
             ensures made { MakesParts (λ unit made. is_owned frozen.entry.now unit made.kept made.found.items) frozen.entry.now.geometry.groups result }
         { owners_by_crew(rt, workers, gate, alloc, frozen) },
         || -> Result<Vec<phase_names::Part>, Refusal>
-            requires { IsTrue (may_work workers) }
+            requires workers { IsTrue (may_work workers) }
+            requires pieces { ArePiecesOf frozen.now pieces.now }
             ensures { MakesPieces (is_names_part frozen.entry.now) frozen.entry.now.geometry result }
-        { names_by_crew(rt, workers, gate, alloc, frozen) },
-        || -> Result<BTreeSet<u32>, Refusal>
-            requires { IsTrue (may_work workers) }
+        { names_by_crew(rt, workers, gate_of_pieces, alloc, frozen, pieces) },
+        || -> Result<Members, Refusal>
+            requires workers { IsTrue (may_work workers) }
+            requires pieces { ArePiecesOf frozen.now pieces.now }
             ensures { Reaches frozen.entry.now result }
-        { connectivity::rounds(rt, alloc, frozen, workers, gate) },
-        |reached: BTreeSet<u32>| -> Result<Vec<Vec<Finding>>, Refusal>
-            requires { IsTrue (may_work workers) }
-            ensures { MakesParts (λ unit found. are_links_if frozen.entry.now reached.keys unit found.items) frozen.entry.now.geometry.groups result }
-        { links_by_crew(rt, workers, gate, alloc, frozen, &reached) },
+        { connectivity::rounds(rt, alloc, frozen, pieces, workers, gate_of_pieces) },
+        |reached: Members| -> Result<Vec<Vec<Finding>>, Refusal>
+            requires workers { IsTrue (may_work workers) }
+            requires pieces { ArePiecesOf frozen.now pieces.now }
+            ensures { MakesParts (λ unit found. are_links_if frozen.entry.now reached unit found.items) frozen.entry.now.geometry.groups result }
+        {
+            links_by_crew(
+                rt,
+                workers,
+                gate,
+                gate_of_pieces,
+                alloc,
+                frozen,
+                pieces,
+                &reached,
+            )
+        },
         |owners: Vec<BlockOwners>| -> Result<Vec<Vec<Finding>>, Refusal>
             requires { IsTrue (may_work workers) }
             ensures { MakesParts (λ unit found. are_maps_of frozen.entry.now owners.items unit found.items) frozen.entry.now.geometry.groups result }
@@ -181,8 +219,8 @@ fn find_by<B, N, W, C, M>(
 where
     B: FnOnce() -> Result<Vec<OfGroup<BlockOwners>>, Refusal>,
     N: FnOnce() -> Result<Vec<phase_names::Part>, Refusal>,
-    W: FnOnce() -> Result<BTreeSet<u32>, Refusal>,
-    C: FnOnce(BTreeSet<u32>) -> Result<Vec<Vec<Finding>>, Refusal>,
+    W: FnOnce() -> Result<Members, Refusal>,
+    C: FnOnce(Members) -> Result<Vec<Vec<Finding>>, Refusal>,
     M: FnOnce(Vec<BlockOwners>) -> Result<Vec<Vec<Finding>>, Refusal>,
     requires callable { B.pre blocks × N.pre names × W.pre walk × ((reached : _) → C.pre counts reached) × ((owners : _) → M.pre maps owners) }
     requires blocks { (made : _) → B.post blocks made → KeepsFrame frozen.now
@@ -191,7 +229,7 @@ where
         → MakesPieces (is_names_part frozen.now) frozen.now.geometry made }
     requires walk { (reached : _) → W.post walk reached → Reaches frozen.now reached }
     requires counts { (reached : _) (made : _) → C.post counts reached made
-        → MakesParts (λ unit found. are_links_if frozen.now reached.keys unit found.items) frozen.now.geometry.groups made }
+        → MakesParts (λ unit found. are_links_if frozen.now reached unit found.items) frozen.now.geometry.groups made }
     requires maps { (owners : _) (made : _) → M.post maps owners made
         → MakesParts (λ unit found. are_maps_of frozen.now owners.items unit found.items) frozen.now.geometry.groups made }
     ensures found { IfOk result (λ found. (f : Found) → IsFoundIn frozen.now f found.items) }

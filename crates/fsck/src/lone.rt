@@ -13,7 +13,6 @@ use layout::Refusal;
 use phase_blocks::BlockOwners;
 use sets::Members;
 use std::alloc::Global;
-use std::collections::BTreeSet;
 
 /// Who owns the blocks of each group, and what phase 1 finds of it.
 pub(crate) fn owners_by_one(
@@ -55,7 +54,7 @@ pub(crate) fn names_by_one(
 }
 
 /// The reachable inodes.
-pub(crate) fn reach(alloc: Global, frozen: &Frozen) -> Result<BTreeSet<u32>, Refusal>
+pub(crate) fn reach(alloc: Global, frozen: &Frozen) -> Result<Members, Refusal>
     ensures { Reaches frozen.now result }
 {
     let pieces = pieces(alloc, frozen)?;
@@ -92,12 +91,10 @@ fn counts_by_one(
 pub(crate) fn links_by_one(
     alloc: Global,
     frozen: &Frozen,
-    reached: &BTreeSet<u32>,
+    reached: &Members,
 ) -> Result<Vec<Vec<Finding>>, Refusal>
-    ensures { MakesParts (λ unit found. are_links_if frozen.now reached.now.keys unit found.items) frozen.now.geometry.groups result }
+    ensures { MakesParts (λ unit found. are_links_if frozen.now reached.now unit found.items) frozen.now.geometry.groups result }
 {
-    let members = Members::of_set(alloc, reached)?;
-    let reached = &members;
     let parts = counts_by_one(alloc, frozen, reached)?;
     let parts = parts.as_slice();
     parts_of_one(

@@ -10,18 +10,18 @@ ghost use Rattle.fsck.specs.Parts.{is_entries_part, is_names_part};
 use findings::Finding;
 use frozen::Frozen;
 use layout::Refusal;
+use sets::Members;
 use std::alloc::Global;
-use std::collections::BTreeSet;
 
 /// Phase 2: what is found of the slots of reachable directories.
 pub(crate) fn check_names(
     alloc: Global,
     frozen: &Frozen,
     parts: Vec<phase_names::Part>,
-    reached: &BTreeSet<u32>,
+    reached: &Members,
 ) -> Result<Vec<Finding>, Refusal>
     requires { AreOfPieces (is_names_part frozen.now) (inode_count frozen.now.geometry) parts.items }
-    ensures findings { IfOk result (λ found. AreReached frozen.now.geometry (frozen_view frozen.now) reached.now.keys
+    ensures findings { IfOk result (λ found. AreReached frozen.now.geometry (frozen_view frozen.now) reached.now
         → AreFindingsOf is_of_names frozen.now.geometry (frozen_view frozen.now) found.items) }
     ensures error { IsOkUnless result Refusal.NoMemory }
 {
@@ -37,9 +37,9 @@ pub(crate) fn walk_of(
     alloc: Global,
     frozen: &Frozen,
     parts: Vec<connectivity::Part>,
-) -> Result<BTreeSet<u32>, Refusal>
+) -> Result<Members, Refusal>
     requires { AreOfPieces (is_entries_part frozen.now) (inode_count frozen.now.geometry) parts.items }
-    ensures reached { IfOk result (λ reached. AreReached frozen.now.geometry (frozen_view frozen.now) reached.keys) }
+    ensures reached { IfOk result (λ reached. AreReached frozen.now.geometry (frozen_view frozen.now) reached) }
     ensures error { IsOkUnless result Refusal.NoMemory }
 {
     let mut whole = connectivity::Part::new(alloc);

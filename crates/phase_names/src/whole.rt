@@ -22,11 +22,11 @@ pub fn finish(
     alloc: Global,
     frozen: &Frozen,
     whole: &Part,
-    reached: &BTreeSet<u32>,
+    reached: &Members,
 ) -> Result<Vec<Finding>, Refusal>
     ensures found { IfOk result (λ found. (numbers : Numbers) → IsPart frozen.now.geometry (frozen_view frozen.now) numbers whole.now
         → HasEveryNumber frozen.now.geometry numbers
-        → AreReached frozen.now.geometry (frozen_view frozen.now) reached.now.keys
+        → AreReached frozen.now.geometry (frozen_view frozen.now) reached.now
         → AreFindingsOf is_of_names frozen.now.geometry (frozen_view frozen.now) found.items) }
     ensures error { IsOkUnless result Refusal.NoMemory }
 {
@@ -44,15 +44,11 @@ pub fn finish(
 
 /// The directories of a table that are reached. Of each number they tell what all that is reached tells; to ask whether a
 /// number is one of them takes no search, and a search of the table is left out for each file.
-fn directories_of(
-    alloc: Global,
-    whole: &Part,
-    reached: &BTreeSet<u32>,
-) -> Result<Members, AllocError>
-    ensures { IfOk result (λ directories. (d : ℕ) → told_by whole.now directories d ≡ told_by whole.now reached.now.keys d) }
+fn directories_of(alloc: Global, whole: &Part, reached: &Members) -> Result<Members, AllocError>
+    ensures { IfOk result (λ directories. (d : ℕ) → told_by whole.now directories d ≡ told_by whole.now reached.now d) }
 {
     let mut directories = whole.numbers(alloc)?;
-    directories.retain(|directory| reached.contains(directory));
+    directories.retain(|directory| reached.has(*directory));
     Members::new(alloc, directories)
 }
 

@@ -29,7 +29,7 @@ impl Members {
     pub fn new(alloc: Global, numbers: Vec<u32>) -> Result<Members, AllocError>
         ensures { IfOk result (λ members. members ≡ numbers.items) }
     {
-        let mut marks = Vec::new(alloc);
+        let mut marks = no_marks(alloc, &numbers)?;
         mark_all(&mut marks, &numbers)?;
         Ok(Members { numbers, marks })
     }
@@ -57,6 +57,17 @@ fn in_list(alloc: Global, set: &BTreeSet<u32>) -> Result<Vec<u32>, AllocError>
     ensures { IfOk result (λ numbers. numbers.items ≡ set.now.keys) }
 {
     set.iter().copied().collect(alloc)
+}
+
+/// Marks of no number: as many as these numbers want if the last is the greatest. The marks of a list in order then never grow.
+fn no_marks(alloc: Global, numbers: &[u32]) -> Result<Vec<bool>, AllocError>
+    ensures { IfOk result (λ marks. AreMarks [] marks.items) }
+{
+    let count = match numbers.last() {
+        Some(last) => *last as usize + 1,
+        None => 0,
+    };
+    Vec::from_elem(alloc, false, count)
 }
 
 /// Marks these numbers.

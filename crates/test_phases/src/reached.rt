@@ -1,11 +1,12 @@
 use crate::expect::same;
 use crate::images::{TREE, group, image_with};
 use connectivity::{findings, merge, part, rounds, walk};
+use directories::pieces;
 use findings::Finding;
 use frozen::Frozen;
 use layout::Refusal;
+use sets::Members;
 use std::alloc::Global;
-use std::collections::BTreeSet;
 use std::process::Abort;
 use std::test::Fail;
 use workers::OpenGate;
@@ -14,15 +15,17 @@ use workers::OpenGate;
 fn expect_reached<R: AllocGlobal + Abort>(
     rt: &R,
     workers: u32,
-    reached: &BTreeSet<u32>,
+    reached: &Members,
 ) -> Result<(), Refusal> {
-    let numbers: Vec<u32> = reached.iter().copied().collect(rt.alloc())?;
+    let numbers: Vec<u32> = (0..33)
+        .filter(|number| reached.has(*number))
+        .collect(rt.alloc())?;
     same(rt, workers, numbers.as_slice(), &[2, 3, 17, 18][..]);
     Ok(())
 }
 
 /// What is reached by one walk.
-fn walked(alloc: Global, frozen: &Frozen) -> Result<BTreeSet<u32>, Refusal> {
+fn walked(alloc: Global, frozen: &Frozen) -> Result<Members, Refusal> {
     let whole = merge(
         part(alloc, frozen, &group(1))?,
         part(alloc, frozen, &group(0))?,
@@ -44,8 +47,9 @@ fn a_cycle_that_is_not_reachable_is_lost(rt: HostRuntime) -> Result<(), Fail> {
 #[test]
 fn one_to_64_workers_may_be_at_it(rt: HostRuntime) -> Result<(), Fail> {
     let frozen = image_with(rt.alloc(), TREE)?;
+    let pieces = pieces(rt.alloc(), &frozen)?;
     for workers in [0, 65] {
-        let refused = rounds(&rt, rt.alloc(), &frozen, workers, &OpenGate).err();
+        let refused = rounds(&rt, rt.alloc(), &frozen, &pieces, workers, &OpenGate).err();
         same(&rt, workers, refused, Some(Refusal::BadWorkers));
     }
     Ok(())
@@ -54,8 +58,9 @@ fn one_to_64_workers_may_be_at_it(rt: HostRuntime) -> Result<(), Fail> {
 #[test]
 fn many_workers_reach_what_one_reaches(rt: HostRuntime) -> Result<(), Fail> {
     let frozen = image_with(rt.alloc(), TREE)?;
+    let pieces = pieces(rt.alloc(), &frozen)?;
     for workers in [1, 2, 3, 64] {
-        let reached = rounds(&rt, rt.alloc(), &frozen, workers, &OpenGate)?;
+        let reached = rounds(&rt, rt.alloc(), &frozen, &pieces, workers, &OpenGate)?;
         expect_reached(&rt, workers, &reached)?;
     }
     Ok(())

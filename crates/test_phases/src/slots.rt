@@ -5,8 +5,8 @@ use findings::Finding;
 use frozen::{Frozen, load};
 use layout::{Geometry, Refusal};
 use phase_names::{Part, finish, merge, part};
+use sets::Members;
 use std::alloc::Global;
-use std::collections::BTreeSet;
 use std::process::Abort;
 use std::test::Fail;
 
@@ -101,15 +101,6 @@ fn image_with(alloc: Global, tables: &[&[Byte]]) -> Result<Frozen, Refusal> {
     }
 }
 
-/// A set of these numbers.
-fn set_of(alloc: Global, numbers: &[u32]) -> Result<BTreeSet<u32>, Refusal> {
-    let mut set = BTreeSet::new(alloc);
-    for number in numbers {
-        set.insert(*number)?;
-    }
-    Ok(set)
-}
-
 /// The parts of these units, merged in this order.
 fn merged(alloc: Global, frozen: &Frozen, units: &[u32]) -> Result<Part, Refusal> {
     let mut whole = Part::new(alloc);
@@ -126,7 +117,7 @@ fn found(
     reached: &[u32],
     units: &[u32],
 ) -> Result<Vec<Finding>, Refusal> {
-    let reached = set_of(alloc, reached)?;
+    let reached = Members::new(alloc, Vec::from_slice(alloc, reached)?)?;
     let whole = merged(alloc, frozen, units)?;
     finish(alloc, frozen, &whole, &reached)
 }

@@ -32,7 +32,7 @@ returns-clause-found g c = λ f.
     let maps = c.in_ok-all_found-2.field-0.items in
     let one = c.in_ok-owners.ensures.found is_of_blocks geo view ok (record { count = each.count; each = λ unit part at. (each.each unit part at).1 }) in
     let four = c.in_ok-all_found.ensures.found is_of_counts geo view ok
-    (each_of_groups (λ unit found. are_links_if kept c.in_ok-reached.reached.keys unit found.items) (λ unit found. are_links kept unit found.items) geo.groups c.in_ok-counts.field-0.items (λ unit found low told. told reached) links) in
+    (each_of_groups (λ unit found. are_links_if kept c.in_ok-reached.reached unit found.items) (λ unit found. are_links kept unit found.items) geo.groups c.in_ok-counts.field-0.items (λ unit found low told. told reached) links) in
     let five = c.in_ok-all_found-2.ensures.found is_of_maps geo view ok
     (each_of_groups (λ unit found. are_maps_of kept c.in_ok-owners.owners.items unit found.items) (λ unit found. are_maps kept unit found.items) geo.groups c.in_ok-maps.field-0.items (λ unit found low told. told owners low) tables) in
     let three : c.append-2.new.self.items ≡ (blocks ++ names) ++ lost = c.in_ok-append-2.ensures.items ∙ ap (λ xs. xs ++ lost) c.in_ok-append.ensures.items in

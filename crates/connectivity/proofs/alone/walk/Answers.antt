@@ -1,10 +1,11 @@
 -- The walk begins at the root, each round keeps what holds of it and follows fewer directories than it reaches, and at the end all is reached.
-use Rattle.std.proofs.Common.{◌≡◌, ◌<◌, [], length, sym, ap, ◌∙◌, subst, arith, ℕ, Vec, Global, BTreeSet}
+use Rattle.std.proofs.Common.{◌≡◌, ◌<◌, List, [], length, sym, ap, ◌∙◌, subst, arith, ℕ, Vec, Global, BTreeSet}
 use Rattle.std.proofs.lemmas.Bool.{eqb-false, eqb-true}
 use Rattle.std.proofs.lemmas.List.{nil_from_length}
 use Rattle.std.proofs.lemmas.Result.{err_from_is_err_and}
 use Rattle.frozen.specs.Kept.{frozen_view}
 use Rattle.model.specs.Layout.{inode_count}
+use Rattle.model.specs.Reached.{AreReached}
 use Rattle.connectivity.specs.Walk.{IsWalk, Visits, numbers_of}
 use Rattle.connectivity.proofs.WalkLemmas.{walk_from_nothing, walk_from_root, walk_round, walk_done, walk_small, round_smaller}
 use Rattle.connectivity.proofs.alone.walk.Goals as goal
@@ -50,9 +51,10 @@ returns-clause-reached c = λ numbers named every.
     let kept = c.args.frozen.now in
     let none : c.loop-alloc.round.items ≡ [] =
     nil_from_length c.loop-alloc.round.items (sym c.loop-alloc.round.ok.0 ∙ eqb-true c.loop-alloc.round.len 0 (sym c.is_empty.ensures ∙ c.loop-alloc-test.false)) in
-    walk_done kept.geometry (frozen_view kept) c.args.whole.now c.loop-alloc.reached.keys
+    subst (λ (inodes : List ℕ). AreReached kept.geometry (frozen_view kept) inodes) (sym c.in_ok-of_set.ensures)
+    (walk_done kept.geometry (frozen_view kept) c.args.whole.now c.loop-alloc.reached.keys
     (subst (λ round. IsWalk kept.geometry (frozen_view kept) c.args.whole.now c.loop-alloc.reached.keys round) none c.loop-alloc.invariant)
-    (c.whole_tables_have_every_directory.ensures.directory kept.geometry (frozen_view kept) 2 numbers c.args.whole.now named every)
+    (c.whole_tables_have_every_directory.ensures.directory kept.geometry (frozen_view kept) 2 numbers c.args.whole.now named every))
 
 pub returns-in_err-visit-clause-reached : goal.returns-in_err-visit-clause-reached
 returns-in_err-visit-clause-reached c =

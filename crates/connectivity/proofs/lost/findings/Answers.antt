@@ -12,21 +12,20 @@ use Rattle.connectivity.proofs.lost.findings.Goals.{then-is_lost+in_ok-push, els
 
 pub loop-number-init : goal.loop-number-init
 loop-number-init c =
-    c.new-found.ensures.items ∙ found_none [] (is_lost_among c.args.frozen.now.geometry (frozen_view c.args.frozen.now) c.args.reached.now.keys) LostInode
+    c.new-found.ensures.items ∙ found_none [] (is_lost_among c.args.frozen.now.geometry (frozen_view c.args.frozen.now) c.args.reached.now) LostInode
 
 pub loop-number-preserved : goal.loop-number-preserved
 loop-number-preserved c =
     let geo = c.args.frozen.now.geometry in
     let view = frozen_view c.args.frozen.now in
-    let test = is_lost_among geo view c.args.reached.now.keys in
-    let same = ap (λ xs. is_lost_among geo view xs c.loop-number.number) (sym c.in_ok-members.ensures) in
+    let test = is_lost_among geo view c.args.reached.now in
     elim c.if-is_lost.branch [
       | then-is_lost+in_ok-push w ↦
           found_more_yes [] test LostInode c.loop-number.number c.loop-number.found.items c.if-is_lost.found.items
-          c.loop-number.invariant (same ∙ sym c.is_lost.ensures ∙ w.if-is_lost.true) (cc (w.in_ok-push.ensures.items))
+          c.loop-number.invariant (sym c.is_lost.ensures ∙ w.if-is_lost.true) (cc (w.in_ok-push.ensures.items))
       | else-is_lost w ↦
           found_more_no [] test LostInode c.loop-number.number c.loop-number.found.items c.if-is_lost.found.items
-          c.loop-number.invariant (same ∙ sym c.is_lost.ensures ∙ w.if-is_lost.false) (cc)
+          c.loop-number.invariant (sym c.is_lost.ensures ∙ w.if-is_lost.false) (cc)
     ]
 
 pub returns-clause-found : goal.returns-clause-found
@@ -35,5 +34,5 @@ returns-clause-found c = λ reached.
     let view = frozen_view c.args.frozen.now in
     let count : c.inodes-inodes.result ≡ inode_count geo = c.inodes-inodes.ensures.count ∙ ap inode_count c.geometry.ensures.geometry in
     let last : c.loop-number.number ≡ inode_count geo = omega (arith, c.loop-number-test.false, c.loop-number.auto.number-end, count) in
-    lost_found geo view c.args.reached.now.keys c.loop-number.found.items reached
-    (c.loop-number.invariant ∙ ap (λ n. found_below (is_lost_among geo view c.args.reached.now.keys) LostInode n) last)
+    lost_found geo view c.args.reached.now c.loop-number.found.items reached
+    (c.loop-number.invariant ∙ ap (λ n. found_below (is_lost_among geo view c.args.reached.now) LostInode n) last)

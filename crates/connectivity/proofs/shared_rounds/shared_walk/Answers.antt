@@ -7,6 +7,7 @@ use Rattle.claims.specs.Counting.{times}
 use Rattle.claims.specs.Seats.{Seated, new_seat}
 use Rattle.frozen.specs.Kept.{frozen_view}
 use Rattle.model.specs.Layout.{Geometry, inode_count}
+use Rattle.model.specs.Reached.{AreReached}
 use Rattle.workers.specs.Workers.{may_work}
 use Rattle.connectivity.specs.Asked.{opening_round}
 use Rattle.connectivity.proofs.SharedLemmas.{opening_yes, opening_low, opening_once, walk_reached}
@@ -15,7 +16,7 @@ use Rattle.connectivity.proofs.shared_rounds.shared_walk.Goals as goal
 
 pub new-requires-clause-seats : goal.new-requires-clause-seats
 new-requires-clause-seats g c =
-    let both = and_parts (nat_le 1 c.args.workers) (nat_le c.args.workers 64) c.requires in
+    let both = and_parts (nat_le 1 c.args.workers) (nat_le c.args.workers 64) c.requires.workers in
     (leb-true 1 c.args.workers both.0, leb-true c.args.workers 64 both.1)
 
 pub new-requires-clause-opening : goal.new-requires-clause-opening
@@ -35,7 +36,7 @@ all_rounds-requires-clause-own g c = λ κs lives.
     subst (λ (units : ℕ). All (λ (s : Seated). s ≡ new_seat c.in_ok-claims.claims.id units) c.in_ok-claims.seats.items) (sym c.in_ok-claims.ensures.units) c.in_ok-claims.ensures.fresh
 
 pub all_rounds-requires-clause-seats : goal.all_rounds-requires-clause-seats
-all_rounds-requires-clause-seats g c = λ κs lives. subst (λ (n : ℕ). IsTrue (may_work n)) (sym c.in_ok-claims.ensures.seats.1) c.requires
+all_rounds-requires-clause-seats g c = λ κs lives. subst (λ (n : ℕ). IsTrue (may_work n)) (sym c.in_ok-claims.ensures.seats.1) c.requires.workers
 
 pub all_rounds-requires-clause-inodes : goal.all_rounds-requires-clause-inodes
 all_rounds-requires-clause-inodes g c = λ κs lives. c.in_ok-claims.ensures.inodes ∙ ap inode_count c.geometry-geometry.ensures.geometry
@@ -47,10 +48,10 @@ pub returns-clause-reached : goal.returns-clause-reached
 returns-clause-reached g c =
     let kept = c.args.frozen.now in
     let opening : c.in_ok-claims.claims.opening ≡ opening_round kept.geometry (frozen_view kept) = c.in_ok-claims.ensures.opening ∙ c.in_ok-opening.ensures in
-    walk_reached kept.geometry (frozen_view kept) c.in_ok-claims.claims c.in_ok-seats.seats.items c.in_ok-marked.ensures.back c.in_ok-seats.ensures.walked
-    c.in_ok-marked.marked.items c.in_ok-set_of.field-0.keys c.in_ok-marked.ensures.marked
-    c.in_ok-set_of.ensures
-    (λ t. opening ∙ opening_yes kept.geometry (frozen_view kept) t)
+    subst (λ (inodes : List ℕ). AreReached kept.geometry (frozen_view kept) inodes) (sym c.in_ok-new.ensures)
+    (walk_reached kept.geometry (frozen_view kept) c.in_ok-claims.claims c.in_ok-seats.seats.items c.in_ok-marked.ensures.back c.in_ok-seats.ensures.walked
+    c.in_ok-marked.marked.items c.in_ok-marked.ensures.order c.in_ok-marked.ensures.marked
+    (λ t. opening ∙ opening_yes kept.geometry (frozen_view kept) t))
 
 pub returns-in_err-claims-clause-reached : goal.returns-in_err-claims-clause-reached
 returns-in_err-claims-clause-reached g c =
@@ -67,11 +68,3 @@ returns-in_err-seats-clause-reached g c =
 pub returns-in_err-seats-clause-error : goal.returns-in_err-seats-clause-error
 returns-in_err-seats-clause-error g c =
     let p = err_from_is_err_and c.from_residual-in_err-seats.result c.from_residual-in_err-seats.ensures.1 in rw (p.1, p.2) c.in_err-seats.ensures.error
-
-pub returns-in_err-pieces-clause-reached : goal.returns-in_err-pieces-clause-reached
-returns-in_err-pieces-clause-reached g c =
-    let p = err_from_is_err_and c.from_residual-in_err-pieces.result c.from_residual-in_err-pieces.ensures.1 in rw p.1 tt
-
-pub returns-in_err-pieces-clause-error : goal.returns-in_err-pieces-clause-error
-returns-in_err-pieces-clause-error g c =
-    let p = err_from_is_err_and c.from_residual-in_err-pieces.result c.from_residual-in_err-pieces.ensures.1 in rw (p.1, p.2) refl

@@ -1,7 +1,7 @@
 use Rattle.std.proofs.Common.{List, Option, subst}
 use Rattle.phase_blocks.specs.declared.parts.Claim.{Claim}
 use Rattle.fsck.specs.Parts.{MakesParts, are_maps_of}
-use Rattle.fsck.proofs.fn.find_shared.find_by+arg7.Goals as goal
+use Rattle.fsck.proofs.fn.find_in_pieces.find_by+arg7.Goals as goal
 
 pub returns : goal.returns
 returns g c =
