@@ -13,11 +13,11 @@ length-slots_from i [] = refl
 length-slots_from i (slot ∷ slots) = ap suc (length-slots_from (suc i) slots)
 
 -- a slot that is filled
-pub filled_slot : (i k : ℕ) (slots : List (Option Slot)) (s : Slot) → slice_index_or slots k None ≡ Some s → slice_index_or (slots_from i slots) k None ≡ Some (32 * s.quotient + (i + k), s.block)
+pub filled_slot : (i k : ℕ) (slots : List (Option Slot)) (s : Slot) → slice_index_or slots k None ≡ Some s → slice_index_or (slots_from i slots) k None ≡ Some (31 * s.quotient + (i + k), s.block)
 filled_slot i k [] s is = absurd (none-some s is)
 filled_slot i zero (None ∷ slots) s is = absurd (none-some s is)
-filled_slot i zero (Some t ∷ slots) s is = ap (λ (u : Slot). Some (32 * u.quotient + i, u.block)) (same_Some t s is) ∙ ap (λ n. Some (32 * s.quotient + n, s.block)) (let e : i ≡ i + 0 = omega arith in e)
-filled_slot i (suc k) (slot ∷ slots) s is = filled_slot (suc i) k slots s is ∙ ap (λ n. Some (32 * s.quotient + n, s.block)) (let e : suc i + k ≡ i + suc k = omega arith in e)
+filled_slot i zero (Some t ∷ slots) s is = ap (λ (u : Slot). Some (31 * u.quotient + i, u.block)) (same_Some t s is) ∙ ap (λ n. Some (31 * s.quotient + n, s.block)) (let e : i ≡ i + 0 = omega arith in e)
+filled_slot i (suc k) (slot ∷ slots) s is = filled_slot (suc i) k slots s is ∙ ap (λ n. Some (31 * s.quotient + n, s.block)) (let e : suc i + k ≡ i + suc k = omega arith in e)
 
 -- a slot that is empty
 pub empty_slot : (i k : ℕ) (slots : List (Option Slot)) → slice_index_or slots k None ≡ None → slice_index_or (slots_from i slots) k None ≡ None
@@ -27,12 +27,12 @@ empty_slot i zero (Some t ∷ slots) is = absurd (none-some t (sym is))
 empty_slot i (suc k) (slot ∷ slots) is = empty_slot (suc i) k slots is
 
 -- a block is put into a slot
-pub slots_from-set : (i k : ℕ) (slots : List (Option Slot)) (s : Slot) → slots_from i (slice_set slots k (Some s)) ≡ slice_set (slots_from i slots) k (Some (32 * s.quotient + (i + k), s.block))
+pub slots_from-set : (i k : ℕ) (slots : List (Option Slot)) (s : Slot) → slots_from i (slice_set slots k (Some s)) ≡ slice_set (slots_from i slots) k (Some (31 * s.quotient + (i + k), s.block))
 slots_from-set i k [] s = refl
-slots_from-set i zero (slot ∷ slots) s = ap (λ n. Some (32 * s.quotient + n, s.block) ∷ slots_from (suc i) slots) (let e : i ≡ i + 0 = omega arith in e)
+slots_from-set i zero (slot ∷ slots) s = ap (λ n. Some (31 * s.quotient + n, s.block) ∷ slots_from (suc i) slots) (let e : i ≡ i + 0 = omega arith in e)
 slots_from-set i (suc k) (slot ∷ slots) s =
     ap₂ (λ w ws. w ∷ ws) refl
-    (slots_from-set (suc i) k slots s ∙ ap (λ n. slice_set (slots_from (suc i) slots) k (Some (32 * s.quotient + n, s.block))) (let e : suc i + k ≡ i + suc k = omega arith in e))
+    (slots_from-set (suc i) k slots s ∙ ap (λ n. slice_set (slots_from (suc i) slots) k (Some (31 * s.quotient + n, s.block))) (let e : suc i + k ≡ i + suc k = omega arith in e))
 
 -- ---- copies
 
@@ -58,36 +58,36 @@ slot_copy image (Some v ∷ slots) (suc k) w h is = slot_copy image slots k w h.
 -- ---- a block is replaced
 
 -- not where all slots are behind that of its address
-replaced_behind : (a q r : ℕ) (block : List ℕ) (i : ℕ) (slots : List (Option Slot)) → a ≡ 32 * q + r → r < i → i + length slots ≤ 32
+replaced_behind : (a q r : ℕ) (block : List ℕ) (i : ℕ) (slots : List (Option Slot)) → a ≡ 31 * q + r → r < i → i + length slots ≤ 31
     → filled (slots_from i slots) ≡ replaced a block (filled (slots_from i slots))
 replaced_behind a q r block i [] at out few = refl
 replaced_behind a q r block i (None ∷ slots) at out few = replaced_behind a q r block (suc i) slots at (omega (arith, out)) (omega (arith, few))
 replaced_behind a q r block i (Some s ∷ slots) at out few =
-    ap₂ (λ w ws. w ∷ ws) (sym (replaced_other a block (32 * s.quotient + i, s.block) (λ e. omega (arith, e, at, out, few))))
+    ap₂ (λ w ws. w ∷ ws) (sym (replaced_other a block (31 * s.quotient + i, s.block) (λ e. omega (arith, e, at, out, few))))
     (replaced_behind a q r block (suc i) slots at (omega (arith, out)) (omega (arith, few)))
 
 -- not where the slot of its address has none of it
-pub replaced_nowhere : (a q i k : ℕ) (block : List ℕ) (slots : List (Option Slot)) → a ≡ 32 * q + (i + k) → i + k < 32 → i + length slots ≤ 32
+pub replaced_nowhere : (a q i k : ℕ) (block : List ℕ) (slots : List (Option Slot)) → a ≡ 31 * q + (i + k) → i + k < 31 → i + length slots ≤ 31
     → ((old : List ℕ) → slice_index_or (slots_from i slots) k None ≡ Some (a, old) → ⊥) → filled (slots_from i slots) ≡ replaced a block (filled (slots_from i slots))
 replaced_nowhere a q i k block [] at low few none = refl
 replaced_nowhere a q i zero block (None ∷ slots) at low few none = replaced_behind a q i block (suc i) slots (omega (arith, at)) (omega arith) (omega (arith, few))
 replaced_nowhere a q i zero block (Some s ∷ slots) at low few none =
-    ap₂ (λ w ws. w ∷ ws) (sym (replaced_other a block (32 * s.quotient + i, s.block) (λ e. none s.block (ap (λ n. Some (n, s.block)) e))))
+    ap₂ (λ w ws. w ∷ ws) (sym (replaced_other a block (31 * s.quotient + i, s.block) (λ e. none s.block (ap (λ n. Some (n, s.block)) e))))
     (replaced_behind a q i block (suc i) slots (omega (arith, at)) (omega arith) (omega (arith, few)))
 replaced_nowhere a q i (suc k) block (None ∷ slots) at low few none = replaced_nowhere a q (suc i) k block slots (omega (arith, at)) (omega (arith, low)) (omega (arith, few)) none
 replaced_nowhere a q i (suc k) block (Some s ∷ slots) at low few none =
-    ap₂ (λ w ws. w ∷ ws) (sym (replaced_other a block (32 * s.quotient + i, s.block) (λ e. omega (arith, e, at, low))))
+    ap₂ (λ w ws. w ∷ ws) (sym (replaced_other a block (31 * s.quotient + i, s.block) (λ e. omega (arith, e, at, low))))
     (replaced_nowhere a q (suc i) k block slots (omega (arith, at)) (omega (arith, low)) (omega (arith, few)) none)
 
 -- in the slot of its address
-pub replaced_there : (a q i k : ℕ) (old block : List ℕ) (slots : List (Option Slot)) → a ≡ 32 * q + (i + k) → i + k < 32 → i + length slots ≤ 32
+pub replaced_there : (a q i k : ℕ) (old block : List ℕ) (slots : List (Option Slot)) → a ≡ 31 * q + (i + k) → i + k < 31 → i + length slots ≤ 31
     → slice_index_or (slots_from i slots) k None ≡ Some (a, old) → filled (slice_set (slots_from i slots) k (Some (a, block))) ≡ replaced a block (filled (slots_from i slots))
 replaced_there a q i k old block [] at low few is = absurd (none-some _ is)
 replaced_there a q i zero old block (None ∷ slots) at low few is = absurd (none-some _ is)
 replaced_there a q i zero old block (Some s ∷ slots) at low few is =
-    ap₂ (λ w ws. w ∷ ws) (sym (replaced_same a block (32 * s.quotient + i, s.block) (some_pair_parts _ _ _ _ is).0))
+    ap₂ (λ w ws. w ∷ ws) (sym (replaced_same a block (31 * s.quotient + i, s.block) (some_pair_parts _ _ _ _ is).0))
     (replaced_behind a q i block (suc i) slots (omega (arith, at)) (omega arith) (omega (arith, few)))
 replaced_there a q i (suc k) old block (None ∷ slots) at low few is = replaced_there a q (suc i) k old block slots (omega (arith, at)) (omega (arith, low)) (omega (arith, few)) is
 replaced_there a q i (suc k) old block (Some s ∷ slots) at low few is =
-    ap₂ (λ w ws. w ∷ ws) (sym (replaced_other a block (32 * s.quotient + i, s.block) (λ e. omega (arith, e, at, low))))
+    ap₂ (λ w ws. w ∷ ws) (sym (replaced_other a block (31 * s.quotient + i, s.block) (λ e. omega (arith, e, at, low))))
     (replaced_there a q (suc i) k old block slots (omega (arith, at)) (omega (arith, low)) (omega (arith, few)) is)

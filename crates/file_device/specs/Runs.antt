@@ -20,7 +20,7 @@ writes_of_run run = writes_from run.span.first (blocks_of_run run)
 -- what these slots hold, as writes, the first slot being that of this number
 abbrev pub slots_from : ℕ → List (Option Slot) → List (Option Write)
 slots_from i [] = []
-slots_from i (slot ∷ slots) = option_map (λ (s : Slot). (32 * s.quotient + i, s.block)) slot ∷ slots_from (suc i) slots
+slots_from i (slot ∷ slots) = option_map (λ (s : Slot). (31 * s.quotient + i, s.block)) slot ∷ slots_from (suc i) slots
 
 -- what each slot holds
 abbrev pub slots_of : Earlier → List (Option Write)
@@ -38,7 +38,7 @@ writes_of_earlier earlier = filled (slots_of earlier)
 
 -- the slot of this address holds this block for it
 abbrev pub IsEarlier : Earlier → ℕ → List ℕ → Type 0
-IsEarlier earlier a block = slice_index_or (slots_of earlier) (a % 32) None ≡ Some (a, block)
+IsEarlier earlier a block = slice_index_or (slots_of earlier) (a % 31) None ≡ Some (a, block)
 
 -- the writes that the file was not given yet: of what is kept, if that was written
 abbrev pub waiting : Bool → Run → List Write

@@ -381,19 +381,19 @@ fn blocks_written_in_turn_are_read_out_of_memory(rt: HostRuntime) -> Result<(), 
 fn two_blocks_share_a_slot(rt: HostRuntime) -> Result<(), AllocError> {
     let steps = [
         Step::Read(2, Some(0xAA)),
-        Step::Read(34, Some(0xAA)),
-        Step::Write(34, 7, true),
+        Step::Read(33, Some(0xAA)),
+        Step::Write(33, 7, true),
         Step::Write(2, 8, true),
         Step::Write(20, 9, true),
         // Two reads, and two writes that were given.
-        Step::Read(34, Some(7)),
+        Step::Read(33, Some(7)),
         Step::Calls(4),
         // The slot is the other's.
         Step::Read(2, Some(8)),
         Step::Calls(5),
-        Step::Write(34, 6, true),
+        Step::Write(33, 6, true),
         Step::Read(2, Some(8)),
-        Step::Read(34, Some(6)),
+        Step::Read(33, Some(6)),
         Step::Calls(6),
     ];
     expect(&rt, 40, &steps)

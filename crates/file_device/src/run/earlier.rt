@@ -5,10 +5,10 @@ ghost use Rattle.file_device.specs.Runs.{IsEarlier, replaced, slots_of, writes_o
 use layout::Block;
 
 /// How many slots there are.
-const SLOTS: usize = 32;
+const SLOTS: usize = 31;
 
-/// Blocks that were read alone, each in the slot of its address: the remainder of the address by 32. A block takes the place of
-/// another that has the same slot.
+/// Blocks that were read alone, each in the slot of its address: the remainder of the address by 31. A block takes the place of another
+/// that has the same slot. Where groups have a power of 2 of blocks, those at the same place of 31 groups in a row have slots of their own.
 #[derive(Drop)]
 pub struct Earlier {
     /// What each slot holds, by its number.
@@ -18,7 +18,7 @@ pub struct Earlier {
 /// A block in a slot.
 #[derive(Clone, Copy)]
 struct Slot {
-    /// Its address divided by 32, rounded down; the remainder is the number of the slot.
+    /// Its address divided by 31, rounded down; the remainder is the number of the slot.
     quotient: u32,
     block: Block,
 }
@@ -37,7 +37,7 @@ impl Earlier {
     pub fn block(&self, address: u32) -> Option<&Block>
         ensures kept { IfSome result (λ block. IsEarlier self.now address block.now) }
         ensures none { result ≡ None → (block : List ℕ) → IsEarlier self.now address block → ⊥ }
-        ensures slots { length (slots_of self.now) ≡ 32 }
+        ensures slots { length (slots_of self.now) ≡ 31 }
     {
         match &self.slots[slot_of(address)] {
             Some(slot) if slot.quotient == quotient_of(address) => Some(&slot.block),
@@ -47,7 +47,7 @@ impl Earlier {
 
     /// Keeps a block in the slot of its address, in place of what the slot held.
     pub fn keep(&mut self, address: u32, block: &Block)
-        ensures { slots_of self.new ≡ slice_set (slots_of self.old) (address % 32) (Some (address, block.now)) }
+        ensures { slots_of self.new ≡ slice_set (slots_of self.old) (address % 31) (Some (address, block.now)) }
     {
         self.slots[slot_of(address)] = Some(Slot {
             quotient: quotient_of(address),
@@ -68,14 +68,14 @@ impl Earlier {
 
 /// The slot of this address.
 fn slot_of(address: u32) -> usize
-    ensures { result ≡ address % 32 }
+    ensures { result ≡ address % 31 }
 {
     address as usize % SLOTS
 }
 
 /// Which of the addresses of its slot this one is.
 fn quotient_of(address: u32) -> u32
-    ensures { result ≡ address / 32 }
+    ensures { result ≡ address / 31 }
 {
     address / SLOTS as u32
 }

@@ -22,7 +22,7 @@ returns-in-None-clause-copy g c =
     let ws = writes_of device.answered.items ++ waiting device.waits device.kept in
     IfSome_then c.block-in-None.result c.block-in-None.ensures.kept
     (λ block one. subst (λ (v : Calls). IsHonestFile g.S.Start.first v → c.args.address < v.count → block.now ≡ block_at (image_now g.S.Start.first v) c.args.address) c.self.view_is
-    (λ h low. slot_copy (image_after (image_of g.S.Start.first device.count) ws) (slots_of device.earlier) (c.args.address % 32) (c.args.address, block.now) (c.self.invariant.keeping.earlier h) one (omega (arith, low, length_of g.S.Start.first device.count ws))))
+    (λ h low. slot_copy (image_after (image_of g.S.Start.first device.count) ws) (slots_of device.earlier) (c.args.address % 31) (c.args.address, block.now) (c.self.invariant.keeping.earlier h) one (omega (arith, low, length_of g.S.Start.first device.count ws))))
 
 pub returns-in-None-clause-none : goal.returns-in-None-clause-none
 returns-in-None-clause-none g c _ =

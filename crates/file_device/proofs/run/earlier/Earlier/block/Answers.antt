@@ -10,7 +10,7 @@ returns-in-Some-clause-kept c =
     let s = c.in-Some.slot in
     ap (λ k. slice_index_or (slots_of c.args.self.now) k None) (sym c.slot_of.ensures)
     ∙ filled_slot 0 c.slot_of.result c.args.self.now.slots s c.in-Some.is
-    ∙ ap (λ n. Some (n, s.block)) (let e : 32 * s.quotient + (0 + c.slot_of.result) ≡ c.args.address = omega (arith, c.if-slot-quotient_of.true, c.quotient_of.ensures, c.slot_of.ensures) in e)
+    ∙ ap (λ n. Some (n, s.block)) (let e : 31 * s.quotient + (0 + c.slot_of.result) ≡ c.args.address = omega (arith, c.if-slot-quotient_of.true, c.quotient_of.ensures, c.slot_of.ensures) in e)
 
 pub returns-in_default-clause-none : goal.returns-in_default-clause-none
 returns-in_default-clause-none c _ block there =
