@@ -13,11 +13,11 @@ use progress::Watcher;
 use pushing::{Pushed, Pusher, push_beside};
 use snapshot::Volume;
 use std::alloc::Global;
-use std::fs;
+use std::fs::OpenFile;
 use std::marker::Brand;
 use std::os::unix::fs::FileExt;
 use std::rt::Files;
-use std::sync::Wait;
+use std::sync::{OnceLock, Wait};
 use std::thread::Threads;
 
 /// Puts what stands at a path of the host, and all below it, at a path in a file's image. All names are looked at before anything
@@ -114,9 +114,9 @@ pub fn put_items<R: Files + AllocGlobal + Threads + Wait + Sync>(
 where
     R::File: FileExt + Send,
 {
-    let pusher = &Pusher::new();
-    let device = device.through(move |file| Pushed::new(file, pusher));
-    let put = push_beside(rt, pusher, fs::open(rt, image).ok(), move || {
+    let pusher = &Pusher::new(rt.alloc());
+    let (device, twin) = left_to(rt, device, pusher);
+    let put = push_beside(rt, pusher, twin, move || {
         put_on_device(rt, device, items, watcher, pusher)
     });
     match put {
@@ -152,16 +152,21 @@ fn put_new_in_file<R: Files + AllocGlobal + Threads + Wait + Sync>(
 where
     R::File: FileExt + Send,
 {
-    let pusher = &Pusher::new();
-    push_beside(rt, pusher, fs::open(rt, image).ok(), move || {
-        put_in_mounted_file(rt, image, items, watcher, pusher)
+    let pusher = &Pusher::new(rt.alloc());
+    let (device, twin) = match FileDevice::open_to_write(rt, image) {
+        Ok(device) => left_to(rt, device, pusher),
+        Err(error) => return unless_refused(rt, image, items, Failure::from(error)),
+    };
+    push_beside(rt, pusher, twin, move || {
+        put_on_new_device(rt, image, device, items, watcher, pusher)
     })
 }
 
-/// Mounts the volume of a file's image, and puts items into it, where none of them may stand yet. The pusher is told of each write.
-fn put_in_mounted_file<R: Files + AllocGlobal>(
+/// Mounts the volume of a device over this file's image, and puts items into it, where none of them may stand yet.
+fn put_on_new_device<R: Files + AllocGlobal, D: Device + Drop>(
     rt: &R,
     image: &str,
+    device: D,
     items: &[Item],
     watcher: &impl Watcher,
     pusher: &Pusher,
@@ -169,14 +174,24 @@ fn put_in_mounted_file<R: Files + AllocGlobal>(
 where
     R::File: FileExt,
 {
-    match mount_file(rt, image, pusher) {
+    match mount(rt.alloc(), device) {
         Ok(mut volume) => put_new_in_volume(rt, &mut volume, items, watcher, pusher),
-        Err(failure) => {
-            // An item that the image cannot have is told of first.
-            allow_in_file(rt, image, items)?;
-            Err(failure)
-        }
+        Err(refusal) => unless_refused(rt, image, items, Failure::from(refusal)),
     }
+}
+
+/// Why items are not put into a file's image. An item that the image cannot have is told of first.
+fn unless_refused<R: Files + AllocGlobal>(
+    rt: &R,
+    image: &str,
+    items: &[Item],
+    failure: Failure,
+) -> Result<Filled, Failure>
+where
+    R::File: FileExt,
+{
+    allow_in_file(rt, image, items)?;
+    Err(failure)
 }
 
 /// Puts items into a mounted volume, where none of them may stand yet, and tells how many went into it.
@@ -191,20 +206,28 @@ fn put_new_in_volume<R: Files + AllocGlobal, D: Device>(
     Ok(put(rt, volume, items, watcher, pusher)?)
 }
 
-/// Mounts the volume of a file's image. The pusher is told of each write.
-fn mount_file<'a, R: Files + AllocGlobal>(
-    rt: &R,
-    image: &str,
+/// The device over a file with its writes left to a pusher, and another handle of the file, for that, if the host gives one.
+fn left_to<'a, R: Files + Wait>(
+    rt: &'a R,
+    device: FileDevice<R::File, Brand>,
     pusher: &'a Pusher,
-) -> Result<Volume<FileDevice<Pushed<'a, R::File>, Brand>>, Failure>
-where
-    R::File: FileExt,
-{
-    let device: FileDevice<R::File, Brand> = FileDevice::open_to_write(rt, image)?;
-    Ok(mount(
-        rt.alloc(),
-        device.through(move |file| Pushed::new(file, pusher)),
-    )?)
+) -> (FileDevice<Pushed<'a, R, R::File>, Brand>, Option<R::File>) {
+    let twin = OnceLock::new();
+    let device = device.through(|file: R::File| with_twin(rt, file, pusher, &twin));
+    (device, twin.into_inner())
+}
+
+/// The file with its writes left to a pusher. Another handle of it is put in its place here, if the host gives one.
+fn with_twin<'a, R: Files + Wait>(
+    rt: &'a R,
+    file: R::File,
+    pusher: &'a Pusher,
+    twin: &OnceLock<R::File>,
+) -> Pushed<'a, R, R::File> {
+    if let Ok(other) = file.try_clone() {
+        let _ = twin.set(rt, other);
+    }
+    Pushed::new(rt, file, pusher)
 }
 
 /// Refuses the first item of which the path leads somewhere in a file's image already, or can lead nowhere.

@@ -11,7 +11,7 @@ use snapshot::Volume;
 use std::alloc::Global;
 
 /// After how many bytes what waits is flushed, so that what is looked at again once it is durable is still in the processor's cache.
-const BYTES_A_TURN: usize = 1 << 17;
+const BYTES_A_TURN: usize = 1 << 16;
 
 /// After how many bytes a device that does not keep order is waited for, if they are not on the medium before: so the queue of updates
 /// stays short.
