@@ -2,6 +2,7 @@
 again only what changed."""
 import functools
 import os
+import re
 import subprocess
 import sys
 
@@ -32,11 +33,18 @@ def fsvol():
     return os.path.join(TOP, 'crates', 'fsvol', 'out', 'fsvol')
 
 
+@functools.cache
+def heap():
+    """What bin/fsvol asks the C library for."""
+    with open(os.path.join(TOP, 'bin', 'fsvol'), encoding='ascii') as script:
+        return re.search('^heap=(.*)$', script.read(), re.MULTILINE)[1]
+
+
 def environment(words):
-    """The environment of a child with these words: fsvol runs as bin/fsvol runs it, with a heap of huge pages, and a peer as it is."""
+    """The environment of a child with these words: fsvol runs as bin/fsvol runs it, and a peer as it is."""
     if words[0] != fsvol():
         return None
-    return {'GLIBC_TUNABLES': 'glibc.malloc.hugetlb=1', **os.environ}
+    return {'GLIBC_TUNABLES': heap(), **os.environ}
 
 
 def test_lists():
