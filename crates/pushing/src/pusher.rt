@@ -64,7 +64,7 @@ impl Pusher {
     }
 
     /// No more come.
-    pub fn end(&self) {
+    pub(crate) fn end(&self) {
         self.ended.store(true, Ordering::SeqCst);
         self.second.unpark();
     }
@@ -158,7 +158,7 @@ impl Pusher {
 
     /// Writes what the file is given, and brings it to the medium, each time it is asked for, until no more comes or a write or a
     /// sync is refused. What is left when no more comes is written.
-    pub fn push<R: Wait, F: FileExt + OpenFile>(&self, rt: &R, file: &F) {
+    pub(crate) fn push<R: Wait, F: FileExt + OpenFile>(&self, rt: &R, file: &F) {
         self.works.store(true, Ordering::SeqCst);
         for _turn in 0..u64::MAX {
             let ended = self.ended.load(Ordering::SeqCst);

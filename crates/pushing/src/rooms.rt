@@ -1,7 +1,12 @@
 //! Writes that wait for the second thread, in memory that was asked for before the first of them.
+ghost use Rattle.std.specs.Prelude.{◌≡◌, ◌++◌, ◌∷◌, [], if◌then◌else◌, IfOk, MatchOption, OnErr, OnOk, map};
+ghost use Rattle.std.specs.List.{list_any};
+ghost use Rattle.pushing.specs.Writes.{count_of, end_of, has_byte_of, is_left, meet, span_of, with_write, write_of};
+
 use std::alloc::{AllocError, Global};
 use std::collections::VecDeque;
 use std::io;
+use std::marker::Model;
 use std::os::unix::fs::FileExt;
 
 /// How many bytes a room has.
@@ -22,12 +27,16 @@ pub(crate) struct Span {
 
 impl Span {
     /// Whether some byte is in both.
-    fn meets(&self, other: &Span) -> bool {
+    fn meets(&self, other: &Span) -> bool
+        ensures { result ≡ meet self.now other.now }
+    {
         self.offset < other.end() && other.offset < self.end()
     }
 
     /// The byte behind the last one.
-    fn end(&self) -> u64 {
+    fn end(&self) -> u64
+        ensures { result ≡ end_of self.now }
+    {
         self.offset.saturating_add(self.count as u64)
     }
 }
@@ -41,9 +50,22 @@ pub(crate) struct Room {
     bytes: Vec<u8>,
 }
 
+impl Model for Room {
+    ghost use Rattle.std.specs.Prelude.{◌≡◌, List, length};
+    ghost use Rattle.pushing.specs.Writes.{Write, bytes_in, writes_in};
+
+    ghost Value = { List Write };
+
+    ghost view = { λ room. writes_in room.spans.items room.bytes.items };
+
+    ghost invariant = { λ room. bytes_in room.spans.items ≡ length room.bytes.items };
+}
+
 impl Room {
     /// No write, and memory for as many as go in.
-    fn new(alloc: Global) -> Result<Room, AllocError> {
+    fn new(alloc: Global) -> Result<Room, AllocError>
+        ensures { IfOk result (λ room. room ≡ []) }
+    {
         Ok(Room {
             spans: Vec::with_capacity(alloc, ROOM_WRITES)?,
             bytes: Vec::with_capacity(alloc, ROOM_BYTES)?,
@@ -56,22 +78,32 @@ impl Room {
     }
 
     /// Adds a write behind the others.
-    fn add(&mut self, bytes: &[u8], offset: u64) -> Result<(), AllocError> {
+    fn add(&mut self, bytes: &[u8], offset: u64) -> Result<(), AllocError>
+        ensures added { OnOk result (self.new ≡ self.old ++ write_of bytes.now offset ∷ []) }
+        ensures refused { OnErr result (self.new ≡ self.old) }
+    {
+        self.spans.reserve(1)?;
         self.bytes.extend_from_slice(bytes)?;
-        self.spans.push(Span {
+        self.spans.push_reserved(Span {
             offset,
             count: bytes.len(),
-        })?;
+        });
         Ok(())
+    }
+
+    /// Has no write any more. The memory is kept.
+    fn clear(&mut self)
+        ensures { self.new ≡ [] }
+    {
+        self.spans.clear();
+        self.bytes.clear();
     }
 
     /// Carries all out, the first first, up to one that is refused.
     pub(crate) fn write_to<F: FileExt>(&self, file: &F) -> io::Result<()> {
         let mut left = self.bytes.as_slice();
         for span in &self.spans {
-            let Some((bytes, behind)) = left.split_at_checked(span.count) else {
-                return Err(io::Error::from(io::ErrorKind::InvalidData));
-            };
+            let (bytes, behind) = left.split_at(span.count);
             file.write_all_at(bytes, span.offset)?;
             left = behind;
         }
@@ -79,12 +111,16 @@ impl Room {
     }
 
     /// How many bytes its writes have.
-    pub(crate) fn count(&self) -> usize {
+    pub(crate) fn count(&self) -> usize
+        ensures { result ≡ count_of self.now }
+    {
         self.bytes.len()
     }
 
     /// Whether one of its writes has a byte of these.
-    fn meets(&self, span: &Span) -> bool {
+    fn meets(&self, span: &Span) -> bool
+        ensures { result ≡ has_byte_of span.now self.now }
+    {
         self.spans.iter().any(|own| own.meets(span))
     }
 }
@@ -96,13 +132,23 @@ pub(crate) struct Rooms {
     waiting: VecDeque<Room>,
     /// Where the writes go that are being carried out.
     going: Vec<Span>,
-    /// Those without writes.
+    /// Those whose writes were carried out.
     free: Vec<Room>,
+}
+
+impl Model for Rooms {
+    ghost use Rattle.pushing.specs.Writes.{Left, writes_of_rooms};
+
+    ghost Value = { Left };
+
+    ghost view = { λ rooms. record { going = rooms.going.items; waiting = writes_of_rooms rooms.waiting.items } };
 }
 
 impl Rooms {
     /// As many rooms as there are, without a write. Takes memory for all that they will hold.
-    pub(crate) fn new(alloc: Global) -> Result<Rooms, AllocError> {
+    pub(crate) fn new(alloc: Global) -> Result<Rooms, AllocError>
+        ensures { IfOk result (λ rooms. rooms ≡ record { going = []; waiting = [] }) }
+    {
         let mut free = Vec::with_capacity(alloc, ROOMS)?;
         for _room in 0..ROOMS {
             free.push(Room::new(alloc)?)?;
@@ -115,7 +161,10 @@ impl Rooms {
     }
 
     /// Takes a write behind all others, and tells whether there was room for it.
-    pub(crate) fn take(&mut self, bytes: &[u8], offset: u64) -> Result<bool, AllocError> {
+    pub(crate) fn take(&mut self, bytes: &[u8], offset: u64) -> Result<bool, AllocError>
+        ensures taken { IfOk result (λ taken. self.new ≡ (if taken then with_write bytes.now offset self.old else self.old)) }
+        ensures refused { OnErr result (self.new ≡ self.old) }
+    {
         match self.waiting.back_mut() {
             Some(last) if last.has_place(bytes.len()) => {
                 last.add(bytes, offset)?;
@@ -126,40 +175,59 @@ impl Rooms {
     }
 
     /// The same, into a room without writes.
-    fn take_into_next(&mut self, bytes: &[u8], offset: u64) -> Result<bool, AllocError> {
+    fn take_into_next(&mut self, bytes: &[u8], offset: u64) -> Result<bool, AllocError>
+        ensures taken { IfOk result (λ taken. self.new ≡ (if taken then with_write bytes.now offset self.old else self.old)) }
+        ensures refused { OnErr result (self.new ≡ self.old) }
+    {
         let Some(mut room) = self.free.pop() else {
             return Ok(false);
         };
+        room.clear();
         room.add(bytes, offset)?;
         self.waiting.push_back(room)?;
         Ok(true)
     }
 
     /// The first room with writes, if there is one: they are being carried out.
-    pub(crate) fn begin(&mut self) -> Result<Option<Room>, AllocError> {
-        let Some(room) = self.waiting.pop_front() else {
+    pub(crate) fn begin(&mut self) -> Result<Option<Room>, AllocError>
+        ensures begun { IfOk result (λ next. MatchOption next ((self.old.waiting ≡ []) × (self.new ≡ self.old))
+            (λ room. (self.old.waiting ≡ room ++ self.new.waiting) × (self.new.going ≡ self.old.going ++ map span_of room))) }
+        ensures refused { OnErr result (self.new ≡ self.old) }
+    {
+        let Some(room) = self.waiting.front() else {
             return Ok(None);
         };
         self.going.extend_from_slice(room.spans.as_slice())?;
-        Ok(Some(room))
+        Ok(self.waiting.pop_front())
     }
 
-    /// All of its writes were carried out.
-    pub(crate) fn end(&mut self, room: Room) -> Result<(), AllocError> {
-        let Room {
-            mut spans,
-            mut bytes,
-        } = room;
-        spans.clear();
-        bytes.clear();
+    /// All writes of this room were carried out: it may take others.
+    pub(crate) fn end(&mut self, room: Room) -> Result<(), AllocError>
+        ensures ended { self.new ≡ record { going = []; waiting = self.old.waiting } }
+    {
         self.going.clear();
-        self.free.push(Room { spans, bytes })?;
+        self.free.push(room)?;
         Ok(())
     }
 
     /// Whether a write that is not carried out has a byte of these.
-    pub(crate) fn meets(&self, span: &Span) -> bool {
+    pub(crate) fn meets(&self, span: &Span) -> bool
+        ensures { result ≡ is_left span.now self.now }
+    {
+        self.goes_to(span) || self.waits_for(span)
+    }
+
+    /// Whether a write that is being carried out has a byte of these.
+    fn goes_to(&self, span: &Span) -> bool
+        ensures { result ≡ list_any (λ own. meet own span.now) self.now.going }
+    {
         self.going.iter().any(|own| own.meets(span))
-            || self.waiting.iter().any(|room| room.meets(span))
+    }
+
+    /// Whether a write that waits has a byte of these.
+    fn waits_for(&self, span: &Span) -> bool
+        ensures { result ≡ has_byte_of span.now self.now.waiting }
+    {
+        self.waiting.iter().any(|room| room.meets(span))
     }
 }
