@@ -1,5 +1,5 @@
 -- Writes to a file that wait.
-use Rattle.std.specs.Prelude.{ℕ, ◌+◌, ◌-◌, ◌^◌, ◌&&◌, ◌||◌, min, nat_lt, Bool, List, [], ◌∷◌, ◌++◌, length, take, drop}
+use Rattle.std.specs.Prelude.{◌≡◌, ◌≤◌, ℕ, ◌+◌, ◌-◌, ◌^◌, ◌&&◌, ◌||◌, min, nat_lt, Bool, List, [], ◌∷◌, ◌++◌, length, take, drop}
 use Rattle.std.specs.List.{flat_map, list_any}
 use Rattle.pushing.specs.declared.rooms.Span.{Span}
 
@@ -46,15 +46,19 @@ count_of (w ∷ ws) = length w.bytes + count_of ws
 abbrev pub writes_of_rooms : List (List Write) → List Write
 writes_of_rooms rooms = flat_map (λ room. room) rooms
 
--- what is not carried out: where the writes go that are being carried out, and those that wait, the first first
+-- what is not carried out: where the writes go that are being carried out, and those that wait, the first first; and how many rooms are left for
+-- others
 pub record Left : Type 0 where
   pub going : List Span
   pub waiting : List Write
+  pub free : ℕ
 
 -- whether some byte of a span is in what is not carried out
 abbrev pub is_left : Span → Left → Bool
 is_left span left = list_any (λ own. meet own span) left.going || has_byte_of span left.waiting
 
--- the same with one more write behind the others
-abbrev pub with_write : List ℕ → ℕ → Left → Left
-with_write bytes offset left = record { going = left.going; waiting = left.waiting ++ write_of bytes offset ∷ [] }
+-- one more write waits behind the others, for which one more room may have been taken
+pub record HasTaken (write : Write) (old new : Left) : Type 0 where
+  pub going : new.going ≡ old.going
+  pub waiting : new.waiting ≡ old.waiting ++ write ∷ []
+  pub free : old.free ≤ new.free + 1

@@ -1,7 +1,7 @@
 //! Writes that wait for the second thread, in memory that was asked for before the first of them.
-ghost use Rattle.std.specs.Prelude.{◌≡◌, ◌++◌, ◌∷◌, [], if◌then◌else◌, IfOk, MatchOption, OnErr, OnOk, map};
+ghost use Rattle.std.specs.Prelude.{◌≡◌, ◌+◌, ◌++◌, ◌∷◌, [], IfOk, MatchBool, MatchOption, OnErr, OnOk, map};
 ghost use Rattle.std.specs.List.{list_any};
-ghost use Rattle.pushing.specs.Writes.{count_of, end_of, has_byte_of, is_left, meet, span_of, with_write, write_of};
+ghost use Rattle.pushing.specs.Writes.{HasTaken, count_of, end_of, has_byte_of, is_left, meet, span_of, write_of};
 
 use std::alloc::{AllocError, Global};
 use std::collections::VecDeque;
@@ -137,17 +137,18 @@ pub(crate) struct Rooms {
 }
 
 impl Model for Rooms {
+    ghost use Rattle.std.specs.Prelude.{length};
     ghost use Rattle.pushing.specs.Writes.{Left, writes_of_rooms};
 
     ghost Value = { Left };
 
-    ghost view = { λ rooms. record { going = rooms.going.items; waiting = writes_of_rooms rooms.waiting.items } };
+    ghost view = { λ rooms. record { going = rooms.going.items; waiting = writes_of_rooms rooms.waiting.items; free = length rooms.free.items } };
 }
 
 impl Rooms {
     /// As many rooms as there are, without a write. Takes memory for all that they will hold.
     pub(crate) fn new(alloc: Global) -> Result<Rooms, AllocError>
-        ensures { IfOk result (λ rooms. rooms ≡ record { going = []; waiting = [] }) }
+        ensures { IfOk result (λ rooms. rooms ≡ record { going = []; waiting = []; free = 8 }) }
     {
         let mut free = Vec::with_capacity(alloc, ROOMS)?;
         for _room in 0..ROOMS {
@@ -160,9 +161,9 @@ impl Rooms {
         })
     }
 
-    /// Takes a write behind all others, and tells whether there was room for it.
+    /// Takes a write behind all others, and tells whether there was room for it: else no room is free.
     pub(crate) fn take(&mut self, bytes: &[u8], offset: u64) -> Result<bool, AllocError>
-        ensures taken { IfOk result (λ taken. self.new ≡ (if taken then with_write bytes.now offset self.old else self.old)) }
+        ensures taken { IfOk result (λ taken. MatchBool taken (HasTaken (write_of bytes.now offset) self.old self.new) ((self.new ≡ self.old) × (self.old.free ≡ 0))) }
         ensures refused { OnErr result (self.new ≡ self.old) }
     {
         match self.waiting.back_mut() {
@@ -176,15 +177,19 @@ impl Rooms {
 
     /// The same, into a room without writes.
     fn take_into_next(&mut self, bytes: &[u8], offset: u64) -> Result<bool, AllocError>
-        ensures taken { IfOk result (λ taken. self.new ≡ (if taken then with_write bytes.now offset self.old else self.old)) }
+        ensures taken { IfOk result (λ taken. MatchBool taken (HasTaken (write_of bytes.now offset) self.old self.new) ((self.new ≡ self.old) × (self.old.free ≡ 0))) }
         ensures refused { OnErr result (self.new ≡ self.old) }
     {
+        self.waiting.reserve(1)?;
         let Some(mut room) = self.free.pop() else {
             return Ok(false);
         };
         room.clear();
-        room.add(bytes, offset)?;
-        self.waiting.push_back(room)?;
+        if let Err(error) = room.add(bytes, offset) {
+            self.free.push_reserved(room);
+            return Err(error);
+        }
+        self.waiting.push_back_reserved(room);
         Ok(true)
     }
 
@@ -203,10 +208,11 @@ impl Rooms {
 
     /// All writes of this room were carried out: it may take others.
     pub(crate) fn end(&mut self, room: Room) -> Result<(), AllocError>
-        ensures ended { self.new ≡ record { going = []; waiting = self.old.waiting } }
+        ensures ended { OnOk result (self.new ≡ record { going = []; waiting = self.old.waiting; free = self.old.free + 1 }) }
+        ensures refused { OnErr result (self.new ≡ self.old) }
     {
-        self.going.clear();
         self.free.push(room)?;
+        self.going.clear();
         Ok(())
     }
 

@@ -1,6 +1,6 @@
 use Rattle.std.proofs.Common.{◌++◌, ◌∷◌, ◌-◌, [], ap, ◌∙◌, arith, deque_len, set as slice_set}
 use Rattle.std.specs.Prelude.{is_some}
-use Rattle.pushing.specs.Writes.{with_write, write_of, writes_of_rooms}
+use Rattle.pushing.specs.Writes.{write_of, writes_of_rooms}
 use Rattle.pushing.proofs.WriteLemmas.{added_to_last}
 use Rattle.pushing.proofs.rooms.Rooms.take.Goals as goal
 
@@ -8,7 +8,10 @@ pub returns-in_ok-add-in-Some-clause-taken : goal.returns-in_ok-add-in-Some-clau
 returns-in_ok-add-in-Some-clause-taken c =
     let more = write_of c.args.bytes.now c.args.offset ∷ [] in
     let last = deque_len c.self.inside.waiting - 1 in
-    ap (λ ws. record { going = c.self.inside.going.items; waiting = ws })
-    (ap (λ room. writes_of_rooms (slice_set c.self.inside.waiting.items last room)) (c.in_ok-add-in-Some.ensures.added ∙ ap (λ room. room ++ more) c.in-Some.ensures.value)
-    ∙ added_to_last c.self.inside.waiting.items last c.in-Some.last.now more (omega (arith, c.back_mut.ensures.variant.0 (ap is_some c.in-Some.is), c.self.inside.waiting.ok.0)))
-    ∙ ap (with_write c.args.bytes.now c.args.offset) c.self.view_is
+    record {
+      going = ap (λ left. left.going) c.self.view_is;
+      waiting = ap (λ room. writes_of_rooms (slice_set c.self.inside.waiting.items last room)) (c.in_ok-add-in-Some.ensures.added ∙ ap (λ room. room ++ more) c.in-Some.ensures.value)
+          ∙ added_to_last c.self.inside.waiting.items last c.in-Some.last.now more (omega (arith, c.back_mut.ensures.variant.0 (ap is_some c.in-Some.is), c.self.inside.waiting.ok.0))
+          ∙ ap (λ left. left.waiting ++ more) c.self.view_is;
+      free = omega (arith, ap (λ left. left.free) c.self.view_is);
+    }
