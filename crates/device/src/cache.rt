@@ -22,12 +22,23 @@ pub enum Step {
 
 /// A device in memory with a write cache: a loss of power may take back any of the writes since the last sync. It keeps the
 /// blocks that it began with and each step since, so that whatever a power cut might have left at any moment can be made.
-#[derive(Drop)]
 pub struct CacheDevice {
     first: Vec<Block>,
     now: Vec<Block>,
     steps: Vec<Step>,
     failures: u64,
+}
+
+/// By hand, so that who drops it goes one step and not one for each field.
+impl Drop for CacheDevice {
+    fn drop(self) {
+        let CacheDevice {
+            first: _,
+            now: _,
+            steps: _,
+            failures: _,
+        } = self;
+    }
 }
 
 impl Model for CacheDevice {

@@ -22,7 +22,7 @@ impl From<DeviceFault> for Refusal {
 ///
 /// A device that keeps order has each write on its medium before it answers. On any other one a loss of power takes back any
 /// of the writes since the last sync that was answered, each whole or not at all, whatever their order.
-pub trait Device {
+pub trait Device: Drop {
     /// Each write is on the medium before it is answered.
     ghost KEEPS_ORDER: { Bool };
 

@@ -16,12 +16,23 @@ const MOST_BLOCKS: usize = u32::MAX as usize;
 
 /// A device in memory. It keeps the blocks that it began with and each write since, so that every image that it held
 /// is there.
-#[derive(Drop)]
 pub struct MemDevice {
     first: Vec<Block>,
     now: Vec<Block>,
     writes: Vec<(u32, Block)>,
     failures: u64,
+}
+
+/// By hand, so that who drops it goes one step and not one for each field.
+impl Drop for MemDevice {
+    fn drop(self) {
+        let MemDevice {
+            first: _,
+            now: _,
+            writes: _,
+            failures: _,
+        } = self;
+    }
 }
 
 impl Model for MemDevice {
@@ -79,7 +90,13 @@ impl MemDevice {
         ensures whole { All IsBlock result.items }
         ensures few { length result.items < 2 ^ 32 }
     {
-        self.now
+        let MemDevice {
+            first: _,
+            now,
+            writes: _,
+            failures: _,
+        } = self;
+        now
     }
 
     /// A device that begins with what this one held after so many of its writes. `BadIndex` where fewer were made.

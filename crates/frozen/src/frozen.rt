@@ -23,10 +23,16 @@ use std::sync::Arc;
 ///
 /// Beside them stands what is known of the inode numbers from 0 on, so that a question for one takes no look at its record.
 /// Once a block is put in or let go of, and in a copy, nothing is known, and records are looked at.
-#[derive(Drop)]
 pub struct Frozen {
     held: Held,
     kinds: Vec<Kind>,
+}
+
+/// By hand, so that who drops it goes one step and not one for each field.
+impl Drop for Frozen {
+    fn drop(self) {
+        let Frozen { held: _, kinds: _ } = self;
+    }
 }
 
 /// A block, and the address at which it is to stand.

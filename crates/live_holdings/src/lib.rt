@@ -33,7 +33,6 @@ use std::sync::Arc;
 const HANDLES: u32 = 1024;
 
 /// What a mounted volume has besides its image.
-#[derive(Drop)]
 pub struct Holdings {
     /// The inode that each handle is open on. Handles past the last one here are not open.
     handles: Vec<Option<u32>>,
@@ -43,6 +42,18 @@ pub struct Holdings {
     snapshots: Snapshots,
     /// The repairs of a check, where it was installed.
     repairs: Option<Repairs>,
+}
+
+/// By hand, so that who drops it goes one step and not one for each field.
+impl Drop for Holdings {
+    fn drop(self) {
+        let Holdings {
+            handles: _,
+            held: _,
+            snapshots: _,
+            repairs: _,
+        } = self;
+    }
 }
 
 /// The repairs of a check, and whether each is done.

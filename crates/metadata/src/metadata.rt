@@ -29,10 +29,16 @@ use std::sync::Arc;
 use updates::{Change, Update};
 
 /// The metadata that users see.
-#[derive(Drop)]
 pub struct Metadata {
     frozen: Frozen,
     free: FreeSpace,
+}
+
+/// By hand, so that who drops it goes one step and not one for each field.
+impl Drop for Metadata {
+    fn drop(self) {
+        let Metadata { frozen: _, free: _ } = self;
+    }
 }
 
 impl Model for Metadata {

@@ -29,7 +29,6 @@ pub(crate) enum Kind {
 /// The updates that were issued and are not known to be durable: those that are pending, and those that were written since the
 /// device last told that all had reached its medium. It keeps a history of what was issued, written and settled, which only
 /// clauses read.
-#[derive(Drop)]
 pub struct Queue {
     pub(crate) geometry: Geometry,
     pub(crate) table: Table,
@@ -38,6 +37,19 @@ pub struct Queue {
     pub(crate) none: Vec<Update>,
     /// Room for the block that a flush writes.
     pub(crate) block: Block,
+}
+
+/// By hand, so that who drops it goes one step and not one for each field.
+impl Drop for Queue {
+    fn drop(self) {
+        let Queue {
+            geometry: _,
+            table: _,
+            events: _,
+            none: _,
+            block: _,
+        } = self;
+    }
 }
 
 impl Model for Queue {

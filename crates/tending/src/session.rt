@@ -8,12 +8,23 @@ use std::alloc::{AllocError, Global};
 use viewing::Owner;
 
 /// Whose all of a volume is, what it may be asked for, what the kernel was told, and which attributes were set.
-#[derive(Drop)]
 pub struct Session {
     pub(crate) owner: Owner,
     pub(crate) rules: Rules,
     pub(crate) nodes: Nodes,
     pub(crate) attributes: Attributes,
+}
+
+/// By hand, so that who drops it goes one step and not one for each field.
+impl Drop for Session {
+    fn drop(self) {
+        let Session {
+            owner: _,
+            rules: _,
+            nodes: _,
+            attributes: _,
+        } = self;
+    }
 }
 
 impl Session {

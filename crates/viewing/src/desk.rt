@@ -33,11 +33,21 @@ pub enum Turned {
 }
 
 /// An image that is read alone, and what the kernel was told of it.
-#[derive(Drop)]
 pub struct Desk<D: Device> {
     volume: Volume,
     device: D,
     nodes: Nodes,
+}
+
+/// By hand, so that who drops it goes one step and not one for each field.
+impl<D: Device> Drop for Desk<D> {
+    fn drop(self) {
+        let Desk {
+            volume: _,
+            device: _,
+            nodes: _,
+        } = self;
+    }
 }
 
 impl<D: Device> Model for Desk<D> {
