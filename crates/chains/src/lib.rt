@@ -116,35 +116,3 @@ impl Chains {
         self.links.clear();
     }
 }
-
-#[cfg(test)]
-mod tests {
-    use super::*;
-
-    #[test]
-    fn lists_share_what_they_were_made_of(rt: HostRuntime) -> Result<(), AllocError> {
-        let mut chains = Chains::new(rt.alloc());
-        assert_eq!(rt; chains.first(Chain::empty()), None);
-        chains.reserve(3)?;
-        let one = chains.put(7, Chain::empty());
-        let two = chains.put(8, one);
-        let other = chains.put(u32::MAX, one);
-        let link = |number, rest| Some(Link { number, rest });
-        assert_eq!(rt; chains.first(one), link(7, Chain::empty()));
-        assert_eq!(rt; chains.first(two), link(8, one));
-        assert_eq!(rt; chains.first(other), link(u32::MAX, one));
-        chains.clear();
-        chains.reserve(1)?;
-        let again = chains.put(9, Chain::empty());
-        assert_eq!(rt; chains.first(again), link(9, Chain::empty()));
-        Ok(())
-    }
-
-    #[test]
-    fn refuses_more_links_than_have_a_number(rt: HostRuntime) {
-        let mut chains = Chains::new(rt.alloc());
-        assert!(rt; chains.reserve(MOST_LINKS + 1).is_err());
-        assert!(rt; chains.reserve(usize::MAX).is_err());
-        assert!(rt; chains.reserve(0).is_ok());
-    }
-}

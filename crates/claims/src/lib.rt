@@ -9,8 +9,6 @@ mod gathering;
 mod history;
 mod rule;
 mod seats;
-#[cfg(test)]
-mod tests;
 
 pub use claims::Claims;
 pub use seats::Seat;

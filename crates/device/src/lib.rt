@@ -8,8 +8,6 @@ mod formatting;
 mod fuse;
 mod interface;
 mod memory;
-#[cfg(test)]
-mod tests;
 
 pub use bytes::{Byte, set_byte, set_bytes};
 pub use cache::{CacheDevice, Step};

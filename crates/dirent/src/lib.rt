@@ -24,9 +24,6 @@ use byteorder::{ByteOrder, LittleEndian};
 use layout::{Block, ROOT, u32_at};
 use std::marker::Model;
 
-#[cfg(test)]
-mod tests;
-
 /// How many slots a block of a directory has.
 pub const SLOTS: usize = 16;
 

@@ -15,9 +15,6 @@ use byteorder::{ByteOrder, LittleEndian};
 use layout::{DOUBLE, Geometry};
 use std::marker::Model;
 
-#[cfg(test)]
-mod tests;
-
 /// How many bytes a record has.
 pub const RECORD_BYTES: usize = 128;
 

@@ -10,8 +10,6 @@ ghost use Rattle.left_images.specs.declared.judging.Cut.{Cut};
 mod choosing;
 mod judging;
 mod reports;
-#[cfg(test)]
-mod tests;
 
 pub use judging::{Cut, Judge, cuts};
 pub use reports::{may_damage, report};

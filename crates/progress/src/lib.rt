@@ -6,8 +6,6 @@ mod line;
 mod shown;
 mod step;
 mod tally;
-#[cfg(test)]
-mod tests;
 mod watcher;
 
 pub use line::Line;

@@ -2,8 +2,6 @@
 #![tactic(auto)]
 
 mod recording;
-#[cfg(test)]
-mod tests;
 mod written;
 
 pub use recording::Recording;

@@ -12,9 +12,6 @@ use cgmaps::{Map, bit_of};
 use frozen::Frozen;
 use layout::{DataPlace, ROOT};
 
-#[cfg(test)]
-mod tests;
-
 /// Whether two images have the same geometry and the same metadata: all that a check looks at. That is the records of
 /// all inodes from number 2 on, the bits of these numbers and of the data blocks, and the bytes of the blocks of pointers
 /// and of the blocks of sound directories that are claimed. It takes no memory, and time in proportion to the volume's

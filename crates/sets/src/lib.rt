@@ -3,8 +3,6 @@
 
 mod members;
 mod ordered;
-#[cfg(test)]
-mod tests;
 
 pub use members::Members;
 pub use ordered::in_order;

@@ -1,9 +1,6 @@
 //! Stacks of numbers, each number in at most one of them, so that a push takes no memory.
 #![tactic(auto)]
 
-#[cfg(test)]
-mod tests;
-
 ghost use Rattle.std.specs.Prelude.{◌≡◌, ℕ, ◌+◌, ◌<◌, ◌≤◌, List, [], ◌∷◌, OnOk, IfOk, MatchOption};
 ghost use Rattle.std.specs.List.{Contains};
 ghost use Rattle.stacks.specs.Stacks.{stack_at, count_of, room_of, is_empty};

@@ -6,8 +6,6 @@
 
 mod cell;
 mod change;
-#[cfg(test)]
-mod tests;
 
 pub use cell::{Cell, cells_have_places_of_their_own, places};
 pub use change::{Cells, Change, Update};

@@ -8,8 +8,6 @@ ghost use Rattle.workers.specs.Workers.{may_work};
 
 mod interface;
 mod merging;
-#[cfg(test)]
-mod tests;
 mod turns;
 
 use claims::Claims;

@@ -1,4 +1,4 @@
-use crate::{Members, in_order};
+use sets::{Members, in_order};
 use std::alloc::{AllocError, Global};
 use std::collections::BTreeSet;
 use std::process::Abort;

@@ -1,12 +1,12 @@
 ghost use Rattle.std.specs.Prelude.{◌≡◌};
 
-use crate::{Cell, Change, Update, places};
 use inode::{DIRECT_POINTERS, FILE, RECORD_BYTES, Record};
 use layout::{BLOCK_BYTES, Block, DOUBLE, Geometry, SINGLE};
 use smallvec::smallvec;
 use std::alloc::{AllocError, Global};
 use std::process::Abort;
 use std::sync::Arc;
+use updates::{Cell, Change, Update, places};
 
 /// Two groups of 16 blocks and 16 inodes: maps at 1 and 17, data from 4 to 16 and from 20 to 32.
 fn small<A: Abort>(rt: &A) -> Geometry

@@ -1,7 +1,7 @@
-use crate::{Cut, Judge, cuts};
 use device::{CacheDevice, Device, MemDevice};
 use findings::Verdict;
 use layout::{BLOCK_BYTES, Refusal};
+use left_images::{Cut, Judge, cuts};
 use std::alloc::Global;
 use std::thread::Threads;
 

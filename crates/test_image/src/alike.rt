@@ -1,7 +1,7 @@
-use crate::have_same_metadata;
 use device::{Byte, MemDevice, set_byte};
 use frozen::{Frozen, load};
 use layout::{Geometry, Refusal};
+use same_metadata::have_same_metadata;
 use std::alloc::Global;
 use std::process::Abort;
 

@@ -1,4 +1,4 @@
-use crate::{NAME_BYTES, SLOT_BYTES, Slot, Slots, fits_slot, name_ok, slot_in};
+use dirent::{NAME_BYTES, SLOT_BYTES, Slot, Slots, fits_slot, name_ok, slot_in};
 use layout::{BLOCK_BYTES, Block};
 
 /// How many inode numbers the volume of these tests has.

@@ -1,4 +1,4 @@
-use crate::{Line, Step, Tally, Watcher};
+use progress::{Line, Step, Tally, Watcher};
 use std::alloc::Global;
 use std::io::Write;
 use std::sync::atomic::{AtomicU64, Ordering};

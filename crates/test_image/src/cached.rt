@@ -1,4 +1,4 @@
-use crate::{CacheDevice, Device, MemDevice};
+use device::{CacheDevice, Device, MemDevice};
 use layout::{BLOCK_BYTES, Refusal};
 use std::alloc::Global;
 use std::test::Fail;

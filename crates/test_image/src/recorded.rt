@@ -1,6 +1,6 @@
-use crate::{Recording, Written};
 use device::{Device, Fuse, MemDevice};
 use layout::{BLOCK_BYTES, Block, Refusal};
+use recording::{Recording, Written};
 use std::test::Fail;
 
 /// A block of this byte.

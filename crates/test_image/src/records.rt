@@ -1,4 +1,4 @@
-use crate::{DIRECT_POINTERS, DIRECTORY, FILE, FREE, RECORD_BYTES, Record, blocks_of_size};
+use inode::{DIRECT_POINTERS, DIRECTORY, FILE, FREE, RECORD_BYTES, Record, blocks_of_size};
 use layout::{DOUBLE, Geometry, SINGLE};
 
 /// A free record.

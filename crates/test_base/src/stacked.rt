@@ -1,4 +1,4 @@
-use crate::Stacks;
+use stacks::Stacks;
 use std::alloc::AllocError;
 
 #[test]
