@@ -3,3 +3,15 @@
 
 #[cfg(test)]
 mod cells;
+#[cfg(test)]
+mod creations;
+#[cfg(test)]
+mod entering;
+#[cfg(test)]
+mod removals;
+#[cfg(test)]
+mod renames;
+#[cfg(test)]
+mod settling;
+#[cfg(test)]
+mod writes;

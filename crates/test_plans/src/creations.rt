@@ -1,10 +1,8 @@
-use crate::linking::file_at;
-use crate::making::{dots, new_directory};
-use crate::placing::directory_for;
 use device::MemDevice;
 use frozen::{Frozen, load};
 use inode::{DIRECTORY, Record};
 use layout::{BLOCK_BYTES, Geometry, ROOT, Refusal};
+use live_creations::{directory_for, dots, file_at, new_directory};
 use live_paths::Path;
 use std::alloc::Global;
 use std::process::Abort;

@@ -9,7 +9,7 @@ use Rattle.model.specs.Uses.{blocks_of, is_directory, is_sound, is_sound_at, IsC
 use Rattle.model.proofs.Shape.{tables_range}
 use Rattle.model.proofs.Uses.{sound_few}
 use Rattle.live_plans.proofs.FoundLemmas.{is_claimed}
-use Rattle.live_plans.proofs.tests.has_pointers.Goals as goal
+use Rattle.test_plans.proofs.entering.has_pointers.Goals as goal
 
 pub loop-position-preserved : goal.loop-position-preserved
 loop-position-preserved c = λ m low is. elim (cases_eq m c.loop-position.position) [

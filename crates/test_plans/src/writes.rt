@@ -1,12 +1,10 @@
 ghost use Rattle.std.specs.Prelude.{◌≤◌, length};
 
-use crate::aiming::place_behind;
-use crate::writing::{held_blocks, overwritten};
-use crate::{Place, Target};
 use device::MemDevice;
 use frozen::load;
 use layout::{BLOCK_BYTES, Block, Geometry, Refusal};
 use live_places::Tables;
+use live_writes::{Place, Target, held_blocks, overwritten, place_behind};
 use metadata::Metadata;
 use spares::Spares;
 use std::alloc::{AllocError, Global};

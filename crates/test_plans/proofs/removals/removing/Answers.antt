@@ -3,7 +3,7 @@ use Rattle.frozen.specs.Kept.{frozen_view}
 use Rattle.live_plans.proofs.FoundLemmas.{self_shown}
 use Rattle.live_removals.proofs.Naming.{entry_kept}
 use Rattle.model.proofs.SlotLemmas.{directory_number}
-use Rattle.live_removals.proofs.tests.removing.Goals as goal
+use Rattle.test_plans.proofs.removals.removing.Goals as goal
 
 pub record-requires : goal.record-requires
 record-requires c =

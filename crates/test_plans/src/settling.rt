@@ -1,9 +1,8 @@
-use crate::held::unmark_held;
-use crate::orphans::without_orphans;
 use device::{Byte, MemDevice, set_bytes};
 use frozen::{Frozen, load};
 use layout::{Geometry, Refusal};
 use live_holdings::Holdings;
+use live_snapshots::{unmark_held, without_orphans};
 use metadata::Metadata;
 use std::alloc::Global;
 use std::process::Abort;

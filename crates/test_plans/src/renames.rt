@@ -1,9 +1,8 @@
-use crate::moving::refuse_taken;
-use crate::renaming::{find_ends, rename_in_slot};
 use device::MemDevice;
 use frozen::load;
 use layout::{Geometry, Refusal};
 use live_paths::Path;
+use live_renames::{find_ends, refuse_taken, rename_in_slot};
 use metadata::Metadata;
 use std::alloc::Global;
 use std::process::Abort;

@@ -3,15 +3,13 @@ ghost use Rattle.frozen.specs.Kept.{frozen_view};
 ghost use Rattle.model.specs.Uses.{is_directory_at};
 ghost use Rattle.live_plans.specs.Linked.{HasPointers};
 
-use crate::entering::enter_at;
-use crate::linking::pointer_after;
-use crate::{Found, NewEntry, Plan, locate};
 use device::{Device, MemDevice, set_bytes};
 use frozen::{Frozen, load};
 use inode::{DIRECTORY, Record};
 use layout::{BLOCK_BYTES, Block, Geometry, ROOT, Refusal};
 use live_paths::Path;
 use live_places::choose;
+use live_plans::{Found, NewEntry, Plan, enter_at, locate, pointer_after};
 use metadata::Metadata;
 use std::alloc::{AllocError, Global};
 use std::process::Abort;

@@ -1,6 +1,3 @@
-use crate::removing::{directory_at, removed};
-use crate::shortening::{let_go, shortened};
-use crate::unlinking::{file_at, unlinked, unnamed};
 use device::MemDevice;
 use dirent::{SLOT_BYTES, SLOTS, replace};
 use frozen::load;
@@ -8,6 +5,7 @@ use layout::{Block, Geometry, Refusal};
 use live_holdings::Holdings;
 use live_paths::Path;
 use live_plans::Planned;
+use live_removals::{directory_at, file_at, let_go, removed, shortened, unlinked, unnamed};
 use metadata::Metadata;
 use std::alloc::Global;
 use std::process::Abort;

@@ -2,7 +2,7 @@ use Rattle.std.proofs.Common.{◌<◌, ℕ, IsTrue}
 use Rattle.model.specs.Shape.{is_table}
 use Rattle.model.specs.Uses.{IsClaim}
 use Rattle.frozen.specs.Kept.{frozen_view}
-use Rattle.live_plans.proofs.tests.has_pointers.Given as goal
+use Rattle.test_plans.proofs.entering.has_pointers.Given as goal
 
 -- each table so far is claimed
 abbrev pub invariant-loop-position : goal.invariant-loop-position

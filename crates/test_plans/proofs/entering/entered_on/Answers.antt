@@ -2,7 +2,7 @@ use Rattle.std.proofs.Common.{ap, ◌∙◌, subst}
 use Rattle.frozen.specs.Kept.{Kept, frozen_view}
 use Rattle.live_plans.specs.Linked.{HasPointers}
 use Rattle.live_plans.proofs.FoundLemmas.{self_shown}
-use Rattle.live_plans.proofs.tests.entered_on.Goals as goal
+use Rattle.test_plans.proofs.entering.entered_on.Goals as goal
 
 pub enter_at-requires-clause-pointers : goal.enter_at-requires-clause-pointers
 enter_at-requires-clause-pointers c = subst (λ (held : Kept). HasPointers held c.args.directory) c.frozen-frozen.ensures.same (c.has_pointers.ensures c.if-not-has_pointers.false)
