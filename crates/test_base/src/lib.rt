@@ -1,4 +1,4 @@
-//! Tests of lists, of sets of numbers, of workers and of lines that show how far work has come. The crate has nothing but tests.
+//! Tests of lists, of sets of numbers, of workers, of files that are written beside, and of lines that show how far work has come. The crate has nothing but tests.
 #![tactic(auto)]
 
 #[cfg(test)]
@@ -15,5 +15,7 @@ mod marked;
 mod members;
 #[cfg(test)]
 mod progressing;
+#[cfg(test)]
+mod pushed;
 #[cfg(test)]
 mod stacked;

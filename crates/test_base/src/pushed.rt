@@ -1,5 +1,4 @@
-use crate::rooms::Rooms;
-use crate::{Pushed, Pusher, push_beside};
+use pushing::{Pushed, Pusher, Rooms, push_beside};
 use std::alloc::Global;
 use std::fs::{Metadata, OpenFile};
 use std::io;
