@@ -1,5 +1,5 @@
 use crate::expect::same;
-use crate::volumes::{CLEAN, SOFT, expect_bytes, expect_shown, full_of_bytes, volume};
+use crate::smaller_volumes::{CLEAN, SOFT, expect_bytes, expect_shown, full_of_bytes, volume};
 use std::test::Fail;
 use upgrading::upgrade;
 

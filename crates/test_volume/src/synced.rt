@@ -1,14 +1,9 @@
-use crate::beginning::beginning_of;
-use crate::files::Files;
-use crate::images::mount;
-use crate::stays::Stays;
-use crate::stops::{Fault, look_at};
-use crate::trial::Trial;
 use frozen::{Frozen, load};
 use layout::{Refusal, SINGLE};
 use snapshot::Volume;
 use std::alloc::Global;
 use std::thread::Threads;
+use test_trials::{Fault, Files, Stays, Trial, beginning_of, look_at, mount};
 
 /// A fresh volume.
 const FRESH: Trial = Trial {

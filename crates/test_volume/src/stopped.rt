@@ -1,5 +1,5 @@
 use crate::expect::same;
-use crate::volumes::{SOFT, expect_shown, full_of_bytes};
+use crate::smaller_volumes::{SOFT, expect_shown, full_of_bytes};
 use device::Fuse;
 use layout::Refusal;
 use std::process::Abort;

@@ -1,5 +1,5 @@
 use crate::expect::same;
-use crate::volumes::volume;
+use crate::smaller_volumes::volume;
 use device::Byte;
 use layout::Refusal;
 use std::test::Fail;
