@@ -12,9 +12,8 @@ mod creating;
 mod linking;
 mod making;
 mod placing;
-#[cfg(test)]
-mod tests;
 
 pub use creating::create;
-pub use linking::link;
-pub use making::mkdir;
+pub use linking::{file_at, link};
+pub use making::{dots, mkdir, new_directory};
+pub use placing::directory_for;

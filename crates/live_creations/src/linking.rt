@@ -53,7 +53,7 @@ pub fn link(alloc: Global, metadata: &Metadata, path: &[u8], other: &[u8]) -> Re
 }
 
 /// The file that a path leads to. Refused with why the path leads nowhere, and with `IsDirectory`.
-pub(crate) fn file_at(frozen: &Frozen, path: &Path) -> Result<u32, Refusal>
+pub fn file_at(frozen: &Frozen, path: &Path) -> Result<u32, Refusal>
     ensures found { IfOk result (λ i. (view : View) → IsShownBy frozen.now view → IsFile frozen.now.geometry view path.now i) }
     ensures refused { IfErr result (λ r. (view : View) → IsShownBy frozen.now view → first_of (leading frozen.now.geometry view path.now) ≡ Some r) }
 {

@@ -84,7 +84,7 @@ fn made(alloc: Global, metadata: &Metadata, new: &NewEntry, own: u32) -> Result<
 }
 
 /// A block with the dots of a directory, which stands in another one, and zeroes.
-pub(crate) fn dots(number: u32, directory: u32) -> Block
+pub fn dots(number: u32, directory: u32) -> Block
     ensures { AreDots number directory result }
 {
     let mut bytes = [0; BLOCK_BYTES];
@@ -94,7 +94,7 @@ pub(crate) fn dots(number: u32, directory: u32) -> Block
 }
 
 /// The record of a directory of this block, which is named by its entry and by itself.
-pub(crate) fn new_directory(block: u32) -> Record
+pub fn new_directory(block: u32) -> Record
     ensures { result ≡ effects.new_directory block }
 {
     let mut direct = [0; DIRECT_POINTERS];

@@ -15,7 +15,7 @@ pub(crate) const MOST_LINKS: u16 = 32767;
 
 /// The directory in which the last part of a path may be entered as a new name. Refused with `IsRoot` for `/`, with why
 /// the walk to the directory ends before, and with `Exists` where the name is there.
-pub(crate) fn directory_for(frozen: &Frozen, path: &Path) -> Result<u32, Refusal>
+pub fn directory_for(frozen: &Frozen, path: &Path) -> Result<u32, Refusal>
     ensures directory { IfOk result (λ d. IsTrue (is_directory_at frozen.now.geometry (frozen_view frozen.now) d)) }
     ensures named { IfOk result (λ d. (view : View) → IsShownBy frozen.now view → IsNewIn frozen.now.geometry view path.now d) }
     ensures refused { IfErr result (λ r. (view : View) → IsShownBy frozen.now view → first_of (naming frozen.now.geometry view path.now) ≡ Some r) }

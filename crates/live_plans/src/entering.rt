@@ -62,7 +62,7 @@ pub fn enter(
 }
 
 /// The same, where the directory claims the tables that it has.
-pub(crate) fn enter_at(
+pub fn enter_at(
     alloc: Global,
     metadata: &Metadata,
     plan: &mut Plan,

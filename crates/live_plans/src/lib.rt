@@ -11,12 +11,10 @@ mod growing;
 mod linking;
 mod locating;
 mod plan;
-#[cfg(test)]
-mod tests;
 
-pub use entering::{NewEntry, enter};
+pub use entering::{NewEntry, enter, enter_at};
 pub use entries::{add_blocks, bytes_of, entry, put_slot};
 pub use growing::fill;
-pub use linking::{Linked, link};
+pub use linking::{Linked, link, pointer_after};
 pub use locating::{Found, locate};
 pub use plan::{Plan, Planned};

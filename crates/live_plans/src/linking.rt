@@ -200,7 +200,7 @@ fn put_at(
 
 /// What a pointer to a block comes after that is put into this place of a table of an inode: the block, and where another
 /// pointer stood there the inode's record and the table over it too, since an older record may have it in use.
-pub(crate) fn pointer_after(
+pub fn pointer_after(
     alloc: Global,
     number: u32,
     place: usize,

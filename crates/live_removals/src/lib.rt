@@ -17,11 +17,9 @@
 mod freeing;
 mod removing;
 mod shortening;
-#[cfg(test)]
-mod tests;
 mod unlinking;
 
 pub use freeing::free;
-pub use removing::rmdir;
-pub use shortening::{close, truncate};
-pub use unlinking::unlink;
+pub use removing::{directory_at, removed, rmdir};
+pub use shortening::{close, let_go, shortened, truncate};
+pub use unlinking::{file_at, unlink, unlinked, unnamed};

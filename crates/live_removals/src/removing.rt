@@ -46,7 +46,7 @@ pub fn rmdir(
 
 /// The directory without names that a path leads to. Refused with `IsRoot` for `/`, with why the path leads nowhere, with
 /// `NotDirectory`, and with `NotEmpty`.
-pub(crate) fn directory_at(frozen: &Frozen, path: &Path) -> Result<Found, Refusal>
+pub fn directory_at(frozen: &Frozen, path: &Path) -> Result<Found, Refusal>
     ensures found { IfOk result (λ found. (view : View) → IsShownBy frozen.now view → IsDirectoryAt frozen.now.geometry view path.now found) }
     ensures refused { IfErr result (λ r. (view : View) → IsShownBy frozen.now view → directory_refusal frozen.now.geometry view path.now ≡ Some r) }
 {
@@ -65,7 +65,7 @@ pub(crate) fn directory_at(frozen: &Frozen, path: &Path) -> Result<Found, Refusa
 
 /// The updates by which an entry goes, two links of the directory that it names, and one of the directory that it
 /// stands in.
-pub(crate) fn removed(
+pub fn removed(
     alloc: Global,
     metadata: &Metadata,
     holdings: &Holdings,

@@ -67,7 +67,7 @@ pub fn truncate(
 
 /// The updates by which a file goes with this handle, and the blocks that are held then; none where the file has links, or
 /// is open by another handle.
-pub(crate) fn let_go(
+pub fn let_go(
     alloc: Global,
     metadata: &Metadata,
     holdings: &Holdings,
@@ -89,7 +89,7 @@ pub(crate) fn let_go(
 }
 
 /// The updates by which a file gets this size, and the blocks that are held then.
-pub(crate) fn shortened(
+pub fn shortened(
     alloc: Global,
     metadata: &Metadata,
     holdings: &Holdings,

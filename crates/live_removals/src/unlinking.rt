@@ -49,7 +49,7 @@ pub fn unlink(
 }
 
 /// The file that a path leads to. Refused with `IsRoot` for `/`, with why the path leads nowhere, and with `IsDirectory`.
-pub(crate) fn file_at(frozen: &Frozen, path: &Path) -> Result<Found, Refusal>
+pub fn file_at(frozen: &Frozen, path: &Path) -> Result<Found, Refusal>
     ensures found { IfOk result (λ found. (view : View) → IsShownBy frozen.now view → IsFileAt frozen.now.geometry view path.now found) }
     ensures refused { IfErr result (λ r. (view : View) → IsShownBy frozen.now view → file_refusal frozen.now.geometry view path.now ≡ Some r) }
 {
@@ -64,7 +64,7 @@ pub(crate) fn file_at(frozen: &Frozen, path: &Path) -> Result<Found, Refusal>
 }
 
 /// The updates by which an entry goes, and a link of what it names.
-pub(crate) fn unlinked(
+pub fn unlinked(
     alloc: Global,
     metadata: &Metadata,
     holdings: &Holdings,
@@ -90,7 +90,7 @@ pub(crate) fn unlinked(
 }
 
 /// The updates by which an entry goes, and a link of the open file that it names, which stays.
-pub(crate) fn unnamed(alloc: Global, metadata: &Metadata, found: &Found) -> Result<Plan, AllocError>
+pub fn unnamed(alloc: Global, metadata: &Metadata, found: &Found) -> Result<Plan, AllocError>
     requires entry { IsEntry metadata.now.geometry (frozen_view metadata.now) found.now }
     requires linked { 1 ≤ ((frozen_view metadata.now).inode found.now.number).links }
     ensures { IfOk result (λ plan. (view : View) → Shows metadata.now view → Unnamed metadata.now.geometry view found.now plan) }

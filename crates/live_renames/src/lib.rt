@@ -13,7 +13,6 @@
 mod grounds;
 mod moving;
 mod renaming;
-#[cfg(test)]
-mod tests;
 
-pub use renaming::rename;
+pub use moving::refuse_taken;
+pub use renaming::{Ends, find_ends, rename, rename_in_slot};

@@ -64,7 +64,7 @@ pub(crate) fn permit(
 }
 
 /// Refuses with `Exists` a name that stands in its directory already.
-pub(crate) fn refuse_taken(frozen: &Frozen, directory: u32, to: &Path) -> Result<(), Refusal>
+pub fn refuse_taken(frozen: &Frozen, directory: u32, to: &Path) -> Result<(), Refusal>
     ensures { (view : View) → IsShownBy frozen.now view → machine_walk frozen.now.geometry view root to.now ≡ Ok directory
         → result_err result ≡ taken frozen.now.geometry view to.now }
 {

@@ -21,7 +21,7 @@ use updates::Cells;
 
 /// Between what a rename goes on.
 #[derive(Clone, Copy)]
-pub(crate) struct Ends {
+pub struct Ends {
     /// The entry that is there.
     pub found: Found,
     /// The directory in which the new name is to stand.
@@ -60,7 +60,7 @@ pub fn rename(
 
 /// What these paths lead to; or why one of them is `/`, the first one leads nowhere, or the walk to the directory of the
 /// second one ends before.
-pub(crate) fn find_ends(frozen: &Frozen, from: &Path, to: &Path) -> Result<Ends, Refusal>
+pub fn find_ends(frozen: &Frozen, from: &Path, to: &Path) -> Result<Ends, Refusal>
     ensures { (view : View) → IsShownBy frozen.now view → MatchResult result (AreEnds frozen.now.geometry view from.now to.now)
         (λ r. first_of (early frozen.now.geometry view from.now to.now) ≡ Some r) }
 {
@@ -73,7 +73,7 @@ pub(crate) fn find_ends(frozen: &Frozen, from: &Path, to: &Path) -> Result<Ends,
 }
 
 /// The plan that gives an entry this name in its slot, after the directory's blocks.
-pub(crate) fn rename_in_slot(
+pub fn rename_in_slot(
     alloc: Global,
     metadata: &Metadata,
     found: &Found,

@@ -15,7 +15,7 @@ use std::sync::Arc;
 use updates::Change;
 
 /// Unmarks the blocks that are held. Takes memory for one block of maps of each group that has one.
-pub(crate) fn unmark_held(
+pub fn unmark_held(
     alloc: Global,
     frozen: &mut Frozen,
     holdings: &Holdings,

@@ -13,14 +13,12 @@ ghost use Rattle.live_states.specs.Snapshots.{IsSettled};
 
 mod held;
 mod orphans;
-#[cfg(test)]
-mod tests;
 
-use crate::held::unmark_held;
-use crate::orphans::without_orphans;
 use frozen::Frozen;
+pub use held::unmark_held;
 use live_holdings::Holdings;
 use metadata::Metadata;
+pub use orphans::without_orphans;
 use std::alloc::{AllocError, Global};
 
 /// The metadata of the image that a check is to see: of the image of users, each open inode without links is freed, with

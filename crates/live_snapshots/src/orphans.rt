@@ -16,7 +16,7 @@ use updates::{Cells, Change, Update};
 
 /// The metadata without the open inodes that have no links: each is freed, with its number and its blocks. Takes memory
 /// for the table of blocks, and for each update that this needs.
-pub(crate) fn without_orphans(
+pub fn without_orphans(
     alloc: Global,
     metadata: &Metadata,
     holdings: &Holdings,

@@ -120,7 +120,7 @@ fn place_over(
 
 /// Where the bytes of a block go that a file does not have yet: into the least free block, with the next ones for the new
 /// tables that come with it. Refused with `NoBlock`.
-pub(crate) fn place_behind(metadata: &Metadata, index: u32) -> Result<Place, Refusal>
+pub fn place_behind(metadata: &Metadata, index: u32) -> Result<Place, Refusal>
     requires { index < most_blocks metadata.now.geometry }
     ensures placed { IfOk result (λ place. (holdings : Held) (file : ℕ) → index ≡ blocks_of ((frozen_view metadata.now).inode file).size
         → IsPlaced metadata.now holdings file index place) }

@@ -12,9 +12,7 @@
 #![tactic(auto)]
 
 mod aiming;
-#[cfg(test)]
-mod tests;
 mod writing;
 
-pub use aiming::{Place, Target, aim};
-pub use writing::write;
+pub use aiming::{Place, Target, aim, place_behind};
+pub use writing::{held_blocks, overwritten, write};

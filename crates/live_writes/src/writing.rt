@@ -65,7 +65,7 @@ pub fn write(
 }
 
 /// The blocks that are held for snapshots once a block is written there: the old one, where it is kept.
-pub(crate) fn held_blocks(alloc: Global, place: &Place) -> Result<Vec<u32>, AllocError>
+pub fn held_blocks(alloc: Global, place: &Place) -> Result<Vec<u32>, AllocError>
     ensures { IfOk result (λ blocks. blocks.items ≡ held_for place.now) }
 {
     match place {
@@ -75,7 +75,7 @@ pub(crate) fn held_blocks(alloc: Global, place: &Place) -> Result<Vec<u32>, Allo
 }
 
 /// The new bytes of the block: the piece, and behind it what was there, or zeroes in a block behind the last one.
-pub(crate) fn overwritten(
+pub fn overwritten(
     alloc: Global,
     place: &Place,
     before: &Block,

@@ -13,9 +13,8 @@ mod beside;
 mod file;
 mod pusher;
 mod rooms;
-#[cfg(test)]
-mod tests;
 
 pub use beside::push_beside;
 pub use file::Pushed;
 pub use pusher::Pusher;
+pub use rooms::{Room, Rooms};

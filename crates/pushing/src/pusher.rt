@@ -76,7 +76,7 @@ impl Pusher {
     }
 
     /// Whether the second thread is there.
-    pub(crate) fn works(&self) -> bool {
+    pub fn works(&self) -> bool {
         self.works.load(Ordering::SeqCst)
     }
 

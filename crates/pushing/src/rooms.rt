@@ -43,7 +43,7 @@ impl Span {
 
 /// Writes, the first first.
 #[derive(Drop)]
-pub(crate) struct Room {
+pub struct Room {
     /// Where each goes.
     spans: Vec<Span>,
     /// The bytes of all, in the same order.
@@ -100,7 +100,7 @@ impl Room {
     }
 
     /// Carries all out, the first first, up to one that is refused.
-    pub(crate) fn write_to<F: FileExt>(&self, file: &F) -> io::Result<()> {
+    pub fn write_to<F: FileExt>(&self, file: &F) -> io::Result<()> {
         let mut left = self.bytes.as_slice();
         for span in &self.spans {
             let (bytes, behind) = left.split_at(span.count);
@@ -127,7 +127,7 @@ impl Room {
 
 /// The rooms.
 #[derive(Drop)]
-pub(crate) struct Rooms {
+pub struct Rooms {
     /// Those with writes, the first first; the next write goes into the last one.
     waiting: VecDeque<Room>,
     /// Where the writes go that are being carried out.
@@ -147,7 +147,7 @@ impl Model for Rooms {
 
 impl Rooms {
     /// As many rooms as there are, without a write. Takes memory for all that they will hold.
-    pub(crate) fn new(alloc: Global) -> Result<Rooms, AllocError>
+    pub fn new(alloc: Global) -> Result<Rooms, AllocError>
         ensures { IfOk result (λ rooms. rooms ≡ record { going = []; waiting = []; free = 8 }) }
     {
         let mut free = Vec::with_capacity(alloc, ROOMS)?;
@@ -162,7 +162,7 @@ impl Rooms {
     }
 
     /// Takes a write behind all others, and tells whether there was room for it: else no room is free.
-    pub(crate) fn take(&mut self, bytes: &[u8], offset: u64) -> Result<bool, AllocError>
+    pub fn take(&mut self, bytes: &[u8], offset: u64) -> Result<bool, AllocError>
         ensures taken { IfOk result (λ taken. MatchBool taken (HasTaken (write_of bytes.now offset) self.old self.new) ((self.new ≡ self.old) × (self.old.free ≡ 0))) }
         ensures refused { OnErr result (self.new ≡ self.old) }
     {
@@ -194,7 +194,7 @@ impl Rooms {
     }
 
     /// The first room with writes, if there is one: they are being carried out.
-    pub(crate) fn begin(&mut self) -> Result<Option<Room>, AllocError>
+    pub fn begin(&mut self) -> Result<Option<Room>, AllocError>
         ensures begun { IfOk result (λ next. MatchOption next ((self.old.waiting ≡ []) × (self.new ≡ self.old))
             (λ room. (self.old.waiting ≡ room ++ self.new.waiting) × (self.new.going ≡ self.old.going ++ map span_of room))) }
         ensures refused { OnErr result (self.new ≡ self.old) }
@@ -207,7 +207,7 @@ impl Rooms {
     }
 
     /// All writes of this room were carried out: it may take others.
-    pub(crate) fn end(&mut self, room: Room) -> Result<(), AllocError>
+    pub fn end(&mut self, room: Room) -> Result<(), AllocError>
         ensures ended { OnOk result (self.new ≡ record { going = []; waiting = self.old.waiting; free = self.old.free + 1 }) }
         ensures refused { OnErr result (self.new ≡ self.old) }
     {

@@ -1,4 +1,5 @@
-//! Tests of the phases of a check, each by itself. The crate has nothing but tests.
+//! Tests of the single phases, and images that are made to hurt: of lengths and geometries that no volume has, with numbers at each
+//! limit and one past it, and with random bytes behind a good frame. The crate has nothing but tests.
 #![tactic(auto)]
 
 #[cfg(test)]
@@ -6,7 +7,13 @@ mod claimed;
 #[cfg(test)]
 mod expect;
 #[cfg(test)]
+mod frames;
+#[cfg(test)]
+mod image;
+#[cfg(test)]
 mod images;
+#[cfg(test)]
+mod limits;
 #[cfg(test)]
 mod links;
 #[cfg(test)]
@@ -14,6 +21,10 @@ mod marked;
 #[cfg(test)]
 mod namings;
 #[cfg(test)]
+mod random;
+#[cfg(test)]
 mod reached;
 #[cfg(test)]
 mod slots;
+#[cfg(test)]
+mod tables;

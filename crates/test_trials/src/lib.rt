@@ -12,13 +12,12 @@ mod rows;
 mod seen;
 mod stays;
 mod stops;
-#[cfg(test)]
-mod tests;
 mod trial;
 mod watched;
 
 pub use beginning::beginning_of;
 pub use carrying::{Told, carry_out, write_told};
+pub use files::Files;
 pub use images::{Put, bytes_of, mount};
 pub use long_rows::{FULL, FULL_OF_ONE_FILE, PAST_268_BLOCKS, PAST_524_BLOCKS, UNDER_A_SNAPSHOT};
 pub use power_cuts::{PowerCuts, is_loose, is_synced, power_cuts_of, power_cuts_of_steps};
@@ -27,6 +26,7 @@ pub use rows::{
     TWO_USERS, UNLINKED_AND_OPEN,
 };
 pub use seen::Seen;
-pub use stops::{Fault, fault_of};
+pub use stays::Stays;
+pub use stops::{Fault, Looked, fault_of, look_at};
 pub use trial::{Action, Step, Trial, behind_name, is_asked, steps_in, steps_of};
 pub use watched::Watched;

@@ -1,9 +1,0 @@
-//! Tests of scripts of users, and of what they are answered. The crate has nothing but tests.
-#![tactic(auto)]
-
-#[cfg(test)]
-mod answered;
-#[cfg(test)]
-mod expect;
-#[cfg(test)]
-mod parsed;

@@ -1,7 +1,0 @@
-use Rattle.std.proofs.Common.{lit<}
-use Rattle.fuse_wire.specs.Replies.{attributes_bytes, told_bytes}
-use Rattle.test_wire.proofs.messages.replies_are_written.Goals as goal
-
-pub write-requires : goal.write-requires
-unfolding told_bytes attributes_bytes
-write-requires g c = lit< tt
