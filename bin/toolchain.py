@@ -63,3 +63,12 @@ def copy_crates(rt, top, to):
 def where_disk_lasts(rt, call, *words):
     """Calls it where the kit's own check of the disk lets it."""
     return rt.where_disk_lasts(call, *words) if hasattr(rt, 'where_disk_lasts') else call(*words)
+
+
+# What a check takes of memory: up to 3 GB was seen, where the kit counts 7.
+A_CHECK = 3_500_000_000
+
+
+def lanes(rt):
+    """How many checks run side by side: one a processor, as many as the free memory holds, and one at the least. `RT_JOBS` tells the toolchain."""
+    return max(1, min(rt.processors(), int(0.85 * rt.free() / A_CHECK)))
