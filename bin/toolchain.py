@@ -72,3 +72,14 @@ A_CHECK = 3_500_000_000
 def lanes(rt):
     """How many checks run side by side: one a processor, as many as the free memory holds, and one at the least. `RT_JOBS` tells the toolchain."""
     return max(1, min(rt.processors(), int(0.85 * rt.free() / A_CHECK)))
+
+
+# What a check was seen to take of the memory that the toolchain counts for it: 0.22 to 0.45.
+SHARE = 0.5
+LEAST = 1_200_000_000
+
+
+def count_memory_as_seen(rt):
+    """Has the toolchain count for a check what checks were seen to take, so that as many run side by side as the memory bears."""
+    counted = rt.need
+    rt.need = lambda crate: max(LEAST, int(SHARE * counted(crate)))
