@@ -2,7 +2,9 @@
 #![tactic(auto)]
 
 #[cfg(test)]
-mod requests;
+mod asking;
+#[cfg(test)]
+mod served;
 #[cfg(test)]
 mod sessions;
 #[cfg(test)]

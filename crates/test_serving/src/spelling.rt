@@ -38,6 +38,10 @@ pub(crate) const FLUSH: u32 = 25;
 
 pub(crate) const INIT: u32 = 26;
 
+pub(crate) const OPEN_DIRECTORY: u32 = 27;
+
+pub(crate) const READ_DIRECTORY: u32 = 28;
+
 pub(crate) const CREATE: u32 = 35;
 
 pub(crate) const DESTROY: u32 = 38;
@@ -91,21 +95,28 @@ pub(crate) enum Field<'a> {
 /// Adds the bytes of fields.
 fn put(out: &mut Vec<u8>, fields: &[Field<'_>]) -> Result<(), AllocError> {
     for &field in fields {
-        match field {
-            Field::Short(number) => out.extend_from_slice(&number.to_le_bytes())?,
-            Field::Word(number) => out.extend_from_slice(&number.to_le_bytes())?,
-            Field::Long(number) => out.extend_from_slice(&number.to_le_bytes())?,
-            Field::Bytes(bytes) => out.extend_from_slice(bytes)?,
-            Field::Name(name) => {
-                out.extend_from_slice(name)?;
-                out.push(0)?;
-            }
-            Field::Zeroes(count) => {
-                let length = out.len().saturating_add(count);
-                out.resize(length, 0)?;
-            }
+        put_one(out, field)?;
+    }
+    Ok(())
+}
+
+fn put_one(out: &mut Vec<u8>, field: Field<'_>) -> Result<(), AllocError> {
+    match field {
+        Field::Short(number) => out.extend_from_slice(&number.to_le_bytes()),
+        Field::Word(number) => out.extend_from_slice(&number.to_le_bytes()),
+        Field::Long(number) => out.extend_from_slice(&number.to_le_bytes()),
+        Field::Bytes(bytes) => out.extend_from_slice(bytes),
+        Field::Name(name) => put_name(out, name),
+        Field::Zeroes(count) => {
+            let length = out.len().saturating_add(count);
+            out.resize(length, 0)
         }
     }
+}
+
+fn put_name(out: &mut Vec<u8>, name: &[u8]) -> Result<(), AllocError> {
+    out.extend_from_slice(name)?;
+    out.push(0)?;
     Ok(())
 }
 

@@ -4,6 +4,7 @@ use device::MemDevice;
 use frozen::load;
 use fuse_wire::Time;
 use layout::{Refusal, SINGLE};
+use snapshot::{Command, Volume};
 use std::alloc::Global;
 use test_mounted::{Asked, commands_of, mounted_of};
 use viewing::{Desk, Owner};
@@ -18,21 +19,37 @@ const MADE: &[Asked] = &[
     Asked::Create(b"/d/b"),
 ];
 
+/// Whose all is, and when it was changed.
+const OWNER: Owner = Owner {
+    user: 7,
+    group: 8,
+    changed: Time {
+        seconds: 1000,
+        nanoseconds: 5,
+    },
+};
+
 /// A desk with an image of one group of 16 blocks and 16 inodes.
 pub(crate) fn desk(alloc: Global) -> Result<Desk<MemDevice>, Refusal> {
-    let mut volume = mounted_of(alloc, SINGLE, 1, 16, &[])?;
     let commands = commands_of(alloc, MADE)?;
-    change(alloc, &mut volume, commands.as_slice())?;
-    let held = volume.live().device();
-    let mut device = held.image_after(alloc, held.writes())?;
+    let mut device = device_of(alloc, commands.as_slice())?;
     let frozen = load(alloc, &mut device)?;
-    let owner = Owner {
-        user: 7,
-        group: 8,
-        changed: Time {
-            seconds: 1000,
-            nanoseconds: 5,
-        },
-    };
-    Ok(Desk::new(alloc, device, frozen, owner)?)
+    Ok(Desk::new(alloc, device, frozen, OWNER)?)
+}
+
+/// A device with what a fresh volume is after these commands.
+fn device_of(alloc: Global, commands: &[Command]) -> Result<MemDevice, Refusal> {
+    let mut volume = mounted_of(alloc, SINGLE, 1, 16, &[])?;
+    changed(alloc, &mut volume, commands)
+}
+
+/// A device with what a volume's device holds after these commands.
+fn changed(
+    alloc: Global,
+    volume: &mut Volume<MemDevice>,
+    commands: &[Command],
+) -> Result<MemDevice, Refusal> {
+    change(alloc, volume, commands)?;
+    let held = volume.live().device();
+    held.image_after(alloc, held.writes())
 }
