@@ -1,3 +1,4 @@
+use crate::expect::{holds, same};
 use marks::Marks;
 use std::alloc::AllocError;
 
@@ -20,22 +21,22 @@ fn has(marks: &Marks, number: u32) -> bool {
 #[test]
 fn finds_the_least_of_what_is_marked(rt: HostRuntime) -> Result<(), AllocError> {
     let mut marks = Marks::new(rt.alloc(), 600_000)?;
-    assert_eq!(rt; marks.count(), 600_000);
-    assert_eq!(rt; marks.least(), None);
+    same(&rt, "numbers", marks.count(), 600_000);
+    same(&rt, "none", marks.least(), None);
     for number in [599_999, 262_144, 262_143, 4_096, 4_095, 64, 63, 0] {
-        assert!(rt; !has(&marks, number));
+        holds(&rt, number, !has(&marks, number));
         mark(&mut marks, number);
-        assert!(rt; has(&marks, number));
-        assert_eq!(rt; marks.least(), Some(number));
+        holds(&rt, number, has(&marks, number));
+        same(&rt, number, marks.least(), Some(number));
     }
     mark(&mut marks, 4_096);
     for number in [0, 63, 64, 4_095, 4_096, 262_143, 262_144, 599_999] {
-        assert_eq!(rt; marks.least(), Some(number));
+        same(&rt, number, marks.least(), Some(number));
         unmark(&mut marks, number);
         unmark(&mut marks, number);
-        assert!(rt; !has(&marks, number));
+        holds(&rt, number, !has(&marks, number));
     }
-    assert_eq!(rt; marks.least(), None);
+    same(&rt, "none", marks.least(), None);
     Ok(())
 }
 
@@ -46,37 +47,42 @@ fn keeps_the_words_of_other_marks(rt: HostRuntime) -> Result<(), AllocError> {
         mark(&mut marks, number);
     }
     unmark(&mut marks, 65);
-    assert_eq!(rt; marks.least(), Some(66));
+    same(&rt, "two", marks.least(), Some(66));
     unmark(&mut marks, 66);
-    assert_eq!(rt; marks.least(), Some(129));
+    same(&rt, "one", marks.least(), Some(129));
     Ok(())
 }
 
 #[test]
 fn of_few_numbers(rt: HostRuntime) -> Result<(), AllocError> {
-    assert_eq!(rt; Marks::new(rt.alloc(), 0)?.least(), None);
+    same(&rt, "of none", Marks::new(rt.alloc(), 0)?.least(), None);
     let mut one = Marks::new(rt.alloc(), 1)?;
     mark(&mut one, 0);
-    assert_eq!(rt; one.least(), Some(0));
-    assert_eq!(rt; (one.next(0), one.next(1)), (Some(0), None));
+    same(&rt, "one", one.least(), Some(0));
+    same(
+        &rt,
+        "from 0 and 1",
+        (one.next(0), one.next(1)),
+        (Some(0), None),
+    );
     Ok(())
 }
 
 #[test]
 fn finds_the_next_of_what_is_marked(rt: HostRuntime) -> Result<(), AllocError> {
     let mut marks = Marks::new(rt.alloc(), 600_000)?;
-    assert_eq!(rt; marks.next(0), None);
+    same(&rt, "none", marks.next(0), None);
     let numbers = [1, 63, 64, 130, 4_095, 4_096, 262_143, 262_144, 599_999];
     for number in numbers {
         mark(&mut marks, number);
     }
     let mut from = 0;
     for number in numbers {
-        assert_eq!(rt; marks.next(from), Some(number), "from {from}");
-        assert_eq!(rt; marks.next(number), Some(number));
+        same(&rt, from, marks.next(from), Some(number));
+        same(&rt, number, marks.next(number), Some(number));
         from = number.saturating_add(1);
     }
-    assert_eq!(rt; marks.next(600_000), None);
-    assert_eq!(rt; marks.next(u32::MAX), None);
+    same(&rt, "from the end", marks.next(600_000), None);
+    same(&rt, "from the greatest", marks.next(u32::MAX), None);
     Ok(())
 }

@@ -1,3 +1,4 @@
+use crate::expect::{holds, same};
 use sets::{Members, in_order};
 use std::alloc::{AllocError, Global};
 use std::collections::BTreeSet;
@@ -49,20 +50,20 @@ fn numbers_of_a_list_are_members_up_to_the_greatest(rt: HostRuntime) -> Result<(
 fn an_empty_set_has_no_members(rt: HostRuntime) -> Result<(), AllocError> {
     let none = BTreeSet::new(rt.alloc());
     let members = Members::of_set(rt.alloc(), &none)?;
-    assert!(rt; !members.has(0));
+    holds(&rt, "of none", !members.has(0));
     Ok(())
 }
 
 #[test]
 fn lists_are_put_in_order_and_each_once(rt: HostRuntime) -> Result<(), AllocError> {
     let list = in_order(vec![in rt.alloc(); 5, 1, 3, 1, 9]?)?;
-    assert_eq!(rt; list.as_slice(), &[1, 3, 5, 9][..]);
+    same(&rt, "in order", list.as_slice(), &[1, 3, 5, 9][..]);
     Ok(())
 }
 
 #[test]
 fn an_empty_list_is_in_order(rt: HostRuntime) -> Result<(), AllocError> {
     let none: Vec<u32> = Vec::new(rt.alloc());
-    assert!(rt; in_order(none)?.is_empty());
+    holds(&rt, "empty", in_order(none)?.is_empty());
     Ok(())
 }

@@ -1,3 +1,4 @@
+use crate::expect::{holds, same};
 use progress::{Line, Step, Tally, Watcher};
 use std::alloc::Global;
 use std::io::Write;
@@ -89,26 +90,48 @@ fn a_text_stands_for_a_tenth_of_a_second(rt: HostRuntime) {
         at_group(3, 1),
     ];
     let wanted = b"\rphase 2 group 0\rphase 3 group 1\rphase 3 group 1\n".as_slice();
-    assert_eq!(rt; shown(rt.alloc(), 40, told.as_slice()).as_slice(), wanted);
+    same(
+        &rt,
+        "six steps",
+        shown(rt.alloc(), 40, told.as_slice()).as_slice(),
+        wanted,
+    );
 }
 
 #[test]
 fn short_work_shows_nothing(rt: HostRuntime) {
     let told = [moved(1, 9), moved(2, 12)];
-    assert!(rt; shown(rt.alloc(), 49, told.as_slice()).is_empty());
-    assert!(rt; shown(rt.alloc(), 100, [].as_slice()).is_empty());
+    holds(
+        &rt,
+        "two steps",
+        shown(rt.alloc(), 49, told.as_slice()).is_empty(),
+    );
+    holds(
+        &rt,
+        "no step",
+        shown(rt.alloc(), 100, [].as_slice()).is_empty(),
+    );
 }
 
 #[test]
 fn blanks_cover_what_was_longer(rt: HostRuntime) {
     let told = [moved(10, 4_096), at_group(1, 2)];
     let wanted = b"\rfiles 10 bytes 4096\rphase 1 group 2    \rphase 1 group 2\n".as_slice();
-    assert_eq!(rt; shown(rt.alloc(), 100, told.as_slice()).as_slice(), wanted);
+    same(
+        &rt,
+        "two texts",
+        shown(rt.alloc(), 100, told.as_slice()).as_slice(),
+        wanted,
+    );
 }
 
 #[test]
 fn a_clock_or_a_stream_that_fails_changes_nothing(rt: HostRuntime) {
-    assert!(rt; shown(rt.alloc(), 0, [moved(1, 1)].as_slice()).is_empty());
+    holds(
+        &rt,
+        "no clock",
+        shown(rt.alloc(), 0, [moved(1, 1)].as_slice()).is_empty(),
+    );
     let clock = clock_by(100);
     for taken in 0..20 {
         let told = [moved(1, 1), moved(2, 2)];
@@ -140,5 +163,5 @@ fn two_workers_tell_at_once(rt: HostRuntime) {
         tell_by_two(&rt, line);
     }
     let texts = text.iter().filter(|byte| **byte == b'\r').count();
-    assert!(rt; texts <= 3);
+    holds(&rt, "two workers", texts <= 3);
 }

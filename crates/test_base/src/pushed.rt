@@ -1,3 +1,4 @@
+use crate::expect::{holds, same};
 use pushing::{Pushed, Pusher, Rooms, push_beside};
 use std::alloc::Global;
 use std::fs::{Metadata, OpenFile};
@@ -156,9 +157,18 @@ fn holds_the_last(memory: &Memory) -> bool {
 fn what_is_left_to_a_second_thread_is_written_in_order(rt: HostRuntime) -> Result<(), Fail> {
     let memory = &Memory::new(rt.alloc(), u64::MAX)?;
     let pusher = &Pusher::new(rt.alloc());
-    assert!(rt; matches!(carried_out(&rt, memory, pusher, true), Ok(true)));
-    assert!(rt; holds_the_last(memory) && pusher.has_all());
-    assert_eq!(rt; memory.writes.load(Ordering::SeqCst), u64::from(WRITES));
+    holds(
+        &rt,
+        "carried out",
+        matches!(carried_out(&rt, memory, pusher, true), Ok(true)),
+    );
+    holds(&rt, "the last", holds_the_last(memory) && pusher.has_all());
+    same(
+        &rt,
+        "writes",
+        memory.writes.load(Ordering::SeqCst),
+        u64::from(WRITES),
+    );
     Ok(())
 }
 
@@ -166,11 +176,17 @@ fn what_is_left_to_a_second_thread_is_written_in_order(rt: HostRuntime) -> Resul
 fn one_thread_does_all_itself(rt: HostRuntime) -> Result<(), Fail> {
     let memory = &Memory::new(rt.alloc(), u64::MAX)?;
     let pusher = &Pusher::new(rt.alloc());
-    assert!(rt; matches!(carried_out(&rt, memory, pusher, false), Ok(true)));
-    assert!(rt; holds_the_last(memory) && !pusher.has_all());
-    assert_eq!(rt;
+    holds(
+        &rt,
+        "carried out",
+        matches!(carried_out(&rt, memory, pusher, false), Ok(true)),
+    );
+    holds(&rt, "the last", holds_the_last(memory) && !pusher.has_all());
+    same(
+        &rt,
+        "syncs",
         memory.syncs.load(Ordering::SeqCst),
-        u64::from(WRITES / 300)
+        u64::from(WRITES / 300),
     );
     Ok(())
 }
@@ -200,7 +216,7 @@ fn is_told<R: Threads + Wait + Sync>(rt: &R, memory: &Memory, pusher: &Pusher) -
 fn what_is_refused_to_the_second_thread_is_told(rt: HostRuntime) -> Result<(), Fail> {
     for most in [0, 1, 20, 100] {
         let memory = &Memory::new(rt.alloc(), most)?;
-        assert!(rt; is_told(&rt, memory, &Pusher::new(rt.alloc())));
+        holds(&rt, most, is_told(&rt, memory, &Pusher::new(rt.alloc())));
     }
     Ok(())
 }
@@ -210,16 +226,16 @@ fn rooms_are_carried_out_in_order(rt: HostRuntime) -> Result<(), Fail> {
     let memory = &Memory::new(rt.alloc(), u64::MAX)?;
     let mut rooms = Rooms::new(rt.alloc())?;
     for write in 0..300 {
-        assert!(rt; rooms.take(&[byte_of(write)], 0)?);
+        holds(&rt, write, rooms.take(&[byte_of(write)], 0)?);
     }
     for _room in 0..8 {
         if let Some(room) = rooms.begin()? {
-            assert!(rt; room.write_to(&memory).is_ok());
+            holds(&rt, "a room", room.write_to(&memory).is_ok());
             rooms.end(room)?;
         }
     }
-    assert_eq!(rt; memory.writes.load(Ordering::SeqCst), 300);
+    same(&rt, "writes", memory.writes.load(Ordering::SeqCst), 300);
     let first = memory.bytes.first().map(|byte| byte.load(Ordering::SeqCst));
-    assert_eq!(rt; first, Some(byte_of(299)));
+    same(&rt, "the first byte", first, Some(byte_of(299)));
     Ok(())
 }

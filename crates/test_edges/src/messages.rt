@@ -1,3 +1,4 @@
+use crate::expect::{holds, same};
 use fuse_wire::{
     Agreement, Attributes, Body, Changes, DirectoryEntry, Entry, Errno, Handle, Kind, NodeId,
     Offer, Request, Statistics, Time, Unique, flags, push_entry, push_entry_plus, read, write,
@@ -107,15 +108,15 @@ fn request(message: &[u8]) -> Option<Request<'_>> {
 #[test]
 fn the_first_request_is_answered(rt: HostRuntime) -> Result<(), Fail> {
     let (head, asked) = read(&INIT).ok_or("a request")?;
-    assert_eq!(rt; head.unique, Unique(2));
-    assert_eq!(rt; head.node, NodeId(0));
+    same(&rt, "its number", head.unique, Unique(2));
+    same(&rt, "its node", head.node, NodeId(0));
     let offer = Offer {
         major: 7,
         minor: 45,
         readahead: 131_072,
         flags: 0x73ff_fffb,
     };
-    assert!(rt; asked == Request::Init(offer));
+    holds(&rt, "asked", asked == Request::Init(offer));
     let agreed = Agreement {
         major: 7,
         minor: 31,
@@ -134,17 +135,19 @@ fn the_first_request_is_answered(rt: HostRuntime) -> Result<(), Fail> {
     };
     let mut out = Vec::new(rt.alloc());
     write(&mut out, head.unique, Ok(Body::Agreement(agreed)))?;
-    assert_eq!(rt; out.as_slice(), AGREED.as_slice());
+    same(&rt, "agreed", out.as_slice(), AGREED.as_slice());
     Ok(())
 }
 
 #[test]
 fn requests_are_read(rt: HostRuntime) {
-    assert!(rt;
+    holds(
+        &rt,
+        "lookup",
         request(&LOOKUP)
             == Some(Request::Lookup {
-                name: b"a".as_slice()
-            })
+                name: b"a".as_slice(),
+            }),
     );
     let created = Request::Create {
         flags: 0x8241,
@@ -152,22 +155,26 @@ fn requests_are_read(rt: HostRuntime) {
         umask: 0o22,
         name: b"a".as_slice(),
     };
-    assert!(rt; request(&CREATE) == Some(created));
+    holds(&rt, "create", request(&CREATE) == Some(created));
     let written = Request::Write {
         handle: Handle(2),
         offset: 0,
         bytes: b"hello\n".as_slice(),
     };
-    assert!(rt; request(&WRITE) == Some(written));
+    holds(&rt, "write", request(&WRITE) == Some(written));
     let renamed = Request::Rename {
         directory: NodeId(3),
         flags: flags::NO_REPLACE,
         old: b"a".as_slice(),
         new: b"b".as_slice(),
     };
-    assert!(rt; request(&RENAME) == Some(renamed));
-    assert!(rt; request(&FORGET) == Some(Request::Forget { lookups: 2 }));
-    assert!(rt; request(&WRITE[..85]).is_none());
+    holds(&rt, "rename", request(&RENAME) == Some(renamed));
+    holds(
+        &rt,
+        "forget",
+        request(&FORGET) == Some(Request::Forget { lookups: 2 }),
+    );
+    holds(&rt, "cut off", request(&WRITE[..85]).is_none());
 }
 
 #[test]
@@ -182,7 +189,11 @@ fn attributes_are_read(rt: HostRuntime) {
         modified: None,
         changed: None,
     };
-    assert!(rt; request(&TRUNCATE) == Some(Request::SetAttributes(changes)));
+    holds(
+        &rt,
+        "truncate",
+        request(&TRUNCATE) == Some(Request::SetAttributes(changes)),
+    );
 }
 
 #[test]
@@ -193,7 +204,7 @@ fn replies_are_written(rt: HostRuntime) -> Result<(), Fail> {
         attributes: attributes(1, 0o40_755, 2),
     };
     write(&mut out, Unique(4), Ok(root))?;
-    assert_eq!(rt; out.as_slice(), ROOT.as_slice());
+    same(&rt, "the root", out.as_slice(), ROOT.as_slice());
     let room = Statistics {
         blocks: 100,
         free_blocks: 50,
@@ -204,11 +215,13 @@ fn replies_are_written(rt: HostRuntime) -> Result<(), Fail> {
         name_bytes: 56,
     };
     write(&mut out, Unique(228), Ok(Body::Statistics(room)))?;
-    assert_eq!(rt; out.as_slice(), ROOM.as_slice());
+    same(&rt, "room", out.as_slice(), ROOM.as_slice());
     write(&mut out, Unique(7), Err(Errno::NotFound))?;
-    assert_eq!(rt;
+    same(
+        &rt,
+        "a refusal",
         out.as_slice(),
-        [16, 0, 0, 0, 254, 255, 255, 255, 7, 0, 0, 0, 0, 0, 0, 0].as_slice()
+        [16, 0, 0, 0, 254, 255, 255, 255, 7, 0, 0, 0, 0, 0, 0, 0].as_slice(),
     );
     Ok(())
 }
@@ -232,10 +245,14 @@ fn a_listing_ends_where_no_room_is(rt: HostRuntime) -> Result<(), Fail> {
         name: b"b".as_slice(),
     };
     let mut listing = Vec::new(rt.alloc());
-    assert!(rt; push_entry_plus(&mut listing, 168, Some(&entry), &listed)?);
-    assert!(rt; !push_entry(&mut listing, 191, &listed)?);
-    assert_eq!(rt; listing.as_slice(), LISTED.as_slice());
-    assert!(rt; push_entry(&mut listing, 192, &listed)?);
-    assert_eq!(rt; listing.len(), 192);
+    holds(
+        &rt,
+        "room",
+        push_entry_plus(&mut listing, 168, Some(&entry), &listed)?,
+    );
+    holds(&rt, "no room", !push_entry(&mut listing, 191, &listed)?);
+    same(&rt, "listed", listing.as_slice(), LISTED.as_slice());
+    holds(&rt, "room", push_entry(&mut listing, 192, &listed)?);
+    same(&rt, "all", listing.len(), 192);
     Ok(())
 }

@@ -1,3 +1,4 @@
+use crate::expect::same;
 use fuse_wire::NodeId;
 use nodes::Nodes;
 use std::test::*;
@@ -5,17 +6,17 @@ use std::test::*;
 #[test]
 fn a_number_that_is_given_again_is_another_node(rt: HostRuntime) -> Result<(), Fail> {
     let mut nodes = Nodes::new(rt.alloc(), 16)?;
-    assert_eq!(rt; nodes.find(NodeId(1)), Some(2));
+    same(&rt, "the root", nodes.find(NodeId(1)), Some(2));
     let first = nodes.tell(5, 2, b"a")?;
-    assert_eq!(rt; first, NodeId(5));
-    assert_eq!(rt; nodes.find(first), Some(5));
+    same(&rt, "the first", first, NodeId(5));
+    same(&rt, "the first", nodes.find(first), Some(5));
     nodes.bear(5);
-    assert_eq!(rt; nodes.find(first), None);
+    same(&rt, "the first is gone", nodes.find(first), None);
     let second = nodes.tell(5, 2, b"b")?;
-    assert_eq!(rt; second, NodeId((1 << 32) + 5));
+    same(&rt, "the second", second, NodeId((1 << 32) + 5));
     nodes.forget(first, 1);
-    assert_eq!(rt; nodes.find(second), Some(5));
+    same(&rt, "the second", nodes.find(second), Some(5));
     nodes.forget(second, 1);
-    assert_eq!(rt; nodes.find(second), None);
+    same(&rt, "the second is forgotten", nodes.find(second), None);
     Ok(())
 }

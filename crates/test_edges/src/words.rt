@@ -1,3 +1,4 @@
+use crate::expect::same;
 use command_text::{number, write_reply};
 use layout::Refusal;
 use live_paths::Named;
@@ -21,7 +22,7 @@ fn numbers_are_digits_alone(rt: HostRuntime) {
         (b"0x5", None),
         (b"\xff", None),
     ] {
-        assert_eq!(rt; number(word), wanted, "{word:?}");
+        same(&rt, word, number(word), wanted);
     }
 }
 
@@ -69,7 +70,7 @@ fn replies_are_written(rt: HostRuntime) -> Result<(), Fail> {
         (Err(Refusal::BadHandle), "refused 17 BadHandle"),
         (Err(Refusal::BadGroup(7)), "refused 5 BadGroup 7"),
     ]? {
-        assert_eq!(rt; written(alloc, &reply)?.as_str(), wanted);
+        same(&rt, wanted, written(alloc, &reply)?.as_str(), wanted);
     }
     Ok(())
 }

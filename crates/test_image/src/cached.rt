@@ -1,3 +1,4 @@
+use crate::expect::same;
 use device::{CacheDevice, Device, MemDevice};
 use layout::{BLOCK_BYTES, Refusal};
 use std::alloc::Global;
@@ -71,20 +72,52 @@ fn a_power_cut_leaves_what_is_picked(rt: HostRuntime) -> Result<(), Fail> {
     let alloc = rt.alloc();
     let mut device = after(alloc, &steps)?;
     let seen = |a, b, c| Ok([Some(a), Some(b), Some(c)]);
-    assert_eq!(rt; device.steps().len(), 6);
-    assert_eq!(rt; bytes_of(&mut device), [Some(1), Some(5), Some(4)]);
-    assert_eq!(rt; left(&device, alloc, 6, &[]), seen(1, 2, 0));
-    assert_eq!(rt; left(&device, alloc, 6, &[true]), seen(1, 3, 0));
-    assert_eq!(rt; left(&device, alloc, 6, &[false, true]), seen(1, 2, 4));
-    assert_eq!(rt;
-        left(&device, alloc, 6, &[true, false, true]),
-        seen(1, 5, 0)
+    same(&rt, "steps", device.steps().len(), 6);
+    same(
+        &rt,
+        "all",
+        bytes_of(&mut device),
+        [Some(1), Some(5), Some(4)],
     );
-    assert_eq!(rt; left(&device, alloc, 6, &[true; 9]), seen(1, 5, 4));
-    assert_eq!(rt; left(&device, alloc, 4, &[true; 9]), seen(1, 3, 0));
-    assert_eq!(rt; left(&device, alloc, 3, &[]), seen(1, 2, 0));
-    assert_eq!(rt; left(&device, alloc, 2, &[false, true]), seen(0, 2, 0));
-    assert_eq!(rt; left(&device, alloc, 0, &[true]), seen(0, 0, 0));
-    assert_eq!(rt; left(&device, alloc, 7, &[]), Err(Refusal::BadIndex));
+    same(&rt, (6, 0), left(&device, alloc, 6, &[]), seen(1, 2, 0));
+    same(&rt, (6, 1), left(&device, alloc, 6, &[true]), seen(1, 3, 0));
+    same(
+        &rt,
+        (6, 2),
+        left(&device, alloc, 6, &[false, true]),
+        seen(1, 2, 4),
+    );
+    same(
+        &rt,
+        (6, 3),
+        left(&device, alloc, 6, &[true, false, true]),
+        seen(1, 5, 0),
+    );
+    same(
+        &rt,
+        (6, 9),
+        left(&device, alloc, 6, &[true; 9]),
+        seen(1, 5, 4),
+    );
+    same(
+        &rt,
+        (4, 9),
+        left(&device, alloc, 4, &[true; 9]),
+        seen(1, 3, 0),
+    );
+    same(&rt, (3, 0), left(&device, alloc, 3, &[]), seen(1, 2, 0));
+    same(
+        &rt,
+        (2, 2),
+        left(&device, alloc, 2, &[false, true]),
+        seen(0, 2, 0),
+    );
+    same(&rt, (0, 1), left(&device, alloc, 0, &[true]), seen(0, 0, 0));
+    same(
+        &rt,
+        (7, 0),
+        left(&device, alloc, 7, &[]),
+        Err(Refusal::BadIndex),
+    );
     Ok(())
 }

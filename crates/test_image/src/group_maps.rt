@@ -1,3 +1,4 @@
+use crate::expect::{holds, same};
 use cgmaps::{Map, put_bit, read_group};
 use layout::{BLOCK_BYTES, Block, Refusal};
 
@@ -11,9 +12,19 @@ fn empty_group() -> Block {
 
 #[test]
 fn reads_the_block_of_its_own_group(rt: HostRuntime) {
-    assert!(rt; read_group(&empty_group(), 3).is_ok());
-    assert_eq!(rt; read_group(&empty_group(), 4), Err(Refusal::BadGroup(4)));
-    assert_eq!(rt; read_group(&[0; BLOCK_BYTES], 0), Err(Refusal::BadGroup(0)));
+    holds(&rt, "its own", read_group(&empty_group(), 3).is_ok());
+    same(
+        &rt,
+        "another",
+        read_group(&empty_group(), 4).err(),
+        Some(Refusal::BadGroup(4)),
+    );
+    same(
+        &rt,
+        "zeroes",
+        read_group(&[0; BLOCK_BYTES], 0).err(),
+        Some(Refusal::BadGroup(0)),
+    );
 }
 
 #[test]
@@ -23,10 +34,10 @@ fn reads_the_least_bit_of_a_byte_first(rt: HostRuntime) {
     block[161] = 0x80;
     let maps = read_group(&block, 3).expect(&rt, "the maps of group 3");
     for bit in 0..1024 {
-        assert_eq!(rt; maps.inode_bit(bit), bit == 2, "at {bit}");
+        same(&rt, bit, maps.inode_bit(bit), bit == 2);
     }
     for bit in 0..4096 {
-        assert_eq!(rt; maps.block_bit(bit), bit == 15, "at {bit}");
+        same(&rt, bit, maps.block_bit(bit), bit == 15);
     }
 }
 
@@ -40,10 +51,10 @@ fn sets_and_clears_one_bit(rt: HostRuntime) {
     let mut written = [0; BLOCK_BYTES];
     maps.set(Map::Blocks, 9);
     maps.write(&mut written);
-    assert!(rt; written == marked);
+    holds(&rt, "set", written == marked);
     maps.clear(Map::Blocks, 9);
     maps.write(&mut written);
-    assert!(rt; written == block);
+    holds(&rt, "cleared", written == block);
 }
 
 #[test]
@@ -52,7 +63,7 @@ fn puts_one_bit_where_the_block_stands(rt: HostRuntime) {
     let mut marked = block;
     marked[33] = 4;
     put_bit(&mut block, Map::Inodes, 10, true);
-    assert!(rt; block == marked);
+    holds(&rt, "set", block == marked);
     put_bit(&mut block, Map::Inodes, 10, false);
-    assert!(rt; block == empty_group());
+    holds(&rt, "cleared", block == empty_group());
 }

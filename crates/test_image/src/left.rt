@@ -1,3 +1,4 @@
+use crate::expect::same;
 use device::{CacheDevice, Device, MemDevice};
 use findings::Verdict;
 use layout::{BLOCK_BYTES, Refusal};
@@ -89,7 +90,7 @@ fn each_way_to_lose_writes_is_tried(rt: HostRuntime) -> Result<(), Refusal> {
         cut(1, 2, Verdict::Soft),
         cut(2, 4, Verdict::Soft),
     ];
-    assert_eq!(&rt; cuts.as_slice(), &wanted[..]);
+    same(&rt, "each", cuts.as_slice(), &wanted[..]);
     Ok(())
 }
 
@@ -98,11 +99,11 @@ fn of_many_ways_some_are_tried(rt: HostRuntime) -> Result<(), Refusal> {
     let steps = [Step::Write(0, 2), Step::Write(0, 1), Step::Write(0, 0)];
     // None and all.
     let cuts = told(&rt, &steps, 2)?;
-    assert_eq!(&rt; cuts.get(3), Some(&cut(3, 2, Verdict::Clean)));
+    same(&rt, "two", cuts.get(3), Some(&cut(3, 2, Verdict::Clean)));
     // All but the first, all but the second, and all but the last.
     for (most, worst) in [(3, Verdict::Clean), (4, Verdict::Clean), (5, Verdict::Soft)] {
         let cuts = told(&rt, &steps, most)?;
-        assert_eq!(&rt; cuts.get(3), Some(&cut(3, most, worst)));
+        same(&rt, most, cuts.get(3), Some(&cut(3, most, worst)));
     }
     Ok(())
 }
@@ -110,6 +111,6 @@ fn of_many_ways_some_are_tried(rt: HostRuntime) -> Result<(), Refusal> {
 #[test]
 fn what_the_judge_refuses_is_refused(rt: HostRuntime) -> Result<(), Refusal> {
     let refused = told(&rt, &[Step::Write(0, 3)], 2).err();
-    assert_eq!(&rt; refused, Some(Refusal::Damaged));
+    same(&rt, "refused", refused, Some(Refusal::Damaged));
     Ok(())
 }

@@ -1,3 +1,4 @@
+use crate::expect::{holds, same};
 use device::{Device, Fuse, MemDevice};
 use layout::{BLOCK_BYTES, Block, Refusal};
 use recording::{Recording, Written};
@@ -33,12 +34,20 @@ fn writes_are_kept_and_repeated(rt: HostRuntime) -> Result<(), Fail> {
         written.repeat_on(&mut device)?;
     }
     device.sync()?;
-    assert!(rt; device.writes() == writes.as_slice());
+    holds(&rt, "kept", device.writes() == writes.as_slice());
     for written in device.writes() {
         written.repeat_on(&mut copy)?;
     }
-    assert!(rt; has(&mut device, 0, 6) && has(&mut device, 1, 7));
-    assert!(rt; has(&mut copy, 0, 6) && has(&mut copy, 1, 7));
+    holds(
+        &rt,
+        "the first",
+        has(&mut device, 0, 6) && has(&mut device, 1, 7),
+    );
+    holds(
+        &rt,
+        "the copy",
+        has(&mut copy, 0, 6) && has(&mut copy, 1, 7),
+    );
     Ok(())
 }
 
@@ -48,12 +57,23 @@ fn a_failed_write_is_not_kept(rt: HostRuntime) -> Result<(), Fail> {
     let below = MemDevice::from_bytes(rt.alloc(), zeroes.as_slice())?;
     let mut device = Recording::new(rt.alloc(), Fuse::new(below, 1, true));
     write_of(0, 1).repeat_on(&mut device)?;
-    assert_eq!(rt; write_of(0, 2).repeat_on(&mut device), Err(Refusal::Device));
-    write_of(0, 3).repeat_on(&mut device)?;
-    assert_eq!(rt;
-        write_of(1, 4).repeat_on(&mut device),
-        Err(Refusal::BadIndex)
+    same(
+        &rt,
+        "a fault",
+        write_of(0, 2).repeat_on(&mut device),
+        Err(Refusal::Device),
     );
-    assert!(rt; device.writes() == [write_of(0, 1), write_of(0, 3)].as_slice());
+    write_of(0, 3).repeat_on(&mut device)?;
+    same(
+        &rt,
+        "no such block",
+        write_of(1, 4).repeat_on(&mut device),
+        Err(Refusal::BadIndex),
+    );
+    holds(
+        &rt,
+        "kept",
+        device.writes() == [write_of(0, 1), write_of(0, 3)].as_slice(),
+    );
     Ok(())
 }

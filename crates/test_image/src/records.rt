@@ -1,3 +1,4 @@
+use crate::expect::{holds, same};
 use inode::{DIRECT_POINTERS, DIRECTORY, FILE, FREE, RECORD_BYTES, Record, blocks_of_size};
 use layout::{DOUBLE, Geometry, SINGLE};
 
@@ -31,8 +32,8 @@ fn a_written_record_has_its_bytes_and_is_read_back(rt: HostRuntime) {
         wanted[8 + 4 * place] = 1 + place as u8;
     }
     wanted[52..60].copy_from_slice(&[0x24, 0x23, 0x22, 0x21, 0x34, 0x33, 0x32, 0x31]);
-    assert!(rt; bytes == wanted, "the record's bytes");
-    assert_eq!(rt; Record::read(SINGLE, &bytes), record);
+    holds(&rt, "its bytes", bytes == wanted);
+    same(&rt, "read", Record::read(SINGLE, &bytes), record);
 
     let record = Record {
         double: 0x4142_4344,
@@ -40,17 +41,20 @@ fn a_written_record_has_its_bytes_and_is_read_back(rt: HostRuntime) {
     };
     record.write(DOUBLE, &mut bytes);
     wanted[60..64].copy_from_slice(&[0x44, 0x43, 0x42, 0x41]);
-    assert!(rt;
+    holds(
+        &rt,
+        "its bytes with the double indirect pointer",
         bytes == wanted,
-        "its bytes with the double indirect pointer"
     );
-    assert_eq!(rt; Record::read(DOUBLE, &bytes), record);
-    assert_eq!(rt;
+    same(&rt, "read with it", Record::read(DOUBLE, &bytes), record);
+    same(
+        &rt,
+        "read without it",
         Record::read(SINGLE, &bytes),
         Record {
             double: 0,
             ..record
-        }
+        },
     );
 }
 
@@ -66,8 +70,8 @@ fn sizes_take_whole_blocks(rt: HostRuntime) {
         (u32::MAX, 4_194_304),
     ];
     for (size, blocks) in table {
-        assert_eq!(rt; blocks_of_size(size), blocks, "size {size}");
-        assert_eq!(rt; Record { size, ..ZERO }.blocks(), blocks, "size {size}");
+        same(&rt, size, blocks_of_size(size), blocks);
+        same(&rt, size, Record { size, ..ZERO }.blocks(), blocks);
     }
 }
 
@@ -96,16 +100,8 @@ fn sound_records_are_told_apart(rt: HostRuntime) {
     let double = single.with_version(DOUBLE).expect(&rt, "version 2");
     for (mode, size, in_single, in_double) in table {
         let record = Record { mode, size, ..ZERO };
-        assert_eq!(rt;
-            record.is_sound(&single),
-            in_single,
-            "mode {mode} size {size}"
-        );
-        assert_eq!(rt;
-            record.is_sound(&double),
-            in_double,
-            "mode {mode} size {size}, version 2"
-        );
-        assert_eq!(rt; record.is_directory(), mode == DIRECTORY, "mode {mode}");
+        same(&rt, (mode, size), record.is_sound(&single), in_single);
+        same(&rt, (mode, size, 2), record.is_sound(&double), in_double);
+        same(&rt, mode, record.is_directory(), mode == DIRECTORY);
     }
 }

@@ -1,3 +1,4 @@
+use crate::expect::{holds, same};
 use dirent::{NAME_BYTES, SLOT_BYTES, Slot, Slots, fits_slot, name_ok, slot_in};
 use layout::{BLOCK_BYTES, Block};
 
@@ -67,19 +68,19 @@ fn first_that_is_not_bad() -> Option<&'static [u8]> {
 
 #[test]
 fn slots_are_told_apart(rt: HostRuntime) {
-    assert_eq!(rt; first_other_entry(), None);
-    assert_eq!(rt; first_that_is_not_bad(), None);
+    same(&rt, "entries", first_other_entry(), None);
+    same(&rt, "bad ones", first_that_is_not_bad(), None);
     let block = block_with(3, b"\0\0\0\0\xff");
-    assert_eq!(rt; slot_in(&block, 3, INODES), Slot::Empty);
+    same(&rt, "an empty one", slot_in(&block, 3, INODES), Slot::Empty);
 }
 
 #[test]
 fn names_are_told_apart(rt: HostRuntime) {
     for name in [b"a".as_slice(), b".", b"..", b"\xff\x01 ", &LONG_NAME] {
-        assert!(rt; name_ok(name));
+        holds(&rt, name, name_ok(name));
     }
     for name in [b"".as_slice(), b"/", b"a/b", b"a\0", &[b'n'; 57]] {
-        assert!(rt; !name_ok(name));
+        holds(&rt, name, !name_ok(name));
     }
 }
 
@@ -95,18 +96,18 @@ fn fits(name: &[u8]) -> [bool; 4] {
 
 #[test]
 fn dots_fit_their_slots(rt: HostRuntime) {
-    assert_eq!(rt; fits(b"."), [true, false, false, false]);
-    assert_eq!(rt; fits(b".."), [false, true, false, false]);
-    assert_eq!(rt; fits(b"..."), [false, false, true, true]);
-    assert_eq!(rt; fits(b"a"), [false, false, true, true]);
+    same(&rt, ".", fits(b"."), [true, false, false, false]);
+    same(&rt, "..", fits(b".."), [false, true, false, false]);
+    same(&rt, "...", fits(b"..."), [false, false, true, true]);
+    same(&rt, "a", fits(b"a"), [false, false, true, true]);
 }
 
 #[test]
 fn a_block_of_bad_slots_has_no_room(rt: HostRuntime) {
     let slots = Slots::read(&[0xee; BLOCK_BYTES], 1, INODES);
-    assert_eq!(rt; slots.slot(14), Slot::Bad);
-    assert_eq!(rt; slots.find(&LONG_NAME), None);
-    assert_eq!(rt; slots.free_slot(), None);
+    same(&rt, "the last but one", slots.slot(14), Slot::Bad);
+    same(&rt, "a name", slots.find(&LONG_NAME), None);
+    same(&rt, "an empty one", slots.free_slot(), None);
 }
 
 #[test]
@@ -114,12 +115,12 @@ fn an_entry_is_put_and_found(rt: HostRuntime) {
     let mut block = [0xee; BLOCK_BYTES];
     let mut slots = Slots::read(&block, 1, INODES);
     slots.put(15, 5, &LONG_NAME);
-    assert_eq!(rt; slots.find(&LONG_NAME), Some(15));
+    same(&rt, "the name", slots.find(&LONG_NAME), Some(15));
     slots.write(&mut block);
     let mut wanted = [0xee; BLOCK_BYTES];
     wanted[960..968].copy_from_slice(&[5, 0, 0, 0, 56, 0, 0, 0]);
     wanted[968..].copy_from_slice(&LONG_NAME);
-    assert!(rt; block == wanted);
+    holds(&rt, "its bytes", block == wanted);
 }
 
 #[test]
@@ -128,11 +129,11 @@ fn an_entry_is_cleared(rt: HostRuntime) {
     let mut slots = Slots::read(&block, 1, INODES);
     slots.put(15, 5, &LONG_NAME);
     slots.clear(15);
-    assert_eq!(rt; slots.free_slot(), Some(15));
+    same(&rt, "the slot", slots.free_slot(), Some(15));
     slots.write(&mut block);
     let mut wanted = [0xee; BLOCK_BYTES];
     wanted[960..].copy_from_slice(&[0; SLOT_BYTES]);
-    assert!(rt; block == wanted);
+    holds(&rt, "its bytes", block == wanted);
 }
 
 /// The bytes after a short name are zeroes.
@@ -147,6 +148,6 @@ fn a_short_name_is_put(rt: HostRuntime) {
     wanted[128] = 0x0a;
     wanted[132] = 1;
     wanted[136] = b'a';
-    assert!(rt; block == wanted);
-    assert_eq!(rt; slots.find(b"a"), Some(2));
+    holds(&rt, "its bytes", block == wanted);
+    same(&rt, "the name", slots.find(b"a"), Some(2));
 }

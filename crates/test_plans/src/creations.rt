@@ -1,3 +1,4 @@
+use crate::expect::holds;
 use device::MemDevice;
 use frozen::{Frozen, load};
 use inode::{DIRECTORY, Record};
@@ -94,7 +95,7 @@ fn a_new_directory_names_itself_and_the_one_above(rt: HostRuntime) {
     wanted[68] = 2;
     wanted[72] = b'.';
     wanted[73] = b'.';
-    assert!(rt; dots(5, 3) == wanted);
+    holds(&rt, "dots", dots(5, 3) == wanted);
 }
 
 #[test]
@@ -109,5 +110,5 @@ fn a_new_directory_has_one_block(rt: HostRuntime) {
         indirect: 0,
         double: 0,
     };
-    assert!(rt; new_directory(7) == wanted);
+    holds(&rt, "its record", new_directory(7) == wanted);
 }

@@ -1,3 +1,4 @@
+use crate::expect::same;
 use device::{Byte, MemDevice, set_bytes};
 use frozen::{Frozen, load};
 use layout::{Geometry, Refusal};
@@ -195,7 +196,17 @@ fn held_blocks_are_unmarked_in_each_group(rt: HostRuntime) -> Result<(), Refusal
     let metadata = image_of(rt.alloc(), 2, &[&MARKED])?;
     let left = without_held(rt.alloc(), &metadata)?;
     let wanted = image_of(rt.alloc(), 2, &[&UNMARKED])?;
-    assert_eq!(rt; first_difference(wanted.frozen(), &left), None);
-    assert_eq!(rt; first_difference(metadata.frozen(), &left), Some(1));
+    same(
+        &rt,
+        "what is left",
+        first_difference(wanted.frozen(), &left),
+        None,
+    );
+    same(
+        &rt,
+        "what was there",
+        first_difference(metadata.frozen(), &left),
+        Some(1),
+    );
     Ok(())
 }

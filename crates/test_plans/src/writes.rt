@@ -1,5 +1,6 @@
 ghost use Rattle.std.specs.Prelude.{◌≤◌, length};
 
+use crate::expect::same;
 use device::MemDevice;
 use frozen::load;
 use layout::{BLOCK_BYTES, Block, Geometry, Refusal};
@@ -127,10 +128,22 @@ fn the_old_block_is_seen(rt: HostRuntime) {
         index: 0,
         place,
     };
-    assert_eq!(rt; target(Place::InPlace { block: 5 }).seen(), Some(5));
-    assert_eq!(rt; target(behind(7, Tables::none())).seen(), None);
-    assert_eq!(rt;
+    same(
+        &rt,
+        "in place",
+        target(Place::InPlace { block: 5 }).seen(),
+        Some(5),
+    );
+    same(
+        &rt,
+        "behind",
+        target(behind(7, Tables::none())).seen(),
+        None,
+    );
+    same(
+        &rt,
+        "elsewhere",
         target(Place::Elsewhere { old: 5, block: 7 }).seen(),
-        Some(5)
+        Some(5),
     );
 }

@@ -1,5 +1,6 @@
 ghost use Rattle.std.specs.Prelude.{◌≡◌};
 
+use crate::expect::{holds, same};
 use inode::{DIRECT_POINTERS, FILE, RECORD_BYTES, Record};
 use layout::{BLOCK_BYTES, Block, DOUBLE, Geometry, SINGLE};
 use smallvec::smallvec;
@@ -15,32 +16,57 @@ fn small<A: Abort>(rt: &A) -> Geometry
     Geometry::new(2, 16, 16).expect(rt, "a geometry")
 }
 
-/// Aborts unless the numbers are the same.
-fn same(rt: &impl Abort, one: usize, other: usize) {
-    assert_eq!(rt; one, other);
-}
-
 #[test]
 fn cells_stand_in_their_blocks(rt: HostRuntime) {
     let geometry = small(&rt);
-    same(&rt, Cell::Record(2).home(&geometry) as usize, 2);
-    same(&rt, Cell::Record(8).home(&geometry) as usize, 3);
-    same(&rt, Cell::Record(31).home(&geometry) as usize, 19);
-    same(&rt, Cell::NumberBit(15).home(&geometry) as usize, 1);
-    same(&rt, Cell::NumberBit(16).home(&geometry) as usize, 17);
-    same(&rt, Cell::BlockBit(16).home(&geometry) as usize, 1);
-    same(&rt, Cell::BlockBit(20).home(&geometry) as usize, 17);
-    same(&rt, Cell::Block(20).home(&geometry) as usize, 20);
+    same(&rt, Cell::Record(2), Cell::Record(2).home(&geometry), 2);
+    same(&rt, Cell::Record(8), Cell::Record(8).home(&geometry), 3);
+    same(&rt, Cell::Record(31), Cell::Record(31).home(&geometry), 19);
+    same(
+        &rt,
+        Cell::NumberBit(15),
+        Cell::NumberBit(15).home(&geometry),
+        1,
+    );
+    same(
+        &rt,
+        Cell::NumberBit(16),
+        Cell::NumberBit(16).home(&geometry),
+        17,
+    );
+    same(
+        &rt,
+        Cell::BlockBit(16),
+        Cell::BlockBit(16).home(&geometry),
+        1,
+    );
+    same(
+        &rt,
+        Cell::BlockBit(20),
+        Cell::BlockBit(20).home(&geometry),
+        17,
+    );
+    same(&rt, Cell::Block(20), Cell::Block(20).home(&geometry), 20);
 }
 
 #[test]
 fn cells_have_places_in_one_table(rt: HostRuntime) {
     let geometry = small(&rt);
-    same(&rt, places(&geometry), 130);
-    same(&rt, Cell::Record(31).place(&geometry), 31);
-    same(&rt, Cell::NumberBit(2).place(&geometry), 34);
-    same(&rt, Cell::BlockBit(4).place(&geometry), 68);
-    same(&rt, Cell::Block(32).place(&geometry), 129);
+    same(&rt, "places", places(&geometry), 130);
+    same(&rt, Cell::Record(31), Cell::Record(31).place(&geometry), 31);
+    same(
+        &rt,
+        Cell::NumberBit(2),
+        Cell::NumberBit(2).place(&geometry),
+        34,
+    );
+    same(
+        &rt,
+        Cell::BlockBit(4),
+        Cell::BlockBit(4).place(&geometry),
+        68,
+    );
+    same(&rt, Cell::Block(32), Cell::Block(32).place(&geometry), 129);
 }
 
 /// A record of a file, without a double indirect pointer.
@@ -76,15 +102,29 @@ fn block_with_record() -> Block {
 fn a_record_is_put_among_its_neighbours(rt: HostRuntime) {
     let mut block = [0xaa; BLOCK_BYTES];
     Change::SetInode(9, record()).put(&small(&rt), &mut block);
-    assert!(rt; block == block_with_record(), "the block of inodes 8 to 15");
+    holds(
+        &rt,
+        "the block of inodes 8 to 15",
+        block == block_with_record(),
+    );
 }
 
 #[test]
 fn a_record_is_read_where_it_was_put(rt: HostRuntime) {
     let block = block_with_record();
     let (records, _) = block.as_chunks::<RECORD_BYTES>();
-    assert_eq!(rt; Record::read(SINGLE, &records[1]), record());
-    assert_eq!(rt; Change::SetInode(9, record()).cell(), Cell::Record(9));
+    same(
+        &rt,
+        "the record",
+        Record::read(SINGLE, &records[1]),
+        record(),
+    );
+    same(
+        &rt,
+        "its cell",
+        Change::SetInode(9, record()).cell(),
+        Cell::Record(9),
+    );
 }
 
 #[test]
@@ -98,22 +138,32 @@ fn a_record_of_version_2_is_put_with_its_double_pointer(rt: HostRuntime) {
     Change::SetInode(9, record).put(&geometry, &mut block);
     let mut wanted = block_with_record();
     wanted[128 + 60..128 + 64].copy_from_slice(&[7, 0, 0, 0]);
-    assert!(rt; block == wanted, "the block of inodes 8 to 15");
+    holds(&rt, "the block of inodes 8 to 15", block == wanted);
 }
 
 #[test]
 fn bits_are_put_among_their_neighbours(rt: HostRuntime) {
     let geometry = small(&rt);
-    assert_eq!(rt; Change::SetNumber(26, true).cell(), Cell::NumberBit(26));
-    assert_eq!(rt; Change::SetBlock(31, true).cell(), Cell::BlockBit(31));
+    same(
+        &rt,
+        "of a number",
+        Change::SetNumber(26, true).cell(),
+        Cell::NumberBit(26),
+    );
+    same(
+        &rt,
+        "of a block",
+        Change::SetBlock(31, true).cell(),
+        Cell::BlockBit(31),
+    );
     let mut block = [0; BLOCK_BYTES];
     Change::SetNumber(26, true).put(&geometry, &mut block);
     let mut wanted = [0; BLOCK_BYTES];
     wanted[33] = 0x04;
-    assert!(rt; block == wanted, "number 26 is marked");
+    holds(&rt, "number 26 is marked", block == wanted);
     Change::SetBlock(31, true).put(&geometry, &mut block);
     wanted[161] = 0x08;
-    assert!(rt; block == wanted, "block 31 is marked");
+    holds(&rt, "block 31 is marked", block == wanted);
 }
 
 #[test]
@@ -123,10 +173,10 @@ fn bits_are_cleared_among_their_neighbours(rt: HostRuntime) {
     Change::SetNumber(2, false).put(&geometry, &mut block);
     let mut wanted = [0xff; BLOCK_BYTES];
     wanted[32] = 0xfb;
-    assert!(rt; block == wanted, "number 2 is not marked");
+    holds(&rt, "number 2 is not marked", block == wanted);
     Change::SetBlock(4, false).put(&geometry, &mut block);
     wanted[160] = 0xfe;
-    assert!(rt; block == wanted, "block 4 is not marked");
+    holds(&rt, "block 4 is not marked", block == wanted);
 }
 
 /// A change that gives block 32 these bytes.
@@ -140,7 +190,7 @@ fn a_block_is_put_whole(rt: HostRuntime) -> Result<(), AllocError> {
     let mut block = [0xaa; BLOCK_BYTES];
     let change = Change::SetBytes(32, Arc::new(rt.alloc(), bytes)?);
     change.put(&small(&rt), &mut block);
-    assert!(rt; block == bytes, "the block's new bytes");
+    holds(&rt, "the block's new bytes", block == bytes);
     Ok(())
 }
 
@@ -157,6 +207,6 @@ fn update_of_a_block(alloc: Global) -> Result<Update, AllocError> {
 #[test]
 fn an_update_has_the_cell_of_its_change(rt: HostRuntime) -> Result<(), AllocError> {
     let update = update_of_a_block(rt.alloc())?;
-    assert_eq!(rt; update.change.cell(), Cell::Block(32));
+    same(&rt, "its cell", update.change.cell(), Cell::Block(32));
     Ok(())
 }

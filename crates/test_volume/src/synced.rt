@@ -1,3 +1,4 @@
+use crate::expect::same;
 use frozen::{Frozen, load};
 use layout::{Refusal, SINGLE};
 use snapshot::Volume;
@@ -61,11 +62,26 @@ fn what_is_synced_and_not_there_is_told(rt: HostRuntime) -> Result<(), Refusal> 
     let alloc = rt.alloc();
     let view = view_of(&rt, alloc, &WITH_A_FILE)?;
     let mut stays = Stays::of(alloc, &view, Files::none(alloc))?;
-    assert_eq!(&rt; told(&rt, alloc, &WITH_A_FILE, &stays)?, None);
-    assert_eq!(&rt; told(&rt, alloc, &FRESH, &stays)?, Some(Fault::LosesSynced));
+    same(
+        &rt,
+        "it is there",
+        told(&rt, alloc, &WITH_A_FILE, &stays)?,
+        None,
+    );
+    same(
+        &rt,
+        "it is lost",
+        told(&rt, alloc, &FRESH, &stays)?,
+        Some(Fault::LosesSynced),
+    );
     // Once users see it no more, it may be lost.
     stays.leave_out(alloc, &view_of(&rt, alloc, &FRESH)?, &Files::none(alloc))?;
-    assert_eq!(&rt; told(&rt, alloc, &FRESH, &stays)?, None);
+    same(
+        &rt,
+        "it may be lost",
+        told(&rt, alloc, &FRESH, &stays)?,
+        None,
+    );
     Ok(())
 }
 
@@ -74,14 +90,26 @@ fn bytes_that_are_synced_and_not_there_are_told(rt: HostRuntime) -> Result<(), R
     let alloc = rt.alloc();
     let view = view_of(&rt, alloc, &WITH_BYTES)?;
     let mut stays = Stays::of(alloc, &view, files_of(&rt, alloc, &WITH_BYTES)?)?;
-    assert_eq!(&rt; stays.files().count(), (1, 3));
-    assert_eq!(&rt; told(&rt, alloc, &WITH_BYTES, &stays)?, None);
-    assert_eq!(&rt;
+    same(&rt, "its bytes", stays.files().count(), (1, 3));
+    same(
+        &rt,
+        "they are there",
+        told(&rt, alloc, &WITH_BYTES, &stays)?,
+        None,
+    );
+    same(
+        &rt,
+        "they are lost",
         told(&rt, alloc, &WITH_OTHER_BYTES, &stays)?,
-        Some(Fault::LosesSynced)
+        Some(Fault::LosesSynced),
     );
     // Once users see others, these may be lost.
     stays.leave_out(alloc, &view, &files_of(&rt, alloc, &WITH_OTHER_BYTES)?)?;
-    assert_eq!(&rt; told(&rt, alloc, &WITH_OTHER_BYTES, &stays)?, None);
+    same(
+        &rt,
+        "they may be lost",
+        told(&rt, alloc, &WITH_OTHER_BYTES, &stays)?,
+        None,
+    );
     Ok(())
 }
