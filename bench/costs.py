@@ -1,23 +1,27 @@
 """The committed table of what each crate costs the gate, bench/gate.table: seconds of a processor on which the crate of reference is
-proved in a given time, and the lines that the crate had when that was measured."""
+proved in a given time, and the lines of code that the crate had when that was measured."""
 import os
 
 TOP = os.path.dirname(os.path.dirname(os.path.abspath(__file__)))
 TABLE = f'{TOP}/bench/gate.table'
 REFERENCE, SECONDS = 'marks', 42
 HEAD = f"""# What the gate pays for each crate: its proof, and its tests with the crate once more, in seconds of a processor on which the proof of
-# `{REFERENCE}` takes {SECONDS}; and the lines of code, specs and proofs that it had then. `bench/gate --note` writes this, bench/budget reads it.
+# `{REFERENCE}` takes {SECONDS}; and the lines of code that it had then. `bench/gate --note` writes this, bench/budget reads it.
 """
 
 
 def lines_of(name):
-    """How many lines a crate has."""
-    return sum(1 for part in ('src', 'specs', 'proofs') for path in files_in(f'{TOP}/crates/{name}/{part}') for _ in open(path, encoding='utf-8'))
+    """How many lines of code a crate has."""
+    count = 0
+    for path in files_in(f'{TOP}/crates/{name}/src'):
+        with open(path, encoding='utf-8') as lines:
+            count += sum(1 for _ in lines)
+    return count
 
 
 def files_in(folder):
-    """The files of Rattle below a folder."""
-    return [f'{at}/{it}' for at, _, files in os.walk(folder) for it in files if it.endswith(('.rt', '.antt'))]
+    """The files of code below a folder."""
+    return [f'{at}/{it}' for at, _, files in os.walk(folder) for it in files if it.endswith('.rt')]
 
 
 def noted():
