@@ -7,13 +7,14 @@ import sys
 import tempfile
 import threading
 
-from toolchain import copy_crates
+from toolchain import copy_crates, count_memory_as_seen
 
 
 @contextlib.contextmanager
 def in_copy(rt, top):
-    """Goes into a copy of the repository, so that what other commands of the toolchain left in the crates' folders stays."""
+    """Goes into a copy of the repository, so that what other commands of the toolchain left in the crates' folders stays; checks run side by side there as memory bears it."""
     rt.rtlib.Crate.below = functools.cache(rt.rtlib.Crate.below)
+    count_memory_as_seen(rt)
     rt.Crate.cuts_libraries = True
     rt.rtlib.guarded()
     with tempfile.TemporaryDirectory(prefix='fsvol-') as room:
