@@ -6,7 +6,7 @@ use crate::reports::{
 use crate::trying::Wanted::{Printed, Refused};
 use crate::trying::{
     Changes, SMALL, Wanted, changed, gives, gives_of_bytes, gives_of_each, made, made_small,
-    refuses_lengths,
+    refuses_lengths, removes, writes,
 };
 use serve_lines::Holdable;
 use std::fs;
@@ -15,7 +15,6 @@ use std::os::unix::fs::FileExt;
 use std::process::Abort;
 use std::rt::Files;
 use std::sync::Wait;
-use std::test::Fail;
 use std::thread::Threads;
 use std::time::Clock;
 
@@ -44,13 +43,12 @@ const SMALL_NUMBERS: &[(Changes<'static>, Wanted<'static>)] = &[
 ];
 
 #[test]
-fn bits_tells_the_numbers_of_a_small_image(rt: HostRuntime) -> Result<(), Fail> {
+fn bits_tells_the_numbers_of_a_small_image(rt: HostRuntime) {
     let image = "rows_small.img";
-    let fresh = made_small(&rt, image)?;
+    let fresh = made_small(&rt, image);
     has_length(&rt, fresh.as_slice(), SMALL);
-    gives_of_each(&rt, "bits", image, fresh.as_slice(), SMALL_NUMBERS)?;
-    fs::remove_file(&rt, image)?;
-    Ok(())
+    gives_of_each(&rt, "bits", image, fresh.as_slice(), SMALL_NUMBERS);
+    removes(&rt, image);
 }
 
 /// These bytes are so many.
@@ -103,13 +101,12 @@ const NO_LENGTHS: &[(usize, &str)] = &[
 ];
 
 #[test]
-fn bits_refuses_what_is_no_image(rt: HostRuntime) -> Result<(), Fail> {
+fn bits_refuses_what_is_no_image(rt: HostRuntime) {
     let image = "rows_no_image.img";
-    let fresh = made_small(&rt, image)?;
-    gives_of_each(&rt, "bits", image, fresh.as_slice(), NO_IMAGES)?;
-    refuses_lengths(&rt, "bits", image, fresh.as_slice(), NO_LENGTHS)?;
-    fs::remove_file(&rt, image)?;
-    Ok(())
+    let fresh = made_small(&rt, image);
+    gives_of_each(&rt, "bits", image, fresh.as_slice(), NO_IMAGES);
+    refuses_lengths(&rt, "bits", image, fresh.as_slice(), NO_LENGTHS);
+    removes(&rt, image);
 }
 
 /// How many bytes an image of 2 groups, 16 blocks and 16 inodes has.
@@ -153,13 +150,12 @@ const NUMBERS_OF_TWO: &[(Changes<'static>, Wanted<'static>)] = &[
 ];
 
 #[test]
-fn bits_tells_the_numbers_of_two_groups(rt: HostRuntime) -> Result<(), Fail> {
+fn bits_tells_the_numbers_of_two_groups(rt: HostRuntime) {
     let image = "rows_two_groups.img";
-    let fresh = made(&rt, "--groups 2 --blocks 16 --inodes 16", image)?;
+    let fresh = made(&rt, "--groups 2 --blocks 16 --inodes 16", image);
     has_length(&rt, fresh.as_slice(), TWO_GROUPS);
-    gives_of_each(&rt, "bits", image, fresh.as_slice(), NUMBERS_OF_TWO)?;
-    fs::remove_file(&rt, image)?;
-    Ok(())
+    gives_of_each(&rt, "bits", image, fresh.as_slice(), NUMBERS_OF_TWO);
+    removes(&rt, image);
 }
 
 /// Changes of a small fresh image, and what `check` tells of each.
@@ -172,9 +168,9 @@ const CHECKED: &[(Changes<'static>, Wanted<'static>)] = &[
 ];
 
 #[test]
-fn check_prints_the_report_of_an_image(rt: HostRuntime) -> Result<(), Fail> {
+fn check_prints_the_report_of_an_image(rt: HostRuntime) {
     let image = "rows_check.img";
-    let fresh = made_small(&rt, image)?;
+    let fresh = made_small(&rt, image);
     has_length(&rt, CLEAN_REPORT.as_bytes(), 133);
     has_length(&rt, SOFT_REPORT.as_bytes(), 147);
     has_length(&rt, LOST_REPORT.as_bytes(), 195);
@@ -184,10 +180,9 @@ fn check_prints_the_report_of_an_image(rt: HostRuntime) -> Result<(), Fail> {
         "check --progress --workers 3",
         "check --workers 64",
     ] {
-        gives_of_each(&rt, start, image, fresh.as_slice(), CHECKED)?;
+        gives_of_each(&rt, start, image, fresh.as_slice(), CHECKED);
     }
-    fs::remove_file(&rt, image)?;
-    Ok(())
+    removes(&rt, image);
 }
 
 /// Changes of a small fresh image, the report of each, and what is mended.
@@ -197,17 +192,16 @@ const MENDED: &[(Changes<'static>, &str, &str)] = &[
 ];
 
 #[test]
-fn repair_gives_a_lost_directory_back(rt: HostRuntime) -> Result<(), Fail> {
+fn repair_gives_a_lost_directory_back(rt: HostRuntime) {
     let image = "rows_repair.img";
-    let fresh = made_small(&rt, image)?;
+    let fresh = made_small(&rt, image);
     for start in ["repair --workers 1", "repair --progress --workers 4"] {
         for &(changes, report, mended) in MENDED {
-            let bytes = changed(rt.alloc(), fresh.as_slice(), changes)?;
-            mends(&rt, start, image, bytes.as_slice(), report, mended)?;
+            let bytes = changed(&rt, fresh.as_slice(), changes);
+            mends(&rt, start, image, bytes.as_slice(), report, mended);
         }
     }
-    fs::remove_file(&rt, image)?;
-    Ok(())
+    removes(&rt, image);
 }
 
 /// An image of these bytes is mended, and is clean then.
@@ -218,15 +212,15 @@ fn mends<R: Files + AllocGlobal + Clock + Eprint + Threads + Wait + Sync + Abort
     bytes: &[u8],
     report: &str,
     mended: &str,
-) -> Result<(), Fail>
+)
 where
     R::File: FileExt + Holdable + Send,
 {
-    let out = format!(in rt.alloc(); "{report}{mended}")?;
-    fs::write(rt, image, bytes)?;
-    gives(rt, start, image, Printed(out.as_str(), 1))?;
-    gives(rt, "check --workers 1", image, Printed(CLEAN_REPORT, 0))?;
-    gives(rt, start, image, Printed(CLEAN_REPORT, 0))
+    let out = format!(in rt.alloc(); "{report}{mended}").expect(rt, "memory");
+    writes(rt, image, bytes);
+    gives(rt, start, image, Printed(out.as_str(), 1));
+    gives(rt, "check --workers 1", image, Printed(CLEAN_REPORT, 0));
+    gives(rt, start, image, Printed(CLEAN_REPORT, 0));
 }
 
 /// Changes of a small fresh image that are not mended, and what `repair` tells of each.
@@ -248,12 +242,12 @@ const LEFT: &[(Changes<'static>, Wanted<'static>)] = &[
 ];
 
 #[test]
-fn repair_writes_no_clean_or_damaged_image(rt: HostRuntime) -> Result<(), Fail> {
+fn repair_writes_no_clean_or_damaged_image(rt: HostRuntime) {
     let image = "rows_repair_nothing.img";
     let start = "repair --workers 2";
-    let fresh = made_small(&rt, image)?;
-    gives_of_each(&rt, start, image, fresh.as_slice(), LEFT)?;
-    fs::remove_file(&rt, image)?;
+    let fresh = made_small(&rt, image);
+    gives_of_each(&rt, start, image, fresh.as_slice(), LEFT);
+    removes(&rt, image);
     gives(
         &rt,
         start,
@@ -262,13 +256,13 @@ fn repair_writes_no_clean_or_damaged_image(rt: HostRuntime) -> Result<(), Fail> 
             "refused 2 Device\nat rows_repair_nothing.img: no such file\n",
             4,
         ),
-    )
+    );
 }
 
 #[test]
-fn check_and_repair_refuse_other_than_1_to_64_workers(rt: HostRuntime) -> Result<(), Fail> {
+fn check_and_repair_refuse_other_than_1_to_64_workers(rt: HostRuntime) {
     let image = "rows_workers.img";
-    let fresh = made_small(&rt, image)?;
+    let fresh = made_small(&rt, image);
     for start in [
         "check --workers 0",
         "check --workers 65",
@@ -276,22 +270,21 @@ fn check_and_repair_refuse_other_than_1_to_64_workers(rt: HostRuntime) -> Result
         "repair --workers 0",
         "repair --workers 65",
     ] {
-        refuses_workers(&rt, start, image, fresh.as_slice())?;
+        refuses_workers(&rt, start, image, fresh.as_slice());
     }
-    fs::remove_file(&rt, image)?;
-    Ok(())
+    removes(&rt, image);
 }
 
 /// The line is refused for its workers, also where no file stands.
 fn refuses_workers<
     R: Files + AllocGlobal + Clock + Eprint + Threads + Wait + Sync + Abort + Clone + Drop,
->(rt: &R, start: &str, image: &str, fresh: &[u8]) -> Result<(), Fail>
+>(rt: &R, start: &str, image: &str, fresh: &[u8])
 where
     R::File: FileExt + Holdable + Send,
 {
     let wanted = Refused("refused 6 BadWorkers\nworkers: 1 to 64\n", 3);
-    gives_of_bytes(rt, start, image, fresh, wanted)?;
-    gives(rt, start, "rows_no_such_file.img", wanted)
+    gives_of_bytes(rt, start, image, fresh, wanted);
+    gives(rt, start, "rows_no_such_file.img", wanted);
 }
 
 /// How a check refuses a group that is none.
@@ -301,13 +294,13 @@ const NO_GROUP: &[(Changes<'static>, Wanted<'static>)] = &[(
 )];
 
 #[test]
-fn check_refuses_what_is_no_image(rt: HostRuntime) -> Result<(), Fail> {
+fn check_refuses_what_is_no_image(rt: HostRuntime) {
     let image = "rows_check_no_image.img";
     let start = "check --workers 4";
-    let fresh = made_small(&rt, image)?;
-    refuses_lengths(&rt, start, image, fresh.as_slice(), NO_LENGTHS)?;
-    gives_of_each(&rt, start, image, fresh.as_slice(), NO_GROUP)?;
-    fs::remove_file(&rt, image)?;
+    let fresh = made_small(&rt, image);
+    refuses_lengths(&rt, start, image, fresh.as_slice(), NO_LENGTHS);
+    gives_of_each(&rt, start, image, fresh.as_slice(), NO_GROUP);
+    removes(&rt, image);
     gives(
         &rt,
         start,
@@ -316,5 +309,5 @@ fn check_refuses_what_is_no_image(rt: HostRuntime) -> Result<(), Fail> {
             "refused 2 Device\nat rows_no_such_file.img: no such file\n",
             4,
         ),
-    )
+    );
 }

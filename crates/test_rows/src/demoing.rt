@@ -2,7 +2,6 @@
 use crate::trying::Wanted::Printed;
 use crate::trying::gives_of_words;
 use std::alloc::{AllocError, Global};
-use std::test::Fail;
 
 /// How often it runs: what its threads do in which order may differ.
 const TIMES: u32 = 20;
@@ -27,12 +26,11 @@ const STORY: &[&str] = &[
 ];
 
 #[test]
-fn demo_prints_the_same_story_each_time(rt: HostRuntime) -> Result<(), Fail> {
-    let story = story(rt.alloc())?;
+fn demo_prints_the_same_story_each_time(rt: HostRuntime) {
+    let story = story(rt.alloc()).expect(&rt, "memory");
     for _time in 0..TIMES {
         gives_of_words(&rt, &["demo"], Printed(story.as_str(), 0));
     }
-    Ok(())
 }
 
 /// All that it prints.

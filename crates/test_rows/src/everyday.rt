@@ -2,7 +2,8 @@
 use crate::reports::{CLEAN_REPORT, SHARED_BLOCK};
 use crate::trying::Wanted::{Printed, Refused};
 use crate::trying::{
-    Changes, Row, Wanted, changed, give, gives, gives_of_each, holds, made, made_small,
+    Changes, Row, Wanted, changed, give, gives, gives_of_each, holds, made, made_small, removes,
+    writes,
 };
 use serve_lines::Holdable;
 use std::fs;
@@ -11,7 +12,6 @@ use std::os::unix::fs::FileExt;
 use std::process::Abort;
 use std::rt::Files;
 use std::sync::Wait;
-use std::test::Fail;
 use std::thread::Threads;
 use std::time::Clock;
 
@@ -98,36 +98,34 @@ const REMOVED: &[Row<'static>] = &[
 ];
 
 #[test]
-fn an_image_is_changed_and_looked_into(rt: HostRuntime) -> Result<(), Fail> {
+fn an_image_is_changed_and_looked_into(rt: HostRuntime) {
     let image = "rows_everyday.img";
-    made_small(&rt, image)?;
-    give(&rt, image, &[("mkdir", " /a /a/b", "/c", Printed("", 0))])?;
-    writes_a_file(&rt, image, "rows_everyday.script")?;
-    give(&rt, image, LINKED)?;
-    give(&rt, image, MOVED)?;
-    give(&rt, image, REMOVED)?;
-    gives(&rt, "info", image, Printed(NUMBERS, 0))?;
-    gives(&rt, "check --workers 1", image, Printed(CLEAN_REPORT, 0))?;
-    fs::remove_file(&rt, image)?;
-    Ok(())
+    made_small(&rt, image);
+    give(&rt, image, &[("mkdir", " /a /a/b", "/c", Printed("", 0))]);
+    writes_a_file(&rt, image, "rows_everyday.script");
+    give(&rt, image, LINKED);
+    give(&rt, image, MOVED);
+    give(&rt, image, REMOVED);
+    gives(&rt, "info", image, Printed(NUMBERS, 0));
+    gives(&rt, "check --workers 1", image, Printed(CLEAN_REPORT, 0));
+    removes(&rt, image);
 }
 
 /// A script writes the file `/f`.
 fn writes_a_file<
     R: Files + AllocGlobal + Clock + Eprint + Threads + Wait + Sync + Abort + Clone + Drop,
->(rt: &R, image: &str, script: &str) -> Result<(), Fail>
+>(rt: &R, image: &str, script: &str)
 where
     R::File: FileExt + Holdable + Send,
 {
-    let ran = format!(in rt.alloc(); "{WRITTEN}{CLEAN_REPORT}repaired 0\n")?;
-    fs::write(rt, script, SCRIPT)?;
+    let ran = format!(in rt.alloc(); "{WRITTEN}{CLEAN_REPORT}repaired 0\n").expect(rt, "memory");
+    writes(rt, script, SCRIPT.as_bytes());
     give(
         rt,
         image,
         &[("run --workers 1", "", script, Printed(ran.as_str(), 0))],
-    )?;
-    fs::remove_file(rt, script)?;
-    Ok(())
+    );
+    removes(rt, script);
 }
 
 /// Lines that are refused on a fresh image, as `give` takes them, and with which text: the status of each is 3.
@@ -232,29 +230,28 @@ const NO_PATHS: &[(&str, &str, &str, &str)] = &[
 ];
 
 #[test]
-fn a_refused_change_tells_how_far_it_came(rt: HostRuntime) -> Result<(), Fail> {
+fn a_refused_change_tells_how_far_it_came(rt: HostRuntime) {
     let image = "rows_everyday_refused.img";
-    made_small(&rt, image)?;
+    made_small(&rt, image);
     for rows in [REFUSED, NOT_NAMED, NO_PATHS] {
-        refuses_each(&rt, image, rows)?;
+        refuses_each(&rt, image, rows);
     }
-    give(&rt, image, &[("ls", "", "/", Printed("a\nb\n", 0))])?;
-    gives(&rt, "check --workers 1", image, Printed(CLEAN_REPORT, 0))?;
-    fs::remove_file(&rt, image)?;
-    give(&rt, image, MISSING)
+    give(&rt, image, &[("ls", "", "/", Printed("a\nb\n", 0))]);
+    gives(&rt, "check --workers 1", image, Printed(CLEAN_REPORT, 0));
+    removes(&rt, image);
+    give(&rt, image, MISSING);
 }
 
 /// Carries out lines on an image, as `give` takes them, each of which is refused with this text and the status 3.
 fn refuses_each<
     R: Files + AllocGlobal + Clock + Eprint + Threads + Wait + Sync + Abort + Clone + Drop,
->(rt: &R, image: &str, rows: &[(&str, &str, &str, &str)]) -> Result<(), Fail>
+>(rt: &R, image: &str, rows: &[(&str, &str, &str, &str)])
 where
     R::File: FileExt + Holdable + Send,
 {
     for &(name, words, last, err) in rows {
-        give(rt, image, &[(name, words, last, Refused(err, 3))])?;
+        give(rt, image, &[(name, words, last, Refused(err, 3))]);
     }
-    Ok(())
 }
 
 /// How a line is refused on an image that is missing.
@@ -290,13 +287,12 @@ const ON_DIRECTORY: &[Row<'static>] = &[
 ];
 
 #[test]
-fn a_directory_is_no_image(rt: HostRuntime) -> Result<(), Fail> {
+fn a_directory_is_no_image(rt: HostRuntime) {
     let image = "rows_directory.img";
     let _ = fs::remove_dir(&rt, image);
-    fs::create_dir(&rt, image)?;
-    give(&rt, image, ON_DIRECTORY)?;
-    fs::remove_dir(&rt, image)?;
-    Ok(())
+    fs::create_dir(&rt, image).expect(&rt, image);
+    give(&rt, image, ON_DIRECTORY);
+    fs::remove_dir(&rt, image).expect(&rt, image);
 }
 
 /// Lines on a fresh image of 16 blocks, one after another.
@@ -328,15 +324,14 @@ const FULL_OF_INODES: &[Row<'static>] = &[
 ];
 
 #[test]
-fn a_full_image_keeps_what_went_before(rt: HostRuntime) -> Result<(), Fail> {
+fn a_full_image_keeps_what_went_before(rt: HostRuntime) {
     let image = "rows_everyday_full.img";
-    made_small(&rt, image)?;
-    give(&rt, image, FULL_OF_BLOCKS)?;
-    made(&rt, "--groups 1 --blocks 16 --inodes 8", image)?;
-    give(&rt, image, FULL_OF_INODES)?;
-    gives(&rt, "check --workers 1", image, Printed(CLEAN_REPORT, 0))?;
-    fs::remove_file(&rt, image)?;
-    Ok(())
+    made_small(&rt, image);
+    give(&rt, image, FULL_OF_BLOCKS);
+    made(&rt, "--groups 1 --blocks 16 --inodes 8", image);
+    give(&rt, image, FULL_OF_INODES);
+    gives(&rt, "check --workers 1", image, Printed(CLEAN_REPORT, 0));
+    removes(&rt, image);
 }
 
 /// How a line is refused that would change an image of which two files have one block.
@@ -354,18 +349,17 @@ const DAMAGED: &[Row<'static>] = &[
 ];
 
 #[test]
-fn a_damaged_image_is_looked_into_and_not_written(rt: HostRuntime) -> Result<(), Fail> {
+fn a_damaged_image_is_looked_into_and_not_written(rt: HostRuntime) {
     let image = "rows_everyday_damaged.img";
-    let fresh = made_small(&rt, image)?;
-    let damaged = changed(rt.alloc(), fresh.as_slice(), SHARED_BLOCK)?;
+    let fresh = made_small(&rt, image);
+    let damaged = changed(&rt, fresh.as_slice(), SHARED_BLOCK);
     for &row in DAMAGED {
-        fs::write(&rt, image, damaged.as_slice())?;
-        give(&rt, image, &[row])?;
-        holds(&rt, row.0, image, damaged.as_slice())?;
+        writes(&rt, image, damaged.as_slice());
+        give(&rt, image, &[row]);
+        holds(&rt, row.0, image, damaged.as_slice());
     }
-    gives_of_each(&rt, "info", image, fresh.as_slice(), SOFT)?;
-    fs::remove_file(&rt, image)?;
-    Ok(())
+    gives_of_each(&rt, "info", image, fresh.as_slice(), SOFT);
+    removes(&rt, image);
 }
 
 /// The change of a fresh image that marks block 9, and what `info` tells of it.
@@ -404,11 +398,11 @@ const PICTURE: &str =
      </svg>\n";
 
 #[test]
-fn a_picture_is_printed(rt: HostRuntime) -> Result<(), Fail> {
+fn a_picture_is_printed(rt: HostRuntime) {
     let image = "rows_everyday_picture.img";
-    made(&rt, "--groups 1 --blocks 8 --inodes 8", image)?;
-    gives(&rt, "map", image, Printed(PICTURE, 0))?;
-    fs::remove_file(&rt, image)?;
+    made(&rt, "--groups 1 --blocks 8 --inodes 8", image);
+    gives(&rt, "map", image, Printed(PICTURE, 0));
+    removes(&rt, image);
     gives(
         &rt,
         "map",
@@ -417,5 +411,5 @@ fn a_picture_is_printed(rt: HostRuntime) -> Result<(), Fail> {
             "refused 2 Device\nat rows_everyday_picture.img: no such file\n",
             4,
         ),
-    )
+    );
 }

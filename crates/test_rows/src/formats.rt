@@ -2,20 +2,20 @@
 use crate::reports::CLEAN_REPORT;
 use crate::trying::Wanted::{Printed, Refused};
 use crate::trying::{
-    Changes, Wanted, changed, give, gives, gives_of_each, holds, is_missing, made, made_small, same,
+    Changes, Wanted, changed, give, gives, gives_of_each, holds, is_missing, made, made_small,
+    removes, same, writes,
 };
 use serve_lines::Holdable;
 use std::alloc::{AllocError, Global};
+use std::fs;
 use std::fs::OpenFile;
 use std::io::Eprint;
 use std::os::unix::fs::FileExt;
 use std::process::Abort;
 use std::rt::Files;
 use std::sync::Wait;
-use std::test::Fail;
 use std::thread::Threads;
 use std::time::Clock;
-use std::{fs, io};
 
 /// The words that make a small image in the second version.
 const SMALL_IN_TWO: &str = "--groups 1 --blocks 16 --inodes 16 --format 2";
@@ -39,18 +39,17 @@ const VERSIONS: &[(Changes<'static>, Wanted<'static>)] = &[
 ];
 
 #[test]
-fn a_fresh_image_tells_its_version_alone(rt: HostRuntime) -> Result<(), Fail> {
+fn a_fresh_image_tells_its_version_alone(rt: HostRuntime) {
     let image = "rows_formats_fresh.img";
-    let fresh = made_small(&rt, image)?;
-    let in_one = made(&rt, "--groups 1 --blocks 16 --inodes 16 --format 1", image)?;
+    let fresh = made_small(&rt, image);
+    let in_one = made(&rt, "--groups 1 --blocks 16 --inodes 16 --format 1", image);
     same(&rt, &["--format 1"], in_one.as_slice(), fresh.as_slice());
-    let in_two = made(&rt, SMALL_IN_TWO, image)?;
-    let wanted = changed(rt.alloc(), fresh.as_slice(), &[(4, 2)])?;
+    let in_two = made(&rt, SMALL_IN_TWO, image);
+    let wanted = changed(&rt, fresh.as_slice(), &[(4, 2)]);
     same(&rt, &["--format 2"], in_two.as_slice(), wanted.as_slice());
-    gives(&rt, "check --workers 1", image, Printed(CLEAN_REPORT, 0))?;
-    gives_of_each(&rt, "info", image, fresh.as_slice(), VERSIONS)?;
-    fs::remove_file(&rt, image)?;
-    Ok(())
+    gives(&rt, "check --workers 1", image, Printed(CLEAN_REPORT, 0));
+    gives_of_each(&rt, "info", image, fresh.as_slice(), VERSIONS);
+    removes(&rt, image);
 }
 
 /// Bytes 60 to 63 of the records of the numbers 0, 2 and 15 of a small image, which its first version does not look at.
@@ -84,20 +83,19 @@ const LEFT: &[(Changes<'static>, Wanted<'static>)] = &[
 ];
 
 #[test]
-fn an_image_is_upgraded_in_its_place(rt: HostRuntime) -> Result<(), Fail> {
+fn an_image_is_upgraded_in_its_place(rt: HostRuntime) {
     let image = "rows_formats_upgraded.img";
-    let fresh = made_small(&rt, image)?;
-    let full = changed(rt.alloc(), fresh.as_slice(), BEHIND)?;
-    fs::write(&rt, image, full.as_slice())?;
-    gives(&rt, "check --workers 1", image, Printed(CLEAN_REPORT, 0))?;
-    gives(&rt, "upgrade", image, Printed("", 0))?;
-    let wanted = changed(rt.alloc(), fresh.as_slice(), &[(4, 2)])?;
-    holds(&rt, "upgrade", image, wanted.as_slice())?;
-    gives(&rt, "check --workers 1", image, Printed(CLEAN_REPORT, 0))?;
-    gives(&rt, "info", image, Printed(NUMBERS, 0))?;
-    gives_of_each(&rt, "upgrade", image, fresh.as_slice(), LEFT)?;
-    fs::remove_file(&rt, image)?;
-    Ok(())
+    let fresh = made_small(&rt, image);
+    let full = changed(&rt, fresh.as_slice(), BEHIND);
+    writes(&rt, image, full.as_slice());
+    gives(&rt, "check --workers 1", image, Printed(CLEAN_REPORT, 0));
+    gives(&rt, "upgrade", image, Printed("", 0));
+    let wanted = changed(&rt, fresh.as_slice(), &[(4, 2)]);
+    holds(&rt, "upgrade", image, wanted.as_slice());
+    gives(&rt, "check --workers 1", image, Printed(CLEAN_REPORT, 0));
+    gives(&rt, "info", image, Printed(NUMBERS, 0));
+    gives_of_each(&rt, "upgrade", image, fresh.as_slice(), LEFT);
+    removes(&rt, image);
 }
 
 /// The text of a file of so many bytes, in which each block tells its index.
@@ -129,59 +127,50 @@ const LONG: &[(&str, usize, &str)] = &[
 ];
 
 #[test]
-fn a_long_file_goes_in_and_comes_out(rt: HostRuntime) -> Result<(), Fail> {
+fn a_long_file_goes_in_and_comes_out(rt: HostRuntime) {
     for &(geometry, length, stat) in LONG {
-        goes_through(&rt, "rows_formats_long", geometry, length, stat)?;
+        goes_through(&rt, "rows_formats_long", geometry, length, stat);
     }
-    Ok(())
 }
 
 #[test]
-fn a_file_of_10_mib_goes_in_and_comes_out(rt: HostRuntime) -> Result<(), Fail> {
+fn a_file_of_10_mib_goes_in_and_comes_out(rt: HostRuntime) {
     goes_through(
         &rt,
         "rows_formats_10_mib",
         "--groups 3 --blocks 4096 --inodes 16",
         10_485_760,
         "number 3\nkind file\nlinks 1\nsize 10485760\nblocks 10240\n",
-    )
+    );
 }
 
 /// A file of this name and of so many bytes goes into an image of the second version, comes out of it as it was, and leaves nothing
 /// there once it is removed.
 fn goes_through<
     R: Files + AllocGlobal + Clock + Eprint + Threads + Wait + Sync + Abort + Clone + Drop,
->(rt: &R, file: &str, geometry: &str, length: usize, stat: &str) -> Result<(), Fail>
+>(rt: &R, file: &str, geometry: &str, length: usize, stat: &str)
 where
     R::File: FileExt + Holdable + Send,
 {
     let alloc = rt.alloc();
-    let image = format!(in alloc; "{file}.img")?;
-    let copy = format!(in alloc; "{file}.copy")?;
-    let words = format!(in alloc; "{geometry} --format 2")?;
-    let text = numbered(alloc, length)?;
+    let image = format!(in alloc; "{file}.img").expect(rt, "memory");
+    let copy = format!(in alloc; "{file}.copy").expect(rt, "memory");
+    let words = format!(in alloc; "{geometry} --format 2").expect(rt, "memory");
+    let text = numbered(alloc, length).expect(rt, "memory");
     let _ = fs::remove_file(rt, copy.as_str());
-    fs::write(rt, file, text.as_str())?;
-    made(rt, words.as_str(), image.as_str())?;
-    puts_and_gets(rt, image.as_str(), file, copy.as_str(), text.as_str(), stat)?;
-    fs::remove_file(rt, image.as_str())?;
-    fs::remove_file(rt, file)?;
-    fs::remove_file(rt, copy.as_str())?;
-    Ok(())
+    writes(rt, file, text.as_bytes());
+    made(rt, words.as_str(), image.as_str());
+    puts_and_gets(rt, image.as_str(), file, copy.as_str(), text.as_str(), stat);
+    removes(rt, image.as_str());
+    removes(rt, file);
+    removes(rt, copy.as_str());
 }
 
 /// A file with this text goes into an image, is told of by `stat` as this, and comes out as the copy.
 fn puts_and_gets<
     'a,
     R: Files + AllocGlobal + Clock + Eprint + Threads + Wait + Sync + Abort + Clone + Drop,
->(
-    rt: &R,
-    image: &'a str,
-    file: &'a str,
-    copy: &'a str,
-    text: &'a str,
-    stat: &'a str,
-) -> Result<(), Fail>
+>(rt: &R, image: &'a str, file: &'a str, copy: &'a str, text: &'a str, stat: &'a str)
 where
     R::File: FileExt + Holdable + Send,
 {
@@ -195,20 +184,20 @@ where
         ("ls", "", "/", Printed("", 0)),
         ("check", " --workers", "2", Printed(CLEAN_REPORT, 0)),
     ];
-    give(rt, image, &lines)?;
-    holds(rt, "get", copy, text.as_bytes())
+    give(rt, image, &lines);
+    holds(rt, "get", copy, text.as_bytes());
 }
 
 #[test]
-fn an_image_is_made_of_a_long_file(rt: HostRuntime) -> Result<(), Fail> {
+fn an_image_is_made_of_a_long_file(rt: HostRuntime) {
     let (image, folder, file) = (
         "rows_formats_from.img",
         "rows_formats_from",
         "rows_formats_from/a",
     );
-    let text = numbered(rt.alloc(), 275_456)?;
-    made_folder(&rt, folder, file, 0)?;
-    fs::write(&rt, file, text.as_str())?;
+    let text = numbered(rt.alloc(), 275_456).expect(&rt, "memory");
+    made_folder(&rt, folder, file, 0);
+    writes(&rt, file, text.as_bytes());
     let lines = [
         (
             "mkfs",
@@ -219,24 +208,20 @@ fn an_image_is_made_of_a_long_file(rt: HostRuntime) -> Result<(), Fail> {
         ("ls -l", "", "/", Printed("3 file 1 275456 a\n", 0)),
         ("check", " --workers", "1", Printed(CLEAN_REPORT, 0)),
     ];
-    give(&rt, image, &lines)
+    give(&rt, image, &lines);
 }
 
 /// Makes a folder of the host with a file of so many bytes in it, all 0.
-fn made_folder<R: Files + AllocGlobal>(
-    rt: &R,
-    folder: &str,
-    file: &str,
-    length: u64,
-) -> Result<(), Fail> {
+fn made_folder<R: Files + AllocGlobal + Abort>(rt: &R, folder: &str, file: &str, length: u64) {
     let _ = fs::remove_dir_all(rt, folder);
-    fs::create_dir(rt, folder)?;
-    Ok(made_file(rt, file, length)?)
+    fs::create_dir(rt, folder).expect(rt, folder);
+    made_file(rt, file, length);
 }
 
 /// Makes a file of the host with so many bytes, all 0.
-fn made_file<R: Files>(rt: &R, file: &str, length: u64) -> io::Result<()> {
-    fs::create(rt, file)?.set_len(length)
+fn made_file<R: Files + Abort>(rt: &R, file: &str, length: u64) {
+    let made = fs::create(rt, file).expect(rt, file);
+    made.set_len(length).expect(rt, file);
 }
 
 /// How a line ends where `/a` stands, with a file that the version allows.
@@ -256,31 +241,30 @@ const LIMITS: &[(&str, u64, Wanted<'static>)] = &[
 ];
 
 #[test]
-fn a_file_is_too_big_by_the_version(rt: HostRuntime) -> Result<(), Fail> {
+fn a_file_is_too_big_by_the_version(rt: HostRuntime) {
     let image = "rows_formats_limits.img";
     for &(version, length, wanted) in LIMITS {
         let words = format!(in rt.alloc();
             "--groups 1 --blocks 16 --inodes 16 --format {version}"
-        )?;
-        made(&rt, words.as_str(), image)?;
-        made_folder(&rt, "rows_formats_limits", "rows_formats_limits/a", length)?;
+        ).expect(&rt, "memory");
+        made(&rt, words.as_str(), image);
+        made_folder(&rt, "rows_formats_limits", "rows_formats_limits/a", length);
         let lines = [
             ("mkdir", "", "/a", Printed("", 0)),
             ("put", " /", "rows_formats_limits", wanted),
             ("put", " /a", "rows_formats_limits/a", wanted),
             ("check", " --workers", "1", Printed(CLEAN_REPORT, 0)),
         ];
-        give(&rt, image, &lines)?;
+        give(&rt, image, &lines);
     }
-    fs::remove_file(&rt, image)?;
-    Ok(())
+    removes(&rt, image);
 }
 
 /// Versions of the layout, and how many bytes are too many for a file.
 const TOO_LONG: &[(&str, u64)] = &[("1", 274_433), ("2", 67_383_297)];
 
 #[test]
-fn no_image_is_made_of_a_file_that_is_too_big(rt: HostRuntime) -> Result<(), Fail> {
+fn no_image_is_made_of_a_file_that_is_too_big(rt: HostRuntime) {
     let (image, folder, file) = (
         "rows_formats_too_big.img",
         "rows_formats_too_big",
@@ -291,13 +275,12 @@ fn no_image_is_made_of_a_file_that_is_too_big(rt: HostRuntime) -> Result<(), Fai
     for &(version, length) in TOO_LONG {
         let words = format!(in rt.alloc();
             " --groups 1 --blocks 512 --inodes 16 --format {version} --from"
-        )?;
-        made_folder(&rt, folder, file, length)?;
-        give(&rt, image, &[("mkfs", words.as_str(), folder, refused)])?;
+        ).expect(&rt, "memory");
+        made_folder(&rt, folder, file, length);
+        give(&rt, image, &[("mkfs", words.as_str(), folder, refused)]);
         is_missing(&rt, words.as_str(), image);
     }
-    fs::remove_dir_all(&rt, folder)?;
-    Ok(())
+    fs::remove_dir_all(&rt, folder).expect(&rt, folder);
 }
 
 /// A script that gives a file of 268 blocks one more, and what users are told of it in each version.
@@ -315,30 +298,29 @@ const GROWN: &[(&str, &str, &str)] = &[
 ];
 
 #[test]
-fn a_script_lets_a_file_grow_by_the_version(rt: HostRuntime) -> Result<(), Fail> {
+fn a_script_lets_a_file_grow_by_the_version(rt: HostRuntime) {
     let (image, file, script) = (
         "rows_formats_grown.img",
         "rows_formats_grown",
         "rows_formats_grown.txt",
     );
-    made_file(&rt, file, 274_432)?;
-    fs::write(&rt, script, "1 open /a\n1 write 0 268 x\n")?;
+    made_file(&rt, file, 274_432);
+    writes(&rt, script, b"1 open /a\n1 write 0 268 x\n");
     for &(version, told, stops) in GROWN {
         let geometry = format!(in rt.alloc();
             "--groups 1 --blocks 512 --inodes 16 --format {version}"
-        )?;
-        let ran = format!(in rt.alloc(); "{told}{CLEAN_REPORT}repaired 0\n")?;
-        made(&rt, geometry.as_str(), image)?;
+        ).expect(&rt, "memory");
+        let ran = format!(in rt.alloc(); "{told}{CLEAN_REPORT}repaired 0\n").expect(&rt, "memory");
+        made(&rt, geometry.as_str(), image);
         let lines = [
             ("put", " /a", file, Printed("", 0)),
             ("stops", "", script, Printed(stops, 0)),
             ("run --workers 2", "", script, Printed(ran.as_str(), 0)),
             ("check", " --workers", "1", Printed(CLEAN_REPORT, 0)),
         ];
-        give(&rt, image, &lines)?;
+        give(&rt, image, &lines);
     }
     for name in [image, file, script] {
-        fs::remove_file(&rt, name)?;
+        removes(&rt, name);
     }
-    Ok(())
 }

@@ -1,21 +1,16 @@
 //! The lines that move files and folders between the host and an image.
 use crate::reports::CLEAN_REPORT;
 use crate::trying::Wanted::{Printed, Refused};
-use crate::trying::{Row, give, gives, holds, made_small};
+use crate::trying::{Row, give, gives, holds, made_small, writes};
 use std::fs;
+use std::process::Abort;
 use std::rt::Files;
-use std::test::Fail;
 
 /// Makes a folder of the host with a file of three bytes in it.
-pub(crate) fn made_folder<R: Files + AllocGlobal>(
-    rt: &R,
-    folder: &str,
-    file: &str,
-) -> Result<(), Fail> {
+pub(crate) fn made_folder<R: Files + AllocGlobal + Abort>(rt: &R, folder: &str, file: &str) {
     let _ = fs::remove_dir_all(rt, folder);
-    fs::create_dir(rt, folder)?;
-    fs::write(rt, file, "abc")?;
-    Ok(())
+    fs::create_dir(rt, folder).expect(rt, folder);
+    writes(rt, file, b"abc");
 }
 
 /// Lines on a fresh image, one after another.
@@ -46,11 +41,11 @@ const PUT: &[Row<'static>] = &[
 ];
 
 #[test]
-fn a_folder_goes_in_and_is_not_put_over_another(rt: HostRuntime) -> Result<(), Fail> {
+fn a_folder_goes_in_and_is_not_put_over_another(rt: HostRuntime) {
     let image = "rows_hosts_put.img";
-    made_small(&rt, image)?;
-    made_folder(&rt, "rows_hosts_put", "rows_hosts_put/a")?;
-    give(&rt, image, PUT)
+    made_small(&rt, image);
+    made_folder(&rt, "rows_hosts_put", "rows_hosts_put/a");
+    give(&rt, image, PUT);
 }
 
 /// Lines on a fresh image, one after another.
@@ -74,13 +69,13 @@ const GOT: &[Row<'static>] = &[
 ];
 
 #[test]
-fn a_tree_comes_out_and_is_not_got_over_another(rt: HostRuntime) -> Result<(), Fail> {
+fn a_tree_comes_out_and_is_not_got_over_another(rt: HostRuntime) {
     let image = "rows_hosts_get.img";
-    made_small(&rt, image)?;
-    made_folder(&rt, "rows_hosts_get", "rows_hosts_get/a")?;
+    made_small(&rt, image);
+    made_folder(&rt, "rows_hosts_get", "rows_hosts_get/a");
     let _ = fs::remove_dir_all(&rt, "rows_hosts_got");
-    give(&rt, image, GOT)?;
-    holds(&rt, "get", "rows_hosts_got/d/a", b"abc")
+    give(&rt, image, GOT);
+    holds(&rt, "get", "rows_hosts_got/d/a", b"abc");
 }
 
 /// Lines, one after another, the first of which makes the image.
@@ -95,9 +90,9 @@ const FROM: &[Row<'static>] = &[
 ];
 
 #[test]
-fn an_image_is_made_of_a_folder(rt: HostRuntime) -> Result<(), Fail> {
-    made_folder(&rt, "rows_hosts_from", "rows_hosts_from/a")?;
-    give(&rt, "rows_hosts_from.img", FROM)
+fn an_image_is_made_of_a_folder(rt: HostRuntime) {
+    made_folder(&rt, "rows_hosts_from", "rows_hosts_from/a");
+    give(&rt, "rows_hosts_from.img", FROM);
 }
 
 /// Lines on a fresh image, and a folder that is too large for it.
@@ -112,12 +107,12 @@ const FULL: &[Row<'static>] = &[
 ];
 
 #[test]
-fn what_is_too_large_is_not_left_in_part(rt: HostRuntime) -> Result<(), Fail> {
+fn what_is_too_large_is_not_left_in_part(rt: HostRuntime) {
     let image = "rows_hosts_full.img";
-    let bytes = vec![in rt.alloc(); b'b'; 12_000]?;
-    made_small(&rt, image)?;
-    made_folder(&rt, "rows_hosts_full", "rows_hosts_full/a")?;
-    fs::write(&rt, "rows_hosts_full/b", bytes.as_slice())?;
-    give(&rt, image, FULL)?;
-    gives(&rt, "check --workers 1", image, Printed(CLEAN_REPORT, 0))
+    let bytes = vec![in rt.alloc(); b'b'; 12_000].expect(&rt, "memory");
+    made_small(&rt, image);
+    made_folder(&rt, "rows_hosts_full", "rows_hosts_full/a");
+    writes(&rt, "rows_hosts_full/b", bytes.as_slice());
+    give(&rt, image, FULL);
+    gives(&rt, "check --workers 1", image, Printed(CLEAN_REPORT, 0));
 }

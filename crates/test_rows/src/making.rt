@@ -1,6 +1,8 @@
 //! The line `mkfs`.
 use crate::trying::Wanted::{Printed, Refused};
-use crate::trying::{SMALL, Wanted, gives, holds, is_missing, made_small, same, set};
+use crate::trying::{
+    SMALL, Wanted, gives, holds, is_missing, made_small, removes, same, set, writes,
+};
 use serve_lines::Holdable;
 use std::alloc::{AllocError, Global};
 use std::fs;
@@ -9,7 +11,6 @@ use std::os::unix::fs::FileExt;
 use std::process::Abort;
 use std::rt::Files;
 use std::sync::Wait;
-use std::test::Fail;
 use std::thread::Threads;
 use std::time::Clock;
 
@@ -25,13 +26,12 @@ const SMALL_IMAGE: &[(usize, &[u8])] = &[
 ];
 
 #[test]
-fn mkfs_writes_these_bytes(rt: HostRuntime) -> Result<(), Fail> {
+fn mkfs_writes_these_bytes(rt: HostRuntime) {
     let image = "rows_these_bytes.img";
-    let wanted = small_image(rt.alloc())?;
-    let bytes = made_small(&rt, image)?;
+    let wanted = small_image(rt.alloc()).expect(&rt, "memory");
+    let bytes = made_small(&rt, image);
     same(&rt, &[image], bytes.as_slice(), wanted.as_slice());
-    fs::remove_file(&rt, image)?;
-    Ok(())
+    removes(&rt, image);
 }
 
 /// A fresh image of 1 group, 16 blocks and 16 inodes.
@@ -46,14 +46,13 @@ fn small_image(alloc: Global) -> Result<Vec<u8>, AllocError> {
 }
 
 #[test]
-fn mkfs_replaces_an_older_file(rt: HostRuntime) -> Result<(), Fail> {
+fn mkfs_replaces_an_older_file(rt: HostRuntime) {
     let image = "rows_older_file.img";
-    let fresh = made_small(&rt, image)?;
+    let fresh = made_small(&rt, image);
     for length in [0, 100, SMALL, 40_000] {
-        replaces(&rt, image, length, fresh.as_slice())?;
+        replaces(&rt, image, length, fresh.as_slice());
     }
-    fs::remove_file(&rt, image)?;
-    Ok(())
+    removes(&rt, image);
 }
 
 /// An image of these bytes is made in place of an older file of this length.
@@ -62,15 +61,14 @@ fn replaces<R: Files + AllocGlobal + Clock + Eprint + Threads + Wait + Sync + Ab
     image: &str,
     length: usize,
     fresh: &[u8],
-) -> Result<(), Fail>
+)
 where
     R::File: FileExt + Holdable + Send,
 {
-    let older = vec![in rt.alloc(); 0xffu8; length]?;
-    fs::write(rt, image, older.as_slice())?;
-    let bytes = made_small(rt, image)?;
+    let older = vec![in rt.alloc(); 0xffu8; length].expect(rt, "memory");
+    writes(rt, image, older.as_slice());
+    let bytes = made_small(rt, image);
     same(rt, &[image], bytes.as_slice(), fresh);
-    Ok(())
 }
 
 /// The words of numbers that no geometry has, and the limit that is told of each.
@@ -99,31 +97,29 @@ const NO_GEOMETRIES: &[[&str; 2]] = &[
 ];
 
 #[test]
-fn mkfs_refuses_numbers_of_no_geometry(rt: HostRuntime) -> Result<(), Fail> {
+fn mkfs_refuses_numbers_of_no_geometry(rt: HostRuntime) {
     let image = "rows_no_geometry.img";
     let _ = fs::remove_file(&rt, image);
     for [start, limit] in NO_GEOMETRIES {
-        refuses_geometry(&rt, start, limit, image)?;
+        refuses_geometry(&rt, start, limit, image);
     }
-    Ok(())
 }
 
 /// The line is refused where no file stands, and makes none, and where one stands, and leaves that.
 fn refuses_geometry<
     R: Files + AllocGlobal + Clock + Eprint + Threads + Wait + Sync + Abort + Clone + Drop,
->(rt: &R, start: &str, limit: &str, image: &str) -> Result<(), Fail>
+>(rt: &R, start: &str, limit: &str, image: &str)
 where
     R::File: FileExt + Holdable + Send,
 {
-    let refused = format!(in rt.alloc(); "refused 29 BadGeometry\n{limit}\n")?;
+    let refused = format!(in rt.alloc(); "refused 29 BadGeometry\n{limit}\n").expect(rt, "memory");
     let wanted = Refused(refused.as_str(), 3);
-    gives(rt, start, image, wanted)?;
+    gives(rt, start, image, wanted);
     is_missing(rt, start, image);
-    fs::write(rt, image, "as it was")?;
-    gives(rt, start, image, wanted)?;
-    holds(rt, start, image, b"as it was")?;
-    fs::remove_file(rt, image)?;
-    Ok(())
+    writes(rt, image, b"as it was");
+    gives(rt, start, image, wanted);
+    holds(rt, start, image, b"as it was");
+    removes(rt, image);
 }
 
 /// Lines, their last words, and why the host refused a call about these.
@@ -143,10 +139,11 @@ const FAILED: &[[&str; 3]] = &[
 ];
 
 #[test]
-fn an_image_that_cannot_be_opened_is_a_failed_device(rt: HostRuntime) -> Result<(), Fail> {
+fn an_image_that_cannot_be_opened_is_a_failed_device(rt: HostRuntime) {
     for [start, image, why] in FAILED {
-        let refused = format!(in rt.alloc(); "refused 2 Device\nat {image}: {why}\n")?;
-        gives(&rt, start, image, Refused(refused.as_str(), 4))?;
+        let refused = format!(in rt.alloc(); "refused 2 Device\nat {image}: {why}\n").expect(
+            &rt, "memory",
+        );
+        gives(&rt, start, image, Refused(refused.as_str(), 4));
     }
-    Ok(())
 }

@@ -8,7 +8,6 @@ use std::os::unix::fs::FileExt;
 use std::process::Abort;
 use std::rt::Files;
 use std::sync::Wait;
-use std::test::Fail;
 use std::thread::Threads;
 use std::time::Clock;
 use std::{fs, io};
@@ -30,24 +29,23 @@ const WRONG: &[&str] = &[
 ];
 
 #[test]
-fn a_wrong_line_is_refused_with_a_text(rt: HostRuntime) -> Result<(), Fail> {
+fn a_wrong_line_is_refused_with_a_text(rt: HostRuntime) {
     let image = "rows_wrong_line.img";
     let _ = fs::remove_file(&rt, image);
     for &line in WRONG {
-        is_refused_with_a_text(&rt, line)?;
+        is_refused_with_a_text(&rt, line);
         is_missing(&rt, line, image);
     }
-    Ok(())
 }
 
 /// The line prints nothing, and tells something of its refusal.
 fn is_refused_with_a_text<
     R: Files + AllocGlobal + Clock + Eprint + Threads + Wait + Sync + Abort + Clone + Drop,
->(rt: &R, line: &str) -> Result<(), Fail>
+>(rt: &R, line: &str)
 where
     R::File: FileExt + Holdable + Send,
 {
-    let words: Vec<&str> = line.split(' ').collect(rt.alloc())?;
+    let words: Vec<&str> = line.split(' ').collect(rt.alloc()).expect(rt, "memory");
     let mut out = Vec::new(rt.alloc());
     let mut err = Vec::new(rt.alloc());
     let mut channel = unconnected(rt.alloc());
@@ -62,7 +60,6 @@ where
     has_status(rt, line, status, 3);
     is_empty(rt, line, out.as_slice());
     is_not_empty(rt, line, err.as_slice());
-    Ok(())
 }
 
 fn has_status(rt: &impl Abort, line: &str, status: u8, wanted: u8) {

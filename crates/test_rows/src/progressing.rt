@@ -1,6 +1,6 @@
 //! What a watcher is told of the lines.
 use crate::hosting::made_folder;
-use crate::trying::{changed, made_small, unconnected};
+use crate::trying::{changed, made_small, removes, unconnected, writes};
 use commands::{Line, carry_out, parse};
 use progress::{Step, Watcher};
 use serve_lines::Holdable;
@@ -11,7 +11,6 @@ use std::process::Abort;
 use std::rt::Files;
 use std::sync::Wait;
 use std::sync::atomic::{AtomicU64, Ordering};
-use std::test::Fail;
 use std::thread::Threads;
 use std::time::Clock;
 
@@ -28,16 +27,16 @@ impl Watcher for Counting {
 }
 
 /// How often a watcher is told something while a line is carried out.
-fn told_of<R: Files + AllocGlobal + Clock + Eprint + Threads + Wait + Sync + Clone + Drop>(
+fn told_of<R: Files + AllocGlobal + Clock + Eprint + Threads + Wait + Sync + Abort + Clone + Drop>(
     rt: &R,
     line: &str,
-) -> Result<u64, Fail>
+) -> u64
 where
     R::File: FileExt + Holdable + Send,
 {
-    let words: Vec<&str> = line.split(' ').collect(rt.alloc())?;
-    let asked = parse(rt.alloc(), words.as_slice()).ok().ok_or(line)?;
-    Ok(told_while(rt, &asked).ok_or(line)?)
+    let words: Vec<&str> = line.split(' ').collect(rt.alloc()).expect(rt, "memory");
+    let asked = parse(rt.alloc(), words.as_slice()).ok().expect(rt, line);
+    told_while(rt, &asked).expect(rt, line)
 }
 
 /// How often a watcher is told something while a line is carried out, if it is not refused.
@@ -73,19 +72,18 @@ const TOLD: &[(&str, u64)] = &[
 ];
 
 #[test]
-fn a_watcher_is_told_how_far_a_line_has_come(rt: HostRuntime) -> Result<(), Fail> {
+fn a_watcher_is_told_how_far_a_line_has_come(rt: HostRuntime) {
     let image = "rows_told.img";
     let _ = fs::remove_dir_all(&rt, "rows_told_out");
-    made_folder(&rt, "rows_told", "rows_told/a")?;
-    let fresh = made_small(&rt, image)?;
-    let soft = changed(rt.alloc(), fresh.as_slice(), &[(1_184, 33)])?;
-    fs::write(&rt, image, soft.as_slice())?;
+    made_folder(&rt, "rows_told", "rows_told/a");
+    let fresh = made_small(&rt, image);
+    let soft = changed(&rt, fresh.as_slice(), &[(1_184, 33)]);
+    writes(&rt, image, soft.as_slice());
     for &(line, times) in TOLD {
-        is_told(&rt, line, told_of(&rt, line)?, times);
+        is_told(&rt, line, told_of(&rt, line), times);
     }
-    fs::remove_dir_all(&rt, "rows_told_out")?;
-    fs::remove_file(&rt, image)?;
-    Ok(())
+    fs::remove_dir_all(&rt, "rows_told_out").expect(&rt, "rows_told_out");
+    removes(&rt, image);
 }
 
 fn is_told(rt: &impl Abort, line: &str, told: u64, times: u64) {

@@ -1,7 +1,7 @@
 //! The lines `run`, `stops` and `cuts`.
 use crate::reports::{CLEAN_REPORT, SOFT_MENDED, SOFT_REPORT};
 use crate::trying::Wanted::{Printed, Refused};
-use crate::trying::{Changes, Wanted, changed, gives, holds, made_small};
+use crate::trying::{Changes, Wanted, changed, gives, holds, made_small, removes, writes};
 use serve_lines::Holdable;
 use std::fs;
 use std::io::Eprint;
@@ -9,7 +9,6 @@ use std::os::unix::fs::FileExt;
 use std::process::Abort;
 use std::rt::Files;
 use std::sync::Wait;
-use std::test::Fail;
 use std::thread::Threads;
 use std::time::Clock;
 
@@ -20,23 +19,16 @@ const TIMES: u32 = 20;
 /// its file first, and of a file with this script.
 fn gives_of_script<
     R: Files + AllocGlobal + Clock + Eprint + Threads + Wait + Sync + Abort + Clone + Drop,
->(
-    rt: &R,
-    start: &str,
-    (image, bytes): (&str, &[u8]),
-    script: &str,
-    wanted: Wanted<'_>,
-) -> Result<(), Fail>
+>(rt: &R, start: &str, (image, bytes): (&str, &[u8]), script: &str, wanted: Wanted<'_>)
 where
     R::File: FileExt + Holdable + Send,
 {
-    let file = format!(in rt.alloc(); "{image}.script")?;
-    let start = format!(in rt.alloc(); "{start} {image}")?;
-    fs::write(rt, image, bytes)?;
-    fs::write(rt, file.as_str(), script)?;
-    gives(rt, start.as_str(), file.as_str(), wanted)?;
-    fs::remove_file(rt, file.as_str())?;
-    Ok(())
+    let file = format!(in rt.alloc(); "{image}.script").expect(rt, "memory");
+    let start = format!(in rt.alloc(); "{start} {image}").expect(rt, "memory");
+    writes(rt, image, bytes);
+    writes(rt, file.as_str(), script.as_bytes());
+    gives(rt, start.as_str(), file.as_str(), wanted);
+    removes(rt, file.as_str());
 }
 
 /// The lines of one user, and behind them what is printed.
@@ -52,10 +44,10 @@ const TWO_USERS: &[&str; 2] = &[
 ];
 
 #[test]
-fn run_tells_what_users_are_answered(rt: HostRuntime) -> Result<(), Fail> {
+fn run_tells_what_users_are_answered(rt: HostRuntime) {
     let image = "rows_run.img";
-    let fresh = made_small(&rt, image)?;
-    let leaked = changed(rt.alloc(), fresh.as_slice(), &[(1_184, 33)])?;
+    let fresh = made_small(&rt, image);
+    let leaked = changed(&rt, fresh.as_slice(), &[(1_184, 33)]);
     let [one, one_told] = *ONE_USER;
     let [two, two_told] = *TWO_USERS;
     for _time in 0..TIMES {
@@ -64,22 +56,21 @@ fn run_tells_what_users_are_answered(rt: HostRuntime) -> Result<(), Fail> {
             (image, fresh.as_slice()),
             one,
             [one_told, CLEAN_REPORT, "repaired 0\n"],
-        )?;
+        );
         runs(
             &rt,
             (image, leaked.as_slice()),
             two,
             [two_told, SOFT_REPORT, SOFT_MENDED],
-        )?;
+        );
         runs(
             &rt,
             (image, fresh.as_slice()),
             "",
             ["", CLEAN_REPORT, "repaired 0\n"],
-        )?;
+        );
     }
-    fs::remove_file(&rt, image)?;
-    Ok(())
+    removes(&rt, image);
 }
 
 /// A script is carried out on an image of these bytes, and tells these parts; a check finds nothing on it then.
@@ -88,19 +79,19 @@ fn runs<R: Files + AllocGlobal + Clock + Eprint + Threads + Wait + Sync + Abort 
     (image, bytes): (&str, &[u8]),
     script: &str,
     [answers, report, mended]: [&str; 3],
-) -> Result<(), Fail>
+)
 where
     R::File: FileExt + Holdable + Send,
 {
-    let told = format!(in rt.alloc(); "{answers}{report}{mended}")?;
+    let told = format!(in rt.alloc(); "{answers}{report}{mended}").expect(rt, "memory");
     gives_of_script(
         rt,
         "run --workers 2",
         (image, bytes),
         script,
         Printed(told.as_str(), 0),
-    )?;
-    gives(rt, "check --workers 1", image, Printed(CLEAN_REPORT, 0))
+    );
+    gives(rt, "check --workers 1", image, Printed(CLEAN_REPORT, 0));
 }
 
 /// Lines on changes of a fresh image, their scripts, and how each is refused.
@@ -156,15 +147,14 @@ const RUNS_REFUSED: &[(&str, Changes<'static>, &str, Wanted<'static>)] = &[
 ];
 
 #[test]
-fn run_writes_no_image_that_it_refuses(rt: HostRuntime) -> Result<(), Fail> {
+fn run_writes_no_image_that_it_refuses(rt: HostRuntime) {
     let image = "rows_run_refused.img";
-    let fresh = made_small(&rt, image)?;
+    let fresh = made_small(&rt, image);
     for &(start, changes, script, wanted) in RUNS_REFUSED {
-        let bytes = changed(rt.alloc(), fresh.as_slice(), changes)?;
-        leaves(&rt, start, (image, bytes.as_slice()), script, wanted)?;
+        let bytes = changed(&rt, fresh.as_slice(), changes);
+        leaves(&rt, start, (image, bytes.as_slice()), script, wanted);
     }
-    fs::remove_file(&rt, image)?;
-    Ok(())
+    removes(&rt, image);
 }
 
 /// Carries out a line with a script on an image of these bytes, which stand there still then.
@@ -174,24 +164,23 @@ fn leaves<R: Files + AllocGlobal + Clock + Eprint + Threads + Wait + Sync + Abor
     (image, bytes): (&str, &[u8]),
     script: &str,
     wanted: Wanted<'_>,
-) -> Result<(), Fail>
+)
 where
     R::File: FileExt + Holdable + Send,
 {
-    gives_of_script(rt, start, (image, bytes), script, wanted)?;
-    holds(rt, start, image, bytes)
+    gives_of_script(rt, start, (image, bytes), script, wanted);
+    holds(rt, start, image, bytes);
 }
 
 #[test]
-fn scripts_and_images_that_cannot_be_read_are_failed_devices(rt: HostRuntime) -> Result<(), Fail> {
+fn scripts_and_images_that_cannot_be_read_are_failed_devices(rt: HostRuntime) {
     let image = "rows_no_script.img";
-    let fresh = made_small(&rt, image)?;
-    fails_without_files(&rt, "run --workers 1", image)?;
-    fails_without_files(&rt, "stops", image)?;
-    fails_without_files(&rt, "cuts", image)?;
-    holds(&rt, "run, stops, cuts", image, fresh.as_slice())?;
-    fs::remove_file(&rt, image)?;
-    Ok(())
+    let fresh = made_small(&rt, image);
+    fails_without_files(&rt, "run --workers 1", image);
+    fails_without_files(&rt, "stops", image);
+    fails_without_files(&rt, "cuts", image);
+    holds(&rt, "run, stops, cuts", image, fresh.as_slice());
+    removes(&rt, image);
 }
 
 /// How a line is refused whose script is missing.
@@ -209,18 +198,17 @@ const NO_IMAGE: Wanted<'static> = Refused(
 /// The line is refused where its script is missing, and where its image is.
 fn fails_without_files<
     R: Files + AllocGlobal + Clock + Eprint + Threads + Wait + Sync + Abort + Clone + Drop,
->(rt: &R, line: &str, image: &str) -> Result<(), Fail>
+>(rt: &R, line: &str, image: &str)
 where
     R::File: FileExt + Holdable + Send,
 {
     let script = "rows_a_script";
-    let start = format!(in rt.alloc(); "{line} {image}")?;
-    gives(rt, start.as_str(), "rows_no_such_script", NO_SCRIPT)?;
-    fs::write(rt, script, "1 create /x\n")?;
-    let start = format!(in rt.alloc(); "{line} rows_no_such_image.img")?;
-    gives(rt, start.as_str(), script, NO_IMAGE)?;
-    fs::remove_file(rt, script)?;
-    Ok(())
+    let start = format!(in rt.alloc(); "{line} {image}").expect(rt, "memory");
+    gives(rt, start.as_str(), "rows_no_such_script", NO_SCRIPT);
+    writes(rt, script, b"1 create /x\n");
+    let start = format!(in rt.alloc(); "{line} rows_no_such_image.img").expect(rt, "memory");
+    gives(rt, start.as_str(), script, NO_IMAGE);
+    removes(rt, script);
 }
 
 /// Scripts, and what is told of their stops on a fresh image.
@@ -238,9 +226,9 @@ const STOPS: &[[&str; 2]] = &[
 ];
 
 #[test]
-fn stops_tells_what_each_write_leaves(rt: HostRuntime) -> Result<(), Fail> {
+fn stops_tells_what_each_write_leaves(rt: HostRuntime) {
     let image = "rows_stops.img";
-    let fresh = made_small(&rt, image)?;
+    let fresh = made_small(&rt, image);
     for [script, told] in STOPS {
         leaves(
             &rt,
@@ -248,10 +236,9 @@ fn stops_tells_what_each_write_leaves(rt: HostRuntime) -> Result<(), Fail> {
             (image, fresh.as_slice()),
             script,
             Printed(told, 0),
-        )?;
+        );
     }
-    fs::remove_file(&rt, image)?;
-    Ok(())
+    removes(&rt, image);
 }
 
 /// Changes of a fresh image, scripts, and how the stops of each are refused.
@@ -279,12 +266,12 @@ const STOPS_REFUSED: &[(Changes<'static>, &str, Wanted<'static>)] = &[
 ];
 
 #[test]
-fn of_a_long_line_its_first_200_bytes_are_told(rt: HostRuntime) -> Result<(), Fail> {
+fn of_a_long_line_its_first_200_bytes_are_told(rt: HostRuntime) {
     let image = "rows_stops_long.img";
-    let fresh = made_small(&rt, image)?;
-    let script = "x".repeat(rt.alloc(), 201)?;
-    let told = "x".repeat(rt.alloc(), 200)?;
-    let refused = format!(in rt.alloc(); "script line 1\n{told}\n")?;
+    let fresh = made_small(&rt, image);
+    let script = "x".repeat(rt.alloc(), 201).expect(&rt, "memory");
+    let told = "x".repeat(rt.alloc(), 200).expect(&rt, "memory");
+    let refused = format!(in rt.alloc(); "script line 1\n{told}\n").expect(&rt, "memory");
     let wanted = Refused(refused.as_str(), 3);
     leaves(
         &rt,
@@ -292,21 +279,19 @@ fn of_a_long_line_its_first_200_bytes_are_told(rt: HostRuntime) -> Result<(), Fa
         (image, fresh.as_slice()),
         script.as_str(),
         wanted,
-    )?;
-    fs::remove_file(&rt, image)?;
-    Ok(())
+    );
+    removes(&rt, image);
 }
 
 #[test]
-fn stops_refuses_what_cannot_be_mounted(rt: HostRuntime) -> Result<(), Fail> {
+fn stops_refuses_what_cannot_be_mounted(rt: HostRuntime) {
     let image = "rows_stops_refused.img";
-    let fresh = made_small(&rt, image)?;
+    let fresh = made_small(&rt, image);
     for &(changes, script, wanted) in STOPS_REFUSED {
-        let bytes = changed(rt.alloc(), fresh.as_slice(), changes)?;
-        leaves(&rt, "stops", (image, bytes.as_slice()), script, wanted)?;
+        let bytes = changed(&rt, fresh.as_slice(), changes);
+        leaves(&rt, "stops", (image, bytes.as_slice()), script, wanted);
     }
-    fs::remove_file(&rt, image)?;
-    Ok(())
+    removes(&rt, image);
 }
 
 /// The words of a line, a script, and what is told of losses of power on a fresh image.
@@ -325,9 +310,9 @@ const CREATED: &str =
     "cut 0 loose 0 images 1 verdict clean\ncut 1 loose 1 images 2 verdict soft\ncut 2 loose 0 images 1 verdict soft\ncut 3 loose 1 images 2 verdict soft\ncut 4 loose 0 images 1 verdict soft\ncut 5 loose 1 images 2 verdict soft\ncut 6 loose 0 images 1 verdict clean\n";
 
 #[test]
-fn cuts_tells_what_each_loss_of_power_may_leave(rt: HostRuntime) -> Result<(), Fail> {
+fn cuts_tells_what_each_loss_of_power_may_leave(rt: HostRuntime) {
     let image = "rows_cuts.img";
-    let fresh = made_small(&rt, image)?;
+    let fresh = made_small(&rt, image);
     for &(start, script, told) in CUTS {
         leaves(
             &rt,
@@ -335,8 +320,7 @@ fn cuts_tells_what_each_loss_of_power_may_leave(rt: HostRuntime) -> Result<(), F
             (image, fresh.as_slice()),
             script,
             Printed(told, 0),
-        )?;
+        );
     }
-    fs::remove_file(&rt, image)?;
-    Ok(())
+    removes(&rt, image);
 }

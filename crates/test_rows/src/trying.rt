@@ -3,13 +3,12 @@ use channels::MemoryChannel;
 use command_line::Screen;
 use commands::perform;
 use serve_lines::Holdable;
-use std::alloc::{AllocError, Global};
+use std::alloc::Global;
 use std::io::{Eprint, Sink};
 use std::os::unix::fs::FileExt;
 use std::process::Abort;
 use std::rt::Files;
 use std::sync::Wait;
-use std::test::Fail;
 use std::thread::Threads;
 use std::time::Clock;
 use std::{fs, io};
@@ -51,14 +50,13 @@ pub(crate) fn unconnected(alloc: Global) -> MemoryChannel {
 /// Carries out a line of these words, and of a last one behind them.
 pub(crate) fn gives<
     R: Files + AllocGlobal + Clock + Eprint + Threads + Wait + Sync + Abort + Clone + Drop,
->(rt: &R, start: &str, last: &str, wanted: Wanted<'_>) -> Result<(), Fail>
+>(rt: &R, start: &str, last: &str, wanted: Wanted<'_>)
 where
     R::File: FileExt + Holdable + Send,
 {
-    let mut words: Vec<&str> = start.split(' ').collect(rt.alloc())?;
-    words.push(last)?;
+    let mut words: Vec<&str> = start.split(' ').collect(rt.alloc()).expect(rt, "memory");
+    words.push(last).expect(rt, "memory");
     gives_of_words(rt, words.as_slice(), wanted);
-    Ok(())
 }
 
 /// Carries out a line of these words.
@@ -101,33 +99,32 @@ pub(crate) fn same(rt: &impl Abort, words: &[&str], bytes: &[u8], wanted: &[u8])
 /// Carries out lines on an image, one after another.
 pub(crate) fn give<
     R: Files + AllocGlobal + Clock + Eprint + Threads + Wait + Sync + Abort + Clone + Drop,
->(rt: &R, image: &str, lines: &[Row<'_>]) -> Result<(), Fail>
+>(rt: &R, image: &str, lines: &[Row<'_>])
 where
     R::File: FileExt + Holdable + Send,
 {
     for &(name, words, last, wanted) in lines {
-        let start = format!(in rt.alloc(); "{name} {image}{words}")?;
-        gives(rt, start.as_str(), last, wanted)?;
+        let start = format!(in rt.alloc(); "{name} {image}{words}").expect(rt, "memory");
+        gives(rt, start.as_str(), last, wanted);
     }
-    Ok(())
 }
 
 /// Makes a fresh image in this file, and gives its bytes.
 pub(crate) fn made<
     R: Files + AllocGlobal + Clock + Eprint + Threads + Wait + Sync + Abort + Clone + Drop,
->(rt: &R, geometry: &str, image: &str) -> Result<Vec<u8>, Fail>
+>(rt: &R, geometry: &str, image: &str) -> Vec<u8>
 where
     R::File: FileExt + Holdable + Send,
 {
-    let start = format!(in rt.alloc(); "mkfs {geometry}")?;
-    gives(rt, start.as_str(), image, Printed("", 0))?;
-    Ok(fs::read(rt, image)?)
+    let start = format!(in rt.alloc(); "mkfs {geometry}").expect(rt, "memory");
+    gives(rt, start.as_str(), image, Printed("", 0));
+    fs::read(rt, image).expect(rt, image)
 }
 
 /// A fresh image of 1 group, 16 blocks and 16 inodes, in this file.
 pub(crate) fn made_small<
     R: Files + AllocGlobal + Clock + Eprint + Threads + Wait + Sync + Abort + Clone + Drop,
->(rt: &R, image: &str) -> Result<Vec<u8>, Fail>
+>(rt: &R, image: &str) -> Vec<u8>
 where
     R::File: FileExt + Holdable + Send,
 {
@@ -137,79 +134,67 @@ where
 /// Carries out a line of these words on an image of these bytes, which stand in this file, and then stand there still.
 pub(crate) fn gives_of_bytes<
     R: Files + AllocGlobal + Clock + Eprint + Threads + Wait + Sync + Abort + Clone + Drop,
->(rt: &R, start: &str, image: &str, bytes: &[u8], wanted: Wanted<'_>) -> Result<(), Fail>
+>(rt: &R, start: &str, image: &str, bytes: &[u8], wanted: Wanted<'_>)
 where
     R::File: FileExt + Holdable + Send,
 {
-    fs::write(rt, image, bytes)?;
-    gives(rt, start, image, wanted)?;
-    holds(rt, start, image, bytes)
+    writes(rt, image, bytes);
+    gives(rt, start, image, wanted);
+    holds(rt, start, image, bytes);
 }
 
 /// The file has these bytes, after a line of these words.
-pub(crate) fn holds<R: Files + AllocGlobal + Abort>(
-    rt: &R,
-    line: &str,
-    file: &str,
-    bytes: &[u8],
-) -> Result<(), Fail> {
-    let held = fs::read(rt, file)?;
+pub(crate) fn holds<R: Files + AllocGlobal + Abort>(rt: &R, line: &str, file: &str, bytes: &[u8]) {
+    let held = fs::read(rt, file).expect(rt, file);
     same(rt, &[line, file], held.as_slice(), bytes);
-    Ok(())
 }
 
 /// Carries out a line of these words on images, each of these bytes with changes: what it is to give on each. None of them is
 /// written.
 pub(crate) fn gives_of_each<
     R: Files + AllocGlobal + Clock + Eprint + Threads + Wait + Sync + Abort + Clone + Drop,
->(
-    rt: &R,
-    start: &str,
-    image: &str,
-    fresh: &[u8],
-    rows: &[(Changes<'_>, Wanted<'_>)],
-) -> Result<(), Fail>
+>(rt: &R, start: &str, image: &str, fresh: &[u8], rows: &[(Changes<'_>, Wanted<'_>)])
 where
     R::File: FileExt + Holdable + Send,
 {
     for &(changes, wanted) in rows {
-        let bytes = changed(rt.alloc(), fresh, changes)?;
-        gives_of_bytes(rt, start, image, bytes.as_slice(), wanted)?;
+        let bytes = changed(rt, fresh, changes);
+        gives_of_bytes(rt, start, image, bytes.as_slice(), wanted);
     }
-    Ok(())
 }
 
 /// Carries out a line of these words on what is no image, since it has one of these lengths, of which this is told.
 pub(crate) fn refuses_lengths<
     R: Files + AllocGlobal + Clock + Eprint + Threads + Wait + Sync + Abort + Clone + Drop,
->(rt: &R, start: &str, image: &str, fresh: &[u8], lengths: &[(usize, &str)]) -> Result<(), Fail>
+>(rt: &R, start: &str, image: &str, fresh: &[u8], lengths: &[(usize, &str)])
 where
     R::File: FileExt + Holdable + Send,
 {
     for &(length, told) in lengths {
-        let mut bytes = fresh.to_vec(rt.alloc())?;
-        bytes.resize(length, 0)?;
-        let refused = format!(in rt.alloc(); "refused 3 BadLength\nat {image}: {told}\n")?;
+        let mut bytes = fresh.to_vec(rt.alloc()).expect(rt, "memory");
+        bytes.resize(length, 0).expect(rt, "memory");
+        let refused = format!(in rt.alloc(); "refused 3 BadLength\nat {image}: {told}\n").expect(
+            rt, "memory",
+        );
         gives_of_bytes(
             rt,
             start,
             image,
             bytes.as_slice(),
             Refused(refused.as_str(), 3),
-        )?;
+        );
     }
-    Ok(())
 }
 
 /// These bytes with changes.
-pub(crate) fn changed(
-    alloc: Global,
+pub(crate) fn changed<R: AllocGlobal + Abort>(
+    rt: &R,
     bytes: &[u8],
     changes: Changes<'_>,
-) -> Result<Vec<u8>, AllocError> {
-    let mut bytes = bytes.to_vec(alloc)?;
+) -> Vec<u8> {
+    let mut bytes = bytes.to_vec(rt.alloc()).expect(rt, "memory");
     set_all(bytes.as_mut_slice(), changes);
-    Ok(bytes)
+    bytes
 }
 
 /// Sets each of these bytes.
@@ -224,6 +209,16 @@ pub(crate) fn set(bytes: &mut [u8], place: usize, value: u8) {
     if let Some(byte) = bytes.get_mut(place) {
         *byte = value;
     }
+}
+
+/// Writes a file with these bytes.
+pub(crate) fn writes<R: Files + Abort>(rt: &R, path: &str, bytes: &[u8]) {
+    fs::write(rt, path, bytes).expect(rt, path);
+}
+
+/// Removes a file.
+pub(crate) fn removes<R: Files + Abort>(rt: &R, path: &str) {
+    fs::remove_file(rt, path).expect(rt, path);
 }
 
 /// Whether the file stands there.
