@@ -1,7 +1,7 @@
 use Rattle.std.proofs.Common.{sym, ◌∙◌}
 use Rattle.frozen.specs.Kept.{frozen_view}
 use Rattle.live_plans.proofs.FoundLemmas.{self_shown}
-use Rattle.live_removals.proofs.Naming.{entry_kept}
+use Rattle.test_plans.proofs.Ends.{entry_kept}
 use Rattle.model.proofs.SlotLemmas.{directory_number}
 use Rattle.test_plans.proofs.removals.removing.Goals as goal
 

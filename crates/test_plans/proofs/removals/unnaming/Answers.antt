@@ -1,6 +1,6 @@
 use Rattle.frozen.specs.Kept.{frozen_view}
 use Rattle.live_plans.proofs.FoundLemmas.{self_shown}
-use Rattle.live_removals.proofs.Naming.{entry_kept}
+use Rattle.test_plans.proofs.Ends.{entry_kept}
 use Rattle.test_plans.proofs.removals.unnaming.Goals as goal
 
 pub unnamed-requires-clause-entry : goal.unnamed-requires-clause-entry

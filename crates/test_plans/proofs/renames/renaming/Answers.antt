@@ -1,8 +1,7 @@
 use Rattle.frozen.specs.Kept.{frozen_view}
 use Rattle.live_paths.proofs.ShownLemmas.{self_shown}
 use Rattle.live_renames.specs.Refused.{AreEnds}
-use Rattle.live_renames.proofs.CauseLemmas.{part_short, walked_parts}
-use Rattle.live_renames.proofs.LateLemmas.{there}
+use Rattle.test_plans.proofs.Ends.{part_short, there, walked_parts}
 use Rattle.test_plans.proofs.renames.renaming.Goals as goal
 
 pub rename_in_slot-requires-clause-found : goal.rename_in_slot-requires-clause-found
