@@ -6,7 +6,7 @@ use std::alloc::Global;
 use test_trials::is_loose;
 
 /// A device in memory that keeps what it is given.
-pub trait Keeps: Device + Drop {
+pub trait Keeps: Device {
     /// One that begins with what a device in memory holds.
     fn over(alloc: Global, image: MemDevice) -> Result<Self, Refusal>;
 
