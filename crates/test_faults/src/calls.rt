@@ -4,6 +4,7 @@ use crate::plain::Plain;
 use crate::running::{Fused, fused, is_wanted, kept, mount};
 use crate::tally::Tally;
 use anyhow::Result;
+use device::Device;
 use layout::Refusal;
 use snapshot::{NotMounted, Volume};
 use std::alloc::Global;
@@ -38,7 +39,7 @@ enum Wrong {
 }
 
 /// Lets each call of the device fail that a trial makes, with all that follow and alone.
-pub fn break_calls<R: Threads + Eprint + Sync + AllocGlobal, D: Keeps>(
+pub fn break_calls<R: Threads + Eprint + Sync + AllocGlobal, D: Device + Keeps>(
     rt: &R,
     name: (&str, &str),
     plain: &Plain<D>,
@@ -52,7 +53,7 @@ pub fn break_calls<R: Threads + Eprint + Sync + AllocGlobal, D: Keeps>(
 }
 
 /// Carries a trial out on a device that fails so.
-fn break_call<R: Threads + Eprint + Sync + AllocGlobal, D: Keeps>(
+fn break_call<R: Threads + Eprint + Sync + AllocGlobal, D: Device + Keeps>(
     rt: &R,
     name: (&str, &str),
     plain: &Plain<D>,
@@ -69,7 +70,7 @@ fn break_call<R: Threads + Eprint + Sync + AllocGlobal, D: Keeps>(
 }
 
 /// What goes wrong where the device fails so, if anything does.
-fn wrong_of<D: Keeps>(
+fn wrong_of<D: Device + Keeps>(
     rt: &(impl Threads + Sync),
     alloc: Global,
     plain: &Plain<D>,
@@ -83,7 +84,7 @@ fn wrong_of<D: Keeps>(
 }
 
 /// The same of a volume that was mounted, with no failure.
-fn wrong_in_volume<D: Keeps>(
+fn wrong_in_volume<D: Device + Keeps>(
     rt: &(impl Threads + Sync),
     alloc: Global,
     volume: &mut Volume<Fused<D>>,
@@ -97,7 +98,7 @@ fn wrong_in_volume<D: Keeps>(
 }
 
 /// The same where the mount was refused. If the device failed once it is mounted again.
-fn wrong_after_mount<D: Keeps>(
+fn wrong_after_mount<D: Device + Keeps>(
     rt: &(impl Threads + Sync),
     alloc: Global,
     refused: NotMounted<Fused<D>>,
@@ -118,7 +119,7 @@ fn wrong_after_mount<D: Keeps>(
 }
 
 /// The same of a mounted volume.
-fn wrong_in_steps<D: Keeps>(
+fn wrong_in_steps<D: Device + Keeps>(
     rt: &(impl Threads + Sync),
     alloc: Global,
     volume: &mut Volume<Fused<D>>,
@@ -140,7 +141,7 @@ fn wrong_in_steps<D: Keeps>(
 
 /// Carries a step out in which the device may fail, once more where it does so once. What comes behind a step that was refused
 /// for good may be answered otherwise.
-fn wrong_in_step<D: Keeps>(
+fn wrong_in_step<D: Device + Keeps>(
     rt: &(impl Threads + Sync),
     alloc: Global,
     volume: &mut Volume<Fused<D>>,
@@ -166,7 +167,7 @@ fn wrong_in_step<D: Keeps>(
 }
 
 /// What is wrong with how a step came out in which the device did not fail, and before which it had failed so often.
-fn wrong_otherwise<D: Keeps>(
+fn wrong_otherwise<D: Device + Keeps>(
     alloc: Global,
     volume: &Volume<Fused<D>>,
     told: &Result<Told, Refusal>,
@@ -188,7 +189,7 @@ fn is_refused_so(told: &Result<Told, Refusal>) -> bool {
 }
 
 /// What is wrong with how a step came out in which the device failed, and before which users saw this.
-fn wrong_refusal<D: Keeps>(
+fn wrong_refusal<D: Device + Keeps>(
     alloc: Global,
     volume: &Volume<Fused<D>>,
     before: &Seen,
@@ -202,7 +203,7 @@ fn wrong_refusal<D: Keeps>(
 }
 
 /// Carries a step out that has to give its answer.
-fn wrong_answer<D: Keeps>(
+fn wrong_answer<D: Device + Keeps>(
     rt: &(impl Threads + Sync),
     alloc: Global,
     volume: &mut Volume<Fused<D>>,
@@ -213,7 +214,7 @@ fn wrong_answer<D: Keeps>(
 }
 
 /// What is wrong with how a step came out.
-fn wrong_told<D: Keeps>(
+fn wrong_told<D: Device + Keeps>(
     alloc: Global,
     volume: &Volume<Fused<D>>,
     told: &Result<Told, Refusal>,
@@ -226,7 +227,7 @@ fn wrong_told<D: Keeps>(
 }
 
 /// Whether a step is a sync that was answered, and a loss of power may take back what was written before.
-fn may_lose_synced<D: Keeps>(
+fn may_lose_synced<D: Device + Keeps>(
     volume: &Volume<Fused<D>>,
     step: &Step,
     told: &Result<Told, Refusal>,
@@ -237,7 +238,7 @@ fn may_lose_synced<D: Keeps>(
 /// What is wrong once all steps were carried out: the device has to have failed, and what was written and synced has to be what is
 /// where nothing fails: all of it where the device failed once, and the first of it else. So what a loss of power may leave at a
 /// moment of such a run it may leave at one of the run in which nothing fails.
-fn wrong_at_end<D: Keeps>(
+fn wrong_at_end<D: Device + Keeps>(
     volume: &Volume<Fused<D>>,
     plain: &Plain<D>,
     once: bool,

@@ -1,12 +1,12 @@
 //! Devices in memory that keep what they are given.
-use device::{CacheDevice, Device, MemDevice};
+use device::{CacheDevice, MemDevice};
 use layout::Refusal;
 use recording::Recording;
 use std::alloc::Global;
 use test_trials::is_loose;
 
 /// A device in memory that keeps what it is given.
-pub trait Keeps: Device {
+pub trait Keeps {
     /// One that begins with what a device in memory holds.
     fn over(alloc: Global, image: MemDevice) -> Result<Self, Refusal>;
 

@@ -1,7 +1,7 @@
 //! A trial whose device does not fail.
 use crate::keeping::Keeps;
 use crate::running::{Fused, fused, is_wanted, mount};
-use device::MemDevice;
+use device::{Device, MemDevice};
 use layout::Refusal;
 use snapshot::Volume;
 use std::alloc::Global;
@@ -10,7 +10,7 @@ use test_trials::{Step, Trial, beginning_of, carry_out, steps_of};
 
 /// How a trial goes whose device does not fail.
 #[derive(Drop)]
-pub struct Plain<D: Keeps> {
+pub struct Plain<D: Device + Keeps> {
     /// A device, which was never written, with the image with which it begins.
     pub image: MemDevice,
     pub steps: Vec<Step>,
@@ -22,7 +22,7 @@ pub struct Plain<D: Keeps> {
     pub wrong: u64,
 }
 
-impl<D: Keeps> Plain<D> {
+impl<D: Device + Keeps> Plain<D> {
     /// How many calls of the device were made in all.
     pub fn all_calls(&self) -> u64 {
         match self.calls.last() {
@@ -41,7 +41,7 @@ impl<D: Keeps> Plain<D> {
 }
 
 /// Carries a trial out with a version of the layout.
-pub fn plain_of<D: Keeps>(
+pub fn plain_of<D: Device + Keeps>(
     rt: &(impl Threads + Sync),
     alloc: Global,
     trial: &Trial,
@@ -63,7 +63,10 @@ pub fn plain_of<D: Keeps>(
 }
 
 /// The volume of an image, on a device that does not fail.
-fn mounted<D: Keeps>(alloc: Global, image: &MemDevice) -> Result<Volume<Fused<D>>, Refusal> {
+fn mounted<D: Device + Keeps>(
+    alloc: Global,
+    image: &MemDevice,
+) -> Result<Volume<Fused<D>>, Refusal> {
     match mount(alloc, fused(alloc, image, u64::MAX, true)?) {
         Ok(volume) => Ok(volume),
         Err(refused) => Err(refused.cause),
@@ -71,7 +74,7 @@ fn mounted<D: Keeps>(alloc: Global, image: &MemDevice) -> Result<Volume<Fused<D>
 }
 
 /// Carries a step out, and tells whether it came out as it has to.
-fn goes_well<D: Keeps>(
+fn goes_well<D: Device + Keeps>(
     rt: &(impl Threads + Sync),
     alloc: Global,
     volume: &mut Volume<Fused<D>>,
@@ -82,7 +85,7 @@ fn goes_well<D: Keeps>(
 }
 
 /// Carries a step out, and adds how it came out.
-fn add_step<D: Keeps>(
+fn add_step<D: Device + Keeps>(
     rt: &(impl Threads + Sync),
     alloc: Global,
     step: Step,

@@ -1,6 +1,6 @@
 //! The volume of a trial, on a device that may fail, and how its steps come out.
 use crate::keeping::Keeps;
-use device::{Fuse, MemDevice};
+use device::{Device, Fuse, MemDevice};
 use layout::Refusal;
 use snapshot::{Command, Live, NotMounted, Volume};
 use std::alloc::{AllocError, Global};
@@ -10,7 +10,7 @@ use test_trials::{Action, Step, Told, Watched, write_told};
 pub type Fused<D> = Watched<Fuse<D>>;
 
 /// A device with this image that lets so many calls through, and then fails once or from then on.
-pub fn fused<D: Keeps>(
+pub fn fused<D: Device + Keeps>(
     alloc: Global,
     image: &MemDevice,
     calls: u64,
@@ -21,7 +21,7 @@ pub fn fused<D: Keeps>(
 }
 
 /// A volume, or a device whose volume was not mounted and the cause.
-pub fn mount<D: Keeps>(
+pub fn mount<D: Device + Keeps>(
     alloc: Global,
     device: Fused<D>,
 ) -> Result<Volume<Fused<D>>, NotMounted<Fused<D>>> {
@@ -32,13 +32,13 @@ pub fn mount<D: Keeps>(
 }
 
 /// The device of a volume, which keeps what it was given.
-pub fn kept<D: Keeps>(volume: &Volume<Fused<D>>) -> &D {
+pub fn kept<D: Device + Keeps>(volume: &Volume<Fused<D>>) -> &D {
     volume.live().device().device().device()
 }
 
 /// Whether a step came out as it has to. How many updates a flush writes depends on the device: what was written before may be
 /// loose.
-pub fn is_wanted<D: Keeps>(
+pub fn is_wanted<D: Device + Keeps>(
     alloc: Global,
     told: &Result<Told, Refusal>,
     step: &Step,
