@@ -1,6 +1,20 @@
 //! A mounted volume that is served by one thread, while another one mends what leaked and flushes what is pending.
 //!
-//! Both stand behind one lock, which is taken for a whole request, and for each part of what is done beside.
+//! Both stand behind one lock, which is taken for a whole request, and for each part of what is done beside:
+//!
+//! ```text
+//!   the thread that serves                     the thread beside
+//!   takes a message                            freezes                                  under the lock
+//!   answers it by a turn    under the lock     checks the snapshot by its workers       without the lock
+//!   gives the reply                            installs, repairs one by one, releases   under the lock each time
+//!   takes a message ..                         each second: flushes a share, 16 blocks  under the lock each time
+//!                                              waits for the medium                     without the lock
+//!                                              tells the queue by a flush of block 0    under the lock
+//! ```
+//!
+//! At the end the first hands over to the second and back: before the turn of DESTROY it sets `ends`, wakes the other and waits until
+//! `works` is false. The other sees `ends` where it rests and between its parts, clears `works` and wakes the first, whose turn then closes
+//! all files and syncs. A channel that fails ends the service in the same way.
 #![tactic(auto)]
 
 mod beginning;

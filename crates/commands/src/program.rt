@@ -28,8 +28,8 @@ Status:
   4  no memory, the device failed, or the output could not be written
 
 Safety:
-  A line that changes an image syncs at its end. If the program is stopped before,
-  the image has leaks and no damage. If the power fails, only what was synced is safe.
+  A line that changes an image syncs at its end. If the program is stopped before, or
+  the power fails, the image leaks at most, and has the files of the last sync.
 
 Example:
   fsvol mkfs disk.img --groups 1 --blocks 64 --inodes 32

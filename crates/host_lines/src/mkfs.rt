@@ -1,5 +1,5 @@
 //! The line `mkfs`: a fresh image, and what a folder of the host holds in it.
-ghost use Rattle.std.specs.Prelude.{◌≡◌, [], IfOk};
+ghost use Rattle.std.specs.Prelude.{◌≡◌, [], IfOk, OnOk};
 ghost use Rattle.file_device.specs.Calls.{image_now};
 ghost use Rattle.layout.specs.Fresh.{fresh_image, zero_block};
 
@@ -8,7 +8,7 @@ use crate::geometry::geometry_of;
 use crate::input::{ARCHIVE, archive_given};
 use clap::{Arg, ArgMatches, Command, value_parser};
 use command_line::{Answer, Failure, arguments, words};
-use device::Before;
+use device::{Before, Device};
 use file_device::FileDevice;
 use image_lines::make::make;
 use layout::{Geometry, Refusal};
@@ -100,7 +100,7 @@ where
     }
 }
 
-/// Makes a file with a fresh image, in place of what was there.
+/// Makes a file with a fresh image, in place of what was there, and waits until it is durable.
 fn make_empty<R: Files + AllocGlobal>(
     rt: &R,
     image: &str,
@@ -111,8 +111,20 @@ where
     ensures status { IfOk result (λ answer. answer.status ≡ 0) }
     ensures silent { IfOk result (λ answer. answer.text.items ≡ []) }
 {
-    make_image(rt, image, geometry)?;
-    Ok(Answer::nothing(rt.alloc()))
+    let mut device = make_image(rt, image, geometry)?;
+    match settle(&mut device) {
+        Ok(()) => Ok(Answer::nothing(rt.alloc())),
+        Err(refusal) => Err(Failure::from(refusal).on_image(rt, image)),
+    }
+}
+
+/// Waits until all that was written to a device is durable.
+fn settle<D: Device>(device: &mut D) -> Result<(), Refusal>
+    ensures durable { OnOk result ((D.held device.new).now.loose ≡ []) }
+    ensures same { D.image device.new ≡ D.image device.old }
+{
+    device.sync()?;
+    Ok(())
 }
 
 /// Makes a file with a fresh image, in place of what was there, and gives it as it was opened. A failure tells the file.

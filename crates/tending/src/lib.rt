@@ -1,4 +1,17 @@
 //! One request after another of Linux's FUSE, carried out on a mounted volume by its commands alone.
+//!
+//! ```text
+//!   message -> Desk::turn -> answering::answer -> a module for each kind of request -> reply
+//!                                                  naming  renaming  opening  bytes  setting  showing
+//!                                                     | commands, replies       | what users see
+//!   Mounted   asking    the volume, and the calls of this turn: each command with its reply
+//!             session   nodes: which inodes Linux was told of    attributes: what programs set, until the end
+//!                       owner    rules: which requests are refused (the strict words)
+//! ```
+//!
+//! A request is a *doing* (`specs/Doings`): it asks the volume a command, goes on by the reply, and says something at its end. `specs/Requests`
+//! has the doing of each request, and `Desk::turn` is proved to do it: so a reply is nothing but what the replies of commands make of it. If
+//! memory runs out, the calls so far stay done, and that is said.
 #![tactic(auto)]
 
 mod answering;

@@ -180,7 +180,7 @@ const HELPS: &[(&str, &str)] = &[
     ("--help", "\n  3  the line is refused\n"),
     (
         "--help",
-        "\nSafety:\n  A line that changes an image syncs at its end. If the program is stopped before,\n",
+        "\nSafety:\n  A line that changes an image syncs at its end. If the program is stopped before, or\n",
     ),
     ("--help", "\nExample:\n  fsvol mkfs disk.img "),
     ("--version", "fsvol 0.1.0\n"),
