@@ -70,11 +70,17 @@ class Part:
 
 
 def crate_by_crate(book, _):
-    """The lines of all crates but those of tests and benches."""
-    lines = [*HEAD.split('\n'), '']
+    """The lines of all crates but those of tests and benches, and the names of all others."""
+    lines, without, leaves = [*HEAD.split('\n'), ''], [], []
     for crate in book.crates.values():
-        if not book.layers.is_leaf(crate.name):
-            part = Part(crate)
-            if any(it.clauses for it in crate.public_functions()):
-                lines += part.lines()
-    return lines[:-1]
+        part = Part(crate)
+        if book.layers.is_leaf(crate.name):
+            leaves.append(f'`{crate.name}`')
+        elif any(it.clauses for it in crate.public_functions()):
+            lines += part.lines()
+        else:
+            without.append(f'`{crate.name}`')
+    lines += ['## Without clauses', '']
+    lines += wrapped(f'- {", ".join(without)}: total and safe. What is done to a volume there is promised by the calls that are made.', '  ')
+    lines += wrapped(f'- Tests, and programs for tests and benches: {", ".join(leaves)}.', '  ')
+    return lines
