@@ -1,6 +1,6 @@
 //! Which files a workload makes, where they stand on the volume, and what becomes of them.
 use crate::command::Command;
-use crate::lists::{creation, growth, removal};
+use crate::update_lists::{creation, growth, removal};
 use inode::DIRECT_POINTERS;
 use layout::{Geometry, Refusal};
 use std::alloc::Global;

@@ -16,8 +16,8 @@ mod command;
 mod files;
 mod issuing;
 mod line;
-mod lists;
 mod steady;
+mod update_lists;
 mod writing;
 
 use anyhow::Result;

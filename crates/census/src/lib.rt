@@ -6,22 +6,15 @@
 mod counting;
 mod runs;
 
-ghost use Rattle.std.specs.Prelude.{◌≡◌, IfErr, IfOk, IsErrOf};
 ghost use Rattle.census.specs.Census.{IsCensus};
-ghost use Rattle.device.specs.Reading.{ReadsOnly};
-ghost use Rattle.device.specs.Writes.{HasFailed};
 ghost use Rattle.frozen.specs.Kept.{frozen_view};
-ghost use Rattle.frozen.specs.Loading.{LoadRefuses};
-ghost use Rattle.model.specs.Image.{IsImage, image_view};
-ghost use Rattle.model.specs.Layout.{Geometry as Numbers};
 
 pub use counting::Counted;
 use counting::count;
-use device::Device;
-use frozen::{Frozen, load};
-use layout::{BLOCK_BYTES, Geometry, Refusal};
+use frozen::Frozen;
+use layout::{BLOCK_BYTES, Geometry};
 use runs::longest_run;
-use std::alloc::{AllocError, Global};
+use std::alloc::AllocError;
 
 /// What an image holds, in numbers.
 #[derive(Clone, Copy, Debug, PartialEq, Eq)]
@@ -41,20 +34,6 @@ pub struct Census {
     pub directories: u32,
     /// The most free data blocks that stand one behind the other.
     pub longest_free_run: u32,
-}
-
-/// The numbers of a device's image, which is read alone. Refused as an image that cannot be loaded.
-pub fn census_of<D: Device>(alloc: Global, device: &mut D) -> Result<Census, Refusal>
-    // Where each read gave what stood there, the blocks are an image, and these are its numbers.
-    ensures counted { IfOk result (λ census. D.honest device.new → (geo : Numbers) × IsImage geo (D.image device.old)
-        × IsCensus geo (image_view geo (D.image device.old)) census) }
-    ensures refused { IfErr result (λ refusal. LoadRefuses (D.honest device.new) (D.image device.old) refusal) }
-    ensures cause { IsErrOf result Refusal.Device → HasFailed (D.failures device.old) (D.failures device.new) }
-
-    ensures reads { ReadsOnly D.honest D.image D.held device.old device.new }
-{
-    let frozen = load(alloc, device)?;
-    Ok(take_census(&frozen))
 }
 
 /// The numbers of a frozen image.

@@ -1,7 +1,6 @@
 //! What a volume answers, as it is written.
-use inode::DIRECTORY;
 use live_paths::Named;
-use snapshot::{Answer, Reply, Status};
+use snapshot::{Answer, Kind, Reply, Status};
 use std::alloc::AllocError;
 
 /// Writes a reply behind a text: an answer, or `refused` with the number of the cause and its name.
@@ -65,14 +64,13 @@ fn write_name(text: &mut String, name: &[u8]) -> Result<(), AllocError> {
 fn write_status(text: &mut String, status: &Status) -> Result<(), AllocError> {
     let Status {
         number,
-        mode,
+        kind,
         links,
         size,
     } = *status;
-    let kind = if mode == DIRECTORY {
-        "directory"
-    } else {
-        "file"
+    let kind = match kind {
+        Kind::File => "file",
+        Kind::Directory => "directory",
     };
     write!(text, "ok number {number} {kind} links {links} size {size}")
 }

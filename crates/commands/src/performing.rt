@@ -4,8 +4,8 @@ ghost use Rattle.commands.specs.Lines.{IsServe};
 
 use crate::line::Line;
 use crate::words::parse;
-use channels::Channel;
 use command_line::{Answer, Failure, GAVE_OUT, Screen};
+use fuse_channels::Channel;
 use host_lines::{get, mkfs, put};
 use image_lines::{bits, check, repair, sample, upgrade};
 use progress::Watcher;

@@ -22,7 +22,7 @@ pub use lives::{
 };
 pub use services::{
     accepted_commands_extend_a_session, each_service_is_a_session, each_stop_of_a_service_is_safe,
-    files_that_lose_no_name_stay_safe, mounted_images_are_beginnings,
+    files_show_their_own_bytes, files_that_lose_no_name_stay_safe, mounted_images_are_beginnings,
     services_begin_anew_with_nothing_pending,
 };
 

@@ -50,6 +50,19 @@ module _ (geo : Geometry) where
       let lived = life_lived geo mount h cut durable unsynced held safe moment durable' unsynced' held' safe' images life in
       (lived.h', lived.cut', lived.moment)
 
+  -- a closed cut of what is pending is written: the same was written since the same mount
+  pub put_moment : (mount : View) (h : List Written) (cut : List Bool) (held safe : ℕ → Bool) (disk : View) (q : List Pending) → IsMoment geo mount h cut (at_rest held safe) disk q → (next : List Bool) → IsClosed q next
+      → IsMoment geo mount h (joined (updates h) cut next) (at_rest held safe) (seen disk q next) (rest q next)
+  put_moment mount h cut held safe disk q m next k =
+      let us = updates h in
+      let whole = joined us cut next in
+      let closed : IsClosed (rest us cut) next = subst (λ p. IsClosed p next) (sym m.pending) k in
+      record {
+        good = (course_good geo mount h cut (at_rest held safe) h whole (seen mount us whole ∷ []) (at_rest held safe) (CoursePuts next Rests closed) m.good).0;
+        device = joined_seen mount us cut next m.good.closed closed ∙ ap₂ (λ v p. seen v p next) m.device m.pending;
+        pending = joined_rest us cut next m.good.closed closed ∙ ap (λ p. rest p next) m.pending;
+      }
+
   module _ (durable : View) (unsynced : List Pending) (disk : View) (q : List Pending) (held safe : ℕ → Bool) (d : IsDurably geo durable unsynced disk q held safe) where
     -- users see the same over both
     pub users_same : users_view durable unsynced ≡ users_view disk q

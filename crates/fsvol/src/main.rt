@@ -1,9 +1,9 @@
 //! `fsvol`: a file system in an image file. It makes, fills, checks and mends volumes.
 #![tactic(auto)]
 
-use channels::DeviceChannel;
 use command_line::Screen;
 use commands::{perform, words_given};
+use fuse_channels::DeviceChannel;
 use std::io::IsTerminal;
 use std::process::ExitCode;
 

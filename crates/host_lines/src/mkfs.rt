@@ -1,6 +1,6 @@
 //! The line `mkfs`: a fresh image, and what a folder of the host holds in it.
 ghost use Rattle.std.specs.Prelude.{◌≡◌, [], IfOk, OnOk};
-ghost use Rattle.file_device.specs.Calls.{image_now};
+ghost use Rattle.file_device.specs.Calls.{held_so_far, image_now};
 ghost use Rattle.layout.specs.Fresh.{fresh_image, zero_block};
 
 use crate::ends::silent;
@@ -11,9 +11,9 @@ use command_line::{Answer, Failure, arguments, words};
 use device::{Before, Device};
 use file_device::FileDevice;
 use image_lines::make::make;
+use import_tree::{Item, items_of_archive, items_of_folder, put_items};
 use layout::{Geometry, Refusal};
 use progress::Watcher;
-use putting::{Item, items_of_archive, items_of_folder, put_items};
 use std::alloc::{AllocError, Global};
 use std::marker::Brand;
 use std::os::unix::fs::FileExt;
@@ -96,24 +96,28 @@ where
     let geometry = geometry_of(line.groups, line.blocks, line.inodes, line.format)?;
     match line.from {
         Some(folder) => make_from_folder(rt, line.image, &geometry, folder, watcher),
-        None => make_empty(rt, line.image, &geometry),
+        None => {
+            make_empty(rt, line.image, &geometry)?;
+            Ok(Answer::nothing(rt.alloc()))
+        }
     }
 }
 
-/// Makes a file with a fresh image, in place of what was there, and waits until it is durable.
-fn make_empty<R: Files + AllocGlobal>(
+/// Makes a file with a fresh image, in place of what was there, waits until all of it is durable, and gives the file as it was opened. A
+/// failure tells the file.
+pub fn make_empty<R: Files + AllocGlobal>(
     rt: &R,
     image: &str,
     geometry: &Geometry,
-) -> Result<Answer, Failure>
+) -> Result<FileDevice<R::File, Brand>, Failure>
 where
     R::File: FileExt,
-    ensures status { IfOk result (λ answer. answer.status ≡ 0) }
-    ensures silent { IfOk result (λ answer. answer.text.items ≡ []) }
+    ensures image { IfOk result (λ device. image_now (λ _. zero_block) device ≡ fresh_image geometry.now) }
+    ensures durable { IfOk result (λ device. (held_so_far (λ _. zero_block) (λ _. zero_block) device).now.loose ≡ []) }
 {
     let mut device = make_image(rt, image, geometry)?;
     match settle(&mut device) {
-        Ok(()) => Ok(Answer::nothing(rt.alloc())),
+        Ok(()) => Ok(device),
         Err(refusal) => Err(Failure::from(refusal).on_image(rt, image)),
     }
 }

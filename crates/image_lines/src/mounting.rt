@@ -8,7 +8,7 @@ ghost use Rattle.live_states.specs.Holdings.{IsIdle};
 ghost use Rattle.loaders.specs.Readers.{Show};
 ghost use Rattle.model.specs.Layout.{block_count};
 ghost use Rattle.snapshot.specs.Mounting.{IsMountable, IsNotMounted};
-ghost use Rattle.softdep.specs.Queued.{pending_of};
+ghost use Rattle.softdep.specs.Queued.{fresh_queue, pending_of};
 ghost use Rattle.workers.specs.Workers.{may_work};
 
 use crate::check::check_by;
@@ -38,7 +38,10 @@ pub fn mount<D: Device + Send + Drop, G: Gate>(
     requires workers { IsTrue (may_work workers) }
     requires show { Show D.image (D.image device) others.items }
     ensures image { IfOk result (λ live. D.image live.device.device ≡ D.image device) }
+    ensures held { IfOk result (λ live. D.held live.device.device ≡ D.held device) }
     ensures pending { IfOk result (λ live. pending_of live.queue ≡ []) }
+    // Nothing was issued: so it is sound on its medium, where nothing of that is loose.
+    ensures fresh { IfOk result (λ live. live.queue ≡ fresh_queue live.kept.geometry) }
     ensures idle { IfOk result (λ live. IsIdle live.holdings) }
     ensures mounted { IfOk result (λ live. AllHonest D.honest live.device → IsMountable live.kept.geometry (D.image device)) }
     ensures refused { IfErr result (IsNotMounted (AllHonest D.honest) (of_device D.image) (of_device D.held) (of_device D.failures)
@@ -65,6 +68,7 @@ pub fn mount_checked<D: Device + Drop>(
     ensures device { IfOk result (λ live. live.device ≡ device) }
     ensures kept { IfOk result (λ live. live.kept ≡ checked.now.frozen) }
     ensures pending { IfOk result (λ live. pending_of live.queue ≡ []) }
+    ensures fresh { IfOk result (λ live. live.queue ≡ fresh_queue live.kept.geometry) }
     ensures idle { IfOk result (λ live. IsIdle live.holdings) }
     ensures mounted { IfOk result (λ live. D.honest device → IsMountable live.kept.geometry (D.image device)) }
     ensures error { IfErr result (λ r. r ≡ NoMemory) }

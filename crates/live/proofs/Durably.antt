@@ -1,5 +1,5 @@
 -- A volume that is sound on its medium stays so, and what a loss of power leaves of it can be mounted.
-use Rattle.std.proofs.Common.{◌≡◌, ℕ, ◌<◌, Bool, List, [], ◌∷◌, ◌++◌, inl, inr, arith, refl, sym, ap, ap₂, ◌∙◌, subst, IsTrue, Ok, append-nil}
+use Rattle.std.proofs.Common.{◌≡◌, ℕ, suc, ◌<◌, Bool, false, List, [], ◌∷◌, ◌++◌, inl, inr, arith, refl, sym, ap, ap₂, ◌∙◌, subst, IsTrue, Ok, append-nil, get_or}
 use Rattle.std.specs.List.{All}
 use Rattle.std.proofs.lemmas.Bool.{cases_eq}
 use Rattle.std.proofs.lemmas.List.{append_assoc}
@@ -18,15 +18,16 @@ use Rattle.ordering.proofs.Flushes.{joined_closed, joined_seen, users_flushed}
 use Rattle.machine.specs.Command.{Answer, Command}
 use Rattle.machine.specs.State.{State}
 use Rattle.plans_data.specs.Carried.{Stands}
+use Rattle.queue_model.specs.Course.{IsSafeImage}
 use Rattle.queue_model.specs.Files.{Written, updates}
-use Rattle.queue_model.proofs.HistoryLemmas.{joined_rest}
+use Rattle.queue_model.specs.History.{none_of}
+use Rattle.queue_model.proofs.HistoryLemmas.{joined_rest, none_closed, none_seen}
 use Rattle.power_cut.specs.Epochs.{IsEpoch}
 use Rattle.power_cut.proofs.EpochLemmas.{together_closed}
 use Rattle.courses.specs.Leads.{IsMoment}
-use Rattle.courses.specs.Life.{Begins, Puts}
 use Rattle.cut_courses.specs.Durably.{IsDurably}
 use Rattle.courses.proofs.LifeCourses.{anew_moment, mount_moment}
-use Rattle.cut_courses.proofs.Along.{answered, left_safely, stepped, users_same}
+use Rattle.cut_courses.proofs.Along.{answered, cut_safely, left_safely, put_moment, users_same}
 use Rattle.softdep.specs.Queued.{Queued, AreClosed, unsynced_of, pending_of, after_flush, fresh_queue}
 use Rattle.softdep.specs.OnMedium.{IsOnMedium, KeepsFrame}
 use Rattle.softdep.specs.Syncing.{HasPut, HasHeld, IsMediumOf}
@@ -37,7 +38,7 @@ use Rattle.softdep.proofs.Swept.{held_more, held_same, held_nothing as put_held_
 use Rattle.live_states.specs.Holdings.{held_by}
 use Rattle.frozen.specs.Kept.{Kept}
 use Rattle.live.specs.Alive.{Alive}
-use Rattle.live.specs.Durable.{GoesSoundly, HeldSafely, IsSound, IsSoundOn, LeavesSafe}
+use Rattle.live.specs.Durable.{AddsOnly, GoesSoundly, HeldSafely, IsSound, IsSoundOn, LeavesSafe, LeavesShown}
 use Rattle.live.specs.Mounting.{IsMountable}
 
 -- ---- what a loss of power leaves
@@ -53,6 +54,40 @@ leaves_safe m geo queue held safe s left may =
       },
       λ f t. subst (λ v. IsReachable geo v f) (sym shown.since) (shown.safe_image.files f t),
     )
+
+pub leaves_shown : (m : Medium) (geo : Geometry) (queue : Queued) (held safe : ℕ → Bool) (s : IsSound m geo queue held safe) → LeavesShown geo s.durably.mount s.durably.history safe m
+leaves_shown m geo queue held safe s left may =
+    let on = s.on in
+    let epoch = subst (λ x. IsEpoch x (image_view x m.durable) (unsynced_of queue) on.puts) s.geometry on.epoch in
+    let shown = left_safely geo m (unsynced_of queue) (image_view geo (image_of m)) (pending_of queue) held safe s.durably on.puts epoch on.writes on.within left may in
+    (shown.whole, shown.since, shown.safe_image)
+
+-- what is written later is not in it
+safe_later : (geo : Geometry) (view : View) (h : List Written) (cut : List Bool) (safe : ℕ → Bool) (w : Written) → IsSafeImage geo view h cut safe → IsSafeImage geo view (w ∷ h) (false ∷ cut) safe
+safe_later geo view h cut safe w s = record {
+  closed = s.closed;
+  rules = s.rules;
+  files = s.files;
+  own = λ n k b f. elim (s.own n k b f) [ inl one ↦ inl (suc one.0, one.1, one.2, one.3, one.4) | inr had ↦ inr had ];
+}
+
+shown_later : (geo : Geometry) (view : View) (added h : List Written) (safe : ℕ → Bool) (m : Medium) → LeavesShown geo view h safe m → LeavesShown geo view (added ++ h) safe m
+shown_later geo view [] h safe m shown = shown
+shown_later geo view (w ∷ added) h safe m shown = λ image may.
+    let one = shown_later geo view added h safe m shown image may in
+    (false ∷ one.0, one.1, safe_later geo view (added ++ h) one.0 safe w one.2)
+
+-- and fewer files are safe
+shown_fewer : (geo : Geometry) (view : View) (h : List Written) (safe fewer : ℕ → Bool) (m : Medium) → ((f : ℕ) → IsTrue (fewer f) → IsTrue (safe f)) → LeavesShown geo view h safe m → LeavesShown geo view h fewer m
+shown_fewer geo view h safe fewer m less shown = λ image may.
+    let one = shown image may in
+    (one.0, one.1, record { closed = one.2.closed; rules = one.2.rules; files = λ f t. one.2.files f (less f t); own = one.2.own })
+
+-- a volume is sound since this mount, and this was written since
+pub record Since (view : View) (h : List Written) (m : Medium) (geo : Geometry) (queue : Queued) (held safe : ℕ → Bool) : Type 0 where
+  pub sound : IsSound m geo queue held safe
+  pub mount : sound.durably.mount ≡ view
+  pub history : sound.durably.history ≡ h
 
 -- ---- writes, and the word of the device
 
@@ -94,36 +129,47 @@ module _ (m : Medium) (geo : Geometry) (queue : Queued) (held safe : ℕ → Boo
   answers' : image_view geo (image_of m') ≡ seen (image_view geo m'.durable) (unsynced_of queue') queue'.loose
   answers' = subst (λ x. image_view x (image_of m') ≡ seen (image_view x m'.durable) (unsynced_of queue') queue'.loose) geometry' (answers_view s.mounted queue' m' on')
 
-  durably' : IsDurably geo (image_view geo m'.durable) (unsynced_of queue') (image_view geo (image_of m')) (pending_of queue') held safe
+  durably' : (d : IsDurably geo (image_view geo m'.durable) (unsynced_of queue') (image_view geo (image_of m')) (pending_of queue') held safe) × (d.mount ≡ s.durably.mount) × (d.history ≡ s.durably.history)
   durably' =
       let d = s.durably in
-      let next = stepped geo D U held safe d.mount d.history d.cut d.moment (seen D U put.synced) (rest U put.synced) held safe (seen D U put.synced ∷ []) (Puts put.synced Begins put.synced_closed) in
-      record {
-        mount = d.mount;
-        history = next.0;
-        cut = next.1;
-        moment = subst (λ v. IsMoment geo d.mount next.0 next.1 (at_rest held safe) v (unsynced_of queue')) (sym is) (subst (IsMoment geo d.mount next.0 next.1 (at_rest held safe) (seen D U put.synced)) (sym left) next.2);
-        loose = queue'.loose;
-        closed = closed'.loose;
-        answers = answers';
-        pending = pending_rest queue' closed';
-      }
+      let next = joined (updates d.history) d.cut put.synced in
+      let moment = put_moment geo d.mount d.history d.cut held safe D U d.moment put.synced put.synced_closed in (
+        record {
+          mount = d.mount;
+          history = d.history;
+          cut = next;
+          moment = subst (λ v. IsMoment geo d.mount d.history next (at_rest held safe) v (unsynced_of queue')) (sym is) (subst (IsMoment geo d.mount d.history next (at_rest held safe) (seen D U put.synced)) (sym left) moment);
+          loose = queue'.loose;
+          closed = closed'.loose;
+          answers = answers';
+          pending = pending_rest queue' closed';
+        },
+        refl,
+        refl,
+      )
 
   users' : users_view (image_view geo (image_of m')) (pending_of queue') ≡ users_view (image_view geo (image_of m)) (pending_of queue)
   users' =
-      sym (users_same geo (image_view geo m'.durable) (unsynced_of queue') (image_view geo (image_of m')) (pending_of queue') held safe durably')
+      sym (users_same geo (image_view geo m'.durable) (unsynced_of queue') (image_view geo (image_of m')) (pending_of queue') held safe durably'.0)
       ∙ ap₂ users_view is left ∙ users_flushed D U put.synced put.synced_closed
       ∙ users_same geo D U (image_view geo (image_of m)) (pending_of queue) held safe s.durably
 
-  pub put_sound : IsSound m' geo queue' held safe
-  put_sound = record {
-    geometry = geometry';
-    closed = closed';
-    durably = durably';
-    files = λ f t. ap (λ (v : View). (v.inode f).mode) users' ∙ s.files f t;
-    mounted = s.mounted;
-    on = on';
+  pub put_since : Since s.durably.mount s.durably.history m' geo queue' held safe
+  put_since = record {
+    sound = record {
+      geometry = geometry';
+      closed = closed';
+      durably = durably'.0;
+      files = λ f t. ap (λ (v : View). (v.inode f).mode) users' ∙ s.files f t;
+      mounted = s.mounted;
+      on = on';
+    };
+    mount = durably'.1;
+    history = durably'.2;
   }
+
+  pub put_sound : IsSound m' geo queue' held safe
+  put_sound = put_since.sound
 
 -- each medium since leaves what is safe
 pub held_safe : (m : Medium) (geo : Geometry) (queue : Queued) (held safe : ℕ → Bool) (s : IsSound m geo queue held safe) (more : List Medium) → All (IsMediumOf s.mounted queue) more
@@ -131,6 +177,16 @@ pub held_safe : (m : Medium) (geo : Geometry) (queue : Queued) (held safe : ℕ 
 held_safe m geo queue held safe s more each =
     λ k d low. let one = each k d low in
     leaves_safe _ geo one.queue held safe (put_sound m geo queue held safe s one.queue _ one.put one.on)
+
+-- and what a closed cut shows
+pub held_shown : (m : Medium) (geo : Geometry) (queue : Queued) (held safe : ℕ → Bool) (s : IsSound m geo queue held safe) (more : List Medium) → All (IsMediumOf s.mounted queue) more
+    → All (LeavesShown geo s.durably.mount s.durably.history safe) more
+held_shown m geo queue held safe s more each =
+    λ k d low.
+    let one = each k d low in
+    let there = put_since m geo queue held safe s one.queue _ one.put one.on in
+    let at = get_or more k d in
+    subst (λ h. LeavesShown geo s.durably.mount h safe at) there.history (subst (λ v. LeavesShown geo v there.sound.durably.history safe at) there.mount (leaves_shown at geo one.queue held safe there.sound))
 
 -- ---- a volume goes on
 
@@ -154,35 +210,86 @@ module _ {D : Type 0} where
             each = All-append (LeavesSafe geo safe2) one.1.more behind.more (λ k d low image may. let was = one.1.each k d low image may in (was.0, λ f t. was.1 f (later.fewer f t))) behind.each;
           },
         );
+    adds = λ s.
+        let one = (first.sound s).0 in
+        let before = first.adds s in
+        let behind = later.adds one in
+        let geo = old.kept.geometry in
+        let all : behind.added ++ one.durably.history ≡ (behind.added ++ before.added) ++ s.durably.history =
+        ap (λ h. behind.added ++ h) before.history ∙ sym (append_assoc behind.added before.added s.durably.history) in
+        record {
+          mount = behind.mount ∙ before.mount;
+          added = behind.added ++ before.added;
+          history = behind.history ∙ all;
+          more = before.more ++ behind.more;
+          media = behind.media ∙ ap (λ l. l ++ behind.more) before.media ∙ append_assoc held.media before.more behind.more;
+          each = All-append (LeavesShown geo s.durably.mount ((behind.added ++ before.added) ++ s.durably.history) safe2) before.more behind.more
+              (λ k d low. let at = get_or before.more k d in
+              subst (λ h. LeavesShown geo s.durably.mount h safe2 at) (sym (append_assoc behind.added before.added s.durably.history))
+              (shown_later geo s.durably.mount behind.added (before.added ++ s.durably.history) safe2 at (shown_fewer geo s.durably.mount (before.added ++ s.durably.history) safe1 safe2 at later.fewer (before.each k d low))))
+              (λ k d low. let at = get_or behind.more k d in
+              subst (λ h. LeavesShown geo s.durably.mount h safe2 at) all (subst (λ v. LeavesShown geo v (behind.added ++ one.durably.history) safe2 at) before.mount
+              (subst (λ x. LeavesShown x one.durably.mount (behind.added ++ one.durably.history) safe2 at) first.geometry (behind.each k d low))));
+        };
+  }
+
+  -- nothing was written and nothing added
+  abbrev Still : (held held' : Held) (old new : Alive D) (safe : ℕ → Bool) → IsSoundOn held.now old safe → Type 0
+  Still held held' old new safe s = Since s.durably.mount s.durably.history held'.now new.kept.geometry new.queue (held_by new.holdings) safe
+
+  pub adds_nothing : (held held' : Held) (old new : Alive D) (safe : ℕ → Bool) (s : IsSoundOn held.now old safe) (s' : Still held held' old new safe s) → held'.media ≡ held.media → AddsOnly held old held' new safe safe s s'.sound
+  adds_nothing held held' old new safe s s' same = record {
+    mount = s'.mount;
+    added = [];
+    history = s'.history;
+    more = [];
+    media = same ∙ sym (append-nil held.media);
+    each = All-nil (LeavesShown old.kept.geometry s.durably.mount s.durably.history safe);
   }
 
   -- nothing changed
+  still_since : (held held' : Held) (old new : Alive D) → held' ≡ held → new.queue ≡ old.queue → new.kept.geometry ≡ old.kept.geometry → held_by new.holdings ≡ held_by old.holdings → (safe : ℕ → Bool) (s : IsSoundOn held.now old safe)
+      → Still held held' old new safe s
+  still_since held held' old new same queue geometry holds safe s =
+      subst (λ (h : Held). Since s.durably.mount s.durably.history h.now new.kept.geometry new.queue (held_by new.holdings) safe) (sym same)
+      (subst (λ x. Since s.durably.mount s.durably.history held.now x new.queue (held_by new.holdings) safe) (sym geometry)
+      (subst (λ w. Since s.durably.mount s.durably.history held.now old.kept.geometry w (held_by new.holdings) safe) (sym queue)
+      (subst (λ b. Since s.durably.mount s.durably.history held.now old.kept.geometry old.queue b safe) (sym holds) (record { sound = s; mount = refl; history = refl }))))
+
   pub goes_still : (held held' : Held) (old new : Alive D) → held' ≡ held → new.queue ≡ old.queue → new.kept.geometry ≡ old.kept.geometry → held_by new.holdings ≡ held_by old.holdings → (safe : ℕ → Bool) → GoesSoundly held old held' new safe safe
   goes_still held held' old new same queue geometry holds safe = record {
     geometry = geometry;
     fewer = λ f t. t;
-    sound = λ s. (
-      subst (λ (h : Held). IsSound h.now new.kept.geometry new.queue (held_by new.holdings) safe) (sym same)
-          (subst (λ x. IsSound held.now x new.queue (held_by new.holdings) safe) (sym geometry)
-          (subst (λ w. IsSound held.now old.kept.geometry w (held_by new.holdings) safe) (sym queue) (subst (λ b. IsSound held.now old.kept.geometry old.queue b safe) (sym holds) s))),
-      held_nothing old.kept.geometry held held' safe (ap (λ (h : Held). h.media) same),
-    );
+    sound = λ s. ((still_since held held' old new same queue geometry holds safe s).sound, held_nothing old.kept.geometry held held' safe (ap (λ (h : Held). h.media) same));
+    adds = λ s. adds_nothing held held' old new safe s (still_since held held' old new same queue geometry holds safe s) (ap (λ (h : Held). h.media) same);
   }
 
   -- writes, and the word of the device
   goes_put : (held held' : Held) (old new : Alive D) → new.kept.geometry ≡ old.kept.geometry → held_by new.holdings ≡ held_by old.holdings → (safe : ℕ → Bool)
       → ((s : IsSoundOn held.now old safe) → HasPut old.queue new.queue × IsOnMedium s.mounted new.queue held'.now × HasHeld s.mounted old.queue held held') → GoesSoundly held old held' new safe safe
-  goes_put held held' old new geometry holds safe done = record {
-    geometry = geometry;
-    fewer = λ f t. t;
-    sound = λ s.
-        let now = done s in
-        let geo = old.kept.geometry in (
-          subst (λ x. IsSound held'.now x new.queue (held_by new.holdings) safe) (sym geometry)
-              (subst (λ b. IsSound held'.now geo new.queue b safe) (sym holds) (put_sound held.now geo old.queue (held_by old.holdings) safe s new.queue held'.now now.0 now.1)),
-          record { more = now.2.more; media = now.2.media; each = held_safe held.now geo old.queue (held_by old.holdings) safe s now.2.more now.2.each },
-        );
-  }
+  goes_put held held' old new geometry holds safe done =
+      let geo = old.kept.geometry in
+      let put : (s : IsSoundOn held.now old safe) → Still held held' old new safe s = λ s.
+      let now = done s in
+      subst (λ x. Since s.durably.mount s.durably.history held'.now x new.queue (held_by new.holdings) safe) (sym geometry)
+      (subst (λ b. Since s.durably.mount s.durably.history held'.now geo new.queue b safe) (sym holds) (put_since held.now geo old.queue (held_by old.holdings) safe s new.queue held'.now now.0 now.1)) in
+      record {
+        geometry = geometry;
+        fewer = λ f t. t;
+        sound = λ s.
+            let now = done s in
+            ((put s).sound, record { more = now.2.more; media = now.2.media; each = held_safe held.now geo old.queue (held_by old.holdings) safe s now.2.more now.2.each });
+        adds = λ s.
+            let now = done s in
+            record {
+              mount = (put s).mount;
+              added = [];
+              history = (put s).history;
+              more = now.2.more;
+              media = now.2.media;
+              each = held_shown held.now geo old.queue (held_by old.holdings) safe s now.2.more now.2.each;
+            };
+      }
 
   pub goes_synced : (held held' : Held) (old new : Alive D) → new.kept ≡ old.kept → new.holdings ≡ old.holdings → HasPut old.queue new.queue
       → ((mounted : View) → IsOnMedium mounted old.queue held.now → IsOnMedium mounted new.queue held'.now) → ((mounted : View) → IsOnMedium mounted old.queue held.now → HasHeld mounted old.queue held held')
@@ -258,4 +365,39 @@ sound_anew m geo queue held safe s none more files =
       files = λ f t. ap (λ q. ((users_view disk q).inode f).mode) all ∙ (files f t).1;
       mounted = s.mounted;
       on = s.on;
+    }
+
+-- With nothing left that is not durable, a volume is sound since there: of what users see then, with nothing written since.
+pub sound_from_here : (m : Medium) (geo : Geometry) (queue : Queued) (held safe : ℕ → Bool) → IsSound m geo queue held safe → unsynced_of queue ≡ []
+    → (more : ℕ → Bool) → ((f : ℕ) → IsTrue (more f) → IsReachable geo (image_view geo (image_of m)) f × (((image_view geo (image_of m)).inode f).mode ≡ 1)) → Since (image_view geo (image_of m)) [] m geo queue held more
+sound_from_here m geo queue held safe s none more files =
+    let d = s.durably in
+    let durable = image_view geo m.durable in
+    let U = unsynced_of queue in
+    let disk = image_view geo (image_of m) in
+    let same : disk ≡ durable = d.answers ∙ ap (λ q. seen durable q d.loose) none in
+    let all : pending_of queue ≡ [] = d.pending ∙ ap (λ q. rest q d.loose) none in
+    let shown = cut_safely geo durable U disk (pending_of queue) held safe d (none_of U) (none_closed U) in
+    let obeys : ObeysRules geo durable = subst (ObeysRules geo) (sym shown.since ∙ none_seen durable U) shown.safe_image.rules in
+    let moment : IsMoment geo disk [] [] (at_rest held more) disk [] = mount_moment geo disk held more (subst (ObeysRules geo) (sym same) obeys) (λ f t. (files f t).0) in
+    record {
+      sound = record {
+        geometry = s.geometry;
+        closed = s.closed;
+        durably = record {
+          mount = disk;
+          history = [];
+          cut = [];
+          moment = subst (IsMoment geo disk [] [] (at_rest held more) durable) (sym none) (subst (λ v. IsMoment geo disk [] [] (at_rest held more) v []) same moment);
+          loose = d.loose;
+          closed = d.closed;
+          answers = d.answers;
+          pending = d.pending;
+        };
+        files = λ f t. ap (λ q. ((users_view disk q).inode f).mode) all ∙ (files f t).1;
+        mounted = s.mounted;
+        on = s.on;
+      };
+      mount = refl;
+      history = refl;
     }

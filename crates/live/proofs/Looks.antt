@@ -1,13 +1,15 @@
 -- What a path leads to, for those who look.
-use Rattle.std.proofs.Common.{◌≡◌, ℕ, not, ◌&&◌, true, false, List, [], ◌∷◌, Option, Some, None, Result, Ok, Err, IsTrue, inl, sym, ap, ◌∙◌, subst}
+use Rattle.std.proofs.Common.{◌≡◌, ◌%◌, ℕ, Bool, not, ◌&&◌, ◌||◌, true, false, eqb, ltb, leb, if◌then◌else◌, List, [], ◌∷◌, Option, Some, None, Result, Ok, Err, IsTrue, inl, inr, refl, sym, ap, ◌∙◌, subst}
+use Rattle.std.proofs.lemmas.Bool.{and_parts, both_ways, cases_Bool, eqb-true}
 use Rattle.std.specs.Prelude.{is_none, unwrap_or}
 use Rattle.std.specs.Option.{option_or}
 use Rattle.std.specs.Result.{result_err, result_unwrap_or}
 use Rattle.layout.specs.declared.refusal.Refusal.{Refusal}
 use Rattle.layout.specs.declared.refusal.Refusal.TheVariants.{BadName, NotDirectory}
 use Rattle.model.specs.Layout.{Geometry, is_number}
-use Rattle.model.specs.Uses.{is_directory, is_directory_at, is_sound}
-use Rattle.model.specs.View.{View}
+use Rattle.model.specs.Shape.{most_blocks}
+use Rattle.model.specs.Uses.{blocks_of, is_directory, is_directory_at, is_sound}
+use Rattle.model.specs.View.{Inode, View}
 use Rattle.model.proofs.Same.{reachable_number}
 use Rattle.ordering.specs.Cuts.{Pending, users_view}
 use Rattle.machine.specs.Below.{first_of, when}
@@ -15,6 +17,7 @@ use Rattle.machine.specs.Causes.{causes, refusal_of}
 use Rattle.machine.specs.Command.{ListNames, Stat}
 use Rattle.machine.specs.Paths.{number_at, parts_of, target}
 use Rattle.machine.specs.State.{State}
+use Rattle.machine.proofs.Decisions.{reachable_sound, sound_parts}
 use Rattle.machine.proofs.Walks.{parts_good, target_reachable}
 use Rattle.frozen.specs.Kept.{Kept, KeepsMetadata, frozen_view}
 use Rattle.metadata.specs.Shown.{Shows}
@@ -23,6 +26,8 @@ use Rattle.live_paths.specs.Shown.{IsShownBy}
 use Rattle.live_states.specs.Holdings.{Holdings}
 use Rattle.live_states.specs.Volume.{IsVolume}
 use Rattle.live.specs.Alive.{IsFirstCause}
+use Rattle.live.specs.Kinds.{kind_of, mode_of}
+use Rattle.live.specs.declared.looking.Kind.TheVariants.{Directory, File}
 
 -- the view of a volume's users has the metadata that is kept
 pub shown : (kept : Kept) (holdings : Holdings) (q : List Pending) (disk : View) → KeepsMetadata kept → IsVolume kept holdings q disk → IsShownBy kept (users_view disk q)
@@ -83,6 +88,27 @@ pub number_of : (kept : Kept) (holdings : Holdings) (q : List Pending) (disk : V
     → (i : ℕ) → target kept.geometry (users_view disk q) parts ≡ Ok i → IsTrue (is_number kept.geometry i)
 number_of kept holdings q disk volume path parts is i e =
     reachable_number kept.geometry (users_view disk q) i (target_reachable kept.geometry (users_view disk q) volume.beginning.stands.balance.rules parts i (parts_good path parts is) e)
+
+-- what it leads to is sound
+pub sound_there : (kept : Kept) (holdings : Holdings) (q : List Pending) (disk : View) → IsVolume kept holdings q disk → (path : List ℕ) (parts : List (List ℕ)) → parts_of path ≡ Some parts
+    → (i : ℕ) → target kept.geometry (users_view disk q) parts ≡ Ok i → IsTrue (is_sound kept.geometry ((users_view disk q).inode i))
+sound_there kept holdings q disk volume path parts is i e =
+    let reached = target_reachable kept.geometry (users_view disk q) volume.beginning.stands.balance.rules parts i (parts_good path parts is) e in
+    (sound_parts kept.geometry (users_view disk q) i (reachable_sound kept.geometry (users_view disk q) i reached)).1
+
+only_first : (a b : Bool) → b ≡ false → IsTrue (a || b) → IsTrue a
+only_first true b f t = refl
+only_first false b f t = absurd (both_ways b f t)
+
+-- A sound record has the mode of its kind.
+pub mode_of_sound : (geo : Geometry) (inode : Inode) → IsTrue (is_sound geo inode) → mode_of (kind_of inode) ≡ inode.mode
+mode_of_sound geo inode sound = elim (cases_Bool (is_directory inode)) [
+  | inl t ↦ ap (λ b. mode_of (if b then Directory else File)) t ∙ sym (eqb-true inode.mode 2 t)
+  | inr f ↦
+      let rest = λ (b : Bool). b && ltb 0 inode.size && eqb (inode.size % 1024) 0 in
+      let first = (and_parts (eqb inode.mode 1 || rest (is_directory inode)) (leb (blocks_of inode.size) (most_blocks geo)) sound).0 in
+      ap (λ b. mode_of (if b then Directory else File)) f ∙ sym (eqb-true inode.mode 1 (only_first (eqb inode.mode 1) (rest (is_directory inode)) (ap rest f) first))
+]
 
 -- what is said of the blocks that are lent holds of those that are kept
 pub led : (frozen kept : Kept) → frozen ≡ kept → (r : Result ℕ Refusal) (parts : List (List ℕ)) → ((view : View) → IsShownBy frozen view → r ≡ target frozen.geometry view parts)

@@ -5,8 +5,10 @@ use Rattle.model.specs.Layout.{Geometry}
 use Rattle.model.specs.Reach.{IsReachable}
 use Rattle.model.specs.View.{View}
 use Rattle.device.specs.Media.{Held, MayBeLeft, Medium, image_of}
-use Rattle.ordering.specs.Cuts.{users_view}
+use Rattle.ordering.specs.Cuts.{seen, users_view}
 use Rattle.machine.specs.Command.{Command}
+use Rattle.queue_model.specs.Files.{Written, updates}
+use Rattle.queue_model.specs.Course.{IsSafeImage}
 use Rattle.cut_courses.specs.Durably.{IsDurably}
 use Rattle.softdep.specs.Queued.{Queued, AreClosed, unsynced_of, pending_of}
 use Rattle.softdep.specs.OnMedium.{IsOnMedium}
@@ -38,11 +40,25 @@ pub record HeldSafely (geo : Geometry) (held held' : Held) (safe : ℕ → Bool)
   pub media : held'.media ≡ held.media ++ more
   pub each : All (LeavesSafe geo safe) more
 
+-- Whatever a loss of power leaves of a medium is what a closed cut of these updates shows over a view: it obeys the rules, reaches these files, and holds in each block of a file what an update of that very file wrote, or what it had there in that view.
+abbrev pub LeavesShown : Geometry → View → List Written → (ℕ → Bool) → Medium → Type 0
+LeavesShown geo view written safe m = (image : List (List ℕ)) → MayBeLeft m image → (cut : List Bool) × (image_view geo image ≡ seen view (updates written) cut) × IsSafeImage geo view written cut safe
+
+-- What was written since some mount got longer by this; each medium that the device had since leaves what a closed cut of all of it shows over the view at that mount.
+pub record AddsOnly {D : Type 0} (held : Held) (old : Alive D) (held' : Held) (new : Alive D) (safe safe' : ℕ → Bool) (s : IsSoundOn held.now old safe) (s' : IsSoundOn held'.now new safe') : Type 0 where
+  pub mount : s'.durably.mount ≡ s.durably.mount
+  pub added : List Written
+  pub history : s'.durably.history ≡ added ++ s.durably.history
+  pub more : List Medium
+  pub media : held'.media ≡ held.media ++ more
+  pub each : All (LeavesShown old.kept.geometry s.durably.mount (added ++ s.durably.history) safe') more
+
 -- Where a volume was sound on the medium of its device it is so then, no file more is safe, and each medium that the device had since leaves what is safe then.
 pub record GoesSoundly {D : Type 0} (held : Held) (old : Alive D) (held' : Held) (new : Alive D) (safe safe' : ℕ → Bool) : Type 0 where
   pub geometry : new.kept.geometry ≡ old.kept.geometry
   pub fewer : (f : ℕ) → IsTrue (safe' f) → IsTrue (safe f)
   pub sound : IsSoundOn held.now old safe → IsSoundOn held'.now new safe' × HeldSafely old.kept.geometry held held' safe'
+  pub adds : (s : IsSoundOn held.now old safe) → AddsOnly held old held' new safe safe' s (sound s).0
 
 -- whichever files are safe, they stay so
 abbrev pub StaysSound : {D : Type 0} → (D → Held) → Alive D → Alive D → Type 0

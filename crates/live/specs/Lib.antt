@@ -2,6 +2,7 @@ pub mod Alive
 pub mod Ended
 pub mod Held
 pub mod Issued
+pub mod Kinds
 pub mod Mounting
 pub mod Places
 pub mod Runs

@@ -37,7 +37,7 @@ pub(crate) fn read_seen<D: Device>(
 }
 
 /// The first bytes of a block, so many.
-pub(crate) fn first_bytes(alloc: Global, bytes: &Block, count: usize) -> Result<Vec<u8>, AllocError>
+pub fn first_bytes(alloc: Global, bytes: &Block, count: usize) -> Result<Vec<u8>, AllocError>
     requires { count ≤ 1024 }
     ensures first { IfOk result (λ first. first.items ≡ take count bytes.now) }
     ensures whole { length bytes.now ≡ 1024 }

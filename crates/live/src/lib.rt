@@ -19,8 +19,9 @@ mod renaming;
 mod runs;
 mod snapshots;
 
+pub use bytes::first_bytes;
 pub use live::{Live, NotMounted};
-pub use looking::Status;
+pub use looking::{Kind, Status};
 pub use runs::{
     each_stop_of_a_run_is_safe, mountable_images_mount, mounted_volumes_begin,
     sound_volumes_outlive_power_cuts,

@@ -1,23 +1,31 @@
-ghost use Rattle.std.specs.Prelude.{IfErr, IfOk, Ok, map};
+ghost use Rattle.std.specs.Prelude.{◌≡◌, IfErr, IfOk, Ok, map};
 ghost use Rattle.live_paths.specs.Listed.{name_of};
 ghost use Rattle.machine.specs.Command.{ListNames, Listed, Stat, Status as StatusOf};
 ghost use Rattle.live_states.specs.Planned.{IsRefused};
 ghost use Rattle.live.specs.Alive.{IsFirstCause, MayRefuse};
+ghost use Rattle.live.specs.Kinds.{kind_of, mode_of};
 ghost use Rattle.live.specs.Seen.{Tells};
 
 use crate::Live;
 use device::Device;
+use inode::Record;
 use layout::Refusal;
 use live_paths::{Named, Path, names, target};
 use std::alloc::Global;
+
+/// What an inode can be.
+#[derive(Clone, Copy, Debug, PartialEq, Eq)]
+pub enum Kind {
+    File,
+    Directory,
+}
 
 /// What an inode is.
 #[derive(Clone, Copy, Debug, PartialEq, Eq)]
 pub struct Status {
     /// Its number.
     pub number: u32,
-    /// 1 of a file, 2 of a directory.
-    pub mode: u16,
+    pub kind: Kind,
     /// How many entries name it.
     pub links: u16,
     /// How many bytes it has.
@@ -45,7 +53,7 @@ impl<D: Device> Live<D> {
     /// leads nowhere.
     pub fn stat(&self, path: &[u8]) -> Result<Status, Refusal>
         ensures status { IfOk result (λ status. D.honest self.now.device
-            → Tells D.image self.now (Stat path.now) (StatusOf status.number status.mode status.links status.size)) }
+            → Tells D.image self.now (Stat path.now) (StatusOf status.number (mode_of status.kind) status.links status.size)) }
         ensures refused { IfErr result (λ r. D.honest self.now.device → MayRefuse (D.image self.now.device) self.now (Stat path.now) r) }
         ensures cause { IfErr result (IsFirstCause self.now.kept (Stat path.now)) }
     {
@@ -55,9 +63,20 @@ impl<D: Device> Live<D> {
         let record = frozen.record(number);
         Ok(Status {
             number,
-            mode: record.mode,
+            kind: kind_of(&record),
             links: record.links,
             size: record.size,
         })
+    }
+}
+
+/// The kind of a sound record.
+fn kind_of(record: &Record) -> Kind
+    ensures { result ≡ kind_of record.now }
+{
+    if record.is_directory() {
+        Kind::Directory
+    } else {
+        Kind::File
     }
 }

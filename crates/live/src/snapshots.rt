@@ -51,7 +51,7 @@ impl<D: Device> Live<D> {
         ensures whole { KeepsMetadata self.now.kept }
         ensures shown { D.honest self.now.device → Shows self.now.kept (seen_of D.image self.now) }
     {
-        self.metadata.frozen();
+        self.metadata.frozen(); // for the proof: its clause `metadata`
     }
 
     /// The metadata of the image that a check is to see: that of users, without the open files that have no name, and with

@@ -200,7 +200,7 @@ impl Holdings {
         ensures next { MatchOption result (NothingMarkedFrom self.now.held from) (IsNextMarked self.now.held from) }
         ensures few { length self.now.held < 4294967296 }
     {
-        self.held.count();
+        self.held.count(); // for the proof: its clause
         self.held.next(from)
     }
 
@@ -327,7 +327,7 @@ fn marked_alone(
 ) -> Result<Vec<u32>, AllocError>
     ensures { IfOk result (λ blocks. blocks.items ≡ alone_below marks.now (others snapshots.now.standing number) (length marks.now)) }
 {
-    marks.count();
+    marks.count(); // for the proof: its clause
     let mut blocks = Vec::new(alloc);
     let mut from = 0;
     while let Some(block) = marks.next(from) {

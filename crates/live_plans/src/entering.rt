@@ -57,7 +57,7 @@ pub fn enter(
         → EntersAt metadata.now.geometry view new.now.directory new.now.parent new.now.number new.now.name.now new.now.place plan.old plan.new) }
 {
     // What is kept is all metadata.
-    metadata.frozen();
+    metadata.frozen(); // for the proof: its clause `metadata`
     enter_at(alloc, metadata, plan, new)
 }
 

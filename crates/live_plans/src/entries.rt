@@ -1,4 +1,4 @@
-ghost use Rattle.std.specs.Prelude.{◌≡◌, ◌≤◌, ◌<◌, ◌∷◌, ◌++◌, ◌⊎◌, ℕ, IsSome, IsTrue, List, OnOk, length, map};
+ghost use Rattle.std.specs.Prelude.{◌≡◌, ◌/◌, ◌≤◌, ◌<◌, ◌∷◌, ◌++◌, ◌⊎◌, ℕ, IsSome, IsTrue, List, OnOk, length, map};
 ghost use Rattle.std.specs.List.{All, Contains};
 ghost use Rattle.frozen.specs.Kept.{frozen_view};
 ghost use Rattle.model.specs.Layout.{is_data_address, is_number};
@@ -7,13 +7,13 @@ ghost use Rattle.model.specs.View.{View};
 ghost use Rattle.machine.specs.Cells.{IsEntryFor};
 ghost use Rattle.metadata.specs.Shown.{Shows};
 ghost use Rattle.ordering.specs.Cuts.{Cell as OrderedCell};
-ghost use Rattle.plans_naming.specs.Entries.{HasBlocks, slot_written};
+ghost use Rattle.plans_naming.specs.Entries.{HasBlocks, no_entry, slot_written};
 ghost use Rattle.courses.specs.After.{IsBlockOf};
 ghost use Rattle.updates.specs.Places.{IsCell};
 ghost use Rattle.updates.specs.Values.{cell};
 ghost use Rattle.live_states.specs.Drafts.{GoesOn};
 
-use crate::Plan;
+use crate::{Found, Plan};
 use dirent::{SLOT_BYTES, SLOTS, replace};
 use frozen::Frozen;
 use inode::Record;
@@ -61,6 +61,35 @@ pub fn put_slot(
     replace(&mut bytes, slot as usize % SLOTS, entry);
     let change = Change::SetBytes(block, Arc::new(alloc, bytes)?);
     plan.push(change, after)
+}
+
+/// Adds the update that empties the slot of an entry that a directory has, after these cells.
+pub fn empty_slot(
+    alloc: Global,
+    metadata: &Metadata,
+    plan: &mut Plan,
+    found: &Found,
+    after: Cells,
+) -> Result<(), AllocError>
+    requires geometry { plan.old.geometry ≡ metadata.now.geometry }
+    requires directory { IsTrue (is_directory_at metadata.now.geometry (frozen_view metadata.now) found.now.directory) }
+    requires claim { IsClaim metadata.now.geometry (frozen_view metadata.now) found.now.directory (found.now.slot / 16) found.now.block }
+    requires after { All (IsCell plan.old.geometry) (map cell after.items) }
+    ensures emptied { OnOk result ((view : View) → Shows metadata.now view
+        → GoesOn plan.old plan.new (λ q. slot_written found.now.block (view.bytes found.now.block) found.now.slot no_entry (map cell after.items) ∷ q)) }
+    ensures geometry { OnOk result (plan.new.geometry ≡ plan.old.geometry) }
+{
+    let position = found.slot / SLOTS as u32;
+    let bytes = bytes_of(metadata, found.directory, position, found.block);
+    put_slot(
+        alloc,
+        plan,
+        found.block,
+        bytes,
+        found.slot,
+        &[0; SLOT_BYTES],
+        after,
+    )
 }
 
 /// Adds the cells of a directory's blocks of slots behind these, and no others.

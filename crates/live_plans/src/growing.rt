@@ -44,7 +44,7 @@ pub(crate) fn grow(
     ensures grows { OnOk result ((view : View) → Shows metadata.now view → Grows metadata.now.geometry view directory parent.now block tables plan.old plan.new) }
 {
     // What is kept is all metadata.
-    metadata.frozen();
+    metadata.frozen(); // for the proof: its clause `metadata`
     let zeroes = Arc::new(alloc, [0; BLOCK_BYTES])?;
     fill(alloc, plan, block, zeroes)?;
     let size = parent.size + BLOCK_BYTES as u32;

@@ -13,7 +13,7 @@ mod locating;
 mod plan;
 
 pub use entering::{NewEntry, enter, enter_at};
-pub use entries::{add_blocks, bytes_of, entry, put_slot};
+pub use entries::{add_blocks, bytes_of, empty_slot, entry, put_slot};
 pub use growing::fill;
 pub use linking::{Linked, link, pointer_after};
 pub use locating::{Found, locate};

@@ -6,7 +6,6 @@ ghost use Rattle.model.specs.Layout.{is_data_address, is_number};
 ghost use Rattle.model.specs.View.{View};
 ghost use Rattle.ordering.specs.Cuts.{Block as BlockCell, Record as RecordCell};
 ghost use Rattle.plans_data.specs.Freeing.{cleared, freeing};
-ghost use Rattle.plans_naming.specs.Entries.{no_entry, slot_written};
 ghost use Rattle.plans_naming.specs.Unlink.{lowered};
 ghost use Rattle.updates.specs.Places.{IsCell};
 ghost use Rattle.updates.specs.Values.{cell};
@@ -14,43 +13,14 @@ ghost use Rattle.live_states.specs.Drafts.{GoesOn};
 ghost use Rattle.live_states.specs.Holdings.{is_kept_by};
 ghost use Rattle.live_removals.specs.Blocks.{claimed_at, freed, held_back, is_loose};
 ghost use Rattle.live_removals.specs.Links.{LosesLinks};
-ghost use Rattle.live_removals.specs.Entries.{IsEntry};
 
-use dirent::{SLOT_BYTES, SLOTS};
 use frozen::Frozen;
 use inode::{DIRECT_POINTERS, FREE, Record};
 use live_holdings::Holdings;
-use live_plans::{Found, Plan, bytes_of, put_slot};
+use live_plans::Plan;
 use metadata::Metadata;
 use std::alloc::{AllocError, Global};
 use updates::{Cell, Cells, Change};
-
-/// Adds the update that empties the slot of an entry, after these cells.
-pub(crate) fn empty(
-    alloc: Global,
-    metadata: &Metadata,
-    plan: &mut Plan,
-    found: &Found,
-    after: Cells,
-) -> Result<(), AllocError>
-    requires geometry { plan.old.geometry ≡ metadata.now.geometry }
-    requires entry { IsEntry metadata.now.geometry (frozen_view metadata.now) found.now }
-    requires after { All (IsCell plan.old.geometry) (map cell after.items) }
-    ensures { OnOk result ((view : View) → Shows metadata.now view
-        → GoesOn plan.old plan.new (λ q. slot_written found.now.block (view.bytes found.now.block) found.now.slot no_entry (map cell after.items) ∷ q)) }
-{
-    let position = found.slot / SLOTS as u32;
-    let bytes = bytes_of(metadata, found.directory, position, found.block);
-    put_slot(
-        alloc,
-        plan,
-        found.block,
-        bytes,
-        found.slot,
-        &[0; SLOT_BYTES],
-        after,
-    )
-}
 
 /// Adds the updates by which a number loses this many links, after the last update of a block: where it has more, its
 /// record with so many less; else those that free it with its blocks. Gives the blocks that are held then.

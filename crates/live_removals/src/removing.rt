@@ -11,12 +11,12 @@ ghost use Rattle.live_states.specs.Planned.{IsOfVolumeWith, IsPlannedWith, IsRef
 ghost use Rattle.live_removals.specs.Entries.{IsDirectoryAt, IsEntry, directory_refusal};
 ghost use Rattle.live_removals.specs.Removed.{Removed};
 
-use crate::freeing::{empty, lose_links, lower};
+use crate::freeing::{lose_links, lower};
 use frozen::Frozen;
 use layout::Refusal;
 use live_holdings::Holdings;
 use live_paths::{Path, has_names};
-use live_plans::{Found, Plan, Planned, add_blocks, locate};
+use live_plans::{Found, Plan, Planned, add_blocks, empty_slot, locate};
 use metadata::Metadata;
 use plans_naming::accepted_removals;
 use std::alloc::{AllocError, Global};
@@ -80,7 +80,7 @@ pub fn removed(
     let mut plan = Plan::new(alloc, frozen.geometry(), found.number);
     let mut after = Cells::new(alloc);
     add_blocks(metadata, found.number, &mut after)?;
-    empty(alloc, metadata, &mut plan, found, after)?;
+    empty_slot(alloc, metadata, &mut plan, found, after)?;
     let holds = lose_links(
         alloc,
         metadata,

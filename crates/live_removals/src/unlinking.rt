@@ -11,12 +11,12 @@ ghost use Rattle.live_states.specs.Planned.{IsOfVolumeWith, IsPlannedWith, IsRef
 ghost use Rattle.live_removals.specs.Entries.{IsEntry, IsFileAt, file_refusal};
 ghost use Rattle.live_removals.specs.Removed.{Unlinked, Unnamed};
 
-use crate::freeing::{empty, lose_links, lower};
+use crate::freeing::{lose_links, lower};
 use frozen::Frozen;
 use layout::Refusal;
 use live_holdings::Holdings;
 use live_paths::Path;
-use live_plans::{Found, Plan, Planned, locate};
+use live_plans::{Found, Plan, Planned, empty_slot, locate};
 use metadata::Metadata;
 use plans_naming::accepted_unlinks;
 use std::alloc::{AllocError, Global};
@@ -76,7 +76,7 @@ pub fn unlinked(
 {
     let mut plan = Plan::new(alloc, metadata.frozen().geometry(), found.number);
     let after = Cells::new(alloc);
-    empty(alloc, metadata, &mut plan, found, after)?;
+    empty_slot(alloc, metadata, &mut plan, found, after)?;
     let holds = lose_links(
         alloc,
         metadata,
@@ -97,7 +97,7 @@ pub fn unnamed(alloc: Global, metadata: &Metadata, found: &Found) -> Result<Plan
 {
     let mut plan = Plan::new(alloc, metadata.frozen().geometry(), found.number);
     let after = Cells::new(alloc);
-    empty(alloc, metadata, &mut plan, found, after)?;
+    empty_slot(alloc, metadata, &mut plan, found, after)?;
     lower(alloc, metadata, &mut plan, found.number, 1, found.block)?;
     Ok(plan)
 }

@@ -35,18 +35,17 @@ pub record_there : (held kept : Kept) (n : ℕ) → held ≡ kept → (frozen_vi
 record_there held kept n e = ap (λ (k : Kept). (frozen_view k).inode n) e
 
 -- the old slot is emptied, and the record put back
-pub left_goes_on : (old middle new : Draft) (n block s : ℕ) (inode record' : Inode) (bytes there : List ℕ) (after last : List Cell)
-    → record' ≡ inode → bytes ≡ there → last ≡ Block block ∷ []
-    → GoesOn old middle (λ q. slot_written block there s no_entry after ∷ q) → GoesOn middle new (λ q. record { change = SetInode n record'; after = last } ∷ q)
+pub left_goes_on : (old middle new : Draft) (n block s : ℕ) (inode record' : Inode) (bytes : List ℕ) (after last : List Cell)
+    → record' ≡ inode → last ≡ Block block ∷ []
+    → GoesOn old middle (λ q. slot_written block bytes s no_entry after ∷ q) → GoesOn middle new (λ q. record { change = SetInode n record'; after = last } ∷ q)
     → GoesOn old new (left n inode block bytes s after)
-left_goes_on old middle new n block s inode record' bytes there after last same held is first second = record {
+left_goes_on old middle new n block s inode record' bytes after last same is first second = record {
   geometry = second.geometry ∙ first.geometry;
   file = second.file ∙ first.file;
   pending = λ q.
       second.pending q
       ∙ ap (λ qs. record { change = SetInode n record'; after = last } ∷ qs) (first.pending q)
-      ∙ ap₂ (λ x l. record { change = SetInode n x; after = l } ∷ slot_written block there s no_entry after ∷ over q old.updates) same is
-      ∙ ap (λ b. record { change = SetInode n inode; after = Block block ∷ [] } ∷ slot_written block b s no_entry after ∷ over q old.updates) (sym held);
+      ∙ ap₂ (λ x l. record { change = SetInode n x; after = l } ∷ slot_written block bytes s no_entry after ∷ over q old.updates) same is;
 }
 
 -- a name is entered on the same volume, in the name of the same file

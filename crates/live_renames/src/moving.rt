@@ -22,12 +22,11 @@ ghost use Rattle.live_renames.specs.Moved.{AreFirst, IsMoved, MayEnter};
 
 use crate::grounds::add_grounds;
 use crate::renaming::Ends;
-use dirent::{SLOT_BYTES, SLOTS};
 use frozen::Frozen;
 use layout::Refusal;
 use live_paths::{Path, find};
 use live_places::{Place, Tables, choose};
-use live_plans::{Found, NewEntry, Plan, bytes_of, enter, put_slot};
+use live_plans::{Found, NewEntry, Plan, empty_slot, enter};
 use metadata::Metadata;
 use std::alloc::{AllocError, Global};
 use updates::{Cell, Cells, Change};
@@ -167,17 +166,7 @@ fn leave(
     ensures { OnOk result ((view : View) → Shows metadata.now view
         → GoesOn plan.old plan.new (left found.now.number (view.inode found.now.number) found.now.block (view.bytes found.now.block) found.now.slot (map cell after.items))) }
 {
-    let position = found.slot / SLOTS as u32;
-    let bytes = bytes_of(metadata, found.directory, position, found.block);
-    put_slot(
-        alloc,
-        plan,
-        found.block,
-        bytes,
-        found.slot,
-        &[0; SLOT_BYTES],
-        after,
-    )?;
+    empty_slot(alloc, metadata, plan, found, after)?;
     let mut emptied = Cells::new(alloc);
     emptied.push(Cell::Block(found.block))?;
     let record = metadata.frozen().record(found.number);

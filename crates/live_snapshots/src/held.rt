@@ -111,5 +111,5 @@ fn install(alloc: Global, frozen: &mut Frozen, group: u32, maps: Block) -> Resul
 fn is_whole(block: &Block)
     ensures { IsBlock block.now }
 {
-    block.iter();
+    block.iter(); // for the proof: the length of the array
 }

@@ -59,7 +59,7 @@ pub fn mend<D: Device, G: Gate>(
     snapshot::calls_join::<D>();
     mended_images_are_clean::<D>();
     fsck::damaged_where_a_rule_is_broken();
-    volume.live();
+    volume.live(); // for the proof: its clause `balance`
     let (number, _) = volume.freeze(alloc)?;
     let checked = Arc::new(alloc, check_snapshot(rt, alloc, volume, workers, gate)?)?;
     mend_frozen(alloc, volume, number, &checked)?;
@@ -92,7 +92,7 @@ pub fn mend_checked<D: Device>(
     mended_images_are_clean::<D>();
     fsck::damaged_where_a_rule_is_broken();
     snapshot::tells_its_image(checked);
-    volume.live().keeps_metadata();
+    volume.live().keeps_metadata(); // for the proof
     let snapshot = checked.frozen().clone()?;
     let number = volume.freeze_as(snapshot)?;
     mend_frozen(alloc, volume, number, checked)?;

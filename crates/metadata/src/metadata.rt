@@ -217,7 +217,7 @@ impl Metadata {
             (unwrap_or (kept_at self.now.blocks address) (replicate 1024 0)) (arc_value block)) }
         ensures whole { IfOk result (λ block. IsBlock (arc_value block)) }
     {
-        self.frozen.geometry();
+        self.frozen.geometry(); // for the proof: its clause `frame`
         match change.whole() {
             Some(block) => share_again(block),
             None => self.changed_in_part(alloc, address, change, spares),
@@ -313,7 +313,7 @@ fn share_again(block: &Arc<Block>) -> Result<Arc<Block>, AllocError>
 fn is_whole(block: &Block)
     ensures { IsBlock block.now }
 {
-    block.iter();
+    block.iter(); // for the proof: the length of the array
 }
 
 /// What is kept of an image shows what the image holds.

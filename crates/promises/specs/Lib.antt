@@ -1,1 +1,2 @@
 pub mod Leaky
+pub mod Known

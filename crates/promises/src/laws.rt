@@ -1,5 +1,5 @@
 //! The three promises.
-ghost use Rattle.std.specs.Prelude.{◌≡◌, ◌++◌, ℕ, Bool, false, List, IsTrue};
+ghost use Rattle.std.specs.Prelude.{◌≡◌, ◌++◌, [], ℕ, Bool, false, List, IsTrue};
 ghost use Rattle.std.specs.List.{All};
 ghost use Rattle.findings.specs.Findings.{AreFindings};
 ghost use Rattle.findings.specs.Report.{repairs_of, report_of};
@@ -13,11 +13,13 @@ ghost use Rattle.device.specs.Media.{Medium, images_held};
 ghost use Rattle.snapshot.specs.Alive.{Alive};
 ghost use Rattle.snapshot.specs.Cycles.{HasCycle};
 ghost use Rattle.snapshot.specs.Durable.{IsSoundOn, LeavesSafe};
+ghost use Rattle.snapshot.specs.Alive.{disk_of};
 ghost use Rattle.snapshot.specs.Stages.{LeadsTo, Stage, StandsAt, geometry_at, state_at};
 ghost use Rattle.snapshot.specs.Synced.{HasFile, IsSynced, KeepsFiles};
 ghost use Rattle.shared.specs.Traces.{HasHistory, asked_by, now_at};
 ghost use Rattle.shared.specs.declared.counts.Counts.{Counts};
 ghost use Rattle.shared.specs.declared.entry.Entry.{Entry};
+ghost use Rattle.promises.specs.Known.{LeavesKnown};
 ghost use Rattle.promises.specs.Leaky.{IsOnlyLeaky, LeavesLeaky};
 
 use device::Device;
@@ -46,7 +48,9 @@ pub fn every_stop_is_only_leaky<D: Device>()
 /// Whatever a loss of power leaves is only leaky, on a device whose writes are not durable at once too (`leaky`): of the medium on which
 /// a volume is sound, as it is just mounted, and of each medium that the device had since, whatever calls were made. And what a
 /// sync has seen outlives it (`synced`): the files that are there where all is durable, as after each sync that is answered, are
-/// in whatever is left then; and, but for those of which an unlink took a name since, in whatever is left of each later medium.
+/// in whatever is left then; and, but for those of which an unlink took a name since, in whatever is left of each later medium. In that
+/// each record, with its size, is as it was at the sync, or as an update since made it; and each block of a file has the bytes that this
+/// file had there at the sync, or those that an update since gave it in the name of this very file (`known`).
 pub fn every_power_cut_is_only_leaky<D: Device>()
     ensures leaky { (s t : Stage D) (commands : List Command) (replies : List Reply) → StandsAt s → LeadsTo s commands replies t
         → IsSoundOn s.held.now s.volume (λ f. false)
@@ -56,6 +60,9 @@ pub fn every_power_cut_is_only_leaky<D: Device>()
         → StandsAt s → LeadsTo s commands replies t → IsSoundOn s.held.now s.volume (λ f. false) → IsSynced t
         → (files : ℕ → Bool) → ((f : ℕ) → IsTrue (files f) → HasFile t f) → LeadsTo t more others u
         → LeavesSafe (geometry_at t) files t.held.now × KeepsFiles t files more others u }
+    ensures known { (t u : Stage D) (files : ℕ → Bool) (more : List Command) (others : List Reply) → (keeps : KeepsFiles t files more others u)
+        → LeavesKnown (geometry_at t) (disk_of t.image t.volume) [] t.held.now
+        × All (LeavesKnown (geometry_at t) (disk_of t.image t.volume) keeps.written) keeps.more }
 {
     snapshot::volumes_begin::<D>();
     snapshot::each_power_cut_of_a_run_is_safe::<D>();

@@ -71,7 +71,7 @@ fn add_block<D: Device>(
 }
 
 /// How many bytes a file of this size has in its block of this index.
-fn length_in(size: u32, index: u32) -> usize
+pub fn length_in(size: u32, index: u32) -> usize
     ensures { result ≡ min (size - 1024 * index) 1024 }
 {
     let before = u64::from(index) * BLOCK_BYTES as u64;

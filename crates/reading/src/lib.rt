@@ -7,6 +7,6 @@ mod bytes;
 mod looking;
 mod trees;
 
-pub use bytes::read;
+pub use bytes::{length_in, read};
 pub use looking::{Found, list, record_of, stat};
 pub use trees::{Listing, joined, tree};

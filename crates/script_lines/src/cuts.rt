@@ -8,11 +8,11 @@ ghost use Rattle.script_lines.specs.Cuts.{IsSaid, TellsCuts, TellsMoments, held_
 
 use crate::scripts::{lines_of_file, of_script};
 use crate::stops::carry_out;
-use changing::mount;
 use clap::{Arg, ArgMatches, Command as Words, value_parser};
 use command_line::{Answer, DAMAGED, Failure, bytes_of_file};
 use device::{CacheDevice, MemDevice};
 use findings::Verdict;
+use image_changes::mount;
 use image_lines::check::check;
 use layout::Refusal;
 use left_images::{Judge, may_damage, report};

@@ -3,11 +3,11 @@ ghost use Rattle.std.specs.Prelude.{◌<◌, IfOk, OnOk};
 ghost use Rattle.script_lines.specs.Carried.{RunsOn};
 
 use crate::scripts::{lines_of_file, of_script};
-use changing::mount;
 use clap::{ArgMatches, Command as Words};
 use command_line::{Answer, DAMAGED, Failure, bytes_of_file};
 use device::{Device, MemDevice};
 use findings::Verdict;
+use image_changes::mount;
 use image_lines::check::check;
 use layout::Refusal;
 use recording::{Recording, Written};
@@ -15,11 +15,8 @@ use snapshot::{Command, Volume};
 use std::alloc::{AllocError, Global};
 use std::rt::Files;
 use std::thread::Threads;
-use user_scripts::{Commands, Handles, UserLine};
+use user_scripts::{Commands, Handles, MOST_USERS, UserLine};
 use workers::OpenGate;
-
-/// How many users a script may have.
-const MOST_USERS: usize = 8;
 
 /// What the line asks for: the stops of a script on an image.
 #[derive(Clone, Copy)]

@@ -1,12 +1,12 @@
 //! Whose the files of a volume are, which keeps no owners.
 use command_line::Failure;
 use file_device::OpenError;
+use fuse_reader::Owner;
 use fuse_wire::Time;
 use std::alloc::Global;
 use std::fs;
 use std::os::unix::fs::MetadataExt;
 use std::rt::Files;
-use viewing::Owner;
 
 /// A user and a group, by their numbers.
 #[derive(Clone, Copy, Debug, PartialEq, Eq)]

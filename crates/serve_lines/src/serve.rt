@@ -5,12 +5,13 @@ ghost use Rattle.serve_lines.specs.Ends.{MayEndService};
 use crate::holding::Holdable;
 use crate::owner::{Numbers, numbers_given};
 use crate::{viewed, written};
-use background::Plan;
-use channels::Channel;
 use clap::{Arg, ArgAction, ArgMatches, Command, value_parser};
 use command_line::{Answer, Failure, words};
+use fuse_channels::Channel;
+use fuse_daemon::Plan;
+use fuse_loop::LeftError;
+use fuse_writer::Rules;
 use layout::Refusal;
-use serving::LeftError;
 use std::alloc::{AllocError, Global};
 use std::io::Eprint;
 use std::os::unix::fs::FileExt;
@@ -18,7 +19,6 @@ use std::rt::Files;
 use std::sync::Wait;
 use std::thread::Threads;
 use std::time::Clock;
-use tending::Rules;
 use workers::MOST_WORKERS;
 
 /// What the line asks for: the volume of this image.

@@ -1,5 +1,5 @@
 //! What is told on standard error while an image is served.
-use background::{Mended, News, Teller};
+use fuse_daemon::{Mended, News, Teller};
 use std::io::Eprint;
 
 /// Standard error, and the image of which it is told.

@@ -4,16 +4,16 @@ ghost use Rattle.serve_lines.specs.Ends.{MayEndService};
 
 use crate::owner::{Numbers, owner_of};
 use crate::serve::failure_of;
-use channels::Channel;
 use command_line::{Failure, others_of, workers_here};
 use file_device::FileDevice;
+use fuse_channels::Channel;
+use fuse_loop::serve;
+use fuse_reader::Desk;
 use loaders::load_by;
-use serving::serve;
 use std::marker::Brand;
 use std::os::unix::fs::FileExt;
 use std::rt::Files;
 use std::thread::Threads;
-use viewing::Desk;
 
 /// Answers the messages of a channel from a file's image.
 pub(crate) fn serve_file<R: Files + AllocGlobal + Threads + Sync, C: Channel>(

@@ -6,15 +6,16 @@ use crate::holding::{Holdable, held};
 use crate::owner::{Numbers, owner_of};
 use crate::serve::failure_of;
 use crate::telling::Told;
-use background::{Ended, Plan, run};
-use changing::mount_by;
-use channels::Channel;
 use command_line::{Failure, others_of, workers_here};
 use file_device::FileDevice;
+use fuse_channels::Channel;
+use fuse_daemon::{Ended, Plan, run};
+use fuse_loop::LeftError;
 use fuse_wire::Errno;
+use fuse_writer::{Desk, Rules};
+use image_changes::mount_by;
 use joint_devices::Joint;
 use layout::Refusal;
-use serving::LeftError;
 use std::alloc::Global;
 use std::io::Eprint;
 use std::marker::Brand;
@@ -23,7 +24,6 @@ use std::rt::Files;
 use std::sync::Wait;
 use std::thread::Threads;
 use std::time::Clock;
-use tending::{Desk, Rules};
 
 /// Answers the messages of a channel from a file's image, which is held and changed; beside that it is mended and flushed.
 pub(crate) fn serve_file<

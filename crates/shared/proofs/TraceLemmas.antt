@@ -17,7 +17,7 @@ use Rattle.live_states.specs.Holdings.{Beside}
 use Rattle.snapshot.specs.declared.command.Command.{Command}
 use Rattle.snapshot.specs.declared.answer.Answer.{Answer}
 use Rattle.snapshot.specs.declared.answer.Answer.TheVariants.{Done, Number, Bytes, Names, Status, Image}
-use Rattle.snapshot.specs.Asked.{HasBytesOrNames, IsReply, asked}
+use Rattle.snapshot.specs.Asked.{HasBytesOrNames, IsReply, asked, mode_of}
 use Rattle.snapshot.specs.declared.command.Command.TheVariants.{Create, Mkdir, Link, Unlink, Rmdir, Rename, Open, Close, Read, Write, Truncate, List as ListOf, Stat, Freeze, SnapRead, Release, Install, Repair, Flush, Sync}
 use Rattle.snapshot.specs.Goes.{Applies, Goes, HasBeside}
 use Rattle.snapshot.specs.Writes.{Writes}
@@ -42,7 +42,7 @@ noted_so (Ok given) noted (Err s) n is = absurd is
 noted_so (Ok Done) noted (Ok answer) n is = subst (λ a. IsNoted noted (Ok a)) (sym is) (subst (λ x. IsReply x (Ok IsDone)) (sym n) refl)
 noted_so (Ok (Number k)) noted (Ok answer) n is = subst (λ a. IsNoted noted (Ok a)) (sym is) (subst (λ x. IsReply x (Ok (IsNumber k))) (sym n) refl)
 noted_so (Ok (Status status)) noted (Ok answer) n is =
-    subst (λ a. IsNoted noted (Ok a)) (sym is) (subst (λ x. IsReply x (Ok (IsStatus status.number status.mode status.links status.size))) (sym n) refl)
+    subst (λ a. IsNoted noted (Ok a)) (sym is) (subst (λ x. IsReply x (Ok (IsStatus status.number (mode_of status.kind) status.links status.size))) (sym n) refl)
 noted_so (Ok (Bytes bytes)) (Ok (Bytes copy)) (Ok answer) n is = subst (λ a. IsNoted (Ok (Bytes copy)) (Ok a)) (sym is) (ap AreBytes (sym n))
 noted_so (Ok (Names names)) (Ok (Names copy)) (Ok answer) n is = subst (λ a. IsNoted (Ok (Names copy)) (Ok a)) (sym is) (ap Listed (sym n))
 noted_so (Ok (Image number frozen)) noted (Ok (IsImage k view)) n is = subst (λ x. IsReply x (Ok (IsNumber k))) (sym n) (ap IsNumber is.0)

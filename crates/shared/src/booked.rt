@@ -83,7 +83,7 @@ impl<D: Device + Drop, L: Sharing, M: Ledger> Booked<D, L, M> {
         ensures error { IsOkUnless result Refusal.NoMemory }
     {
         let (trace, volume) = with(Vec::with_capacity(alloc, limit), volume)?;
-        volume.live();
+        volume.live(); // for the proof: its clause `balance`
         Ok(Booked {
             volume,
             limit,

@@ -16,3 +16,4 @@ mod UserReplies
 mod Writing
 mod Written
 mod HeldImages
+mod SyncedLemmas

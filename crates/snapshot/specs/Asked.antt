@@ -11,6 +11,7 @@ use Rattle.machine.specs.Command.{Check, Command as Request, Reply as Response, 
 use Rattle.machine.specs.Command.{Answer as Answered, Done as IsDone, Number as IsNumber, Bytes as AreBytes, Listed, Status as IsStatus, Image as IsImage}
 use Rattle.metadata.specs.Shown.{Shows}
 use Rattle.live_paths.specs.Listed.{name_of}
+pub use Rattle.live.specs.Kinds.{mode_of}
 use Rattle.snapshot.specs.declared.command.Command.{Command}
 use Rattle.snapshot.specs.declared.command.Command.TheVariants.{Create, Mkdir, Link, Unlink, Rmdir, Rename, Open, Close, Read, Write, Truncate, List as ListOf, Stat, Freeze, SnapRead, Release, Install, Repair, Flush, Sync}
 use Rattle.snapshot.specs.declared.answer.Answer.{Answer}
@@ -65,7 +66,7 @@ StandsFor Done answer = answer ≡ IsDone
 StandsFor (Number n) answer = answer ≡ IsNumber n
 StandsFor (Bytes bytes) answer = answer ≡ AreBytes bytes.items
 StandsFor (Names names) answer = answer ≡ Listed (map name_of names.items)
-StandsFor (Status status) answer = answer ≡ IsStatus status.number status.mode status.links status.size
+StandsFor (Status status) answer = answer ≡ IsStatus status.number (mode_of status.kind) status.links status.size
 StandsFor (Image number frozen) (IsImage n view) = (n ≡ number) × Shows (arc_value frozen) view
 StandsFor (Image number frozen) _ = ⊥
 

@@ -1,13 +1,14 @@
 -- What a sync has seen, and what calls leave of it.
-use Rattle.std.specs.Prelude.{◌≡◌, ℕ, Bool, List, [], IsTrue}
+use Rattle.std.specs.Prelude.{◌≡◌, ℕ, Bool, List, [], ◌++◌, All, IsTrue}
 use Rattle.model.specs.Reach.{IsReachable}
 use Rattle.model.specs.View.{View}
-use Rattle.device.specs.Media.{image_of}
+use Rattle.device.specs.Media.{Medium, image_of}
 use Rattle.machine.specs.Command.{Command, Reply}
+use Rattle.queue_model.specs.Files.{Written}
 use Rattle.courses.specs.Serves.{IsSpared}
 use Rattle.softdep.specs.Queued.{unsynced_of}
 use Rattle.live.specs.Alive.{disk_of}
-use Rattle.live.specs.Durable.{HeldSafely}
+use Rattle.live.specs.Durable.{HeldSafely, LeavesShown}
 use Rattle.snapshot.specs.Stages.{ServesTo, Stage, geometry_at}
 
 -- all is durable, on a device that answers what its medium has
@@ -25,3 +26,9 @@ pub record KeepsFiles {D : Type 0} (t : Stage D) (files : ℕ → Bool) (command
   pub service : ServesTo t files commands replies u left later
   pub spared : (f : ℕ) → IsTrue (files f) → IsSpared f service → IsTrue (left f)
   pub held : HeldSafely (geometry_at t) t.held u.held left
+  -- Whatever a loss of power leaves at the sync is what users saw there, and what it leaves of each medium since is what a closed cut of what was written since shows over that.
+  pub now : LeavesShown (geometry_at t) (disk_of t.image t.volume) [] files t.held.now
+  pub written : List Written
+  pub more : List Medium
+  pub media : u.held.media ≡ t.held.media ++ more
+  pub shown : All (LeavesShown (geometry_at t) (disk_of t.image t.volume) written left) more

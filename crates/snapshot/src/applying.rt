@@ -64,7 +64,7 @@ impl<D: Device> Volume<D> {
         ensures honest { D.honest self.new.device → D.honest self.old.device }
     {
         let reply = user_reply(&mut self.live, alloc, command);
-        self.live.device();
+        self.live.device(); // for the proof: its clause `stands`
         reply
     }
 

@@ -66,7 +66,7 @@ impl<D: Device> Volume<D> {
     {
         let repairs = checked.repairs().to_vec(alloc)?;
         let outcome = self.live.install(alloc, repairs);
-        self.live.device();
+        self.live.device(); // for the proof: its clause `stands`
         outcome
     }
 
@@ -82,7 +82,7 @@ impl<D: Device> Volume<D> {
         ensures device { self.new.device ≡ self.old.device }
     {
         let outcome = self.live.repair(alloc, place);
-        self.live.device();
+        self.live.device(); // for the proof: its clause `stands`
         outcome
     }
 }

@@ -8,6 +8,7 @@ ghost use Rattle.findings.specs.Report.{repairs_of};
 ghost use Rattle.findings.specs.declared.finding.Finding.{Finding};
 ghost use Rattle.findings.specs.declared.repair.Repair.{Repair};
 ghost use Rattle.model.specs.View.{View};
+ghost use Rattle.courses.specs.Bytes.{IsOwnService};
 ghost use Rattle.device.specs.Media.{images_held};
 ghost use Rattle.machine.specs.Balance.{Balance, Exact, OwesNothing};
 ghost use Rattle.machine.specs.Command.{Check, Command, Done, Freeze, Image, Install, RepairAt, Reply};
@@ -45,6 +46,19 @@ pub fn each_stop_of_a_run_is_safe<D: Device>()
         × (safe' : ℕ → Bool) × ServesTo s safe commands replies t safe' later
         × IsSafeTo s mount h cut safe commands replies t safe' later }
 {}
+
+/// Files show their own bytes, wherever a volume is stopped. In each image that the device held, each byte of a block of a file, below its
+/// size and behind it, is a zero, or that byte of a piece that users wrote at this position of this very file, or the file had it there at
+/// first. A number that was given out anew is another file.
+pub fn files_show_their_own_bytes<D: Device>()
+    ensures { (s t : Stage D) (commands : List Command) (replies : List Reply) → LeadsTo s commands replies t
+        → (mount : View) (h : List Written) (cut : List Bool) (safe : ℕ → Bool) → BeginsAt s mount h cut safe
+        → (later : List View) × HeldMore (geometry_at s) s.held t.held later
+        × (safe' : ℕ → Bool) × (service : ServesTo s safe commands replies t safe' later) × IsOwnService mount h cut service }
+{
+    each_stop_of_a_run_is_safe::<D>();
+    courses::files_show_their_own_bytes();
+}
 
 /// A volume that is sound on the medium of its device stays so, whatever it goes through by calls. So whatever a loss of power
 /// leaves of its medium, and of each since, can be mounted, and reaches each file that no stop was to lose and of which no unlink took a

@@ -22,9 +22,9 @@ pub use checking::tells_its_image;
 pub use command::Command;
 pub use laws::{
     calls_join, clean_volumes_stay_exact, each_image_held_is_mountable,
-    each_power_cut_of_a_run_is_safe, each_stop_of_a_run_is_safe, no_call_makes_a_debt,
-    volumes_are_in_balance, volumes_begin, what_a_sync_has_seen_outlives_power_cuts,
-    whole_cycles_end_exact,
+    each_power_cut_of_a_run_is_safe, each_stop_of_a_run_is_safe, files_show_their_own_bytes,
+    no_call_makes_a_debt, volumes_are_in_balance, volumes_begin,
+    what_a_sync_has_seen_outlives_power_cuts, whole_cycles_end_exact,
 };
-pub use live::{Live, NotMounted, Status, mountable_images_mount, mounted_volumes_begin};
+pub use live::{Kind, Live, NotMounted, Status, mountable_images_mount, mounted_volumes_begin};
 pub use volume::Volume;

@@ -1,12 +1,11 @@
-ghost use Rattle.std.specs.Prelude.{◌≡◌, ◌⊎◌, ◌≤◌, IfErr, IfOk, IsTrue, MatchOption, Some, false, length, take};
+ghost use Rattle.std.specs.Prelude.{◌≡◌, ◌⊎◌, ◌≤◌, IfErr, IfOk, IsTrue, MatchOption, Some, false};
 ghost use Rattle.frozen.specs.Kept.{frozen_view};
 ghost use Rattle.machine.specs.Causes.{is_used_number};
 ghost use Rattle.snapshot.specs.Pieces.{IsPieceOf, LacksPiece, why_no_piece};
 
 use frozen::Frozen;
 use inode::{FREE, Record};
-use layout::{BLOCK_BYTES, Block, ROOT, Refusal};
-use std::alloc::{AllocError, Global};
+use layout::{BLOCK_BYTES, ROOT, Refusal};
 
 /// A block of a file, and how many of its bytes are the file's.
 #[derive(Clone, Copy, Debug, PartialEq, Eq)]
@@ -56,15 +55,4 @@ fn record_of(frozen: &Frozen, inode: u32) -> Option<Record>
         return None;
     }
     Some(record)
-}
-
-/// The first bytes of a block, so many.
-pub(crate) fn first_bytes(alloc: Global, bytes: &Block, count: usize) -> Result<Vec<u8>, AllocError>
-    requires { count ≤ 1024 }
-    ensures first { IfOk result (λ first. first.items ≡ take count bytes.now) }
-    ensures whole { length bytes.now ≡ 1024 }
-{
-    let mut first = Vec::new(alloc);
-    first.extend_from_slice(&bytes[..count])?;
-    Ok(first)
 }

@@ -15,11 +15,11 @@ ghost use Rattle.snapshot.specs.Pieces.{IsPieceOfSnapshot};
 ghost use Rattle.snapshot.specs.Refusing.{IsCauseOf, IsWhyUnread};
 
 use crate::Volume;
-use crate::pieces::{Piece, first_bytes, piece_of};
+use crate::pieces::{Piece, piece_of};
 use device::Device;
 use frozen::Frozen;
 use layout::Refusal;
-use live::Live;
+use live::{Live, first_bytes};
 use std::alloc::Global;
 use std::sync::Arc;
 
@@ -71,10 +71,10 @@ impl<D: Device> Volume<D> {
         if !self.live.may_freeze() {
             return Err(Refusal::TooManySnapshots);
         }
-        self.live.keeps_metadata();
+        self.live.keeps_metadata(); // for the proof
         write_all(&mut self.live)?;
         let number = self.live.keep(snapshot);
-        self.live.device();
+        self.live.device(); // for the proof: its clause `stands`
         Ok(number)
     }
 
@@ -123,7 +123,7 @@ impl<D: Device> Volume<D> {
         }
         write_all(&mut self.live)?;
         let outcome = self.live.end_keep(alloc, number);
-        self.live.device();
+        self.live.device(); // for the proof: its clause `stands`
         outcome
     }
 }
@@ -149,7 +149,7 @@ fn write_all<D: Device>(live: &mut Live<D>) -> Result<(), Refusal>
     ensures honest { D.honest live.new.device → D.honest live.old.device }
 {
     let outcome = live.sync();
-    live.device();
+    live.device(); // for the proof: its clause `stands`
     outcome
 }
 

@@ -33,7 +33,7 @@ impl<D: Device> Volume<D> {
         requires none { live.holdings.snapshots.standing ≡ [] }
         ensures { result ≡ live }
     {
-        live.device();
+        live.device(); // for the proof: its clause `stands`
         Volume { live }
     }
 

@@ -174,7 +174,7 @@ impl Queue {
             self.events = self.events.and(&self.none, &Kind::Wrote(address));
             return Ok(0);
         }
-        self.geometry.blocks();
+        self.geometry.blocks(); // for the proof: its clause `geometry`
         let block = &mut self.block;
         // An update of a data block gives all of its bytes, so what stands there is not read.
         if self.geometry.place_of(address).is_none() {

@@ -16,8 +16,8 @@ use Rattle.queue_model.proofs.Lists.{bool_same, contains_head, contains_tail, co
 use Rattle.queue_model.proofs.Represented.{issued_represents}
 use Rattle.queue_model.proofs.Standing.{is_pending, entry_of, id_low, waits_low, last_entry}
 use Rattle.updates.specs.Places.{IsCell, AreCells, place_of, place_count}
-use Rattle.chains.specs.Chains.{Links as ChainLinks, numbers, IsChain}
-use Rattle.stacks.specs.Stacks.{Links as StackLinks, stack_at, count_of, room_of}
+use Rattle.lists.specs.Chains.{Links as ChainLinks, numbers, IsChain}
+use Rattle.lists.specs.Stacks.{Links as StackLinks, stack_at, count_of, room_of}
 use Rattle.softdep_queue.specs.declared.table.Node.{Node}
 use Rattle.softdep_queue.specs.declared.table.Table.{Table}
 use Rattle.softdep_queue.specs.Counts.{occurrences, count_in, code}

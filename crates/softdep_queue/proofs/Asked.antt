@@ -14,8 +14,8 @@ use Rattle.queue_model.proofs.Listed.{at_within}
 use Rattle.queue_model.proofs.FlushLemmas.{ready_greatest}
 use Rattle.queue_model.proofs.Represented.{goes_ready}
 use Rattle.queue_model.proofs.TakenLemmas.{after, closed, all_taken}
-use Rattle.ready.specs.Ready.{IsLeast, IsNext, NothingStands, NothingStandsFrom}
-use Rattle.stacks.specs.Stacks.{stack_at, is_empty}
+use Rattle.lists.specs.Ready.{IsLeast, IsNext, NothingStands, NothingStandsFrom}
+use Rattle.lists.specs.Stacks.{stack_at, is_empty}
 use Rattle.softdep_queue.specs.declared.table.Table.{Table}
 use Rattle.softdep_queue.specs.Next.{unwritten, to_write, HasToWrite, IsLeastToWrite, IsNextToWrite, NothingToWrite, NothingToWriteFrom}
 use Rattle.softdep_queue.specs.Ties.{Holds, of_block}

@@ -12,8 +12,8 @@ use Rattle.queue_model.specs.Entries.{Entry, Queue, has_id, marks, may_go, NoOth
 use Rattle.queue_model.proofs.Lists.{bool_same, contains_head, contains_tail, contains_cases, contains_none, all_at, all_from}
 use Rattle.queue_model.proofs.Listed.{at_within}
 use Rattle.queue_model.proofs.Standing.{same_entry, home_is, id_low, waits_low, is_pending}
-use Rattle.stacks.specs.Stacks.{Links as Stacks, stack_at, count_of, room_of}
-use Rattle.chains.specs.Chains.{Links as Chains, numbers, IsChain}
+use Rattle.lists.specs.Stacks.{Links as Stacks, stack_at, count_of, room_of}
+use Rattle.lists.specs.Chains.{Links as Chains, numbers, IsChain}
 use Rattle.updates.specs.Places.{place_of}
 use Rattle.softdep_queue.specs.declared.table.Node.{Node}
 use Rattle.softdep_queue.specs.declared.table.Table.{Table}

@@ -15,7 +15,7 @@ use Rattle.queue_model.proofs.EntryLemmas.{last_has, fresh_last}
 use Rattle.queue_model.proofs.Lists.{bool_same, contains_head, contains_tail, contains_cases, contains_none, unmapped}
 use Rattle.queue_model.proofs.Standing.{id_low, listed}
 use Rattle.queue_model.proofs.TakenLemmas.{closed, marks_tell}
-use Rattle.stacks.specs.Stacks.{stack_at, count_of}
+use Rattle.lists.specs.Stacks.{stack_at, count_of}
 use Rattle.updates.specs.declared.change.Update.{Update}
 use Rattle.updates.specs.Values.{written}
 use Rattle.softdep_queue.specs.declared.table.Node.{Node}

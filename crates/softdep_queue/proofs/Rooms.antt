@@ -8,8 +8,8 @@ use Rattle.queue_model.specs.Entries.{Entry, Queue, empty_queue, has_id}
 use Rattle.queue_model.proofs.Lists.{contains_none}
 use Rattle.queue_model.proofs.Represented.{none_listed_of_none, begun_anew, empty_represents}
 use Rattle.updates.specs.Places.{place_of, place_count}
-use Rattle.chains.specs.Chains.{walk}
-use Rattle.stacks.specs.Stacks.{stack_at, count_of, room_of}
+use Rattle.lists.specs.Chains.{walk}
+use Rattle.lists.specs.Stacks.{stack_at, count_of, room_of}
 use Rattle.softdep_queue.specs.declared.table.Node.{Node}
 use Rattle.softdep_queue.specs.declared.table.Table.{Table}
 use Rattle.softdep_queue.specs.Counts.{occurrences}

@@ -14,9 +14,9 @@ use Rattle.queue_model.proofs.Lists.{contains_head, contains_tail, contains_case
 use Rattle.queue_model.proofs.Listed.{at_within}
 use Rattle.queue_model.proofs.Standing.{is_pending, listed}
 use Rattle.queue_model.proofs.FlushLemmas.{taken_rest}
-use Rattle.chains.specs.Chains.{Links as ChainLinks, numbers, IsChain}
+use Rattle.lists.specs.Chains.{Links as ChainLinks, numbers, IsChain}
 use Rattle.updates.specs.Places.{place_of}
-use Rattle.stacks.specs.Stacks.{Links as StackLinks, stack_at, count_of, room_of}
+use Rattle.lists.specs.Stacks.{Links as StackLinks, stack_at, count_of, room_of}
 use Rattle.softdep_queue.specs.declared.table.Node.{Node}
 use Rattle.softdep_queue.specs.declared.table.Table.{Table}
 use Rattle.softdep_queue.specs.Counts.{occurrences}

@@ -11,8 +11,8 @@ use Rattle.queue_model.specs.Blocks.{home_of}
 use Rattle.queue_model.specs.Entries.{Entry, Queue}
 use Rattle.queue_model.proofs.Lists.{contains_head}
 use Rattle.queue_model.proofs.Standing.{same_entry, id_low, entry_of}
-use Rattle.chains.specs.Chains.{Links as ChainLinks, numbers, IsChain}
-use Rattle.stacks.specs.Stacks.{stack_at, count_of, room_of}
+use Rattle.lists.specs.Chains.{Links as ChainLinks, numbers, IsChain}
+use Rattle.lists.specs.Stacks.{stack_at, count_of, room_of}
 use Rattle.softdep_queue.specs.declared.table.Node.{Node}
 use Rattle.softdep_queue.specs.declared.table.Table.{Table}
 use Rattle.updates.specs.Places.{place_of}

@@ -13,8 +13,8 @@ use Rattle.queue_model.specs.Blocks.{home_of}
 use Rattle.queue_model.specs.Entries.{Entry, Queue, has_id, may_go, AreTaken, NoOtherMayGo}
 use Rattle.queue_model.proofs.Lists.{contains_head, contains_tail, contains_cases, contains_none}
 use Rattle.queue_model.proofs.Standing.{same_entry, home_is, id_low, is_pending}
-use Rattle.stacks.specs.Stacks.{Links as StackLinks, stack_at, count_of, room_of}
-use Rattle.chains.specs.Chains.{Links as ChainLinks, numbers, IsChain}
+use Rattle.lists.specs.Stacks.{Links as StackLinks, stack_at, count_of, room_of}
+use Rattle.lists.specs.Chains.{Links as ChainLinks, numbers, IsChain}
 use Rattle.updates.specs.Places.{place_of}
 use Rattle.softdep_queue.specs.declared.table.Node.{Node}
 use Rattle.softdep_queue.specs.declared.table.Table.{Table}

@@ -14,7 +14,7 @@ use Rattle.queue_model.proofs.Standing.{last_entry}
 use Rattle.updates.specs.declared.cell.Cell.{Cell as OwnCell}
 use Rattle.updates.specs.Values.{cell}
 use Rattle.updates.specs.Places.{IsCell, place_of}
-use Rattle.chains.specs.Chains.{IsChain}
+use Rattle.lists.specs.Chains.{IsChain}
 use Rattle.softdep_queue.specs.declared.table.Table.{Table}
 use Rattle.softdep_queue.specs.Counts.{occurrences, code}
 use Rattle.softdep_queue.specs.Ties.{Takes, due_after, node_at, waiters_of}

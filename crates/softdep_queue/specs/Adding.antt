@@ -7,8 +7,8 @@ use Rattle.ordering.specs.Cuts.{Cell, Pending}
 use Rattle.updates.specs.declared.change.Update.{Update}
 use Rattle.updates.specs.Values.{written}
 use Rattle.updates.specs.Places.{place_of, place_count}
-use Rattle.chains.specs.Chains.{IsChain}
-use Rattle.stacks.specs.Stacks.{stack_at}
+use Rattle.lists.specs.Chains.{IsChain}
+use Rattle.lists.specs.Stacks.{stack_at}
 use Rattle.softdep_queue.specs.declared.table.Table.{Table}
 use Rattle.softdep_queue.specs.Counts.{occurrences, count_in}
 use Rattle.softdep_queue.specs.Ties.{node_at, waiters_of}

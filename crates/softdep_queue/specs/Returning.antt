@@ -7,7 +7,7 @@ use Rattle.ordering.specs.Cuts.{Cell, Pending}
 use Rattle.queue_model.specs.Blocks.{home_of}
 use Rattle.queue_model.specs.Entries.{Entry, Queue, Represents}
 use Rattle.updates.specs.Places.{IsCell, AreCells, place_of, place_count}
-use Rattle.stacks.specs.Stacks.{count_of, room_of}
+use Rattle.lists.specs.Stacks.{count_of, room_of}
 use Rattle.softdep_queue.specs.declared.table.Table.{Table}
 use Rattle.softdep_queue.specs.Counts.{occurrences, code}
 use Rattle.softdep_queue.specs.Ties.{IsNodeOf, shown_by, waiters_of}

@@ -4,7 +4,7 @@ use Rattle.std.specs.Vec.{vec_capacity}
 use Rattle.model.specs.Layout.{Geometry}
 use Rattle.ordering.specs.Cuts.{Pending}
 use Rattle.queue_model.specs.Entries.{Queue}
-use Rattle.stacks.specs.Stacks.{room_of}
+use Rattle.lists.specs.Stacks.{room_of}
 use Rattle.softdep_queue.specs.declared.table.Table.{Table}
 use Rattle.softdep_queue.specs.Ties.{Holds}
 

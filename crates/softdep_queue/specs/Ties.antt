@@ -10,8 +10,8 @@ use Rattle.model.specs.Cells.{Update}
 use Rattle.updates.specs.declared.change.Update.{Update as OwnUpdate}
 use Rattle.updates.specs.Values.{change, written}
 use Rattle.updates.specs.Places.{IsCell, FitsVolume, AreCells, place_of, place_count}
-use Rattle.chains.specs.Chains.{numbers, IsChain}
-use Rattle.stacks.specs.Stacks.{stack_at, count_of, room_of}
+use Rattle.lists.specs.Chains.{numbers, IsChain}
+use Rattle.lists.specs.Stacks.{stack_at, count_of, room_of}
 use Rattle.softdep_queue.specs.declared.table.Node.{Node}
 use Rattle.softdep_queue.specs.declared.table.Table.{Table}
 use Rattle.softdep_queue.specs.Counts.{occurrences, count_in, code}

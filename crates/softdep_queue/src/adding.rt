@@ -12,9 +12,8 @@ ghost use Rattle.softdep_queue.specs.Moving.{IsCompact};
 ghost use Rattle.softdep_queue.specs.Adding.{update_of, lasts, is_own, counted, MayStand, MayWait, IsBehind};
 
 use crate::table::{Node, Table};
-use chains::{Chain, Chains};
 use layout::Geometry;
-use ready::Ready;
+use lists::{Chain, Chains, Ready};
 use std::alloc::{AllocError, Global};
 use updates::{Cell, Update, places};
 

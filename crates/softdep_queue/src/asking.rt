@@ -4,7 +4,7 @@ ghost use Rattle.ordering.specs.Cuts.{Pending, rest};
 ghost use Rattle.queue_model.specs.Blocks.{home_of};
 ghost use Rattle.queue_model.specs.Flush.{taken};
 ghost use Rattle.queue_model.specs.Entries.{Queue};
-ghost use Rattle.stacks.specs.Stacks.{count_of};
+ghost use Rattle.lists.specs.Stacks.{count_of};
 ghost use Rattle.softdep_queue.specs.Ties.{Holds};
 ghost use Rattle.std.specs.Prelude.{IsTrue, Some};
 ghost use Rattle.model.specs.Cells.{SetBytes};

@@ -7,7 +7,7 @@
 //!   nodes      0: bit of 9      1: bytes of 9      2: record of 7       each update, in the order of issue
 //!     home     block 1          block 9            block 2
 //!     waiting  0                1                  1                    for how many it waits
-//!     waiters  1                2                  none                 who waits for it (a chain of `chains`)
+//!     waiters  1                2                  none                 who waits for it (a `Chain`)
 //!   ready      block 1: 0       block 9: none      block 2: none        of each block the updates that wait for none, not taken yet
 //!   latest     bit of 9: 0      bytes of 9: 1      record of 7: 2       of each cell its last pending update
 //!   taken      none                                                     what flushes wrote and no sync confirmed, the first first

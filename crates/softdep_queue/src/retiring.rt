@@ -49,7 +49,7 @@ impl Table {
         ensures { (queue : Queue) (q : List Pending) (ws : List Entry) → IsReleased geometry.now self.old queue q ws
             → AreStruck geometry.now self.old self.new queue ws }
     {
-        geometry.blocks();
+        geometry.blocks(); // for the proof: its clause `geometry`
         cells_have_places_of_their_own();
         let mut left = self.taken.len();
         while left > 0 {

@@ -7,8 +7,7 @@ ghost use Rattle.softdep_queue.specs.Ties.{Ties, node_at};
 ghost use Rattle.softdep_queue.specs.Rooms.{HasRoom};
 ghost use Rattle.softdep_queue.specs.Lowering.{is_chosen, less, released, AreWaiting, MayBeLowered, MayBeReleased};
 
-use chains::{Chain, Chains};
-use ready::Ready;
+use lists::{Chain, Chains, Ready};
 use updates::Update;
 
 /// A place for an update that is pending, or was: then nothing of it is left.

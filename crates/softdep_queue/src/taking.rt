@@ -3,7 +3,7 @@ ghost use Rattle.model.specs.Layout.{Geometry as Numbers, block_count, is_data_a
 ghost use Rattle.model.specs.Cells.{Update};
 ghost use Rattle.ordering.specs.Cuts.{Pending};
 ghost use Rattle.queue_model.specs.Entries.{Entry, Queue};
-ghost use Rattle.stacks.specs.Stacks.{stack_at, count_of};
+ghost use Rattle.lists.specs.Stacks.{stack_at, count_of};
 ghost use Rattle.updates.specs.Alone.{IsPutInto};
 ghost use Rattle.softdep_queue.specs.Ties.{Holds, Takes, IsTaking, Shows, node_at};
 ghost use Rattle.softdep_queue.specs.Rooms.{HasRoom, IsTable};

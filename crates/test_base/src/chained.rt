@@ -1,5 +1,5 @@
 use crate::expect::{holds, same};
-use chains::{Chain, Chains, Link};
+use lists::{Chain, Chains, Link};
 use std::alloc::AllocError;
 
 /// The most links that a table has.

@@ -1,4 +1,4 @@
-use ready::Ready;
+use lists::Ready;
 use std::test::Fail;
 
 #[test]

@@ -1,5 +1,4 @@
 use crate::expect::{holds, same};
-use pushing::{Pushed, Pusher, Rooms, push_beside};
 use std::alloc::Global;
 use std::fs::{Metadata, OpenFile};
 use std::io;
@@ -8,6 +7,7 @@ use std::sync::Wait;
 use std::sync::atomic::{AtomicU8, AtomicU64, Ordering};
 use std::test::*;
 use std::thread::{self, Threads};
+use write_behind::{Pushed, Pusher, Rooms, push_beside};
 
 /// How many blocks the file of a test has, and how many bytes each.
 const BLOCKS: u32 = 61;

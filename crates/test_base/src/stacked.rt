@@ -1,4 +1,4 @@
-use stacks::Stacks;
+use lists::Stacks;
 use std::alloc::AllocError;
 
 #[test]

@@ -1,5 +1,5 @@
 use crate::expect::{holds, same};
-use channels::{Channel, MemoryChannel, Message, Received, Replied};
+use fuse_channels::{Channel, MemoryChannel, Message, Received, Replied};
 use std::test::*;
 
 #[test]

@@ -1,6 +1,6 @@
 use crate::expect::same;
+use fuse_nodes::Nodes;
 use fuse_wire::NodeId;
-use nodes::Nodes;
 use std::test::*;
 
 #[test]

@@ -2,7 +2,7 @@ use crate::expect::same;
 use command_text::{number, write_reply};
 use layout::Refusal;
 use live_paths::Named;
-use snapshot::{Answer, Reply, Status};
+use snapshot::{Answer, Kind, Reply, Status};
 use std::alloc::{AllocError, Global};
 use std::test::Fail;
 
@@ -48,7 +48,7 @@ fn replies_are_written(rt: HostRuntime) -> Result<(), Fail> {
     ]?;
     let status = Status {
         number: 2,
-        mode: 2,
+        kind: Kind::Directory,
         links: 3,
         size: 1024,
     };
@@ -64,7 +64,10 @@ fn replies_are_written(rt: HostRuntime) -> Result<(), Fail> {
             "ok number 2 directory links 3 size 1024"
         ),
         (
-            Ok(Answer::Status(Status { mode: 1, ..status })),
+            Ok(Answer::Status(Status {
+                kind: Kind::File,
+                ..status
+            })),
             "ok number 2 file links 3 size 1024"
         ),
         (Err(Refusal::BadHandle), "refused 17 BadHandle"),

@@ -27,7 +27,7 @@ pub struct Mounted<D: Device> {
 /// Mounts the volume of a device, or tells why it cannot be.
 pub fn mount<D: Device + Drop>(alloc: Global, device: D) -> Result<Mounted<D>, Refusal> {
     Ok(Mounted {
-        volume: changing::mount(alloc, device)?,
+        volume: image_changes::mount(alloc, device)?,
         frozen: None,
         checked: None,
     })
@@ -54,7 +54,7 @@ impl<D: Device> Mounted<D> {
 
     /// Flushes what waits.
     pub fn flush(&mut self, alloc: Global) -> Result<(), Refusal> {
-        changing::flush_in_passes(alloc, &mut self.volume)
+        image_changes::flush_in_passes(alloc, &mut self.volume)
     }
 
     /// Carries out a request. One that is refused leaves what users see, what is open and held, the repairs, and what was

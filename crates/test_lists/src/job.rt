@@ -1,5 +1,5 @@
 //! What the words of the program ask for, and how it is done.
-use crate::lists::{Outcome, Show, carry_out_lists};
+use crate::command_lists::{Outcome, Show, carry_out_lists};
 use crate::pass::Pass;
 use crate::runs::carry_out_on;
 use anyhow::{Result, bail};

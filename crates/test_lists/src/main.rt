@@ -14,10 +14,10 @@
 
 mod answer;
 mod carrying;
+mod command_lists;
 mod history;
 mod job;
 mod line;
-mod lists;
 mod many;
 mod pass;
 mod recorded;

@@ -15,13 +15,13 @@
 #![tactic(auto)]
 
 mod kinds;
-mod lists;
+mod random_lists;
 mod total;
 
 use anyhow::{Result, bail};
 use device::MemDevice;
 use kinds::{KINDS, Kind};
-use lists::list_of;
+use random_lists::list_of;
 use std::env;
 use std::io::{Eprint, Print};
 use std::process::ExitCode;

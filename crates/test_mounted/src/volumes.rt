@@ -1,9 +1,9 @@
 //! Volumes of small images, and what a check finds on what their devices hold.
-use changing::mount;
 use device::{Byte, MemDevice};
 use findings::Finding;
 use frozen::{Frozen, load};
 use fsck::check_one;
+use image_changes::mount;
 use layout::{DOUBLE, Geometry, Refusal, SINGLE};
 use snapshot::Volume;
 use std::alloc::Global;

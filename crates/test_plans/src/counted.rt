@@ -1,6 +1,7 @@
 use crate::expect::same;
-use census::{Census, census_of};
+use census::{Census, take_census};
 use device::{Byte, MemDevice};
+use frozen::load;
 use layout::{DOUBLE, Geometry, Refusal, SINGLE};
 use std::alloc::Global;
 use std::test::Fail;
@@ -9,7 +10,8 @@ use std::test::Fail;
 /// bytes. The maps stand in blocks 1 and 17, the records in 2, 3, 18 and 19; number 2 and block 4 are marked.
 fn counted(alloc: Global, version: u32, bytes: &[Byte]) -> Result<Census, Refusal> {
     let geometry = Geometry::new(2, 16, 16)?.with_version(version)?;
-    census_of(alloc, &mut MemDevice::formatted(alloc, &geometry, bytes)?)
+    let mut device = MemDevice::formatted(alloc, &geometry, bytes)?;
+    Ok(take_census(&load(alloc, &mut device)?))
 }
 
 /// What is written of a count.

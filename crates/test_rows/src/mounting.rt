@@ -2,8 +2,8 @@
 use crate::reports::SHARED_BLOCK;
 use crate::trying::Wanted::{self, Printed, Refused};
 use crate::trying::{changed, given, made_small, removes, same, unwatched, writes};
-use channels::{Channel, MemoryChannel, Message, Received};
 use commands::perform;
+use fuse_channels::{Channel, MemoryChannel, Message, Received};
 use serve_lines::Holdable;
 use std::alloc::{AllocError, Global};
 use std::fs;

@@ -1,7 +1,7 @@
 //! How a line is tried on an image, and what it is to give.
-use channels::MemoryChannel;
 use command_line::Screen;
 use commands::perform;
+use fuse_channels::MemoryChannel;
 use serve_lines::Holdable;
 use std::alloc::Global;
 use std::io::{Eprint, Sink};

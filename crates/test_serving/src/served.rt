@@ -1,6 +1,6 @@
 //! That a desk answers a session as it is wanted.
-use channels::MemoryChannel;
-use serving::{Answering, serve};
+use fuse_channels::MemoryChannel;
+use fuse_loop::{Answering, serve};
 use std::alloc::Global;
 use std::process::Abort;
 use std::test::*;

@@ -1,13 +1,13 @@
 //! The image that is served.
-use changing::change;
 use device::MemDevice;
 use frozen::load;
+use fuse_reader::{Desk, Owner};
 use fuse_wire::Time;
+use image_changes::change;
 use layout::{Refusal, SINGLE};
 use snapshot::{Command, Volume};
 use std::alloc::Global;
 use test_mounted::{Asked, commands_of, mounted_of};
-use viewing::{Desk, Owner};
 
 /// A file with six bytes, and a directory with an empty file.
 const MADE: &[Asked] = &[

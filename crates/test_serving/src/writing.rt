@@ -7,17 +7,17 @@ use crate::spelling::{
     NAME_TOO_LONG, NO_SPACE, NOT_DIRECTORY, NOT_EMPTY, NOT_FOUND, NOT_IMPLEMENTED, NOT_PERMITTED,
     OPEN, REMOVE_DIRECTORY, SET_ATTRIBUTES, STALE, SYNC, SYNC_VOLUME, TOO_BIG, UNLINK,
 };
-use changing::mount;
 use device::MemDevice;
+use fuse_reader::Owner;
 use fuse_wire::Time;
+use fuse_writer::{Desk, Rules};
+use image_changes::mount;
 use layout::{Refusal, SINGLE};
 use std::alloc::Global;
 use std::process::Abort;
 use std::test::*;
 use std::thread::Threads;
-use tending::{Desk, Rules};
 use test_mounted::{found_on, mounted_of};
-use viewing::Owner;
 
 /// All that is done beyond the volume's commands.
 const FREE: Rules = Rules {

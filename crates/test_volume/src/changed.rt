@@ -1,7 +1,7 @@
 use crate::expect::same;
 use crate::volumes::on_mounted;
-use changing::{Outcome, change, outcome_of};
 use device::MemDevice;
+use image_changes::{Outcome, change, outcome_of};
 use layout::Refusal;
 use snapshot::Volume;
 use std::alloc::Global;

@@ -9,7 +9,7 @@ use std::alloc::{AllocError, Global};
 use std::marker::Brand;
 use std::os::unix::fs::FileExt;
 use std::rt::Files;
-use tools::cat;
+use tool_answers::cat;
 
 /// What the line asks for: the bytes of a file in this image.
 #[derive(Clone, Copy)]

@@ -2,19 +2,19 @@
 ghost use Rattle.std.specs.Prelude.{◌≡◌, IfOk};
 
 use crate::fault::refusal_of;
-use changing::{Outcome, change, change_device, mount, outcome_of};
 use clap::{Arg, ArgMatches, Command as Words};
 use command_line::{Answer, Failure, words};
 use device::Device;
 use failures::path_given;
 use file_device::FileDevice;
+use image_changes::{Outcome, change, change_device, mount, outcome_of};
 use layout::Refusal;
 use snapshot::{Command, Volume};
 use std::alloc::{AllocError, Global};
 use std::marker::Brand;
 use std::os::unix::fs::FileExt;
 use std::rt::Files;
-use tools::{Aim, Deed, Naming, aim_at, deeds, namings};
+use tool_answers::{Aim, Deed, Naming, aim_at, deeds, namings};
 
 /// What becomes of the paths of a line.
 #[derive(Clone, Copy)]

@@ -9,7 +9,7 @@ use std::marker::Brand;
 use std::os::unix::fs::FileExt;
 use std::rt::Files;
 use std::thread::Threads;
-use tools::info;
+use tool_answers::info;
 
 /// What the line asks for: the numbers of this image.
 #[derive(Clone, Copy)]

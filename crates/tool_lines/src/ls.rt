@@ -9,7 +9,7 @@ use std::alloc::{AllocError, Global};
 use std::marker::Brand;
 use std::os::unix::fs::FileExt;
 use std::rt::Files;
-use tools::{Style, ls};
+use tool_answers::{Style, ls};
 
 /// What the line asks for: the names in a directory of this image, in this style.
 #[derive(Clone, Copy)]

@@ -9,7 +9,7 @@ use std::alloc::{AllocError, Global};
 use std::marker::Brand;
 use std::os::unix::fs::FileExt;
 use std::rt::Files;
-use tools::stat;
+use tool_answers::stat;
 
 /// What the line asks for: what a path in this image leads to.
 #[derive(Clone, Copy)]

@@ -11,4 +11,4 @@ mod scripts;
 
 pub use handles::Handles;
 pub use lines::{BadScript, Commands, UserLine};
-pub use scripts::parse;
+pub use scripts::{MOST_USERS, parse};

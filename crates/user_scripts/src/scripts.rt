@@ -6,6 +6,9 @@ use crate::{BadScript, Commands, UserLine};
 use command_text::{Command, first_part, first_word, number, parse_command};
 use std::alloc::{AllocError, Global};
 
+/// How many users a script may have: their numbers are 1 to 8.
+pub const MOST_USERS: u8 = 8;
+
 /// Reads the lines of a script. It is refused with the number of the first line of another form, which may be one that lacks
 /// its line feed, has an unknown command, a number that is too large, an empty part or a blank too many.
 pub fn parse(alloc: Global, bytes: &[u8], which: Commands) -> Result<Vec<UserLine>, BadScript>
@@ -77,10 +80,11 @@ fn user_and_words(text: &[u8]) -> Option<(u8, &[u8])>
 fn user_of(word: &[u8]) -> Option<u8>
     ensures { IfSome result (λ user. (1 ≤ user) × (user ≤ 8)) }
 {
-    match number(word)? {
-        user @ 1..=8 => Some(user as u8),
-        _ => None,
+    let user = u8::try_from(number(word)?).ok()?;
+    if user == 0 || user > MOST_USERS {
+        return None;
     }
+    Some(user)
 }
 
 /// Whether a script may have this command.

@@ -10,7 +10,8 @@ mod lines;
 mod running;
 
 pub use calling::call;
-pub use checking::{Mended, mend};
+pub use checking::mend;
 pub use flushing::flush_until;
 pub use lines::Answered;
 pub use running::{Ran, run};
+pub use upkeep::Mended;

@@ -2,7 +2,7 @@
 ghost use Rattle.std.specs.Prelude.{◌≡◌, ◌+◌, IfOk, IfSome, vec_len};
 ghost use Rattle.shared.specs.Opened.{opened_of};
 
-use crate::checking::{Mended, mend_beside};
+use crate::checking::mend_beside;
 use crate::flushing::flush_until;
 use crate::lines::{Answered, carry_out};
 use device::Device;
@@ -17,6 +17,7 @@ use std::sync::Wait;
 use std::sync::atomic::{AtomicU64, Ordering};
 use std::sync::ledger::{Blank, Ledger};
 use std::thread::{Threads, join, map_vec};
+use upkeep::Mended;
 use user_scripts::UserLine;
 
 /// How many calls the trace has room for before it is emptied.

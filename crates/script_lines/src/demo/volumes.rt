@@ -1,8 +1,8 @@
 //! The volumes of the story, all of them in memory.
 use crate::demo::texts::{SCRIPT, STOP, USERS_SCRIPT, WORKERS};
 use crate::stops::carry_out;
-use changing::mount;
 use device::MemDevice;
+use image_changes::mount;
 use image_lines::mounting::mount as mount_by_workers;
 use joint_devices::Joint;
 use layout::{BLOCK_BYTES, Block, Geometry, Refusal, fresh_block};

@@ -5,7 +5,7 @@ use Rattle.frozen.specs.Kept.{IsKeptOf}
 use Rattle.joint_devices.specs.Joined.{AllHonest, Joined}
 use Rattle.rules.specs.Loading.{LoadSoundRefuses}
 use Rattle.snapshot.specs.Mounting.{IsMountable}
-use Rattle.changing.proofs.MountLemmas.{image_breaks, load_refused, of_both}
+use Rattle.image_changes.proofs.MountLemmas.{image_breaks, load_refused, of_both}
 use Rattle.image_lines.proofs.mounting.mount.Goals as goal
 
 pub mount_checked-requires-clause-loaded : goal.mount_checked-requires-clause-loaded
@@ -53,7 +53,9 @@ returns g c =
     let live = c.mount_checked.ensures in
     record {
       image = IfOk-weaker c.mount_checked.result _ _ (λ live same. ap (λ (j : Joined g.row.D.Denot). image j.device) (same ∙ joint) ∙ reads.same) live.device;
+      held = IfOk-weaker c.mount_checked.result _ _ (λ live same. ap (λ (j : Joined g.row.D.Denot). g.D.Device.held j.device) (same ∙ joint) ∙ reads.held) live.device;
       pending = live.pending;
+      fresh = live.fresh;
       idle = live.idle;
       mounted = of_both c.mount_checked.result _ _ _ (λ live same mounted h.
           subst (λ i. IsMountable live.kept.geometry i) (ap (λ (j : Joined g.row.D.Denot). image j.device) joint ∙ reads.same) (mounted (subst honest same h))) live.device live.mounted;

@@ -3,7 +3,7 @@ use Rattle.std.proofs.lemmas.Result.{err_from_is_err_and, IfErr-weaker}
 use Rattle.frozen.specs.Kept.{Kept}
 use Rattle.fsck.specs.Checked.{IsChecked}
 use Rattle.model.specs.Image.{image_view}
-use Rattle.changing.proofs.MountLemmas.{of_both}
+use Rattle.image_changes.proofs.MountLemmas.{of_both}
 use Rattle.image_lines.proofs.RepairLemmas.{mended_well}
 use Rattle.image_lines.proofs.repair.mend_volume.Goals as goal
 

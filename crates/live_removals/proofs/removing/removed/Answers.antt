@@ -16,8 +16,8 @@ use Rattle.live_removals.proofs.Showing.{shows_itself}
 use Rattle.live_removals.proofs.Leaving.{loses_geometry}
 use Rattle.live_removals.proofs.removing.removed.Goals as goal
 
-pub empty-requires-clause-after : goal.empty-requires-clause-after
-empty-requires-clause-after c =
+pub empty_slot-requires-clause-after : goal.empty_slot-requires-clause-after
+empty_slot-requires-clause-after c =
     let kept = c.args.metadata.now in
     let same : c.new-plan.result.geometry ≡ kept.geometry = ap (λ (d : Draft). d.geometry) c.new-plan.ensures ∙ c.geometry.ensures.geometry ∙ ap (λ (k : Kept). k.geometry) c.frozen-frozen.ensures.same in
     subst (λ (g : Geometry). All (IsCell g) (map cell c.add_blocks.new.cells.items)) (sym same)
@@ -26,14 +26,14 @@ empty-requires-clause-after c =
 pub lose_links-requires-clause-geometry : goal.lose_links-requires-clause-geometry
 lose_links-requires-clause-geometry c =
     let kept = c.args.metadata.now in
-    (c.in_ok-empty.ensures (frozen_view kept) (shows_itself kept)).geometry ∙ ap (λ (d : Draft). d.geometry) c.new-plan.ensures ∙ c.geometry.ensures.geometry ∙ ap (λ (k : Kept). k.geometry) c.frozen-frozen.ensures.same
+    c.in_ok-empty_slot.ensures.geometry ∙ ap (λ (d : Draft). d.geometry) c.new-plan.ensures ∙ c.geometry.ensures.geometry ∙ ap (λ (k : Kept). k.geometry) c.frozen-frozen.ensures.same
 
 pub lower-requires-clause-geometry : goal.lower-requires-clause-geometry
 lower-requires-clause-geometry c =
     let kept = c.args.metadata.now in
     let found = c.args.found.now in
-    loses_geometry kept.geometry (frozen_view kept) c.args.holdings.now found.number 2 found.block c.empty.new.plan c.lose_links.new.plan c.in_ok-holds.holds.items (c.in_ok-holds.ensures (frozen_view kept) (shows_itself kept))
-    ∙ (c.in_ok-empty.ensures (frozen_view kept) (shows_itself kept)).geometry ∙ ap (λ (d : Draft). d.geometry) c.new-plan.ensures ∙ c.geometry.ensures.geometry ∙ ap (λ (k : Kept). k.geometry) c.frozen-frozen.ensures.same
+    loses_geometry kept.geometry (frozen_view kept) c.args.holdings.now found.number 2 found.block c.empty_slot.new.plan c.lose_links.new.plan c.in_ok-holds.holds.items (c.in_ok-holds.ensures (frozen_view kept) (shows_itself kept))
+    ∙ c.in_ok-empty_slot.ensures.geometry ∙ ap (λ (d : Draft). d.geometry) c.new-plan.ensures ∙ c.geometry.ensures.geometry ∙ ap (λ (k : Kept). k.geometry) c.frozen-frozen.ensures.same
 
 pub returns : goal.returns
 returns c = λ view shows.
@@ -47,8 +47,8 @@ returns c = λ view shows.
       own_first = are_blocks kept.geometry view found.number c.new-after.result.items (map cell c.add_blocks.new.cells.items) c.new-after.ensures.items (c.in_ok-add_blocks.ensures.blocks view shows) (c.in_ok-add_blocks.ensures.only view shows);
       left = c.lose_links.new.plan;
       leaves = record {
-        emptied = c.empty.new.plan;
-        empties = subst (λ (e : Draft). GoesOn e c.empty.new.plan (λ q. slot_written found.block (view.bytes found.block) found.slot no_entry (map cell c.add_blocks.new.cells.items) ∷ q)) start (c.in_ok-empty.ensures view shows);
+        emptied = c.empty_slot.new.plan;
+        empties = subst (λ (e : Draft). GoesOn e c.empty_slot.new.plan (λ q. slot_written found.block (view.bytes found.block) found.slot no_entry (map cell c.add_blocks.new.cells.items) ∷ q)) start (c.in_ok-empty_slot.ensures.emptied view shows);
         loses = c.in_ok-holds.ensures view shows;
       };
       lowers = subst (λ (i : Inode). GoesOn c.lose_links.new.plan c.lower.new.plan (lowered d i 1 c.args.found.now.block)) (shows.inode d) c.in_ok-lower.ensures;

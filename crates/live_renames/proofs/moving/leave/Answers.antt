@@ -9,23 +9,18 @@ use Rattle.live_renames.proofs.GroundLemmas.{found_claim, found_directory, found
 use Rattle.live_renames.proofs.MoveLemmas.{left_goes_on, none_cells, record_there}
 use Rattle.live_renames.proofs.moving.leave.Goals as goal
 
-pub bytes_of-bytes-requires-clause-directory : goal.bytes_of-bytes-requires-clause-directory
-bytes_of-bytes-requires-clause-directory c =
+pub empty_slot-requires-clause-directory : goal.empty_slot-requires-clause-directory
+empty_slot-requires-clause-directory c =
     let kept = c.args.metadata.now in
     found_directory kept.geometry (frozen_view kept) c.requires.found.0 c.args.found.now c.requires.found.1
 
-pub bytes_of-bytes-requires-clause-claim : goal.bytes_of-bytes-requires-clause-claim
-bytes_of-bytes-requires-clause-claim c =
+pub empty_slot-requires-clause-claim : goal.empty_slot-requires-clause-claim
+empty_slot-requires-clause-claim c =
     let kept = c.args.metadata.now in
     found_claim kept.geometry (frozen_view kept) c.requires.found.0 c.args.found.now c.requires.found.1
 
-pub put_slot-requires-clause-block : goal.put_slot-requires-clause-block
-put_slot-requires-clause-block c =
-    let kept = c.args.metadata.now in
-    subst (λ geo. IsTrue (is_data_address geo c.args.found.now.block)) (sym c.requires.geometry) (found_claim kept.geometry (frozen_view kept) c.requires.found.0 c.args.found.now c.requires.found.1).1
-
-pub put_slot-requires-clause-after : goal.put_slot-requires-clause-after
-put_slot-requires-clause-after c = c.requires.after
+pub empty_slot-requires-clause-after : goal.empty_slot-requires-clause-after
+empty_slot-requires-clause-after c = c.requires.after
 
 pub record-record-requires : goal.record-record-requires
 record-record-requires c =
@@ -35,28 +30,27 @@ record-record-requires c =
 pub push-requires-2-clause-changed : goal.push-requires-2-clause-changed
 push-requires-2-clause-changed c =
     let kept = c.args.metadata.now in
-    subst (λ geo. IsTrue (is_number geo c.args.found.now.number)) (sym (c.in_ok-put_slot.ensures.geometry ∙ c.requires.geometry)) (found_number kept.geometry (frozen_view kept) c.requires.found.0 c.args.found.now c.requires.found.1)
+    subst (λ geo. IsTrue (is_number geo c.args.found.now.number)) (sym (c.in_ok-empty_slot.ensures.geometry ∙ c.requires.geometry)) (found_number kept.geometry (frozen_view kept) c.requires.found.0 c.args.found.now c.requires.found.1)
 
 pub push-requires-2-clause-fits : goal.push-requires-2-clause-fits
 push-requires-2-clause-fits c =
     let kept = c.args.metadata.now in
     let n = c.args.found.now.number in
-    written_fits kept c.put_slot.new.plan.geometry n c.record-record.result c.record-record.result (c.in_ok-put_slot.ensures.geometry ∙ c.requires.geometry)
+    written_fits kept c.empty_slot.new.plan.geometry n c.record-record.result c.record-record.result (c.in_ok-empty_slot.ensures.geometry ∙ c.requires.geometry)
     (c.record-record.ensures ∙ record_there c.frozen.result.now kept n c.frozen.ensures.same) refl
 
 pub push-requires-2-clause-after : goal.push-requires-2-clause-after
 push-requires-2-clause-after c =
     let kept = c.args.metadata.now in
-    let geo = c.put_slot.new.plan.geometry in
-    let address = subst (λ g. IsTrue (is_data_address g c.args.found.now.block)) (sym (c.in_ok-put_slot.ensures.geometry ∙ c.requires.geometry)) (found_claim kept.geometry (frozen_view kept) c.requires.found.0 c.args.found.now c.requires.found.1).1 in
+    let geo = c.empty_slot.new.plan.geometry in
+    let address = subst (λ g. IsTrue (is_data_address g c.args.found.now.block)) (sym (c.in_ok-empty_slot.ensures.geometry ∙ c.requires.geometry)) (found_claim kept.geometry (frozen_view kept) c.requires.found.0 c.args.found.now c.requires.found.1).1 in
     (pushed geo c.new-emptied.result.items c.push.new.self.items (Block c.args.found.now.block) c.in_ok-push.ensures.ok address).cells (none_cells geo c.new-emptied.result.items c.new-emptied.ensures.items)
 
 pub returns : goal.returns
 returns c = λ view shows.
     let kept = c.args.metadata.now in
     let found = c.args.found.now in
-    left_goes_on c.args.plan.now c.put_slot.new.plan c.push-2.new.self found.number found.block found.slot (view.inode found.number) c.record-record.result (view.bytes found.block) c.bytes_of-bytes.result.now (map cell c.args.after.items) (map cell c.push.new.self.items)
+    left_goes_on c.args.plan.now c.empty_slot.new.plan c.push-2.new.self found.number found.block found.slot (view.inode found.number) c.record-record.result (view.bytes found.block) (map cell c.args.after.items) (map cell c.push.new.self.items)
     (c.record-record.ensures ∙ record_there c.frozen.result.now kept found.number c.frozen.ensures.same ∙ shows.inode found.number)
-    (c.bytes_of-bytes.ensures.bytes view shows)
     (ap (map cell) (c.in_ok-push.ensures.ok ∙ ap (λ xs. xs ++ Block found.block ∷ []) c.new-emptied.ensures.items))
-    c.in_ok-put_slot.ensures c.in_ok-push-2.ensures
+    (c.in_ok-empty_slot.ensures.emptied view shows) c.in_ok-push-2.ensures

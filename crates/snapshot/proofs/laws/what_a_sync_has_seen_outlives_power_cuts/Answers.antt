@@ -6,8 +6,9 @@ use Rattle.courses.specs.Serves.{IsBeginning}
 use Rattle.softdep.specs.Queued.{pending_of}
 use Rattle.live_states.specs.Holdings.{held_by}
 use Rattle.live.specs.Alive.{disk_of}
-use Rattle.live.proofs.Durably.{leaves_safe, sound_anew}
+use Rattle.live.proofs.Durably.{leaves_safe, sound_from_here}
 use Rattle.snapshot.specs.Stages.{geometry_at, state_at}
+use Rattle.snapshot.proofs.SyncedLemmas.{shown_now, shown_then}
 use Rattle.snapshot.proofs.laws.what_a_sync_has_seen_outlives_power_cuts.Goals as goal
 
 pub returns : goal.returns
@@ -22,9 +23,11 @@ returns g c = λ s t u commands more replies others is leads sound synced files 
     let anew = c.services_begin_anew_with_nothing_pending.ensures geo is.begun.mount is.begun.history is.begun.cut (disk_of s.image s.volume) (pending_of s.volume.queue) (state_at s) (λ f. false) begins
     disk (pending_of t.volume.queue) (state_at t) first.0 commands replies leads.later first.1 none files (λ f a. (subst (λ x. IsReachable x disk f) leads.geometry (there f a).0, (there f a).1)) in
     let begin = subst (λ x. IsBeginning x is.begun.mount anew.0 anew.1 disk (pending_of t.volume.queue) (state_at t) files) (sym leads.geometry) anew.2 in
-    let on = sound_anew t.held.now at t.volume.queue (held_by t.volume.holdings) first.0 durable synced.0 files
+    let here = sound_from_here t.held.now at t.volume.queue (held_by t.volume.holdings) first.0 durable synced.0 files
     (λ f a. subst (λ image. IsReachable at (image_view at image) f × (((image_view at image).inode f).mode ≡ 1)) synced.1 (there f a)) in
-    let later = then.service is.begun.mount anew.0 anew.1 files begin in (
+    let on = here.sound in
+    let later = then.service is.begun.mount anew.0 anew.1 files begin in
+    let adds = later.2.adds on in (
       leaves_safe t.held.now at t.volume.queue (held_by t.volume.holdings) files on,
       record {
         later = then.later;
@@ -33,5 +36,10 @@ returns g c = λ s t u commands more replies others is leads sound synced files 
         spared = λ f a spared. c.files_that_lose_no_name_stay_safe.ensures at is.begun.mount anew.0 anew.1 disk (pending_of t.volume.queue) (state_at t) files begin
             (disk_of u.image u.volume) (pending_of u.volume.queue) (state_at u) later.0 more others then.later later.1 f spared a;
         held = (later.2.sound on).1;
+        now = shown_now t u files later.0 on (later.2.sound on).0 here.mount here.history synced.1;
+        written = adds.added;
+        more = adds.more;
+        media = adds.media;
+        shown = shown_then t u files later.0 on (later.2.sound on).0 here.mount here.history synced.1 adds;
       },
     )

@@ -6,7 +6,7 @@ use Rattle.softdep.specs.Queued.{pending_of}
 use Rattle.live_paths.specs.Listed.{name_of}
 use Rattle.snapshot.specs.declared.answer.Answer.TheVariants.{Done, Number, Bytes, Names, Status}
 use Rattle.snapshot.specs.declared.command.Command.TheVariants.{Flush}
-use Rattle.snapshot.specs.Asked.{asked}
+use Rattle.snapshot.specs.Asked.{asked, mode_of}
 use Rattle.snapshot.proofs.AnswerLemmas.{neither}
 use Rattle.snapshot.proofs.Blaming.{cause_blamed, device_blamed, of_caused, of_device, of_device_or_caused, of_first, of_flush, of_refused, replied_so}
 use Rattle.snapshot.proofs.Writing.{flush_counts, refused_writes, untouched, unwritten_writes, writes_flush}
@@ -90,7 +90,7 @@ pub returns-in-Stat-clause-replied : goal.returns-in-Stat-clause-replied
 returns-in-Stat-clause-replied g c =
     looked g.D.Device.honest g.D.Device.held g.D.Device.image c.args.live.now (asked c.args.live.now.kept.geometry c.args.command.now) (AsksStat c.deref-in-Stat.result.now)
     (ap (asked c.args.live.now.kept.geometry) c.in-Stat.is ∙ ap AsksStat (sym c.deref-in-Stat.ensures.value)) refl (λ view safe. refl)
-    Status (λ status. IsStatus status.number status.mode status.links status.size) (λ status. refl) c.stat.result c.status.result c.status.ensures c.stat.ensures.status c.stat.ensures.refused
+    Status (λ status. IsStatus status.number (mode_of status.kind) status.links status.size) (λ status. refl) c.stat.result c.status.result c.status.ensures c.stat.ensures.status c.stat.ensures.refused
 
 pub returns-in-Flush-clause-replied : goal.returns-in-Flush-clause-replied
 returns-in-Flush-clause-replied g c =

@@ -12,7 +12,8 @@ use Rattle.softdep.specs.Queued.{pending_of}
 use Rattle.live_states.specs.Volume.{state_over}
 use Rattle.live.specs.Alive.{Alive, IsFirstCause, MayRefuse, state_of}
 use Rattle.live.proofs.Commands.{refused}
-use Rattle.live.proofs.Looks.{led, number_of, number_there, shown, stat_accepts, stat_badly, stat_to_nowhere}
+use Rattle.live.specs.Kinds.{kind_of, mode_of}
+use Rattle.live.proofs.Looks.{led, mode_of_sound, number_of, number_there, shown, sound_there, stat_accepts, stat_badly, stat_to_nowhere}
 use Rattle.live.proofs.live.Live.stat.Goals as goal
 
 pub returns-in_err-path-clause-refused : goal.returns-in_err-path-clause-refused
@@ -69,9 +70,12 @@ returns-clause-status g c = λ h beside.
     let is = sym leads ∙ c.in_ok-number.was in
     let inode : c.record-record.result ≡ (users_view disk q).inode c.in_ok-number.number =
     c.record-record.ensures ∙ ap (λ (k : Kept). (frozen_view k).inode c.in_ok-number.number) c.frozen-frozen.ensures.same ∙ volume.shows.inode c.in_ok-number.number in
+    let sound = sound_there kept c.self.inside.holdings q disk volume c.args.path.now c.in_ok-path.path c.in_ok-path.ensures c.in_ok-number.number is in
+    let mode = ap mode_of (c.kind_of.ensures ∙ ap kind_of inode) ∙ mode_of_sound kept.geometry ((users_view disk q).inode c.in_ok-number.number) sound
+    ∙ ap (λ (r : Inode). r.mode) (sym inode ∙ sym c.record.view_is) in
     let whole = c.record.view_is ∙ inode ∙ ap (λ i. (users_view disk q).inode i) (sym (number_there kept.geometry (state_over disk q c.self.inside.holdings beside) c.args.path.now c.in_ok-path.path c.in_ok-path.ensures c.in_ok-number.number is)) in
     let number = sym (number_there kept.geometry (state_over disk q c.self.inside.holdings beside) c.args.path.now c.in_ok-path.path c.in_ok-path.ensures c.in_ok-number.number is) in
-    subst (λ (l : Alive _). Step l.kept.geometry (state_of (g.D.Device.image l.device) l beside) (Stat c.args.path.now) (Ok (Status c.in_ok-number.number c.record.inside.mode c.record.inside.links c.record.inside.size)) (state_of (g.D.Device.image l.device) l beside)) c.self.view_is (
+    subst (λ (l : Alive _). Step l.kept.geometry (state_of (g.D.Device.image l.device) l beside) (Stat c.args.path.now) (Ok (Status c.in_ok-number.number (mode_of c.kind_of.result) c.record.inside.links c.record.inside.size)) (state_of (g.D.Device.image l.device) l beside)) c.self.view_is (
       (stat_accepts kept.geometry (state_over disk q c.self.inside.holdings beside) c.args.path.now c.in_ok-path.path c.in_ok-path.ensures c.in_ok-number.number is, tt),
-      (ap₂ (λ n (r : Inode). Status n r.mode r.links r.size) number whole, refl),
+      (ap (λ m. Status c.in_ok-number.number m c.record.inside.links c.record.inside.size) mode ∙ ap₂ (λ n (r : Inode). Status n r.mode r.links r.size) number whole, refl),
     )

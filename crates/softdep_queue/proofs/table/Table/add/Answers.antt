@@ -8,7 +8,7 @@ use Rattle.queue_model.specs.Entries.{new_entry}
 use Rattle.queue_model.proofs.Lists.{contains_head}
 use Rattle.updates.specs.Places.{place_of, place_count}
 use Rattle.updates.specs.Values.{cell}
-use Rattle.stacks.specs.Stacks.{stack_at, count_of, room_of}
+use Rattle.lists.specs.Stacks.{stack_at, count_of, room_of}
 use Rattle.softdep_queue.specs.declared.table.Node.{Node}
 use Rattle.softdep_queue.specs.declared.table.Table.{Table}
 use Rattle.softdep_queue.specs.Adding.{update_of, lasts, counted, IsBehind}

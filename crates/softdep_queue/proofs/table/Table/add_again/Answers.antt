@@ -3,7 +3,7 @@ use Rattle.std.specs.Option.{MatchOption}
 use Rattle.ordering.specs.Cuts.{cell_of}
 use Rattle.queue_model.specs.Blocks.{home_of}
 use Rattle.queue_model.specs.Entries.{issued}
-use Rattle.stacks.specs.Stacks.{stack_at}
+use Rattle.lists.specs.Stacks.{stack_at}
 use Rattle.softdep_queue.specs.Adding.{update_of}
 use Rattle.softdep_queue.specs.Taking.{TakesNext}
 use Rattle.softdep_queue.specs.Moving.{IsClosedByBlocks, HoldsAlone}

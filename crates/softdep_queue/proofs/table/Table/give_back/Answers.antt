@@ -1,7 +1,7 @@
 use Rattle.std.proofs.Common.{◌≡◌, ◌-◌, ◌<◌, false, [], ◌∷◌, ◌++◌, refl, sym, ap, ◌∙◌, subst, Contains, length, take, arith, slice_set}
 use Rattle.std.proofs.lemmas.List.{append_assoc}
 use Rattle.queue_model.specs.Blocks.{home_of}
-use Rattle.stacks.specs.Stacks.{stack_at}
+use Rattle.lists.specs.Stacks.{stack_at}
 use Rattle.softdep_queue.specs.declared.table.Node.{Node}
 use Rattle.softdep_queue.specs.declared.table.Table.{Table}
 use Rattle.softdep_queue.specs.Ties.{due_after}

@@ -1,5 +1,5 @@
 use Rattle.std.proofs.Common.{sym, ap, ◌∙◌, not}
-use Rattle.stacks.specs.Stacks.{stack_at}
+use Rattle.lists.specs.Stacks.{stack_at}
 use Rattle.softdep_queue.proofs.Asked.{some_ready, none_ready_at, empty_tells, some_tells}
 use Rattle.softdep_queue.proofs.table.Table.has_ready.Goals as goal
 

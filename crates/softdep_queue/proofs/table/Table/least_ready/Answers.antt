@@ -1,7 +1,7 @@
 use Rattle.std.proofs.Common.{ℕ, Option, Some, None}
 use Rattle.std.specs.Option.{MatchOption}
 use Rattle.queue_model.specs.Blocks.{home_of}
-use Rattle.ready.specs.Ready.{IsLeast, NothingStands}
+use Rattle.lists.specs.Ready.{IsLeast, NothingStands}
 use Rattle.softdep_queue.specs.Next.{IsLeastToWrite, NothingToWrite}
 use Rattle.softdep_queue.proofs.Asked.{least_is, nothing_is}
 use Rattle.softdep_queue.proofs.table.Table.least_ready.Goals as goal

@@ -1,7 +1,7 @@
 use Rattle.std.proofs.Common.{◌≡◌, ◌-◌, ◌<◌, inl, inr, refl, sym, ap, ap₂, ◌∙◌, subst, IsTrue, IsFalse, Contains, length, arith, slice_set}
 use Rattle.std.proofs.lemmas.Bool.{cases_eq}
 use Rattle.queue_model.proofs.Lists.{contains_head, contains_tail, contains_cases}
-use Rattle.stacks.specs.Stacks.{stack_at}
+use Rattle.lists.specs.Stacks.{stack_at}
 use Rattle.softdep_queue.specs.declared.table.Node.{Node}
 use Rattle.softdep_queue.specs.Ties.{node_at}
 use Rattle.softdep_queue.specs.Lowering.{is_chosen}

@@ -1,7 +1,7 @@
 use Rattle.std.proofs.Common.{ℕ, Option, Some, None}
 use Rattle.std.specs.Option.{MatchOption}
 use Rattle.queue_model.specs.Blocks.{home_of}
-use Rattle.ready.specs.Ready.{IsNext, NothingStandsFrom}
+use Rattle.lists.specs.Ready.{IsNext, NothingStandsFrom}
 use Rattle.softdep_queue.specs.Next.{IsNextToWrite, NothingToWriteFrom}
 use Rattle.softdep_queue.proofs.Asked.{next_is, nothing_next}
 use Rattle.softdep_queue.proofs.table.Table.next_ready.Goals as goal

@@ -1,6 +1,6 @@
 use Rattle.std.proofs.Common.{◌≡◌, [], ◌∷◌, ◌++◌, refl, sym, ap, ◌∙◌, subst, arith, append-nil}
 use Rattle.std.proofs.lemmas.List.{append_assoc}
-use Rattle.chains.specs.Chains.{numbers, IsChain, Links}
+use Rattle.lists.specs.Chains.{numbers, IsChain, Links}
 use Rattle.queue_model.specs.Blocks.{home_of}
 use Rattle.ordering.specs.Cuts.{cell_of}
 use Rattle.queue_model.specs.Entries.{Entry}

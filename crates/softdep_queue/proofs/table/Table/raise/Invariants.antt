@@ -2,7 +2,7 @@ use Rattle.std.proofs.Common.{◌≡◌, ℕ, List, ◌++◌, Contains}
 use Rattle.model.specs.Layout.{Geometry as Numbers}
 use Rattle.ordering.specs.Cuts.{Pending}
 use Rattle.queue_model.specs.Entries.{Entry, Queue}
-use Rattle.chains.specs.Chains.{numbers, IsChain}
+use Rattle.lists.specs.Chains.{numbers, IsChain}
 use Rattle.softdep_queue.specs.Ties.{node_at, waiters_of}
 use Rattle.softdep_queue.specs.Returning.{ShowsAll, AreFree}
 use Rattle.softdep_queue.proofs.Raising.{more_all}

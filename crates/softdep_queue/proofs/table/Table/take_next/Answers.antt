@@ -5,7 +5,7 @@ use Rattle.model.specs.Layout.{Geometry as Numbers}
 use Rattle.ordering.specs.Cuts.{Pending}
 use Rattle.queue_model.specs.Blocks.{home_of}
 use Rattle.queue_model.specs.Entries.{Entry, Queue}
-use Rattle.stacks.specs.Stacks.{stack_at, Links}
+use Rattle.lists.specs.Stacks.{stack_at, Links}
 use Rattle.softdep_queue.specs.declared.table.Node.{Node}
 use Rattle.softdep_queue.specs.declared.table.Table.{Table}
 use Rattle.softdep_queue.specs.Ties.{Takes, due_after}

@@ -1,8 +1,0 @@
-use Rattle.changing.specs.Asking.{AddsFlushes}
-use Rattle.changing.proofs.flushing.flush_ready.Given as goal
-
-abbrev pub invariant-loop-pass : goal.invariant-loop-pass
-invariant-loop-pass g l = record {
-  honest : g.D.Device.honest l.volume.device → g.D.Device.honest l.fn.volume.device;
-  flushed : g.D.Device.honest l.volume.device → AddsFlushes (g.D.Device.held l.fn.volume.device) (g.D.Device.image l.fn.volume.device) l.fn.volume (g.D.Device.held l.volume.device) (g.D.Device.image l.volume.device) l.volume;
-}

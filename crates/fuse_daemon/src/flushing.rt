@@ -1,0 +1,159 @@
+//! What is pending is written while the volume is served, a part of it each second.
+use crate::beginning::Beginning;
+use crate::going::Going;
+use crate::locked::Locked;
+use device::Device;
+use fuse_writer::Desk;
+use layout::Refusal;
+use snapshot::Command;
+use std::fs::OpenFile;
+use std::sync::Wait;
+use std::time::{Clock, Duration};
+
+/// How many blocks are flushed for each taking of the lock.
+const BLOCKS_AT_ONCE: u32 = 16;
+
+/// How often one part goes over all blocks, at the most. What waits for many writes, one behind the other, is written in later
+/// ones.
+const PASSES: u32 = 16;
+
+/// Flushes a part of what is pending each second, until the service is at its end: the first of so many seconds of as many a
+/// share of it, and the last all.
+pub(crate) fn flush_until_end<D: Device + Drop, B: Beginning, F: OpenFile, R: Wait + Clock>(
+    rt: &R,
+    locked: &Locked<D, B>,
+    medium: &F,
+    seconds: u32,
+) -> Result<(), Refusal> {
+    let mut left = seconds;
+    let mut from = 0;
+    for _ in rt.forever() {
+        if left == 0 || locked.rest(rt, Duration::from_secs(1)) {
+            return Ok(());
+        }
+        if left > 1 {
+            from = flush_share(rt, locked, medium, from, left)?;
+            left -= 1;
+        } else {
+            flush_all(rt, locked, medium)?;
+            left = seconds;
+        }
+    }
+    unreachable!()
+}
+
+/// Flushes a share of the blocks that may be written, those from this one on first, and gives the one to go on with.
+fn flush_share<D: Device + Drop, B: Beginning, F: OpenFile, R: Wait>(
+    rt: &R,
+    locked: &Locked<D, B>,
+    medium: &F,
+    from: u32,
+    shares: u32,
+) -> Result<u32, Refusal> {
+    let count = share_of(locked.ready_blocks(rt), shares);
+    if count == 0 {
+        return Ok(from);
+    }
+    let next = flush_blocks(rt, locked, from, count)?;
+    wait_for_medium(rt, locked, medium)?;
+    Ok(next)
+}
+
+/// One of so many shares of a number of blocks, rounded up; all of them, where they are not shared.
+fn share_of(blocks: u32, shares: u32) -> u32 {
+    if shares == 0 {
+        return blocks;
+    }
+    blocks.div_ceil(shares)
+}
+
+/// Flushes what is pending, until nothing is, or the service is at its end.
+fn flush_all<D: Device + Drop, B: Beginning, F: OpenFile, R: Wait>(
+    rt: &R,
+    locked: &Locked<D, B>,
+    medium: &F,
+) -> Result<(), Refusal> {
+    for _pass in 0..PASSES {
+        let count = locked.ready_blocks(rt);
+        if count == 0 || locked.ends(rt) {
+            return Ok(());
+        }
+        flush_blocks(rt, locked, 0, count)?;
+        wait_for_medium(rt, locked, medium)?;
+    }
+    Ok(())
+}
+
+/// Flushes so many blocks, those from this one on first, and gives the one to go on with.
+fn flush_blocks<D: Device + Drop, B: Beginning, R: Wait>(
+    rt: &R,
+    locked: &Locked<D, B>,
+    from: u32,
+    count: u32,
+) -> Result<u32, Refusal> {
+    let mut next = from;
+    let mut left = count;
+    for _part in 0..count {
+        if left == 0 {
+            break;
+        }
+        let most = left.min(BLOCKS_AT_ONCE);
+        next = locked.flush_some(rt, next, most)?;
+        left = left.saturating_sub(BLOCKS_AT_ONCE);
+    }
+    Ok(next)
+}
+
+/// Flushes so many blocks that may be written, those from this one on first, and gives the one to go on with.
+pub(crate) fn flush_some<D: Device + Drop, B: Beginning>(
+    going: &mut Going<D, B>,
+    from: u32,
+    count: u32,
+) -> Result<u32, Refusal> {
+    let mut next = from;
+    for _block in 0..count {
+        match ready_from(going.desk(), next) {
+            Some(address) => {
+                going.ask(&Command::Flush(address))?;
+                next = address.saturating_add(1);
+            }
+            None => return Ok(0),
+        }
+    }
+    Ok(next)
+}
+
+/// The least block that may be written, of this one and those above it, or else of all.
+fn ready_from<D: Device + Drop>(desk: &Desk<D>, from: u32) -> Option<u32> {
+    let live = desk.volume().live();
+    match live.next_ready(from) {
+        Some(address) => Some(address),
+        None => live.least_ready(),
+    }
+}
+
+/// How many blocks may be written.
+pub(crate) fn ready_blocks<D: Device + Drop>(desk: &Desk<D>) -> u32 {
+    let live = desk.volume().live();
+    let mut from = 0;
+    for count in 0..u32::MAX {
+        match live.next_ready(from) {
+            Some(address) => from = address.saturating_add(1),
+            None => return count,
+        }
+    }
+    u32::MAX
+}
+
+/// Waits until what was written is on the medium: first without the lock, for most of it, then for the rest under it, so that the
+/// volume knows.
+fn wait_for_medium<D: Device + Drop, B: Beginning, F: OpenFile, R: Wait>(
+    rt: &R,
+    locked: &Locked<D, B>,
+    medium: &F,
+) -> Result<(), Refusal> {
+    // A medium that refuses will refuse the volume too.
+    let _ = medium.sync_data();
+    locked.ask(rt, &Command::Flush(0))?;
+    Ok(())
+}

@@ -1,0 +1,82 @@
+//! The desk of a service, whose volume goes on by commands alone.
+ghost use Rattle.std.specs.Prelude.{◌≡◌, ◌↔◌, ◌∷◌, [], None, Some, IfOk};
+ghost use Rattle.fuse_daemon.specs.Services.{Went};
+ghost use Rattle.fuse_wire.specs.declared.requests.Head.{Head};
+ghost use Rattle.fuse_wire.specs.Requests.{Asked, decode};
+ghost use Rattle.fuse_loop.specs.Tended.{TurnsTended};
+ghost use Rattle.shared.specs.Opened.{opened_of};
+ghost use Rattle.fuse_writer.specs.Turns.{GoesBy};
+ghost use Rattle.fuse_reader.specs.Desks.{turned_of};
+
+use crate::beginning::Beginning;
+use device::Device;
+use fuse_reader::Turned;
+use fuse_writer::Desk;
+use snapshot::{Command, Reply};
+use std::alloc::AllocError;
+use std::marker::{Model, PhantomData};
+
+/// A desk. Commands led to its volume from the one with which the service began, and nothing else was done to it.
+#[derive(Drop)]
+pub(crate) struct Going<D: Device, B: Beginning> {
+    desk: Desk<D>,
+    began: PhantomData<B>,
+}
+
+impl<D: Device, B: Beginning> Model for Going<D, B> {
+    ghost use Rattle.fuse_daemon.specs.Services.{Went};
+    ghost use Rattle.fuse_writer.specs.Desks.{AtDesk};
+
+    ghost Value = { AtDesk D };
+
+    ghost view = { λ g. g.desk };
+
+    ghost invariant = { λ g. Went D.honest D.held D.image B.begins g.desk.volume };
+}
+
+impl<D: Device + Drop, B: Beginning> Going<D, B> {
+    /// A desk with which a service begins.
+    pub(crate) fn new(desk: Desk<D>) -> Going<D, B>
+        requires { B.begins (opened_of D.held D.image desk.volume) }
+        ensures { result ≡ desk }
+    {
+        Going {
+            desk,
+            began: PhantomData,
+        }
+    }
+
+    /// Answers a message by a turn of the desk.
+    pub(crate) fn turn(&mut self, message: &[u8], reply: &mut Vec<u8>) -> Result<Turned, AllocError>
+        ensures known { Went D.honest D.held D.image B.begins self.old.volume }
+        ensures unread { IfOk result (λ turned. (turned ≡ Turned.Unread) ↔ (decode message.now ≡ None)) }
+        ensures turned { IfOk result (λ turned. (head : Head) (asked : Asked) → decode message.now ≡ Some (head, asked) → turned ≡ turned_of asked) }
+        ensures turn { IfOk result (λ turned. TurnsTended D.honest D.held D.image self.old message.now turned reply.new.items self.new) }
+    {
+        self.desk.turn(message, reply)
+    }
+
+    /// Carries out a command between two turns.
+    pub(crate) fn ask(&mut self, command: &Command) -> Reply
+        ensures calls { self.new.calls ≡ (command.now, result) ∷ [] }
+        ensures goes { GoesBy D.honest D.held D.image self.old.volume self.new.calls self.new.volume }
+    {
+        self.desk.ask(command)
+    }
+
+    /// The desk.
+    pub(crate) fn desk(&self) -> &Desk<D>
+        ensures { result.now ≡ self.now }
+    {
+        &self.desk
+    }
+
+    /// The desk, at the end of the service.
+    pub(crate) fn into_desk(self) -> Desk<D>
+        ensures went { Went D.honest D.held D.image B.begins result.volume }
+        ensures same { result ≡ self }
+    {
+        let Going { desk, began: _ } = self;
+        desk
+    }
+}

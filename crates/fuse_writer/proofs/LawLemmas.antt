@@ -1,0 +1,61 @@
+-- What becomes of a session by turns.
+use Rattle.std.proofs.Common.{◌≡◌, ◌<◌, ◌≤◌, ◌-◌, ◌^◌, ◌⊎◌, ℕ, List, [], ◌∷◌, ◌++◌, length, Option, Some, None, inl, inr, refl, sym, ap, ◌∙◌}
+use Rattle.frozen.specs.Kept.{Kept}
+use Rattle.fuse_wire.specs.declared.errors.Errno.TheVariants as errors
+use Rattle.fuse_nodes.proofs.Runs.{leads}
+use Rattle.fuse_nodes.specs.Table.{found, id_of, known}
+use Rattle.fuse_reader.specs.Said.{Said}
+use Rattle.fuse_writer.specs.declared.session.Session.{Session}
+use Rattle.fuse_writer.specs.Answers.{ByTurns, IsNoted, Same, Turned}
+use Rattle.fuse_writer.specs.Doings.{Asks, Came, Does, Doing, IfMemory, Leads, NoMemory, Notes, Says, ToEnd, noted, refuses}
+use Rattle.fuse_writer.specs.Requests.{at_node, on_inode}
+use Rattle.fuse_writer.specs.Turns.{Call, Turn}
+use Rattle.fuse_writer.proofs.DoingLemmas.{noted_more}
+
+-- ---- each turn notes something
+
+noted_none : (s : Session) → IsNoted s s
+noted_none s = record { events = []; changes = []; session = refl }
+
+noted_then : (s t u : Session) → IsNoted s t → IsNoted t u → IsNoted s u
+noted_then s t u one two = record {
+  events = one.events ++ two.events;
+  changes = one.changes ++ two.changes;
+  session = two.session ∙ ap (noted two.events two.changes) one.session ∙ noted_more one.events two.events one.changes two.changes s;
+}
+
+leads_noted : (doing : Doing) (kept : Kept) (s : Session) (calls : List Call) (said : Said) (s' : Session) → Leads doing kept s calls said s' → IsNoted s s'
+unfolding Leads
+leads_noted (Says f) kept s [] said s' leads = record { events = []; changes = []; session = leads.1 }
+leads_noted (Says f) kept s (call ∷ calls) said s' leads = absurd leads
+leads_noted (Asks request f) kept s [] said s' leads = absurd leads
+leads_noted (Asks request f) kept s (call ∷ calls) said s' leads = leads_noted (f call.1) kept s calls said s' leads.1
+leads_noted (Notes events changes next) kept s calls said s' leads =
+    noted_then s (noted events changes s) s' (record { events = events; changes = changes; session = refl }) (leads_noted next kept (noted events changes s) calls said s' leads)
+leads_noted (IfMemory next none) kept s calls said s' (inl leads) = leads_noted next kept s calls said s' leads
+leads_noted (IfMemory next none) kept s calls said s' (inr leads) = leads_noted none kept s calls said s' leads
+
+came_noted : (doing : Doing) (kept : Kept) (s : Session) (calls : List Call) (said : Said) (s' : Session) → Came doing kept s calls said s' → IsNoted s s'
+came_noted doing kept s calls said s' (ToEnd leads) = leads_noted doing kept s calls said s' leads
+came_noted doing kept s calls said s' (NoMemory events changes begins is same) = record { events = events; changes = changes; session = same }
+
+pub does_noted : {D : Type 0} (doing : Doing) (old : Turn D) (s : Session) (said : Said) (new : Turn D) (s' : Session) → Does doing old s said new s' → IsNoted s s'
+does_noted doing old s said new s' does = came_noted doing new.volume.kept s does.calls said s' does.came
+
+-- ---- and so do many
+
+turns_noted : {s u : Session} → ByTurns s u → IsNoted s u
+turns_noted {s} Same = noted_none s
+turns_noted {s} (Turned u v before turn) = noted_then s u v (turns_noted before) turn
+
+pub acts_on : (s u : Session) (i : ℕ) (next : ℕ → Doing) → 2 < i → i < length s.nodes → length s.nodes ≤ 2 ^ 32 → (known s.nodes i).generation < 2 ^ 32 - 1 → ByTurns s u
+    → (at_node u (record { 0 = id_of s.nodes i }) next ≡ next i) ⊎ (at_node u (record { 0 = id_of s.nodes i }) next ≡ refuses errors.Stale)
+unfolding at_node
+acts_on s u i next no_root within small told turns =
+    let came = turns_noted turns in
+    by (found u.nodes (id_of s.nodes i))
+    (λ m e. (leads s.nodes i m came.events no_root within small told (ap (λ (w : Session). found w.nodes (id_of s.nodes i)) (sym came.session) ∙ e)).0)
+  where
+    by : (o : Option ℕ) → ((m : ℕ) → o ≡ Some m → m ≡ i) → (on_inode o next ≡ next i) ⊎ (on_inode o next ≡ refuses errors.Stale)
+    by None h = inr refl
+    by (Some m) h = inl (ap next (h m refl))

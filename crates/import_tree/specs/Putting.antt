@@ -1,0 +1,87 @@
+-- What a volume went through into which files and folders of the host were put.
+use Rattle.std.specs.Prelude.{◌≡◌, ℕ, ◌+◌, ◌*◌, suc, List, [], ◌∷◌, ◌++◌, length, map}
+use Rattle.std.specs.Fork.{slice_chunk}
+use Rattle.archives.specs.declared.entries.Kind.TheVariants as kind
+use Rattle.device.specs.Media.{Held as Media}
+use Rattle.snapshot.specs.Alive.{Alive}
+use Rattle.snapshot.specs.Mounting.{IsMountable}
+use Rattle.live_states.specs.Holdings.{IsIdle}
+use Rattle.machine.specs.Command.{Command as Request, Create, Mkdir, Open, Write, Close, Flush, Sync}
+use Rattle.model.specs.Uses.{blocks_of}
+use Rattle.softdep.specs.Queued.{fresh_queue, pending_of}
+use Rattle.image_changes.specs.Asking.{Adds, Went}
+use Rattle.import_tree.specs.declared.items.Item.{Item}
+use Rattle.import_tree.specs.declared.items.Source.{Source}
+use Rattle.import_tree.specs.declared.items.Source.TheVariants.{Host, Held}
+
+-- The first n blocks of a file of these bytes are written by a handle, one after another; between them blocks may be flushed.
+pub data WriteBlocks (handle : ℕ) (bytes : List ℕ) : ℕ → List Request → Type 0 where
+  NoBlock : WriteBlocks handle bytes 0 []
+  NextBlock : (n : ℕ) (requests : List Request) → WriteBlocks handle bytes n requests → WriteBlocks handle bytes (suc n) (requests ++ Write handle n (slice_chunk bytes 1024 n) ∷ [])
+  ThenFlushed : (n : ℕ) (requests : List Request) (addresses : List ℕ) → WriteBlocks handle bytes n requests → WriteBlocks handle bytes n (requests ++ map Flush addresses)
+
+-- what makes a file of these bytes: it is created, and if it has any it is opened, each block is written, and it is closed
+pub data MakesFile (path bytes : List ℕ) (requests : List Request) : Type 0 where
+  Empty : bytes ≡ [] → requests ≡ Create path ∷ [] → MakesFile path bytes requests
+  Full : (handle : ℕ) (writes : List Request) → WriteBlocks handle bytes (blocks_of (length bytes)) writes → requests ≡ Create path ∷ Open path ∷ (writes ++ Close handle ∷ []) → MakesFile path bytes requests
+
+-- The first n blocks of a file of these bytes are written next, by a handle.
+pub record AddsBlocks {D : Type 0} (handle : ℕ) (bytes : List ℕ) (n : ℕ) (held : Media) (image : List (List ℕ)) (old : Alive D) (held' : Media) (image' : List (List ℕ)) (new : Alive D) : Type 0 where
+  pub requests : List Request
+  pub write : WriteBlocks handle bytes n requests
+  pub adds : Adds held image old requests held' image' new
+
+-- The first n blocks of these bytes are written next, by a handle, behind the first blocks of a file, whatever they are.
+abbrev pub AddsPart : {D : Type 0} → ℕ → ℕ → List ℕ → ℕ → Media → List (List ℕ) → Alive D → Media → List (List ℕ) → Alive D → Type 0
+AddsPart handle first part n held image old held' image' new = (before : List ℕ) (held₀ : Media) (image₀ : List (List ℕ)) (start : Alive _) → length before ≡ first * 1024
+    → AddsBlocks handle before first held₀ image₀ start held image old → AddsBlocks handle (before ++ part) (first + n) held₀ image₀ start held' image' new
+
+-- an item, and the bytes that the host gave for it
+abbrev pub Reading : Type 0
+Reading = Item × List ℕ
+
+abbrev pub item_of : Reading → Item
+item_of reading = reading.0
+
+-- bytes of a source: what it holds, if it holds any
+abbrev pub IsTrueTo : Source → List ℕ → Type 0
+IsTrueTo (Host path) bytes = Unit {0}
+IsTrueTo (Held held) bytes = bytes ≡ held.items
+
+abbrev pub IsTrueReading : Reading → Type 0
+IsTrueReading reading = IsTrueTo reading.0.source reading.1
+
+-- These requests put these items, one after another; between them blocks may be flushed, and all that waits may be written.
+pub data ArePut : List Reading → List Request → Type 0 where
+  Nothing : ArePut [] []
+  Folder : (readings : List Reading) (requests : List Request) (item : Item) (read : List ℕ) → ArePut readings requests → item.kind ≡ kind.Folder → ArePut (readings ++ (item, read) ∷ []) (requests ++ Mkdir item.path.items ∷ [])
+  File : (readings : List Reading) (requests more : List Request) (item : Item) (read : List ℕ) → ArePut readings requests → item.kind ≡ kind.File → MakesFile item.path.items read more → ArePut (readings ++ (item, read) ∷ []) (requests ++ more)
+  Flushed : (readings : List Reading) (requests : List Request) (addresses : List ℕ) → ArePut readings requests → ArePut readings (requests ++ map Flush addresses)
+  Written : (readings : List Reading) (requests : List Request) → ArePut readings requests → ArePut readings (requests ++ Sync ∷ [])
+
+-- The requests put these items into a volume, and each was answered.
+pub record WerePut {D : Type 0} (readings : List Reading) (held : Media) (image : List (List ℕ)) (old : Alive D) (held' : Media) (image' : List (List ℕ)) (new : Alive D) : Type 0 where
+  pub requests : List Request
+  pub put : ArePut readings requests
+  pub went : Went held image old requests held' image' new
+
+-- These items were put next, after whatever was put into whichever volume.
+abbrev pub AddsItems : {D : Type 0} → List Reading → Media → List (List ℕ) → Alive D → Media → List (List ℕ) → Alive D → Type 0
+AddsItems readings held image old held' image' new = (before : List Reading) (held₀ : Media) (image₀ : List (List ℕ)) (start : Alive _)
+    → WerePut before held₀ image₀ start held image old → WerePut (before ++ readings) held₀ image₀ start held' image' new
+
+-- The requests put these items into a volume, and a sync followed; each was answered.
+pub record TookIn {D : Type 0} (readings : List Reading) (held : Media) (image : List (List ℕ)) (old : Alive D) (held' : Media) (image' : List (List ℕ)) (new : Alive D) : Type 0 where
+  pub requests : List Request
+  pub put : ArePut readings requests
+  pub went : Went held image old (requests ++ Sync ∷ []) held' image' new
+
+-- The volume of a device that held this and has this image was just mounted, and then it took these items in.
+pub record PutMounted {D : Type 0} (held : Media) (image : List (List ℕ)) (readings : List Reading) (held' : Media) (image' : List (List ℕ)) (new : Alive D) : Type 0 where
+  pub mounted : Alive D
+  pub mountable : IsMountable mounted.kept.geometry image
+  pub pending : pending_of mounted.queue ≡ []
+  -- nothing was issued: so it is sound on its medium, where nothing of that is loose
+  pub fresh : mounted.queue ≡ fresh_queue mounted.kept.geometry
+  pub idle : IsIdle mounted.holdings
+  pub took : TookIn readings held image mounted held' image' new

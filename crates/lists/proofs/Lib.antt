@@ -1,0 +1,2 @@
+mod ChainWalks
+mod StackWalks

@@ -1,0 +1,22 @@
+-- What a loss of power shows of what users saw at a sync.
+use Rattle.std.specs.Prelude.{◌≡◌, ℕ, List, ◌⊎◌}
+use Rattle.model.specs.Layout.{Geometry}
+use Rattle.model.specs.Image.{image_view}
+use Rattle.model.specs.View.{View}
+use Rattle.model.specs.Cells.{SetBytes, SetInode}
+use Rattle.device.specs.Media.{MayBeLeft, Medium}
+use Rattle.ordering.specs.ClosedSets.{pending_at}
+use Rattle.queue_model.specs.Files.{Written, IsFileBlock, file_at, updates}
+
+-- Each record, with its size, is as it was in a view, or as one of these updates made it.
+abbrev pub RecordsAreKnown : View → List Written → View → Type 0
+RecordsAreKnown view written image = (n : ℕ) → (image.inode n ≡ view.inode n) ⊎ ((i : ℕ) × ((pending_at (updates written) i).change ≡ SetInode n (image.inode n)))
+
+-- Each block of a file has the bytes that this file had there in a view, or those that one of these updates gave it in the name of this file.
+abbrev pub BlocksAreOwn : Geometry → View → List Written → View → Type 0
+BlocksAreOwn geo view written image = (n k b : ℕ) → IsFileBlock geo image n k b
+    → ((image.bytes b ≡ view.bytes b) × IsFileBlock geo view n k b) ⊎ ((i : ℕ) × ((pending_at (updates written) i).change ≡ SetBytes b (image.bytes b)) × (file_at written i ≡ n))
+
+-- So it is in whatever a loss of power leaves of a medium.
+abbrev pub LeavesKnown : Geometry → View → List Written → Medium → Type 0
+LeavesKnown geo view written m = (image : List (List ℕ)) → MayBeLeft m image → RecordsAreKnown view written (image_view geo image) × BlocksAreOwn geo view written (image_view geo image)

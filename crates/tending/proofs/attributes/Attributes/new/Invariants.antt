@@ -1,6 +1,0 @@
-use Rattle.std.proofs.Common.{◌≡◌, replicate}
-use Rattle.tending.specs.Set.{none_set}
-use Rattle.tending.proofs.attributes.Attributes.new.Given as goal
-
-abbrev pub invariant-loop-number : goal.invariant-loop-number
-invariant-loop-number l = l.sets.items ≡ replicate l._number none_set

@@ -1,5 +1,0 @@
-use Rattle.tending.proofs.LawLemmas.{acts_on}
-use Rattle.tending.proofs.laws.a_request_acts_on_the_inode_that_was_told.Goals as goal
-
-pub returns : goal.returns
-returns c = acts_on

@@ -1,8 +1,0 @@
-use Rattle.std.proofs.Common.{◌≡◌, map, take}
-use Rattle.model.specs.Layout.{Geometry}
-use Rattle.snapshot.specs.Asked.{asked}
-use Rattle.tools.specs.Words.{request_of}
-use Rattle.tools.proofs.words.deeds.Given as goal
-
-abbrev pub invariant-loop-path : goal.invariant-loop-path
-invariant-loop-path l = (geo : Geometry) → map (asked geo) l.commands.items ≡ map (λ path. request_of l.fn.deed path.items) (take l.path-index l.paths)
