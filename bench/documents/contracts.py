@@ -3,10 +3,12 @@
 A line has one function, `FUNCTION (CLAUSE..): what it does`, by the first sentence of its comment, if that is short. Functions of a type
 or module that have the same clauses, and no such sentence, share a line. Those with one clause without a name, and no such sentence, stand
 behind `also:`. Types with invariants, and traits with words and laws, have their names in the place of clauses."""
+import itertools
+
 from words import cut, first_sentence, wrapped
 
 # How many characters a sentence has at most: of a law, which is not cut; of what has a name to cite; and of anything else.
-MOST_OF_LAW, MOST_NAMED, MOST_ALONE = 160, 66, 0
+MOST_OF_LAW, MOST_NAMED, MOST_ALONE = 160, 62, 0
 
 
 HEAD = """Each line has a public function or law, the names of its clauses in parentheses, and what it does by the first sentence of its comment. Types
@@ -21,10 +23,16 @@ def is_law(crate, function):
     return not function.owner and '->' not in head and head.rstrip(' {}').endswith('()')
 
 
-def title(item):
-    """How an item is named."""
-    owner = getattr(item, 'owner', '')
-    return f'{owner}::{item.name}' if owner else item.name
+def titles_of(items):
+    """How items are named, those of one type that stand together by one name of it."""
+    found = []
+    for owner, group in itertools.groupby(items, key=lambda it: getattr(it, 'owner', '')):
+        names = [it.name for it in group]
+        if owner and len(names) > 1:
+            found.append(f'`{owner}::{{{", ".join(names)}}}`')
+        else:
+            found += [f'`{owner}::{it}`' if owner else f'`{it}`' for it in names]
+    return ', '.join(found)
 
 
 class Part:
@@ -50,22 +58,22 @@ class Part:
             sentence = ''
         key = (getattr(item, 'owner', ''), *names)
         if not names and not sentence:
-            self.also.append(f'`{title(item)}`')
+            self.also.append(item)
         elif not sentence and key in self.shared:
-            self.rows[self.shared[key]][0].append(f'`{title(item)}`')
+            self.rows[self.shared[key]][0].append(item)
         else:
             if not sentence:
                 self.shared[key] = len(self.rows)
-            self.rows.append(([f'`{title(item)}`'], ' '.join(names), sentence))
+            self.rows.append(([item], ' '.join(names), sentence))
 
     def lines(self):
         """The lines, with the crate's heading."""
         found = [f'## `{self.crate.name}`', '']
-        for titles, names, sentence in self.rows:
-            text = f'- {", ".join(titles)}' + (f' (`{names}`)' if names else '') + (f': {sentence}' if sentence else '')
+        for items, names, sentence in self.rows:
+            text = f'- {titles_of(items)}' + (f' (`{names}`)' if names else '') + (f': {sentence}' if sentence else '')
             found += wrapped(text, '  ')
         if self.also:
-            found += wrapped(f'- also: {", ".join(self.also)}', '  ')
+            found += wrapped(f'- also: {titles_of(self.also)}', '  ')
         return [*found, '']
 
 

@@ -10,17 +10,18 @@ pub mod LifeCourses
 mod Spared
 mod Images
 mod Runs
-mod LifeBytes
+pub mod LifeBytes
 mod AcceptedPlans
 mod AcceptedWrites
 mod SafeModes
-mod Doing
+pub mod Doing
 pub mod Serving
 pub mod ServiceLemmas
 pub mod Leaving
-mod OwnBytes
+pub mod OwnBytes
 mod Firm
 mod WritesKeep
 mod PlansHold
 mod BytesHeld
+pub mod Lasting
 pub mod ServiceBytes

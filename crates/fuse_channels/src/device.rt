@@ -1,7 +1,7 @@
 //! A reader and a writer that are the two ends of a device of messages.
 ghost use Rattle.std.specs.Prelude.{◌≡◌, [], ◌∷◌, ◌++◌, IfOk, OnErr, OnOk};
 ghost use Rattle.std.specs.Io.KnownBytes.{Appends, Consumes};
-ghost use Rattle.fuse_channels.specs.Messages.{came};
+ghost use Rattle.fuse_channels.specs.Messages.{HasEnded, ReadsOnce, came};
 
 use crate::interface::{Channel, Received, Replied};
 use crate::message::Message;
@@ -23,13 +23,15 @@ mod errors {
 }
 
 /// A device of messages, such as that of FUSE: one call of the system reads a message, and one writes one. With standard input and
-/// output as its ends it is what a server is started on. What came and went is kept in a history that only clauses read.
+/// output as its ends it is what a server is started on. What came and went, and what each read gave, is kept in histories that only
+/// clauses read.
 #[derive(Drop)]
 pub struct DeviceChannel<R, W> {
     reader: R,
     writer: W,
     taken: Log<(), Message>,
     given: Log<(), Vec<u8>>,
+    reads: Log<(), io::Result<usize>>,
 }
 
 impl<R, W> Model for DeviceChannel<R, W> {
@@ -38,19 +40,20 @@ impl<R, W> Model for DeviceChannel<R, W> {
 
     ghost Value = { Ends R W };
 
-    ghost view = { λ c. record { reader = c.reader; writer = c.writer; taken = map (λ e. e.1) c.taken.items; given = map (λ e. e.1.items) c.given.items } };
+    ghost view = { λ c. record { reader = c.reader; writer = c.writer; taken = map (λ e. e.1) c.taken.items; given = map (λ e. e.1.items) c.given.items; reads = map (λ e. e.1) c.reads.items } };
 }
 
 impl<R: Read, W: Write> DeviceChannel<R, W> {
     /// The channel of which these are the ends.
     pub fn new(reader: R, writer: W) -> DeviceChannel<R, W>
-        ensures { result ≡ record { reader = reader; writer = writer; taken = []; given = [] } }
+        ensures { result ≡ record { reader = reader; writer = writer; taken = []; given = []; reads = [] } }
     {
         DeviceChannel {
             reader,
             writer,
             taken: Log::new(),
             given: Log::new(),
+            reads: Log::new(),
         }
     }
 }
@@ -60,15 +63,21 @@ impl<R: Read, W: Write> Channel for DeviceChannel<R, W> {
 
     ghost given = { λ c. c.given };
 
+    ghost ended = { λ c. HasEnded c.reads };
+
     fn receive(&mut self, message: &mut Message) -> io::Result<Received>
         ensures taken { IfOk result (λ outcome. self.new.taken ≡ self.old.taken ++ came outcome message.new) }
         ensures failed { OnErr result (self.new.taken ≡ self.old.taken) }
         ensures given { self.new.given ≡ self.old.given }
+        ensures ended { IfOk result (λ outcome. outcome ≡ Received.End → HasEnded self.new.reads) }
+        ensures reads { ReadsOnce (R.remaining self.old.reader) (R.remaining self.new.reader) self.old.reads self.new.reads message.new }
         // A message is what one read gave.
         ensures read { IfOk result (λ outcome. outcome ≡ Received.Message
             → Consumes (R.remaining self.old.reader) (R.remaining self.new.reader) message.new) }
     {
-        match message.read_from(&mut self.reader) {
+        let read = message.read_from(&mut self.reader);
+        self.reads = self.reads.and(&(), &read);
+        match read {
             Ok(0) => Ok(Received::End),
             Ok(_) => {
                 self.taken = self.taken.and(&(), message);

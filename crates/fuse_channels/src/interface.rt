@@ -33,11 +33,15 @@ pub trait Channel {
     /// The messages that it was given, the first first, also those that nobody waited for any more.
     ghost given: { Self → List (List ℕ) };
 
+    /// No message will come any more.
+    ghost ended: { Self → Type 0 };
+
     /// Waits for a message, and takes it.
     fn receive(&mut self, message: &mut Message) -> io::Result<Received>
         ensures taken { IfOk result (λ outcome. taken self.new ≡ taken self.old ++ came outcome message.new) }
         ensures failed { OnErr result (taken self.new ≡ taken self.old) }
-        ensures given { given self.new ≡ given self.old };
+        ensures given { given self.new ≡ given self.old }
+        ensures ended { IfOk result (λ outcome. outcome ≡ Received.End → ended self.new) };
 
     /// Gives a message.
     fn reply(&mut self, message: &Vec<u8>) -> io::Result<Replied>

@@ -18,12 +18,12 @@ pub struct MemoryChannel {
 }
 
 impl Model for MemoryChannel {
-    ghost use Rattle.std.specs.Prelude.{◌≤◌, length, take};
+    ghost use Rattle.std.specs.Prelude.{◌≤◌, drop, length, take};
     ghost use Rattle.fuse_channels.specs.Messages.{Messages, texts};
 
     ghost Value = { Messages };
 
-    ghost view = { λ c. record { taken = take c.next (texts c.requests.items); given = texts c.replies.items } };
+    ghost view = { λ c. record { taken = take c.next (texts c.requests.items); waiting = drop c.next (texts c.requests.items); given = texts c.replies.items } };
 
     ghost invariant = { λ c. c.next ≤ length c.requests.items };
 }
@@ -31,7 +31,7 @@ impl Model for MemoryChannel {
 impl MemoryChannel {
     /// A channel that gives these messages.
     pub fn new(alloc: Global, requests: Vec<Vec<u8>>) -> MemoryChannel
-        ensures { result ≡ record { taken = []; given = [] } }
+        ensures { result ≡ record { taken = []; waiting = texts requests.items; given = [] } }
     {
         MemoryChannel {
             alloc,
@@ -53,6 +53,8 @@ impl Channel for MemoryChannel {
     ghost taken = { λ c. c.taken };
 
     ghost given = { λ c. c.given };
+
+    ghost ended = { λ c. c.waiting ≡ [] };
 
     fn receive(&mut self, message: &mut Message) -> io::Result<Received> {
         let Some(request) = self.requests.get(self.next) else {

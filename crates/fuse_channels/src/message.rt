@@ -1,6 +1,6 @@
 //! A message that was taken, in room that serves for one after another.
-ghost use Rattle.std.specs.Prelude.{◌≡◌, ◌≤◌, [], IfOk, IsTrue, OnOk, length, take};
-ghost use Rattle.std.specs.Io.KnownBytes.{Consumes};
+ghost use Rattle.std.specs.Prelude.{◌≡◌, ◌≤◌, [], IfOk, IsTrue, length, take};
+ghost use Rattle.fuse_channels.specs.Messages.{Reads};
 
 use std::alloc::{AllocError, Global};
 use std::io;
@@ -15,22 +15,22 @@ pub struct Message {
 }
 
 impl Model for Message {
-    ghost use Rattle.std.specs.Prelude.{ℕ, ◌≤◌, List, length, take};
+    ghost use Rattle.std.specs.Prelude.{ℕ, ◌<◌, ◌≤◌, List, length, take};
 
     ghost Value = { List ℕ };
 
     ghost view = { λ m. take m.bytes m.room.items };
 
-    ghost invariant = { λ m. m.bytes ≤ length m.room.items };
+    ghost invariant = { λ m. (m.bytes ≤ length m.room.items) × (0 < length m.room.items) };
 }
 
 impl Message {
-    /// An empty message, with room for messages of this many bytes.
+    /// An empty message, with room for messages of this many bytes, and of one at least: a read without room tells nothing.
     pub fn with_room(alloc: Global, most: usize) -> Result<Message, AllocError>
         ensures { IfOk result (λ message. message ≡ []) }
     {
         Ok(Message {
-            room: vec![in alloc; 0; most]?,
+            room: vec![in alloc; 0; most.max(1)]?,
             bytes: 0,
         })
     }
@@ -44,8 +44,7 @@ impl Message {
 
     /// Takes what one read gives, and tells how many bytes that are. After an error the message is empty.
     pub(crate) fn read_from<R: Read>(&mut self, reader: &mut R) -> io::Result<usize>
-        ensures bytes { IfOk result (λ bytes. bytes ≡ length self.new) }
-        ensures read { OnOk result (Consumes (R.remaining reader.old) (R.remaining reader.new) self.new) }
+        ensures { Reads (R.remaining reader.old) (R.remaining reader.new) result self.new }
     {
         self.bytes = 0;
         let bytes = reader.read(&mut self.room)?;

@@ -1,5 +1,5 @@
 -- A volume goes on by commands.
-use Rattle.std.proofs.Common.{◌≡◌, ℕ, List, [], ◌∷◌, ◌++◌, map, IfOk, Result, Ok, Err, refl, sym, ap, subst, ◌∙◌}
+use Rattle.std.proofs.Common.{◌≡◌, ℕ, List, [], ◌∷◌, ◌++◌, map, IfOk, Option, Some, None, Result, Ok, Err, refl, sym, ap, subst, ◌∙◌}
 use Rattle.std.proofs.lemmas.List.{map-append}
 use Rattle.std.specs.List.{AllZip}
 use Rattle.device.specs.Media.{Held}
@@ -13,9 +13,12 @@ use Rattle.snapshot.specs.Goes.{Goes, Runs}
 use Rattle.snapshot.specs.declared.answer.Answer.{Answer}
 use Rattle.snapshot.specs.declared.command.Command.{Command}
 use Rattle.fuse_writer.specs.Turns.{Call, GoesBy}
-use Rattle.fuse_daemon.specs.Services.{TurnsSome, Went}
+use Rattle.fuse_daemon.specs.Services.{Begins, ByTurn, IsPart, More, Parts, TurnsSome, Unread, Went}
 use Rattle.fuse_loop.specs.Tended.{TurnsTended}
-use Rattle.fuse_writer.specs.Desks.{AtDesk}
+use Rattle.fuse_wire.specs.declared.requests.Head.{Head}
+use Rattle.fuse_wire.specs.Requests.{Asked, decode}
+use Rattle.fuse_writer.specs.Answers.{IsTurn}
+use Rattle.fuse_writer.specs.Desks.{AtDesk, begun, ended}
 use Rattle.fuse_reader.specs.declared.desk.Turned.{Turned}
 
 zip_append : {A B : Type 0} (R : A → B → Type 0) (xs xs' : List A) (ys ys' : List B) → AllZip R xs ys → AllZip R xs' ys' → AllZip R (xs ++ xs') (ys ++ ys')
@@ -54,26 +57,38 @@ module _ {D : Type 0} (honest : D → Type 0) (held_of : D → Held) (image_of :
         (map (λ c. c.0) calls) (map (λ c. c.0) more) (map (λ c. c.1) calls) (map (λ c. c.1) more) (first.runs (then.honest_before h)) (then.runs h)));
   }
 
-  pub went_on : (begins : Opened → Type 0) (old new : Alive D) (calls : List Call) → Went honest held_of image_of begins old → GoesBy honest held_of image_of old calls new
-      → Went honest held_of image_of begins new
-  went_on begins old new calls went goes = record {
+  -- one part more
+  pub went_on : (begins : Opened → Type 0) (old new : AtDesk D) → Went honest held_of image_of begins old → IsPart old new
+      → GoesBy honest held_of image_of old.volume new.calls new.volume → Went honest held_of image_of begins new
+  went_on begins old new went part goes = record {
     first = went.first;
     known = went.known;
-    calls = went.calls ++ calls;
-    goes = goes_then went.first old new went.calls calls went.goes goes;
+    calls = went.calls ++ new.calls;
+    parts = More went.calls old new went.parts part goes;
+    goes = goes_then went.first.volume old.volume new.volume went.calls new.calls went.goes goes;
   }
 
-  pub went_nowhere : (begins : Opened → Type 0) (now : Alive D) → begins (opened_of held_of image_of now) → Went honest held_of image_of begins now
+  pub went_nowhere : (begins : Opened → Type 0) (now : AtDesk D) → begins (opened_of held_of image_of now.volume) → Went honest held_of image_of begins now
   went_nowhere begins now known = record {
     first = now;
     known = known;
     calls = [];
-    goes = record { honest_before = λ h. h; runs = λ h. runs_none (held_of now.device) (image_of now.device) now [] [] refl };
+    parts = Begins;
+    goes = record { honest_before = λ h. h; runs = λ h. runs_none (held_of now.volume.device) (image_of now.volume.device) now.volume [] [] refl };
   }
 
   -- a turn from a desk of which this is known
-  pub turns_some : {E : Type 0} (begins : Opened → Type 0) (old new : AtDesk D) (message reply : List ℕ) (outcome : Result Turned E) → Went honest held_of image_of begins old.volume
+  pub turns_some : {E : Type 0} (begins : Opened → Type 0) (old new : AtDesk D) (message reply : List ℕ) (outcome : Result Turned E) → Went honest held_of image_of begins old
       → IfOk outcome (λ turned. TurnsTended honest held_of image_of old message turned reply new)
       → IfOk outcome (λ turned. TurnsSome honest held_of image_of begins message turned reply)
   turns_some begins old new message reply (Ok turned) went turn = record { old = old; new = new; went = went; turn = turn }
   turns_some begins old new message reply (Err e) went turn = tt
+
+-- what is done by a turn, whatever it came to
+pub part_of_turn : {D T E : Type 0} (old new : AtDesk D) (message reply : List ℕ) (outcome : Result T E) → (decode message ≡ None → new.session ≡ old.session)
+    → ((head : Head) (asked : Asked) → decode message ≡ Some (head, asked) → IsTurn head asked (begun old) old.session outcome reply (ended new) new.session) → IsPart old new
+part_of_turn old new message reply outcome idle turn = go (decode message) refl
+  where
+    go : (o : Option (Head × Asked)) → decode message ≡ o → IsPart old new
+    go None e = Unread message e (idle e)
+    go (Some p) e = let t = turn p.0 p.1 e in ByTurn message p.0 p.1 t.said e t.comes

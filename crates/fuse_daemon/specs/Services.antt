@@ -1,28 +1,67 @@
 -- What a volume goes through while it is served.
-use Rattle.std.specs.Prelude.{ℕ, List, []}
+use Rattle.std.specs.Prelude.{◌≡◌, ℕ, Bool, true, false, List, [], ◌∷◌, ◌++◌, length, Option, Some, None, Result}
 use Rattle.device.specs.Media.{Held}
+use Rattle.fsck.specs.Checked.{CheckedImage}
+use Rattle.fuse_daemon.specs.declared.mending.Mended.{Mended}
 use Rattle.fuse_loop.specs.Sessions.{Leaves, Serves, Turning}
 use Rattle.fuse_loop.specs.Tended.{TurnsTended}
 use Rattle.fuse_loop.specs.declared.LeftError.{LeftError}
+use Rattle.fuse_wire.specs.declared.requests.Head.{Head}
+use Rattle.fuse_wire.specs.Requests.{Asked, decode}
+use Rattle.layout.specs.declared.refusal.Refusal.{Refusal}
 use Rattle.shared.specs.Opened.{Opened, opened_of}
-use Rattle.snapshot.specs.Alive.{Alive}
-use Rattle.fuse_writer.specs.Desks.{AtDesk}
+use Rattle.upkeep.specs.Calls.{HasMended}
+use Rattle.snapshot.specs.declared.answer.Answer.{Answer}
+use Rattle.snapshot.specs.declared.command.Command.{Command}
+use Rattle.snapshot.specs.declared.command.Command.TheVariants.{Flush, Freeze, Install, Release, Repair, Sync}
+use Rattle.fuse_writer.specs.Answers.{doing_of}
+use Rattle.fuse_writer.specs.Desks.{AtDesk, begun, ended}
+use Rattle.fuse_writer.specs.Doings.{Does}
+use Rattle.fuse_writer.specs.Requests.{ends}
 use Rattle.fuse_writer.specs.Turns.{Call, GoesBy}
+use Rattle.fuse_reader.specs.Said.{Said}
 use Rattle.fuse_reader.specs.declared.desk.Turned.{Turned}
 
--- From a volume of which this was known, commands led here, one after another, and nothing else was done to it.
-pub record Went {D : Type 0} (honest : D → Type 0) (held_of : D → Held) (image_of : D → List (List ℕ)) (begins : Opened → Type 0) (now : Alive D) : Type 0 where
-  pub first : Alive D
-  pub known : begins (opened_of held_of image_of first)
+-- A command of upkeep: it is about a snapshot, a check or a repair, or writes what is pending. No name and no byte of a file is changed by it.
+abbrev pub is_upkeep : Command → Bool
+is_upkeep Freeze = true
+is_upkeep (Install checked) = true
+is_upkeep (Repair place) = true
+is_upkeep (Release number) = true
+is_upkeep (Flush address) = true
+is_upkeep Sync = true
+is_upkeep _ = false
+
+-- What is done to a desk at one go: a turn does what the request of its message leads to; a command of upkeep is carried out between two turns; or all is
+-- closed and written at the end of the service, as by DESTROY.
+pub data IsPart {D : Type 0} (old new : AtDesk D) : Type 0 where
+  ByTurn : (message : List ℕ) (head : Head) (asked : Asked) (said : Said) → decode message ≡ Some (head, asked)
+      → Does (doing_of old.volume.kept old.session head.node asked) (begun old) old.session said (ended new) new.session → IsPart old new
+  Unread : (message : List ℕ) → decode message ≡ None → new.session ≡ old.session → IsPart old new
+  Between : (command : Command) (reply : Result Answer Refusal) → is_upkeep command ≡ true → new.calls ≡ (command, reply) ∷ [] → new.session ≡ old.session → IsPart old new
+  AtEnd : (said : Said) → Does (ends old.volume.kept old.session) (begun old) old.session said (ended new) new.session → IsPart old new
+
+-- Parts led from one desk to the other, one after another, with these calls. The calls of each led from one volume to the next, and nothing else was done
+-- to it.
+pub data Parts {D : Type 0} (honest : D → Type 0) (held_of : D → Held) (image_of : D → List (List ℕ)) (first : AtDesk D) : List Call → AtDesk D → Type 0 where
+  Begins : Parts honest held_of image_of first [] first
+  More : (calls : List Call) (mid new : AtDesk D) → Parts honest held_of image_of first calls mid → IsPart mid new
+      → GoesBy honest held_of image_of mid.volume new.calls new.volume → Parts honest held_of image_of first (calls ++ new.calls) new
+
+-- From a desk whose volume was known so, parts led here; so their calls led from that volume to this one, and nothing else was done to it.
+pub record Went {D : Type 0} (honest : D → Type 0) (held_of : D → Held) (image_of : D → List (List ℕ)) (begins : Opened → Type 0) (now : AtDesk D) : Type 0 where
+  pub first : AtDesk D
+  pub known : begins (opened_of held_of image_of first.volume)
   pub calls : List Call
-  pub goes : GoesBy honest held_of image_of first calls now
+  pub parts : Parts honest held_of image_of first calls now
+  pub goes : GoesBy honest held_of image_of first.volume calls now.volume
 
 -- By this message a turn came to this, with this reply, from a desk of this service to another one.
 pub record TurnsSome {D : Type 0} (honest : D → Type 0) (held_of : D → Held) (image_of : D → List (List ℕ)) (begins : Opened → Type 0)
     (message : List ℕ) (turned : Turned) (reply : List ℕ) : Type 0 where
   pub old : AtDesk D
   pub new : AtDesk D
-  pub went : Went honest held_of image_of begins old.volume
+  pub went : Went honest held_of image_of begins old
   pub turn : TurnsTended honest held_of image_of old message turned reply new
 
 -- the same of a desk of which nothing else is told
@@ -38,3 +77,7 @@ ServesSome honest held_of image_of begins taken given new_taken new_given =
 abbrev pub LeavesSome : {D : Type 0} → (D → Type 0) → (D → Held) → (D → List (List ℕ)) → (Opened → Type 0) → List (List ℕ) → List (List ℕ) → List (List ℕ) → List (List ℕ) → LeftError → Type 0
 LeavesSome honest held_of image_of begins taken given new_taken new_given why =
     Leaves (some_turn honest held_of image_of begins) (λ _ _ _. Unit {0}) tt taken given new_taken new_given why tt
+
+-- A check was made of a snapshot, and so many findings are told, and how many of its repairs were carried out.
+abbrev pub TellsOfMending : List Call → List Call → Mended → Type 0
+TellsOfMending before after mended = (checked : CheckedImage) × (mended.findings ≡ length checked.findings) × HasMended before after checked mended.repairs

@@ -1,13 +1,15 @@
 //! What is pending is written while the volume is served, a part of it each second.
+ghost use Rattle.std.specs.Prelude.{◌≡◌, None, IfOk, IfSome};
+
 use crate::beginning::Beginning;
 use crate::going::Going;
-use crate::locked::Locked;
+use crate::locked::{Locked, Right};
 use device::Device;
 use fuse_writer::Desk;
 use layout::Refusal;
 use snapshot::Command;
 use std::fs::OpenFile;
-use std::sync::Wait;
+use std::sync::{OnceToken, Wait};
 use std::time::{Clock, Duration};
 
 /// How many blocks are flushed for each taking of the lock.
@@ -18,24 +20,31 @@ const BLOCKS_AT_ONCE: u32 = 16;
 const PASSES: u32 = 16;
 
 /// Flushes a part of what is pending each second, until the service is at its end: the first of so many seconds of as many a
-/// share of it, and the last all.
-pub(crate) fn flush_until_end<D: Device + Drop, B: Beginning, F: OpenFile, R: Wait + Clock>(
+/// share of it, and the last all. It gives what shows the end; there is nothing to show if nothing is to be flushed.
+pub(crate) fn flush_until_end<'a, D: Device + Drop, B: Beginning, F: OpenFile, R: Wait + Clock>(
     rt: &R,
-    locked: &Locked<D, B>,
+    locked: &'a Locked<D, B>,
+    right: &Right,
     medium: &F,
     seconds: u32,
-) -> Result<(), Refusal> {
+) -> Result<Option<OnceToken<'a, ()>>, Refusal>
+    ensures ended { IfOk result (λ shown. IfSome shown (λ token. token.of ≡ locked.entry.now.ended.id)) }
+    ensures none { IfOk result (λ shown. shown ≡ None → seconds ≡ 0) }
+{
+    if seconds == 0 {
+        return Ok(None);
+    }
     let mut left = seconds;
     let mut from = 0;
     for _ in rt.forever() {
-        if left == 0 || locked.rest(rt, Duration::from_secs(1)) {
-            return Ok(());
+        if let Some(token) = locked.rest(rt, Duration::from_secs(1)) {
+            return Ok(Some(token));
         }
         if left > 1 {
-            from = flush_share(rt, locked, medium, from, left)?;
+            from = flush_share(rt, locked, right, medium, from, left)?;
             left -= 1;
         } else {
-            flush_all(rt, locked, medium)?;
+            flush_all(rt, locked, right, medium)?;
             left = seconds;
         }
     }
@@ -46,6 +55,7 @@ pub(crate) fn flush_until_end<D: Device + Drop, B: Beginning, F: OpenFile, R: Wa
 fn flush_share<D: Device + Drop, B: Beginning, F: OpenFile, R: Wait>(
     rt: &R,
     locked: &Locked<D, B>,
+    right: &Right,
     medium: &F,
     from: u32,
     shares: u32,
@@ -54,8 +64,8 @@ fn flush_share<D: Device + Drop, B: Beginning, F: OpenFile, R: Wait>(
     if count == 0 {
         return Ok(from);
     }
-    let next = flush_blocks(rt, locked, from, count)?;
-    wait_for_medium(rt, locked, medium)?;
+    let next = flush_blocks(rt, locked, right, from, count)?;
+    wait_for_medium(rt, locked, right, medium)?;
     Ok(next)
 }
 
@@ -71,15 +81,16 @@ fn share_of(blocks: u32, shares: u32) -> u32 {
 fn flush_all<D: Device + Drop, B: Beginning, F: OpenFile, R: Wait>(
     rt: &R,
     locked: &Locked<D, B>,
+    right: &Right,
     medium: &F,
 ) -> Result<(), Refusal> {
     for _pass in 0..PASSES {
         let count = locked.ready_blocks(rt);
-        if count == 0 || locked.ends(rt) {
+        if count == 0 || locked.ends() {
             return Ok(());
         }
-        flush_blocks(rt, locked, 0, count)?;
-        wait_for_medium(rt, locked, medium)?;
+        flush_blocks(rt, locked, right, 0, count)?;
+        wait_for_medium(rt, locked, right, medium)?;
     }
     Ok(())
 }
@@ -88,6 +99,7 @@ fn flush_all<D: Device + Drop, B: Beginning, F: OpenFile, R: Wait>(
 fn flush_blocks<D: Device + Drop, B: Beginning, R: Wait>(
     rt: &R,
     locked: &Locked<D, B>,
+    right: &Right,
     from: u32,
     count: u32,
 ) -> Result<u32, Refusal> {
@@ -98,7 +110,7 @@ fn flush_blocks<D: Device + Drop, B: Beginning, R: Wait>(
             break;
         }
         let most = left.min(BLOCKS_AT_ONCE);
-        next = locked.flush_some(rt, next, most)?;
+        next = locked.flush_some(rt, right, next, most)?;
         left = left.saturating_sub(BLOCKS_AT_ONCE);
     }
     Ok(next)
@@ -150,10 +162,11 @@ pub(crate) fn ready_blocks<D: Device + Drop>(desk: &Desk<D>) -> u32 {
 fn wait_for_medium<D: Device + Drop, B: Beginning, F: OpenFile, R: Wait>(
     rt: &R,
     locked: &Locked<D, B>,
+    right: &Right,
     medium: &F,
 ) -> Result<(), Refusal> {
     // A medium that refuses will refuse the volume too.
     let _ = medium.sync_data();
-    locked.ask(rt, &Command::Flush(0))?;
+    locked.ask(rt, right, &Command::Flush(0))?;
     Ok(())
 }

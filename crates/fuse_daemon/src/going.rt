@@ -1,6 +1,6 @@
-//! The desk of a service, whose volume goes on by commands alone.
-ghost use Rattle.std.specs.Prelude.{◌≡◌, ◌↔◌, ◌∷◌, [], None, Some, IfOk};
-ghost use Rattle.fuse_daemon.specs.Services.{Went};
+//! The desk of a service, whose volume goes on by turns and by upkeep alone.
+ghost use Rattle.std.specs.Prelude.{◌≡◌, ◌↔◌, ◌∷◌, [], true, None, Some, IfOk};
+ghost use Rattle.fuse_daemon.specs.Services.{Went, is_upkeep};
 ghost use Rattle.fuse_wire.specs.declared.requests.Head.{Head};
 ghost use Rattle.fuse_wire.specs.Requests.{Asked, decode};
 ghost use Rattle.fuse_loop.specs.Tended.{TurnsTended};
@@ -16,7 +16,7 @@ use snapshot::{Command, Reply};
 use std::alloc::AllocError;
 use std::marker::{Model, PhantomData};
 
-/// A desk. Commands led to its volume from the one with which the service began, and nothing else was done to it.
+/// A desk. Turns and commands of upkeep led to it from the one with which the service began, and nothing else was done to its volume.
 #[derive(Drop)]
 pub(crate) struct Going<D: Device, B: Beginning> {
     desk: Desk<D>,
@@ -31,7 +31,7 @@ impl<D: Device, B: Beginning> Model for Going<D, B> {
 
     ghost view = { λ g. g.desk };
 
-    ghost invariant = { λ g. Went D.honest D.held D.image B.begins g.desk.volume };
+    ghost invariant = { λ g. Went D.honest D.held D.image B.begins g.desk };
 }
 
 impl<D: Device + Drop, B: Beginning> Going<D, B> {
@@ -48,7 +48,7 @@ impl<D: Device + Drop, B: Beginning> Going<D, B> {
 
     /// Answers a message by a turn of the desk.
     pub(crate) fn turn(&mut self, message: &[u8], reply: &mut Vec<u8>) -> Result<Turned, AllocError>
-        ensures known { Went D.honest D.held D.image B.begins self.old.volume }
+        ensures known { Went D.honest D.held D.image B.begins self.old }
         ensures unread { IfOk result (λ turned. (turned ≡ Turned.Unread) ↔ (decode message.now ≡ None)) }
         ensures turned { IfOk result (λ turned. (head : Head) (asked : Asked) → decode message.now ≡ Some (head, asked) → turned ≡ turned_of asked) }
         ensures turn { IfOk result (λ turned. TurnsTended D.honest D.held D.image self.old message.now turned reply.new.items self.new) }
@@ -56,8 +56,9 @@ impl<D: Device + Drop, B: Beginning> Going<D, B> {
         self.desk.turn(message, reply)
     }
 
-    /// Carries out a command between two turns.
+    /// Carries out a command of upkeep between two turns.
     pub(crate) fn ask(&mut self, command: &Command) -> Reply
+        requires { is_upkeep command.now ≡ true }
         ensures calls { self.new.calls ≡ (command.now, result) ∷ [] }
         ensures goes { GoesBy D.honest D.held D.image self.old.volume self.new.calls self.new.volume }
     {
@@ -73,10 +74,25 @@ impl<D: Device + Drop, B: Beginning> Going<D, B> {
 
     /// The desk, at the end of the service.
     pub(crate) fn into_desk(self) -> Desk<D>
-        ensures went { Went D.honest D.held D.image B.begins result.volume }
+        ensures went { Went D.honest D.held D.image B.begins result }
         ensures same { result ≡ self }
     {
         let Going { desk, began: _ } = self;
         desk
     }
+}
+
+/// Whether a command changes no name and no byte of a file.
+pub(crate) fn is_upkeep(command: &Command) -> bool
+    ensures { result ≡ is_upkeep command.now }
+{
+    matches!(
+        command,
+        Command::Freeze
+            | Command::Install(_)
+            | Command::Repair(_)
+            | Command::Release(_)
+            | Command::Flush(_)
+            | Command::Sync
+    )
 }

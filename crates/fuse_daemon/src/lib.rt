@@ -12,9 +12,10 @@
 //!                                              tells the queue by a flush of block 0    under the lock
 //! ```
 //!
-//! At the end the first hands over to the second and back: before the turn of DESTROY it sets `ends`, wakes the other and waits until
-//! `works` is false. The other sees `ends` where it rests and between its parts, clears `works` and wakes the first, whose turn then closes
-//! all files and syncs. A channel that fails ends the service in the same way.
+//! Who asks between turns has the right to, which is one value. The thread beside takes it from under the lock when it begins, and puts
+//! it back when it leaves. At the end, before the turn of DESTROY, the first thread sets `ends`, wakes the other, and waits until the
+//! right lies under the lock, and takes it for good. The other sees `ends` where it rests and between its parts, and leaves. So nothing
+//! is asked behind the turn of DESTROY, which closes all files and syncs. A channel that fails ends the service in the same way.
 #![tactic(auto)]
 
 mod beginning;

@@ -1,8 +1,9 @@
 //! The lock round a desk, and how two threads wait for each other.
-ghost use Rattle.std.specs.Prelude.{◌≡◌, ◌↔◌, None, Some, IfOk};
-ghost use Rattle.fuse_daemon.specs.Services.{TurnsSome, Went};
+ghost use Rattle.std.specs.Prelude.{◌≡◌, ◌↔◌, true, None, Some, IfErr, IfOk, IfSome};
+ghost use Rattle.fuse_daemon.specs.Services.{TurnsSome, Went, is_upkeep};
 ghost use Rattle.fuse_wire.specs.declared.requests.Head.{Head};
 ghost use Rattle.fuse_wire.specs.Requests.{Asked, decode};
+ghost use Rattle.fuse_loop.specs.Sessions.{IsDestroy};
 ghost use Rattle.shared.specs.Opened.{opened_of};
 ghost use Rattle.fuse_reader.specs.Desks.{turned_of};
 
@@ -15,7 +16,7 @@ use fuse_writer::Desk;
 use layout::Refusal;
 use snapshot::{Command, Reply};
 use std::alloc::AllocError;
-use std::sync::{Condvar, Mutex, Wait};
+use std::sync::{Condvar, Mutex, OnceLock, OnceToken, Wait};
 use std::time::{Clock, Duration};
 
 /// A desk for the thread that serves, and for the one beside.
@@ -23,6 +24,15 @@ use std::time::{Clock, Duration};
 pub(crate) struct Locked<D: Device, B: Beginning> {
     kept: Mutex<Kept<D, B>>,
     changed: Condvar,
+    /// It is set when the service is at its end. Who has a token of it knows that.
+    pub(crate) ended: OnceLock<()>,
+}
+
+/// The right to ask the volume between two turns. There is one for each lock. It lies under the lock, unless a thread has it: the one
+/// beside while it works, and the one that serves from the end of the service on.
+#[derive(Drop)]
+pub(crate) struct Right {
+    one: (),
 }
 
 /// What is under the lock.
@@ -31,8 +41,7 @@ struct Kept<D: Device, B: Beginning> {
     going: Going<D, B>,
     /// Whether the service is at its end.
     ends: bool,
-    /// Whether the thread beside works still.
-    works: bool,
+    right: Option<Right>,
 }
 
 impl<D: Device + Drop, B: Beginning> Locked<D, B> {
@@ -44,19 +53,21 @@ impl<D: Device + Drop, B: Beginning> Locked<D, B> {
             kept: Mutex::new(Kept {
                 going: Going::new(desk),
                 ends: false,
-                works: false,
+                right: Some(Right { one: () }),
             }),
             changed: Condvar::new(),
+            ended: OnceLock::new(),
         }
     }
 
-    /// Waits for the lock, and answers a message by a turn of the desk.
+    /// Waits for the lock, and answers a message by a turn of the desk. It is not the last one.
     pub(crate) fn turn<R: Wait>(
         &self,
         rt: &R,
         message: &[u8],
         reply: &mut Vec<u8>,
     ) -> Result<Turned, AllocError>
+        requires { IsDestroy message.now → ⊥ }
         ensures unread { IfOk result (λ turned. (turned ≡ Turned.Unread) ↔ (decode message.now ≡ None)) }
         ensures turned { IfOk result (λ turned. (head : Head) (asked : Asked) → decode message.now ≡ Some (head, asked) → turned ≡ turned_of asked) }
         // It was a turn of a desk of this service. No clause can name which one.
@@ -65,8 +76,26 @@ impl<D: Device + Drop, B: Beginning> Locked<D, B> {
         self.kept.lock(rt).going.turn(message, reply)
     }
 
-    /// Waits for the lock, and carries out a command.
-    pub(crate) fn ask<R: Wait>(&self, rt: &R, command: &Command) -> Reply {
+    /// Waits for the lock, and answers a message by a turn of the desk, which may be the last one: who has the right knows that
+    /// nobody asks anything between turns any more.
+    pub(crate) fn last_turn<R: Wait>(
+        &self,
+        rt: &R,
+        _right: &Right,
+        message: &[u8],
+        reply: &mut Vec<u8>,
+    ) -> Result<Turned, AllocError>
+        ensures unread { IfOk result (λ turned. (turned ≡ Turned.Unread) ↔ (decode message.now ≡ None)) }
+        ensures turned { IfOk result (λ turned. (head : Head) (asked : Asked) → decode message.now ≡ Some (head, asked) → turned ≡ turned_of asked) }
+        ensures some { IfOk result (λ turned. TurnsSome D.honest D.held D.image B.begins message.now turned reply.new.items) }
+    {
+        self.kept.lock(rt).going.turn(message, reply)
+    }
+
+    /// Waits for the lock, and carries out a command of upkeep.
+    pub(crate) fn ask<R: Wait>(&self, rt: &R, _right: &Right, command: &Command) -> Reply
+        requires { is_upkeep command.now ≡ true }
+    {
         self.kept.lock(rt).going.ask(command)
     }
 
@@ -79,56 +108,82 @@ impl<D: Device + Drop, B: Beginning> Locked<D, B> {
     pub(crate) fn flush_some<R: Wait>(
         &self,
         rt: &R,
+        _right: &Right,
         from: u32,
         count: u32,
     ) -> Result<u32, Refusal> {
         flush_some(&mut self.kept.lock(rt).going, from, count)
     }
 
-    /// The thread beside begins to work, unless the service is at its end.
-    pub(crate) fn begin<R: Wait>(&self, rt: &R) -> bool {
-        let mut kept = self.kept.lock(rt);
-        kept.works = !kept.ends;
-        kept.works
+    /// The thread beside begins to work, and takes the right; or the service is at its end, and what shows that is given.
+    pub(crate) fn begin<R: Wait>(&self, rt: &R) -> Result<Right, OnceToken<'_, ()>>
+        ensures { IfErr result (λ token. token.of ≡ self.now.ended.id) }
+    {
+        let kept = self.kept.lock(rt);
+        let mut kept = self
+            .changed
+            .wait_while(rt, kept, |kept| { kept.right.is_none() && !kept.ends });
+        if kept.ends {
+            // It is set already.
+            return Err(self.ended.init(rt, || ()));
+        }
+        match kept.right.take() {
+            Some(right) => Ok(right),
+            None => unreachable!(),
+        }
     }
 
-    /// The thread beside works no more.
-    pub(crate) fn leave<R: Wait>(&self, rt: &R) {
-        self.kept.lock(rt).works = false;
+    /// The thread beside works no more, and gives the right back.
+    pub(crate) fn leave<R: Wait>(&self, rt: &R, right: Right) {
+        self.kept.lock(rt).right = Some(right);
         self.changed.notify_all();
     }
 
     /// Whether the service is at its end.
-    pub(crate) fn ends<R: Wait>(&self, rt: &R) -> bool {
-        self.kept.lock(rt).ends
+    pub(crate) fn ends(&self) -> bool {
+        self.ended.witness().is_some()
     }
 
-    /// Waits for so long, or until the service is at its end, and tells whether it is.
-    pub(crate) fn rest<R: Wait + Clock>(&self, rt: &R, time: Duration) -> bool {
+    /// Waits for so long, or until the service is at its end, and gives what shows that it is, if it is.
+    pub(crate) fn rest<R: Wait + Clock>(&self, rt: &R, time: Duration) -> Option<OnceToken<'_, ()>>
+        ensures { IfSome result (λ token. token.of ≡ self.now.ended.id) }
+    {
         let kept = self.kept.lock(rt);
-        let (kept, _) = self
+        let _ = self
             .changed
             .wait_timeout_while(rt, kept, time, |kept| { !kept.ends });
-        kept.ends
+        self.ended.witness()
     }
 
-    /// The service is at its end: waits until the thread beside works no more.
-    pub(crate) fn end<R: Wait>(&self, rt: &R) {
+    /// The service is at its end: waits until the thread beside works no more, and takes the right. Nobody else has taken it, but the
+    /// thread beside.
+    pub(crate) fn end<R: Wait>(&self, rt: &R) -> Right {
         let mut kept = self.kept.lock(rt);
         kept.ends = true;
+        let _ = self.ended.try_set(());
         self.changed.notify_all();
-        let _ = self.changed.wait_while(rt, kept, |kept| kept.works);
+        let mut kept = self
+            .changed
+            .wait_while(rt, kept, |kept| kept.right.is_none());
+        match kept.right.take() {
+            Some(right) => right,
+            None => unreachable!(),
+        }
     }
 
     /// The desk, of which nobody asks anything any more.
     pub(crate) fn into_desk(self) -> Desk<D>
-        ensures { Went D.honest D.held D.image B.begins result.volume }
+        ensures { Went D.honest D.held D.image B.begins result }
     {
-        let Locked { kept, changed: _ } = self;
+        let Locked {
+            kept,
+            changed: _,
+            ended: _,
+        } = self;
         let Kept {
             going,
             ends: _,
-            works: _,
+            right: _,
         } = kept.into_inner();
         going.into_desk()
     }

@@ -1,6 +1,11 @@
 //! What leaked is given back while the volume is served.
+ghost use Rattle.std.specs.Prelude.{◌≡◌, [], IfOk, length};
+ghost use Rattle.fuse_daemon.specs.Services.{TellsOfMending};
+ghost use Rattle.upkeep.specs.Calls.{EndsItsSnapshot};
+
 use crate::beginning::Beginning;
-use crate::locked::Locked;
+use crate::going::is_upkeep;
+use crate::locked::{Locked, Right};
 use device::Device;
 use http_server::Log;
 use layout::Refusal;
@@ -18,21 +23,44 @@ pub struct Mended {
     pub repairs: u32,
 }
 
-/// The desk behind the lock, as its volume is asked between turns.
+/// The desk behind the lock, as its volume is asked between turns by the one who has the right to.
 #[derive(Drop)]
-struct Between<'a, D: Device, B: Beginning, R> {
+pub(crate) struct Between<'a, D: Device, B: Beginning, R> {
     rt: &'a R,
     locked: &'a Locked<D, B>,
-    calls: Log<Command, Reply>,
+    right: &'a Right,
+    pub(crate) calls: Log<Command, Reply>,
 }
 
 impl<D: Device + Drop, B: Beginning, R: Wait> Asked for Between<'_, D, B, R> {
     ghost calls = { λ between. between.calls.items };
 
     fn ask(&mut self, command: &Command) -> Reply {
-        let reply = self.locked.ask(self.rt, command);
+        let reply = self.reply_to(command);
         self.calls = self.calls.and(command, &reply);
         reply
+    }
+}
+
+impl<'a, D: Device + Drop, B: Beginning, R: Wait> Between<'a, D, B, R> {
+    /// Nothing was asked yet.
+    pub(crate) fn new(rt: &'a R, locked: &'a Locked<D, B>, right: &'a Right) -> Between<'a, D, B, R>
+        ensures { result.calls.items ≡ [] }
+    {
+        Between {
+            rt,
+            locked,
+            right,
+            calls: Log::new(),
+        }
+    }
+
+    /// Carries out a command of upkeep. To mend, no other one is asked; one that was would be refused.
+    fn reply_to(&self, command: &Command) -> Reply {
+        if !is_upkeep(command) {
+            return Err(Refusal::NoPlan);
+        }
+        self.locked.ask(self.rt, self.right, command)
     }
 }
 
@@ -40,15 +68,14 @@ impl<D: Device + Drop, B: Beginning, R: Wait> Asked for Between<'_, D, B, R> {
 pub(crate) fn mend<D: Device + Drop, B: Beginning, R: Threads + Wait + Sync>(
     rt: &R,
     alloc: Global,
-    locked: &Locked<D, B>,
+    between: &mut Between<'_, D, B, R>,
     workers: u32,
-) -> Result<Mended, Refusal> {
-    let mut between = Between {
-        rt,
-        locked,
-        calls: Log::new(),
-    };
-    match upkeep::mend(rt, alloc, &mut between, workers, &OpenGate)? {
+) -> Result<Mended, Refusal>
+    ensures mended { IfOk result (TellsOfMending between.old.calls.items between.new.calls.items) }
+    // Whatever came of it, the snapshot that was taken was ended.
+    ensures ended { EndsItsSnapshot between.old.calls.items between.new.calls.items }
+{
+    match upkeep::mend(rt, alloc, between, workers, &OpenGate)? {
         Some(mended) => Ok(Mended {
             findings: mended.checked.findings().len(),
             repairs: mended.repaired,

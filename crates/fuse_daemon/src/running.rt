@@ -1,15 +1,17 @@
 //! Both threads.
-ghost use Rattle.std.specs.Prelude.{◌≡◌, [], List, IfErr, OnOk};
-ghost use Rattle.fuse_daemon.specs.Services.{LeavesSome, ServesSome, Went};
+ghost use Rattle.std.specs.Prelude.{◌≡◌, ◌⊎◌, [], IfErr, IfNone, IfSome, OnOk};
+ghost use Rattle.fuse_daemon.specs.Services.{IsPart, LeavesSome, ServesSome, Went};
+ghost use Rattle.fuse_loop.specs.Sessions.{EndsWell};
+ghost use Rattle.layout.specs.declared.refusal.Refusal.{Refusal as Refused};
 ghost use Rattle.shared.specs.Opened.{opened_of};
 ghost use Rattle.softdep.specs.Queued.{unsynced_of};
-ghost use Rattle.fuse_writer.specs.Turns.{Call, GoesBy};
+ghost use Rattle.fuse_writer.specs.Turns.{GoesBy};
 
 use crate::beginning::Beginning;
 use crate::behind::Behind;
 use crate::flushing::flush_until_end;
 use crate::locked::Locked;
-use crate::mending::mend;
+use crate::mending::{Between, mend};
 use crate::telling::{News, Teller};
 use device::Device;
 use fuse_channels::Channel;
@@ -19,7 +21,7 @@ use fuse_writer::Desk;
 use std::alloc::Global;
 use std::fs::OpenFile;
 use std::marker::Brand;
-use std::sync::Wait;
+use std::sync::{OnceToken, Wait};
 use std::thread::{Threads, join_mut};
 use std::time::Clock;
 
@@ -60,8 +62,11 @@ pub fn run<
     teller: &T,
     channel: &mut C,
 ) -> Ended<D>
-    // Commands led to the volume that is left from one as it was served, and nothing else was done to it.
-    ensures went { Went D.honest D.held D.image (λ opened. opened ≡ opened_of D.held D.image desk.volume) result.desk.volume }
+    // Turns and commands of upkeep led to the desk that is left from one whose volume was as it was to be served, and nothing else was
+    // done to the volume.
+    ensures went { Went D.honest D.held D.image (λ opened. opened ≡ opened_of D.held D.image desk.volume) result.desk }
+    // It ends well only with the channel, or with DESTROY.
+    ensures ended { OnOk result.served (EndsWell (C.ended channel.new) (C.taken channel.new)) }
     // Each message that was taken was answered by one turn of a desk of this service, and the channel was given the replies.
     ensures served { OnOk result.served (ServesSome D.honest D.held D.image (λ opened. opened ≡ opened_of D.held D.image desk.volume)
         (C.taken channel.old) (C.given channel.old) (C.taken channel.new) (C.given channel.new)) }
@@ -91,7 +96,8 @@ fn run_on<
     channel: &mut C,
 ) -> Ended<D>
     requires { B.begins (opened_of D.held D.image desk.volume) }
-    ensures went { Went D.honest D.held D.image B.begins result.desk.volume }
+    ensures went { Went D.honest D.held D.image B.begins result.desk }
+    ensures ended { OnOk result.served (EndsWell (C.ended channel.new) (C.taken channel.new)) }
     ensures served { OnOk result.served (ServesSome D.honest D.held D.image B.begins
         (C.taken channel.old) (C.given channel.old) (C.taken channel.new) (C.given channel.new)) }
     ensures left { IfErr result.served (λ why. LeavesSome D.honest D.held D.image B.begins
@@ -108,7 +114,8 @@ fn run_on<
 
 /// Closes all files, writes all, and gives what is left.
 fn close<D: Device + Drop>(mut desk: Desk<D>, served: Result<(), LeftError>) -> Ended<D>
-    ensures goes { (calls : List Call) × GoesBy D.honest D.held D.image desk.volume calls result.desk.volume }
+    ensures part { IsPart desk result.desk }
+    ensures goes { GoesBy D.honest D.held D.image desk.volume result.desk.calls result.desk.volume }
     ensures served { result.served ≡ served }
     ensures written { OnOk result.written (unsynced_of result.desk.volume.queue ≡ []) }
 {
@@ -137,6 +144,7 @@ fn serve_beside<
     teller: &T,
     channel: &mut C,
 ) -> Result<(), LeftError>
+    ensures ended { OnOk result (EndsWell (C.ended channel.new) (C.taken channel.new)) }
     ensures served { OnOk result (ServesSome D.honest D.held D.image B.begins
         (C.taken channel.old) (C.given channel.old) (C.taken channel.new) (C.given channel.new)) }
     ensures left { IfErr result (λ why. LeavesSome D.honest D.held D.image B.begins
@@ -145,7 +153,9 @@ fn serve_beside<
     // Where no thread can be made the first of two comes last, and has nothing left to do.
     let ((), served) = join_mut(
         rt,
-        &mut || attend(rt, alloc, locked, plan, medium, teller),
+        &mut || {
+            let _shown = attend(rt, alloc, locked, plan, medium, teller);
+        },
         &mut || serve_locked(rt, alloc, locked, channel),
     );
     served
@@ -158,36 +168,56 @@ fn serve_locked<D: Device + Drop, B: Beginning, C: Channel, R: Wait>(
     locked: &Locked<D, B>,
     channel: &mut C,
 ) -> Result<(), LeftError>
+    ensures ended { OnOk result (EndsWell (C.ended channel.new) (C.taken channel.new)) }
     ensures served { OnOk result (ServesSome D.honest D.held D.image B.begins
         (C.taken channel.old) (C.given channel.old) (C.taken channel.new) (C.given channel.new)) }
     ensures left { IfErr result (λ why. LeavesSome D.honest D.held D.image B.begins
         (C.taken channel.old) (C.given channel.old) (C.taken channel.new) (C.given channel.new) why) }
 {
-    let mut behind = Behind { rt, locked };
+    let mut behind = Behind::new(rt, locked);
     let served = serve(alloc, &mut behind, channel);
-    locked.end(rt);
+    behind.end();
     served
 }
 
-/// What is done beside the service, until that is at its end.
+/// What is done beside the service, until that is at its end, which is shown. It ends before only if nothing is to be flushed, or if
+/// a refusal was told.
 fn attend<
+    'a,
     D: Device + Drop + Send,
     B: Beginning,
     F: OpenFile,
     T: Teller,
     R: Threads + Wait + Clock + Sync,
->(rt: &R, alloc: Global, locked: &Locked<D, B>, plan: Plan, medium: &mut F, teller: &T) {
-    if !locked.begin(rt) {
-        return;
-    }
+>(
+    rt: &R,
+    alloc: Global,
+    locked: &'a Locked<D, B>,
+    plan: Plan,
+    medium: &mut F,
+    teller: &T,
+) -> Option<OnceToken<'a, ()>>
+    ensures ended { IfSome result (λ token. token.of ≡ locked.entry.now.ended.id) }
+    ensures before { IfNone result ((plan.seconds ≡ 0) ⊎ ((refusal : Refused) × T.told teller.now (News.NotFlushed refusal))) }
+{
+    let right = match locked.begin(rt) {
+        Ok(right) => right,
+        Err(token) => return Some(token),
+    };
     if plan.workers > 0 {
-        teller.tell(match mend(rt, alloc, locked, plan.workers) {
+        let mut between = Between::new(rt, locked, &right);
+        teller.tell(match mend(rt, alloc, &mut between, plan.workers) {
             Ok(mended) => News::Mended(mended),
             Err(refusal) => News::NotMended(refusal),
         });
     }
-    if let Err(refusal) = flush_until_end(rt, locked, medium, plan.seconds) {
-        teller.tell(News::NotFlushed(refusal));
+    let flushed = flush_until_end(rt, locked, &right, medium, plan.seconds);
+    locked.leave(rt, right);
+    match flushed {
+        Ok(shown) => shown,
+        Err(refusal) => {
+            teller.tell(News::NotFlushed(refusal));
+            None
+        }
     }
-    locked.leave(rt);
 }

@@ -1,4 +1,6 @@
 //! What is told of the work beside the service, while it goes on.
+ghost use Rattle.fuse_daemon.specs.declared.telling.News.{News as Tidings};
+
 use crate::mending::Mended;
 use layout::Refusal;
 
@@ -15,6 +17,10 @@ pub enum News {
 
 /// Who is told.
 pub trait Teller {
+    /// This was told. Whoever serves any teller knows it of what was told alone.
+    ghost told: { Self → Tidings → Type 0 };
+
     /// Takes note.
-    fn tell(&self, news: News);
+    fn tell(&self, news: News)
+        ensures { told self.now news };
 }

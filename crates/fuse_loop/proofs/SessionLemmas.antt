@@ -1,14 +1,15 @@
 -- Messages are answered one behind the other.
-use Rattle.std.proofs.Common.{◌≡◌, ◌↔◌, ℕ, Bool, true, false, List, [], ◌∷◌, ◌++◌, Option, Some, None, Result, Ok, Err, IfErr, OnErr, OnOk, inl, inr, refl, sym, ap, subst, ◌∙◌, append_assoc}
+use Rattle.std.proofs.Common.{◌≡◌, ◌↔◌, ℕ, Bool, true, false, List, [], ◌∷◌, ◌++◌, Option, Some, None, Result, Ok, Err, IfErr, IfOk, OnErr, OnOk, inl, inr, refl, sym, ap, subst, ◌∙◌, append_assoc}
 use Rattle.std.specs.Prelude.{◌⊎◌}
 use Rattle.std.proofs.lemmas.List.{append-nil}
 use Rattle.fuse_wire.specs.declared.requests.Head.{Head}
+use Rattle.fuse_wire.specs.Requests as requests
 use Rattle.fuse_wire.specs.Requests.{Asked, decode}
 use Rattle.fuse_loop.specs.declared.LeftError.{LeftError}
 use Rattle.fuse_loop.specs.declared.LeftError.TheVariants.{Channel, NoMemory, NoRequest}
-use Rattle.fuse_loop.specs.Sessions.{Answered, AnswersOne, EndsAt, IsAnswered, IsLeft, Leaves, LeavesIt, LeavesOne, NothingCame, NotGiven, NotTurned, OneCame, Serves, ServesOne, Start, Step, Turning, Untouched, begins, given_by, is_begin, is_in_place}
+use Rattle.fuse_loop.specs.Sessions.{Answered, AnswersOne, EndsAt, IsAnswered, IsDestroy, IsLeft, LastIsDestroy, Leaves, LeavesIt, LeavesOne, NothingCame, NotGiven, NotTurned, OneCame, Serves, ServesOne, Start, Step, Turning, Untouched, begins, given_by, is_begin, is_in_place}
 use Rattle.fuse_reader.specs.declared.desk.Turned.{Turned}
-use Rattle.fuse_reader.specs.declared.desk.Turned.TheVariants.{Unread}
+use Rattle.fuse_reader.specs.declared.desk.Turned.TheVariants.{Ended, Unread}
 use Rattle.fuse_reader.specs.Desks.{turned_of}
 
 -- what follows from clauses
@@ -28,9 +29,60 @@ pub if_err_both : {A E R : Type 0} {P Q : E → Type 0} (r : Result A E) → IfE
 if_err_both (Ok x) p q f = tt
 if_err_both (Err e) p q f = f e p q
 
+pub if_ok : {A E : Type 0} {P Q : A → Type 0} (r : Result A E) → IfOk r P → ((x : A) → P x → Q x) → IfOk r Q
+if_ok (Ok x) p f = f x p
+if_ok (Err e) p f = tt
+
+pub not_both : (b : Bool) → b ≡ true → b ≡ false → ⊥
+not_both b h e = cc
+
 -- a turn that came to one thing did not come to another
 pub not_unread : {turned other : Turned} → turned ≡ other → (other ≡ Unread → ⊥) → turned ≡ Unread → ⊥
 not_unread e h f = h (sym e ∙ f)
+
+-- only one request ends a session
+destroyed : (asked : Asked) → turned_of asked ≡ Ended → asked ≡ requests.Destroy
+destroyed (requests.Init a) e = absurd cc
+destroyed (requests.Lookup a) e = absurd cc
+destroyed (requests.Forgotten a) e = absurd cc
+destroyed (requests.BatchForget a) e = absurd cc
+destroyed (requests.GetAttributes a) e = absurd cc
+destroyed (requests.SetAttributes a) e = absurd cc
+destroyed (requests.MakeNode a b c d) e = absurd cc
+destroyed (requests.MakeDirectory a b c) e = absurd cc
+destroyed (requests.Unlink a) e = absurd cc
+destroyed (requests.RemoveDirectory a) e = absurd cc
+destroyed (requests.Rename a b c d) e = absurd cc
+destroyed (requests.Link a b) e = absurd cc
+destroyed (requests.Open a) e = absurd cc
+destroyed (requests.Read a b c) e = absurd cc
+destroyed (requests.Write a b c) e = absurd cc
+destroyed requests.Statistics e = absurd cc
+destroyed (requests.Release a) e = absurd cc
+destroyed (requests.Sync a b) e = absurd cc
+destroyed (requests.Flush a) e = absurd cc
+destroyed (requests.OpenDirectory a) e = absurd cc
+destroyed (requests.ReadDirectory a b c) e = absurd cc
+destroyed (requests.ReadDirectoryPlus a b c) e = absurd cc
+destroyed (requests.ReleaseDirectory a) e = absurd cc
+destroyed (requests.SyncDirectory a b) e = absurd cc
+destroyed (requests.Create a b c d) e = absurd cc
+destroyed (requests.Interrupt a) e = absurd cc
+destroyed requests.Destroy e = refl
+destroyed requests.SyncVolume e = absurd cc
+destroyed (requests.Other a) e = absurd cc
+
+pub is_destroy : {turned : Turned} (message : List ℕ) → (turned ≡ Unread) ↔ (decode message ≡ None)
+    → ((head : Head) (asked : Asked) → decode message ≡ Some (head, asked) → turned ≡ turned_of asked) → turned ≡ Ended → IsDestroy message
+is_destroy {turned} message unread by is = go (decode message) refl
+  where
+    go : (o : Option (Head × Asked)) → decode message ≡ o → IsDestroy message
+    go None e = absurd (not_unread is (λ e. cc) (unread.1 e))
+    go (Some p) e = (p.0, e ∙ ap (λ a. Some (p.0, a)) (destroyed p.1 (sym (by p.0 p.1 e) ∙ is)))
+
+-- the last message is the one that came
+pub last_is_destroy : (message : List ℕ) (taken new_taken : List (List ℕ)) → new_taken ≡ taken ++ message ∷ [] → IsDestroy message → LastIsDestroy new_taken
+last_is_destroy message taken new_taken e is = (taken, message, e, is)
 
 begins_on : (messages : List (List ℕ)) (message : List ℕ) → begins messages ≡ true → is_in_place (is_begin messages) message ≡ true → begins (messages ++ message ∷ []) ≡ true
 begins_on [] message first agrees = agrees
@@ -157,3 +209,8 @@ module _ {T : Type 0} {turns : Turning T} {fails : T → List ℕ → T → Type
     left = subst (λ b. IsLeft b why one.rest) is one.left;
     ends = one.ends;
   }
+
+  -- it is left between two messages
+  pub none_more : (why : LeftError) (old mid : T) (taken given new_taken new_given : List (List ℕ)) → (before : Serves turns old taken given new_taken new_given [] mid)
+      → IsLeft (is_begin before.messages) why [] → Leaves turns fails old taken given new_taken new_given why mid
+  none_more why old mid taken given new_taken new_given before left = record { rest = []; mid = mid; serves = before; left = left; ends = Untouched [] }

@@ -84,6 +84,19 @@ pub record Leaves {T : Type 0} (turns : Turning T) (fails : T → List ℕ → T
   pub left : IsLeft (is_begin serves.messages) why rest
   pub ends : EndsAt turns fails mid rest new
 
+-- The message asks to end: no other one follows it.
+abbrev pub IsDestroy : List ℕ → Type 0
+IsDestroy message = (head : Head) × (decode message ≡ Some (head, requests.Destroy))
+
+-- the last message that was taken does
+abbrev pub LastIsDestroy : List (List ℕ) → Type 0
+LastIsDestroy taken = (before : List (List ℕ)) × (message : List ℕ) × (taken ≡ before ++ message ∷ []) × IsDestroy message
+
+-- A session ends well with its channel, or with a last message that asks to.
+pub data EndsWell (ended : Type 0) (taken : List (List ℕ)) : Type 0 where
+  WithChannel : ended → EndsWell ended taken
+  WithDestroy : LastIsDestroy taken → EndsWell ended taken
+
 -- ---- one message
 
 -- It was answered, the first one only as it asks to agree.

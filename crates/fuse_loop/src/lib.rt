@@ -8,7 +8,7 @@ mod viewed;
 
 ghost use Rattle.std.specs.Prelude.{◌≡◌, [], ◌∷◌, ◌++◌, false, IfErr, IfOk, OnErr, OnOk};
 ghost use Rattle.fuse_wire.specs.Requests.{decode};
-ghost use Rattle.fuse_loop.specs.Sessions.{AnswersOne, Leaves, LeavesIt, LeavesOne, Serves, ServesOne, asks_to_agree, is_in_place};
+ghost use Rattle.fuse_loop.specs.Sessions.{AnswersOne, EndsWell, IsDestroy, Leaves, LeavesIt, LeavesOne, Serves, ServesOne, asks_to_agree, is_in_place};
 
 use fuse_channels::{Channel, Message, Received};
 pub use fuse_reader::Turned;
@@ -24,7 +24,7 @@ pub const MESSAGE_BYTES: usize = 131_072 + 4096;
 #[derive(Clone, Copy, Debug, PartialEq, Eq)]
 pub enum LeftError {
     NoMemory,
-    /// The channel failed.
+    /// The channel failed, or gave more messages than can be counted.
     Channel,
     /// A message came that is no request, or the first one does not ask to agree on a version.
     NoRequest,
@@ -37,6 +37,8 @@ pub fn serve<T: Answering, C: Channel>(
     desk: &mut T,
     channel: &mut C,
 ) -> Result<(), LeftError>
+    // It ends well only with the channel, or with DESTROY.
+    ensures ended { OnOk result (EndsWell (C.ended channel.new) (C.taken channel.new)) }
     ensures served { OnOk result (Serves T.turns desk.old (C.taken channel.old) (C.given channel.old) (C.taken channel.new) (C.given channel.new) [] desk.new) }
     ensures left { IfErr result (λ why. Leaves T.turns T.fails desk.old (C.taken channel.old) (C.given channel.old)
         (C.taken channel.new) (C.given channel.new) why desk.new) }
@@ -53,7 +55,7 @@ pub fn serve<T: Answering, C: Channel>(
             Err(why) => return Err(why),
         }
     }
-    Ok(())
+    Err(LeftError::Channel)
 }
 
 /// Takes a message, if one is there, and answers it. Tells whether more may follow.
@@ -66,6 +68,7 @@ fn serve_one<T: Answering, C: Channel>(
 ) -> Result<bool, LeftError>
     ensures served { OnOk result (ServesOne T.turns is_first.old is_first.new desk.old (C.taken channel.old) (C.given channel.old)
         (C.taken channel.new) (C.given channel.new) desk.new) }
+    ensures ended { IfOk result (λ more. more ≡ false → EndsWell (C.ended channel.new) (C.taken channel.new)) }
     ensures left { IfErr result (λ why. LeavesOne T.turns T.fails is_first.old desk.old (C.taken channel.old) (C.given channel.old)
         (C.taken channel.new) (C.given channel.new) why desk.new) }
 {
@@ -87,6 +90,7 @@ fn answer<T: Answering, C: Channel>(
 ) -> Result<bool, LeftError>
     ensures answered { OnOk result (AnswersOne T.turns is_first.old desk.old message.now (C.given channel.old) (C.given channel.new) desk.new) }
     ensures first { OnOk result (is_first.new ≡ false) }
+    ensures ended { IfOk result (λ more. more ≡ false → IsDestroy message.now) }
     ensures left { IfErr result (λ why. LeavesIt T.turns T.fails is_first.old desk.old message.now why desk.new) }
     ensures none { OnErr result (C.given channel.new ≡ C.given channel.old) }
     ensures taken { C.taken channel.new ≡ C.taken channel.old }

@@ -1,10 +1,11 @@
 -- What a volume goes through by a turn.
-use Rattle.std.specs.Prelude.{ℕ, List, map, Result}
+use Rattle.std.specs.Prelude.{◌≡◌, ℕ, List, map, Result}
 use Rattle.layout.specs.declared.refusal.Refusal.{Refusal}
 use Rattle.device.specs.Media.{Held}
 use Rattle.snapshot.specs.Alive.{Alive}
 use Rattle.snapshot.specs.Asked.{asked}
 use Rattle.snapshot.specs.Goes.{Runs}
+use Rattle.snapshot.specs.Stages.{Stage}
 use Rattle.snapshot.specs.declared.answer.Answer.{Answer}
 use Rattle.snapshot.specs.declared.command.Command.{Command}
 
@@ -25,3 +26,9 @@ pub record GoesBy {D : Type 0} (honest : D → Type 0) (held_of : D → Held) (i
   pub runs : honest new.device
       → Runs (held_of old.device) (image_of old.device) old (map (asked old.kept.geometry) (map (λ c. c.0) calls)) (map (λ c. c.1) calls)
       (held_of new.device) (image_of new.device) new
+
+-- A stage of this volume: what its device had held and holds, with something beside it.
+pub record IsStageOf {D : Type 0} (held_of : D → Held) (image_of : D → List (List ℕ)) (volume : Alive D) (s : Stage D) : Type 0 where
+  pub volume_is : s.volume ≡ volume
+  pub held_is : s.held ≡ held_of volume.device
+  pub image_is : s.image ≡ image_of volume.device

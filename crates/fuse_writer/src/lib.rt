@@ -35,5 +35,7 @@ mod showing;
 pub use attributes::Set;
 pub use desk::Desk;
 pub use granted::Rules;
-pub use laws::a_request_acts_on_the_inode_that_was_told;
+pub use laws::{
+    a_request_acts_on_the_inode_that_was_told, what_fsync_answered_outlives_power_cuts,
+};
 pub use session::Session;

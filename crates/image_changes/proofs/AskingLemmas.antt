@@ -1,5 +1,6 @@
 -- What was asked of a volume, command by command.
-use Rattle.std.proofs.Common.{◌≡◌, ℕ, List, [], ◌∷◌, ◌++◌, map, IfOk, Ok, Err, Result, refl, sym, ap₂, ◌∙◌, subst}
+use Rattle.std.proofs.Common.{◌≡◌, ℕ, Bool, true, false, List, [], ◌∷◌, ◌++◌, map, Option, Some, None, is_some, IfOk, Ok, Err, Result, refl, sym, ap₂, ◌∙◌, subst}
+use Rattle.std.specs.Prelude.{IsFalse, MatchOption}
 use Rattle.std.proofs.lemmas.List.{append_assoc, append-nil, map-append}
 use Rattle.layout.specs.declared.refusal.Refusal.{Refusal}
 use Rattle.snapshot.specs.Alive.{Alive}
@@ -11,7 +12,7 @@ use Rattle.snapshot.specs.declared.command.Command.{Command}
 use Rattle.snapshot.specs.Asked.{asked}
 use Rattle.snapshot.specs.Goes.{Applies}
 use Rattle.snapshot.proofs.AppliesLemmas.{runs_none, runs_on}
-use Rattle.image_changes.specs.Asking.{Adds, AddsFlushes, AllAnswer, Went}
+use Rattle.image_changes.specs.Asking.{Adds, AddsFlushes, AddsFlushesBehind, AllAnswer, Went}
 
 pub answered_more : (replies : List (Result Answer Refusal)) (answer : Answer) → AllAnswer replies → AllAnswer (replies ++ Ok answer ∷ [])
 answered_more [] answer a = tt
@@ -65,3 +66,13 @@ module _ {D : Type 0} (held held' held'' : Held) (image image' image'' : List (L
     addresses = one.addresses ++ two.addresses;
     adds = subst (λ rs. Adds held image old rs held'' image'' new) (sym (map-append Flush one.addresses two.addresses)) (adds_then (map Flush one.addresses) (map Flush two.addresses) one.adds two.adds);
   }
+
+-- behind one flush, others
+module _ {D : Type 0} (held held' held'' : Held) (image image' image'' : List (List ℕ)) (old mid new : Alive D) where
+  pub flushes_behind : (a : ℕ) → Adds held image old (Flush a ∷ []) held' image' mid → AddsFlushes held' image' mid held'' image'' new → AddsFlushesBehind a held image old held'' image'' new
+  flushes_behind a one others = record { addresses = others.addresses; adds = adds_then held held' held'' image image' image'' old mid new (Flush a ∷ []) (map Flush others.addresses) one others.adds }
+
+-- nothing is found where a test says so
+pub where_none : (found : Option ℕ) (is : Bool) (P : Type 0) (Q : ℕ → Type 0) → MatchOption found P Q → is ≡ is_some found → IsFalse is → P
+where_none None is P Q nothing test absent = nothing
+where_none (Some a) is P Q some test absent = let bad : true ≡ false = sym test ∙ absent in cc

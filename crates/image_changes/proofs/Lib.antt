@@ -1,3 +1,4 @@
 mod StopLemmas
+mod BlameLemmas
 pub mod AskingLemmas
 pub mod MountLemmas

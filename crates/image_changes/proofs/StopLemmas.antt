@@ -1,12 +1,12 @@
 -- Replies of which each answers, where they stop, and what stops them.
-use Rattle.std.proofs.Common.{◌≡◌, ◌<◌, ◌+◌, ℕ, zero, suc, List, [], ◌∷◌, ◌++◌, length, Ok, Err, Result, inl, inr, sym, ap, ◌∙◌, subst, arith}
-use Rattle.std.proofs.lemmas.List.{length-append}
+use Rattle.std.proofs.Common.{◌≡◌, ◌<◌, ◌+◌, ℕ, zero, suc, List, [], ◌∷◌, ◌++◌, length, Ok, Err, Result, None, Some, inl, inr, sym, ap, ◌∙◌, subst, arith}
+use Rattle.std.proofs.lemmas.List.{length-append, length_push, same_from_push}
 use Rattle.layout.specs.declared.refusal.Refusal.{Refusal}
 use Rattle.frozen.specs.Loading.{GivesOut}
 use Rattle.rules.specs.Loading.{LoadSoundRefuses}
 use Rattle.snapshot.specs.declared.answer.Answer.{Answer}
 use Rattle.image_changes.specs.Asking.{AllAnswer}
-use Rattle.image_changes.specs.Stops.{StopsAtRefusal}
+use Rattle.image_changes.specs.Stops.{IsOutcome, StopsAtRefusal}
 use Rattle.image_changes.proofs.AskingLemmas.{answered_more}
 
 pub one_more : (replies more : List (Result Answer Refusal)) (reply : Result Answer Refusal) (answer : Answer) → reply ≡ Ok answer → more ≡ replies ++ reply ∷ [] → AllAnswer replies → AllAnswer more
@@ -38,3 +38,19 @@ last_refused n replies more reply r is same all low = subst (StopsAtRefusal n) (
 pub given_out : (honest : Type 0) (image : List (List ℕ)) (r : Refusal) → GivesOut r → LoadSoundRefuses honest image r
 given_out honest image r (inl memory) = subst (LoadSoundRefuses honest image) (sym memory) tt
 given_out honest image r (inr device) = subst (LoadSoundRefuses honest image) (sym device) tt
+
+-- ---- what comes last
+
+pub ended_by : (replies before : List (Result Answer Refusal)) (last : Result Answer Refusal) (r : Refusal) → replies ≡ before ++ last ∷ [] → last ≡ Err r → (n : ℕ) → length before ≡ n → IsOutcome replies n (Some r)
+ended_by replies before last r is refused n count = (before, is ∙ ap (λ x. before ++ x ∷ []) refused, count)
+
+pub ended_well : (replies before : List (Result Answer Refusal)) (last : Result Answer Refusal) (answer : Answer) → replies ≡ before ++ last ∷ [] → last ≡ Ok answer → (n : ℕ) → length replies ≡ n → IsOutcome replies n None
+ended_well replies before last answer is answered n count = (
+  count,
+  λ earlier r same.
+      let two = same_from_push before earlier last (Err r) (sym is ∙ same) in
+      let bad : Ok answer ≡ Err r = sym answered ∙ two.1 in cc,
+)
+
+pub none_ended : (replies : List (Result Answer Refusal)) → length replies ≡ 0 → IsOutcome replies 0 None
+none_ended replies none = (none, λ earlier r same. let long = length_push earlier (Err r) in let here = ap length same in absurd (omega (arith, none, long, here)))

@@ -32,3 +32,8 @@ Adds {D} held image old requests held' image' new = (held₀ : Held) (image₀ :
 pub record AddsFlushes {D : Type 0} (held : Held) (image : List (List ℕ)) (old : Alive D) (held' : Held) (image' : List (List ℕ)) (new : Alive D) : Type 0 where
   pub addresses : List ℕ
   pub adds : Adds held image old (map Flush addresses) held' image' new
+
+-- Blocks are flushed next, one after another, of which this one is the first.
+pub record AddsFlushesBehind {D : Type 0} (a : ℕ) (held : Held) (image : List (List ℕ)) (old : Alive D) (held' : Held) (image' : List (List ℕ)) (new : Alive D) : Type 0 where
+  pub addresses : List ℕ
+  pub adds : Adds held image old (Flush a ∷ map Flush addresses) held' image' new

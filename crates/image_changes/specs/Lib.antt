@@ -1,3 +1,4 @@
 pub mod Stops
 pub mod Changes
 pub mod Asking
+pub mod Refused

@@ -1,5 +1,7 @@
-ghost use Rattle.std.specs.Prelude.{IfOk, OnOk};
-ghost use Rattle.image_changes.specs.Asking.{AddsFlushes};
+ghost use Rattle.std.specs.Prelude.{◌≡◌, ◌∷◌, [], false, true, IfOk, IsFalse, OnOk};
+ghost use Rattle.machine.specs.Command.{Flush};
+ghost use Rattle.softdep.specs.Queued.{NothingNext};
+ghost use Rattle.image_changes.specs.Asking.{Adds, AddsFlushes, AddsFlushesBehind};
 
 use crate::asking::ask;
 use device::Device;
@@ -15,6 +17,11 @@ use std::alloc::Global;
 pub fn flush_in_passes<D: Device>(alloc: Global, volume: &mut Volume<D>) -> Result<(), Refusal>
     ensures flushed { OnOk result (D.honest volume.new.device
         → AddsFlushes (D.held volume.old.device) (D.image volume.old.device) volume.old (D.held volume.new.device) (D.image volume.new.device) volume.new) }
+    // No block has an update that may go to the device.
+    ensures ready { OnOk result (NothingNext volume.new.queue) }
+    // A device that does not keep order was waited for first.
+    ensures waits { OnOk result (D.KEEPS_ORDER ≡ false → D.honest volume.new.device
+        → AddsFlushesBehind 0 (D.held volume.old.device) (D.image volume.old.device) volume.old (D.held volume.new.device) (D.image volume.new.device) volume.new) }
     ensures honest { D.honest volume.new.device → D.honest volume.old.device }
 {
     wait_for_writes(alloc, volume)?;
@@ -26,16 +33,18 @@ pub fn flush_in_passes<D: Device>(alloc: Global, volume: &mut Volume<D>) -> Resu
 pub fn flush_ready<D: Device>(alloc: Global, volume: &mut Volume<D>) -> Result<(), Refusal>
     ensures flushed { OnOk result (D.honest volume.new.device
         → AddsFlushes (D.held volume.old.device) (D.image volume.old.device) volume.old (D.held volume.new.device) (D.image volume.new.device) volume.new) }
+    // No block has an update that may go to the device.
+    ensures ready { OnOk result (NothingNext volume.new.queue) }
     ensures honest { D.honest volume.new.device → D.honest volume.old.device }
 {
-    // Each pass writes an update, and no queue has more of them.
+    // Each pass writes an update, and no queue has more of them; one that had would be refused as one that finds no memory.
     for _pass in 0..u32::MAX {
         if !has_ready(volume) {
-            break;
+            return Ok(());
         }
         flush_pass(alloc, volume)?;
     }
-    Ok(())
+    Err(Refusal::NoMemory)
 }
 
 /// Where the device does not keep order, waits until what was written is durable: no flush of the superblock has anything to
@@ -43,6 +52,9 @@ pub fn flush_ready<D: Device>(alloc: Global, volume: &mut Volume<D>) -> Result<(
 fn wait_for_writes<D: Device>(alloc: Global, volume: &mut Volume<D>) -> Result<(), Refusal>
     ensures flushed { OnOk result (D.honest volume.new.device
         → AddsFlushes (D.held volume.old.device) (D.image volume.old.device) volume.old (D.held volume.new.device) (D.image volume.new.device) volume.new) }
+    ensures waits { OnOk result (D.KEEPS_ORDER ≡ false → D.honest volume.new.device
+        → Adds (D.held volume.old.device) (D.image volume.old.device) volume.old (Flush 0 ∷ []) (D.held volume.new.device) (D.image volume.new.device) volume.new) }
+    ensures untouched { D.KEEPS_ORDER ≡ true → volume.new ≡ volume.old }
     ensures honest { D.honest volume.new.device → D.honest volume.old.device }
 {
     if !D::KEEPS_ORDER {
@@ -52,7 +64,9 @@ fn wait_for_writes<D: Device>(alloc: Global, volume: &mut Volume<D>) -> Result<(
 }
 
 /// Whether some block has an update that may go to the device.
-fn has_ready<D: Device>(volume: &Volume<D>) -> bool {
+fn has_ready<D: Device>(volume: &Volume<D>) -> bool
+    ensures { IsFalse result → NothingNext volume.now.queue }
+{
     volume.live().least_ready().is_some()
 }
 

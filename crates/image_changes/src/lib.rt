@@ -2,12 +2,16 @@
 //! flushed.
 #![tactic(auto)]
 
-ghost use Rattle.std.specs.Prelude.{◌≡◌, IfErr, IfOk, IsOkUnless, OnErr, OnOk, length, map, take};
+ghost use Rattle.std.specs.Prelude.{◌≡◌, ◌⊎◌, Err, IfErr, IfOk, IsErrOf, IsOkUnless, OnErr, OnOk, length, map, take};
+ghost use Rattle.device.specs.Writes.{HasFailed};
 ghost use Rattle.frozen.specs.Loading.{GivesOut};
 ghost use Rattle.image_changes.specs.Changes.{Changes, Writes};
-ghost use Rattle.image_changes.specs.Stops.{StopsAtRefusal};
+ghost use Rattle.image_changes.specs.Refused.{BlamesBeforeSync, BlamesRightly, FailedToWrite, IsNotWritten};
+ghost use Rattle.image_changes.specs.Stops.{IsOutcome, StopsAtRefusal};
 ghost use Rattle.snapshot.specs.Asked.{asked};
+ghost use Rattle.snapshot.specs.Between.{Applied};
 ghost use Rattle.snapshot.specs.Goes.{Runs};
+ghost use Rattle.snapshot.specs.declared.command.Command.TheVariants.{Sync};
 
 mod asking;
 mod flushing;
@@ -34,7 +38,12 @@ pub fn change<D: Device>(
         (take (length replies.items) commands.now) replies.items (D.held volume.new.device) (D.image volume.new.device) volume.new) }
     // Each was carried out, or each but the last, which was refused.
     ensures stopped { IfOk result (λ replies. StopsAtRefusal (length commands.now) replies.items) }
+    // If the last reply blames the device, it failed in that command.
+    ensures blames { IfOk result (λ replies. BlamesBeforeSync D.honest D.held D.image D.failures volume.old commands.now replies.items volume.new) }
+    // Refused, nothing was done; or so it went as far as the sync, which was refused.
+    ensures went { IfErr result (λ r. D.honest volume.new.device → (volume.new ≡ volume.old) ⊎ IsNotWritten D.held D.image volume.old commands.now r volume.new) }
     ensures error { IfErr result (λ r. D.honest volume.new.device → GivesOut r) }
+    ensures cause { IsErrOf result Refusal.Device → FailedToWrite D.honest D.held D.image D.failures volume.old commands.now volume.new }
     ensures honest { D.honest volume.new.device → D.honest volume.old.device }
 {
     let replies = carry_out(alloc, volume, commands)?;
@@ -53,6 +62,8 @@ pub fn carry_out<D: Device>(
         → Runs (D.held volume.old.device) (D.image volume.old.device) volume.old (map (asked volume.old.kept.geometry) (take (length replies.items) commands.now)) replies.items
         (D.held volume.new.device) (D.image volume.new.device) volume.new) }
     ensures stopped { IfOk result (λ replies. StopsAtRefusal (length commands.now) replies.items) }
+    // If the last reply blames the device, it failed in that command.
+    ensures blames { IfOk result (λ replies. BlamesRightly D.honest D.held D.image D.failures volume.old commands.now replies.items volume.new) }
     ensures untouched { OnErr result (volume.new ≡ volume.old) }
     ensures error { IsOkUnless result Refusal.NoMemory }
     ensures honest { D.honest volume.new.device → D.honest volume.old.device }
@@ -74,7 +85,9 @@ pub fn carry_out<D: Device>(
 pub fn write_all<D: Device>(alloc: Global, volume: &mut Volume<D>) -> Result<(), Refusal>
     ensures written { OnOk result (D.honest volume.new.device
         → Writes (D.held volume.old.device) (D.image volume.old.device) volume.old (D.held volume.new.device) (D.image volume.new.device) volume.new) }
+    ensures went { IfErr result (λ r. D.honest volume.new.device → Applied D.held D.image volume.old Sync (Err r) volume.new) }
     ensures error { IfErr result (λ r. D.honest volume.new.device → GivesOut r) }
+    ensures cause { IsErrOf result Refusal.Device → HasFailed (D.failures volume.old.device) (D.failures volume.new.device) }
     ensures honest { D.honest volume.new.device → D.honest volume.old.device }
 {
     volume.live(); // for the proof: its clause `balance`
@@ -90,15 +103,23 @@ pub struct Outcome {
 }
 
 /// What these replies to commands say.
-pub fn outcome_of(replies: &[Reply]) -> Outcome {
-    match replies.split_last() {
-        Some((Err(refusal), before)) => Outcome {
-            done: before.len(),
-            refused: Some(*refusal),
-        },
-        _ => Outcome {
+pub fn outcome_of(replies: &[Reply]) -> Outcome
+    ensures { IsOutcome replies.now result.done result.refused }
+{
+    let Some((last, before)) = replies.split_last() else {
+        return Outcome {
+            done: 0,
+            refused: None,
+        };
+    };
+    match last {
+        Ok(_answer) => Outcome {
             done: replies.len(),
             refused: None,
+        },
+        Err(refusal) => Outcome {
+            done: before.len(),
+            refused: Some(*refusal),
         },
     }
 }

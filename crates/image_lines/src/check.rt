@@ -1,6 +1,6 @@
 //! The line `check`: the report of an image.
-ghost use Rattle.std.specs.Prelude.{◌≡◌, ◌<◌, ◌↔◌, ℕ, All, Err, IfOk, IfErr, IsFalse, IsTrue, OkIff, IsErrOf, IsOkUnless, List, OnOk, length};
-ghost use Rattle.layout.specs.declared.refusal.Refusal.TheVariants.{BadWorkers};
+ghost use Rattle.std.specs.Prelude.{◌≡◌, ◌⊎◌, ◌<◌, ◌↔◌, ℕ, All, Err, IfOk, IfErr, IsFalse, IsTrue, OkIff, IsErrOf, IsOkUnless, List, [], OnOk, length};
+ghost use Rattle.layout.specs.declared.refusal.Refusal.TheVariants.{BadWorkers, NoMemory};
 ghost use Rattle.frozen.specs.Kept.{IsKeptOf};
 ghost use Rattle.model.specs.Layout.{block_count};
 ghost use Rattle.device.specs.Reading.{ReadsOnly};
@@ -154,7 +154,7 @@ pub fn check<D: Device, G: Gate>(
 }
 
 /// Checks a device's image as `check` does, and refuses as it does. The image is loaded by as many workers as there are other
-/// devices, which show the same: as `loaders::load_by` does it. No device is written.
+/// devices, which show the same: as `loaders::load_by` does it. No device is written; where memory runs out the others may be lost.
 pub fn check_by<D: Device + Send + Drop, G: Gate>(
     rt: &(impl Threads + Sync),
     alloc: Global,
@@ -176,6 +176,7 @@ pub fn check_by<D: Device + Send + Drop, G: Gate>(
 
     ensures reads { ReadsOnly D.honest D.image D.held device.old device.new }
     ensures others { OnOk result (AreRead D.honest D.image D.held others.old.items others.new.items) }
+    ensures lost { IfErr result (λ refusal. ((refusal ≡ NoMemory) × (others.new.items ≡ [])) ⊎ AreRead D.honest D.image D.held others.old.items others.new.items) }
 {
     allow_workers(workers)?;
     let frozen = load_by(rt, alloc, device, others)?;

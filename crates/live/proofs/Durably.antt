@@ -1,25 +1,21 @@
 -- A volume that is sound on its medium stays so, and what a loss of power leaves of it can be mounted.
-use Rattle.std.proofs.Common.{◌≡◌, ℕ, suc, ◌<◌, Bool, false, List, [], ◌∷◌, ◌++◌, inl, inr, arith, refl, sym, ap, ap₂, ◌∙◌, subst, IsTrue, Ok, append-nil, get_or}
+use Rattle.std.proofs.Common.{◌≡◌, ℕ, suc, ◌<◌, Bool, false, List, [], ◌∷◌, ◌++◌, inl, inr, arith, map, refl, sym, ap, ap₂, ◌∙◌, subst, IsTrue, append-nil, get_or}
 use Rattle.std.specs.List.{All}
 use Rattle.std.proofs.lemmas.Bool.{cases_eq}
-use Rattle.std.proofs.lemmas.List.{append_assoc}
-use Rattle.std.proofs.lemmas.List.Elements.{All-append, All-cons, All-nil}
+use Rattle.std.proofs.lemmas.List.{append_assoc, map-append}
+use Rattle.std.proofs.lemmas.List.Elements.{All-append, All-nil}
 use Rattle.model.specs.Image.{IsImage, image_view}
 use Rattle.model.specs.Layout.{Geometry}
 use Rattle.model.specs.Reach.{IsReachable}
 use Rattle.model.specs.Rules.{ObeysRules}
 use Rattle.model.specs.View.{View}
-use Rattle.device.specs.Media.{Held, MayBeLeft, Medium, image_of, wrote}
+use Rattle.device.specs.Media.{Held, Medium, image_of, wrote}
 use Rattle.device.specs.Writes.{image_after}
-use Rattle.ordering.specs.Agrees.{AllAgree}
 use Rattle.ordering.specs.Cuts.{Pending, IsClosed, seen, rest, joined, users_view}
 use Rattle.ordering.specs.Ghosts.{at_rest}
 use Rattle.ordering.proofs.Flushes.{joined_closed, joined_seen, users_flushed}
-use Rattle.machine.specs.Command.{Answer, Command}
-use Rattle.machine.specs.State.{State}
-use Rattle.plans_data.specs.Carried.{Stands}
 use Rattle.queue_model.specs.Course.{IsSafeImage}
-use Rattle.queue_model.specs.Files.{Written, updates}
+use Rattle.queue_model.specs.Files.{IsFileBlock, Written, shown, updates}
 use Rattle.queue_model.specs.History.{none_of}
 use Rattle.queue_model.proofs.HistoryLemmas.{joined_rest, none_closed, none_seen}
 use Rattle.power_cut.specs.Epochs.{IsEpoch}
@@ -32,14 +28,15 @@ use Rattle.softdep.specs.Queued.{Queued, AreClosed, unsynced_of, pending_of, aft
 use Rattle.softdep.specs.OnMedium.{IsOnMedium, KeepsFrame}
 use Rattle.softdep.specs.Syncing.{HasPut, HasHeld, IsMediumOf}
 use Rattle.softdep.proofs.Frames.{left_frames}
-use Rattle.softdep.proofs.Mediums.{answers_view, on_issued}
+use Rattle.softdep.proofs.Mediums.{answers_view}
 use Rattle.softdep.proofs.Queues.{pending_rest}
 use Rattle.softdep.proofs.Swept.{held_more, held_same, held_nothing as put_held_nothing, put_after}
 use Rattle.live_states.specs.Holdings.{held_by}
 use Rattle.frozen.specs.Kept.{Kept}
 use Rattle.live.specs.Alive.{Alive}
-use Rattle.live.specs.Durable.{AddsOnly, GoesSoundly, HeldSafely, IsSound, IsSoundOn, LeavesSafe, LeavesShown}
+use Rattle.live.specs.Durable.{AddsOnly, GoesSoundly, HeldSafely, IsSound, IsSoundOn, LeavesOwn, LeavesSafe, LeavesShown, MayHave, Owns, OwnsMore, Piece, Put}
 use Rattle.live.specs.Mounting.{IsMountable}
+use Rattle.live.proofs.Owning.{OwnsWith, left_later, more_left, owns_first, owns_put}
 
 -- ---- what a loss of power leaves
 
@@ -62,6 +59,21 @@ leaves_shown m geo queue held safe s left may =
     let shown = left_safely geo m (unsynced_of queue) (image_view geo (image_of m)) (pending_of queue) held safe s.durably on.puts epoch on.writes on.within left may in
     (shown.whole, shown.since, shown.safe_image)
 
+-- with bytes in each block of a file that are its own, where files have them
+pub leaves_own : (m : Medium) (geo : Geometry) (queue : Queued) (held safe : ℕ → Bool) (s : IsSound m geo queue held safe) (puts : List Put) → Owns geo s.durably.mount s.durably.history s.durably.cut puts
+    → LeavesOwn geo s.durably.mount s.durably.history puts m
+leaves_own m geo queue held safe s puts o left may =
+    let on = s.on in
+    let d = s.durably in
+    let epoch = subst (λ x. IsEpoch x (image_view x m.durable) (unsynced_of queue) on.puts) s.geometry on.epoch in
+    let is = left_safely geo m (unsynced_of queue) (image_view geo (image_of m)) (pending_of queue) held safe d on.puts epoch on.writes on.within left may in (
+      is.whole,
+      is.since,
+      is.safe_image.closed,
+      λ n k b f. subst (λ v. MayHave geo d.mount puts n (shown d.mount d.history is.whole n) k (v.bytes b)) (sym is.since)
+          (o.cuts is.whole is.safe_image.closed is.holds n k b (subst (λ v. IsFileBlock geo v n k b) is.since f)),
+    )
+
 -- what is written later is not in it
 safe_later : (geo : Geometry) (view : View) (h : List Written) (cut : List Bool) (safe : ℕ → Bool) (w : Written) → IsSafeImage geo view h cut safe → IsSafeImage geo view (w ∷ h) (false ∷ cut) safe
 safe_later geo view h cut safe w s = record {
@@ -83,11 +95,37 @@ shown_fewer geo view h safe fewer m less shown = λ image may.
     let one = shown image may in
     (one.0, one.1, record { closed = one.2.closed; rules = one.2.rules; files = λ f t. one.2.files f (less f t); own = one.2.own })
 
--- a volume is sound since this mount, and this was written since
-pub record Since (view : View) (h : List Written) (m : Medium) (geo : Geometry) (queue : Queued) (held safe : ℕ → Bool) : Type 0 where
+-- a mount, what was written since, and what of it is durable
+pub record Base : Type 0 where
+  pub geometry : Geometry
+  pub mount : View
+  pub history : List Written
+  pub cut : List Bool
+
+-- those of a volume that is sound
+abbrev pub base : {m : Medium} {geo : Geometry} {queue : Queued} {held safe : ℕ → Bool} → IsSound m geo queue held safe → Base
+base {geo = geo} s = record { geometry = geo; mount = s.durably.mount; history = s.durably.history; cut = s.durably.cut }
+
+-- A volume is sound since this mount, and this was written since; where files had their own bytes they have them, with these pieces among them.
+pub record Since (from : Base) (asked : List Piece) (view : View) (h : List Written) (m : Medium) (geo : Geometry) (queue : Queued) (held safe : ℕ → Bool) : Type 0 where
   pub sound : IsSound m geo queue held safe
   pub mount : sound.durably.mount ≡ view
   pub history : sound.durably.history ≡ h
+  pub owns : (puts : List Put) → Owns from.geometry from.mount from.history from.cut puts → OwnsWith from.geometry sound.durably.mount sound.durably.history sound.durably.cut asked puts
+
+-- with no medium since
+pub owned : {from : Base} {view : View} {h : List Written} {m : Medium} {geo : Geometry} {queue : Queued} {held safe : ℕ → Bool} (asked : List Piece) (since : Since from asked view h m geo queue held safe)
+    (puts : List Put) → Owns from.geometry from.mount from.history from.cut puts → OwnsMore from.geometry since.sound.durably.mount since.sound.durably.history since.sound.durably.cut asked puts []
+owned {from = from} asked since puts o =
+    let own = since.owns puts o in
+    record { added = own.0; pieces = own.1; owns = own.2; each = All-nil (LeavesOwn from.geometry since.sound.durably.mount since.sound.durably.history (own.0 ++ puts)) }
+
+-- So it is since now, with nothing written since.
+pub record Anew (view : View) (m : Medium) (geo : Geometry) (queue : Queued) (held safe : ℕ → Bool) : Type 0 where
+  pub sound : IsSound m geo queue held safe
+  pub mount : sound.durably.mount ≡ view
+  pub history : sound.durably.history ≡ []
+  pub owns : Owns geo sound.durably.mount sound.durably.history sound.durably.cut []
 
 -- ---- writes, and the word of the device
 
@@ -130,6 +168,7 @@ module _ (m : Medium) (geo : Geometry) (queue : Queued) (held safe : ℕ → Boo
   answers' = subst (λ x. image_view x (image_of m') ≡ seen (image_view x m'.durable) (unsynced_of queue') queue'.loose) geometry' (answers_view s.mounted queue' m' on')
 
   durably' : (d : IsDurably geo (image_view geo m'.durable) (unsynced_of queue') (image_view geo (image_of m')) (pending_of queue') held safe) × (d.mount ≡ s.durably.mount) × (d.history ≡ s.durably.history)
+      × ((puts : List Put) → Owns geo s.durably.mount s.durably.history s.durably.cut puts → OwnsWith geo d.mount d.history d.cut [] puts)
   durably' =
       let d = s.durably in
       let next = joined (updates d.history) d.cut put.synced in
@@ -146,6 +185,7 @@ module _ (m : Medium) (geo : Geometry) (queue : Queued) (held safe : ℕ → Boo
         },
         refl,
         refl,
+        λ puts o. ([], refl, owns_put geo d.mount d.history d.cut put.synced puts d.moment.good.closed (subst (λ p. IsClosed p put.synced) (sym d.moment.pending) put.synced_closed) o),
       )
 
   users' : users_view (image_view geo (image_of m')) (pending_of queue') ≡ users_view (image_view geo (image_of m)) (pending_of queue)
@@ -154,7 +194,7 @@ module _ (m : Medium) (geo : Geometry) (queue : Queued) (held safe : ℕ → Boo
       ∙ ap₂ users_view is left ∙ users_flushed D U put.synced put.synced_closed
       ∙ users_same geo D U (image_view geo (image_of m)) (pending_of queue) held safe s.durably
 
-  pub put_since : Since s.durably.mount s.durably.history m' geo queue' held safe
+  pub put_since : Since (base s) [] s.durably.mount s.durably.history m' geo queue' held safe
   put_since = record {
     sound = record {
       geometry = geometry';
@@ -166,6 +206,7 @@ module _ (m : Medium) (geo : Geometry) (queue : Queued) (held safe : ℕ → Boo
     };
     mount = durably'.1;
     history = durably'.2;
+    owns = durably'.3;
   }
 
   pub put_sound : IsSound m' geo queue' held safe
@@ -188,14 +229,31 @@ held_shown m geo queue held safe s more each =
     let at = get_or more k d in
     subst (λ h. LeavesShown geo s.durably.mount h safe at) there.history (subst (λ v. LeavesShown geo v there.sound.durably.history safe at) there.mount (leaves_shown at geo one.queue held safe there.sound))
 
+none_added : (added : List Put) → map (λ (put : Put). put.piece) added ≡ [] → added ≡ []
+none_added [] e = refl
+none_added (a ∷ added) e = cc
+
+-- and the files' own bytes
+held_own : (m : Medium) (geo : Geometry) (queue : Queued) (held safe : ℕ → Bool) (s : IsSound m geo queue held safe) (puts : List Put) → Owns geo s.durably.mount s.durably.history s.durably.cut puts
+    → (more : List Medium) → All (IsMediumOf s.mounted queue) more → All (LeavesOwn geo s.durably.mount s.durably.history puts) more
+held_own m geo queue held safe s puts o more each =
+    λ k d low.
+    let one = each k d low in
+    let there = put_since m geo queue held safe s one.queue _ one.put one.on in
+    let at = get_or more k d in
+    let own = there.owns puts o in
+    let now = subst (λ l. Owns geo there.sound.durably.mount there.sound.durably.history there.sound.durably.cut (l ++ puts)) (none_added own.0 own.1) own.2 in
+    subst (λ h. LeavesOwn geo s.durably.mount h puts at) there.history (subst (λ v. LeavesOwn geo v there.sound.durably.history puts at) there.mount (leaves_own at geo one.queue held safe there.sound puts now))
+
 -- ---- a volume goes on
 
 pub held_nothing : (geo : Geometry) (held held' : Held) (safe : ℕ → Bool) → held'.media ≡ held.media → HeldSafely geo held held' safe
 held_nothing geo held held' safe same = record { more = []; media = same ∙ sym (append-nil held.media); each = All-nil (LeavesSafe geo safe) }
 
 module _ {D : Type 0} where
-  pub goes_then : (held held1 held2 : Held) (old mid new : Alive D) (safe safe1 safe2 : ℕ → Bool) → GoesSoundly held old held1 mid safe safe1 → GoesSoundly held1 mid held2 new safe1 safe2 → GoesSoundly held old held2 new safe safe2
-  goes_then held held1 held2 old mid new safe safe1 safe2 first later = record {
+  pub goes_then : (held held1 held2 : Held) (old mid new : Alive D) (safe safe1 safe2 : ℕ → Bool) (asked more : List Piece) → GoesSoundly held old held1 mid safe safe1 asked → GoesSoundly held1 mid held2 new safe1 safe2 more
+      → GoesSoundly held old held2 new safe safe2 (more ++ asked)
+  goes_then held held1 held2 old mid new safe safe1 safe2 asked more first later = record {
     geometry = later.geometry ∙ first.geometry;
     fewer = λ f t. first.fewer f (later.fewer f t);
     sound = λ s.
@@ -231,13 +289,37 @@ module _ {D : Type 0} where
               subst (λ h. LeavesShown geo s.durably.mount h safe2 at) all (subst (λ v. LeavesShown geo v (behind.added ++ one.durably.history) safe2 at) before.mount
               (subst (λ x. LeavesShown x one.durably.mount (behind.added ++ one.durably.history) safe2 at) first.geometry (behind.each k d low))));
         };
+    owns = λ s puts o.
+        let one = (first.sound s).0 in
+        let two = (later.sound one).0 in
+        let before = first.adds s in
+        let behind = later.adds one in
+        let geo = old.kept.geometry in
+        let was = first.owns s puts o in
+        let now = later.owns one (was.added ++ puts) (subst (λ x. Owns x one.durably.mount one.durably.history one.durably.cut (was.added ++ puts)) (sym first.geometry) was.owns) in
+        let all = sym (append_assoc now.added was.added puts) in
+        record {
+          added = now.added ++ was.added;
+          pieces = map-append (λ (put : Put). put.piece) now.added was.added ∙ ap₂ (λ xs ys. xs ++ ys) now.pieces was.pieces;
+          owns = subst (λ l. Owns geo two.durably.mount two.durably.history two.durably.cut l) all (subst (λ x. Owns x two.durably.mount two.durably.history two.durably.cut (now.added ++ (was.added ++ puts))) first.geometry now.owns);
+          each = All-append (LeavesOwn geo two.durably.mount two.durably.history ((now.added ++ was.added) ++ puts)) before.more behind.more
+              (λ k d low. let at = get_or before.more k d in
+              subst (λ l. LeavesOwn geo two.durably.mount two.durably.history l at) all
+              (subst (λ v. LeavesOwn geo v two.durably.history (now.added ++ (was.added ++ puts)) at) (sym behind.mount)
+              (subst (λ h. LeavesOwn geo one.durably.mount h (now.added ++ (was.added ++ puts)) at) (sym behind.history)
+              (left_later geo one.durably.mount behind.added one.durably.history (now.added ++ (was.added ++ puts)) at
+              (more_left geo one.durably.mount (was.added ++ puts) now.added one.durably.history at (was.each k d low))))))
+              (λ k d low. let at = get_or behind.more k d in
+              subst (λ l. LeavesOwn geo two.durably.mount two.durably.history l at) all
+              (subst (λ x. LeavesOwn x two.durably.mount two.durably.history (now.added ++ (was.added ++ puts)) at) first.geometry (now.each k d low)));
+        };
   }
 
   -- nothing was written and nothing added
   abbrev Still : (held held' : Held) (old new : Alive D) (safe : ℕ → Bool) → IsSoundOn held.now old safe → Type 0
-  Still held held' old new safe s = Since s.durably.mount s.durably.history held'.now new.kept.geometry new.queue (held_by new.holdings) safe
+  Still held held' old new safe s = Since (base s) [] s.durably.mount s.durably.history held'.now new.kept.geometry new.queue (held_by new.holdings) safe
 
-  pub adds_nothing : (held held' : Held) (old new : Alive D) (safe : ℕ → Bool) (s : IsSoundOn held.now old safe) (s' : Still held held' old new safe s) → held'.media ≡ held.media → AddsOnly held old held' new safe safe s s'.sound
+  abbrev pub adds_nothing : (held held' : Held) (old new : Alive D) (safe : ℕ → Bool) (s : IsSoundOn held.now old safe) (s' : Still held held' old new safe s) → held'.media ≡ held.media → AddsOnly held old held' new safe safe s s'.sound
   adds_nothing held held' old new safe s s' same = record {
     mount = s'.mount;
     added = [];
@@ -251,28 +333,29 @@ module _ {D : Type 0} where
   still_since : (held held' : Held) (old new : Alive D) → held' ≡ held → new.queue ≡ old.queue → new.kept.geometry ≡ old.kept.geometry → held_by new.holdings ≡ held_by old.holdings → (safe : ℕ → Bool) (s : IsSoundOn held.now old safe)
       → Still held held' old new safe s
   still_since held held' old new same queue geometry holds safe s =
-      subst (λ (h : Held). Since s.durably.mount s.durably.history h.now new.kept.geometry new.queue (held_by new.holdings) safe) (sym same)
-      (subst (λ x. Since s.durably.mount s.durably.history held.now x new.queue (held_by new.holdings) safe) (sym geometry)
-      (subst (λ w. Since s.durably.mount s.durably.history held.now old.kept.geometry w (held_by new.holdings) safe) (sym queue)
-      (subst (λ b. Since s.durably.mount s.durably.history held.now old.kept.geometry old.queue b safe) (sym holds) (record { sound = s; mount = refl; history = refl }))))
+      subst (λ (h : Held). Since (base s) [] s.durably.mount s.durably.history h.now new.kept.geometry new.queue (held_by new.holdings) safe) (sym same)
+      (subst (λ x. Since (base s) [] s.durably.mount s.durably.history held.now x new.queue (held_by new.holdings) safe) (sym geometry)
+      (subst (λ w. Since (base s) [] s.durably.mount s.durably.history held.now old.kept.geometry w (held_by new.holdings) safe) (sym queue)
+      (subst (λ b. Since (base s) [] s.durably.mount s.durably.history held.now old.kept.geometry old.queue b safe) (sym holds) (record { sound = s; mount = refl; history = refl; owns = λ puts o. ([], refl, o) }))))
 
-  pub goes_still : (held held' : Held) (old new : Alive D) → held' ≡ held → new.queue ≡ old.queue → new.kept.geometry ≡ old.kept.geometry → held_by new.holdings ≡ held_by old.holdings → (safe : ℕ → Bool) → GoesSoundly held old held' new safe safe
+  pub goes_still : (held held' : Held) (old new : Alive D) → held' ≡ held → new.queue ≡ old.queue → new.kept.geometry ≡ old.kept.geometry → held_by new.holdings ≡ held_by old.holdings → (safe : ℕ → Bool) → GoesSoundly held old held' new safe safe []
   goes_still held held' old new same queue geometry holds safe = record {
     geometry = geometry;
     fewer = λ f t. t;
     sound = λ s. ((still_since held held' old new same queue geometry holds safe s).sound, held_nothing old.kept.geometry held held' safe (ap (λ (h : Held). h.media) same));
     adds = λ s. adds_nothing held held' old new safe s (still_since held held' old new same queue geometry holds safe s) (ap (λ (h : Held). h.media) same);
+    owns = λ s puts o. owned [] (still_since held held' old new same queue geometry holds safe s) puts o;
   }
 
   -- writes, and the word of the device
   goes_put : (held held' : Held) (old new : Alive D) → new.kept.geometry ≡ old.kept.geometry → held_by new.holdings ≡ held_by old.holdings → (safe : ℕ → Bool)
-      → ((s : IsSoundOn held.now old safe) → HasPut old.queue new.queue × IsOnMedium s.mounted new.queue held'.now × HasHeld s.mounted old.queue held held') → GoesSoundly held old held' new safe safe
+      → ((s : IsSoundOn held.now old safe) → HasPut old.queue new.queue × IsOnMedium s.mounted new.queue held'.now × HasHeld s.mounted old.queue held held') → GoesSoundly held old held' new safe safe []
   goes_put held held' old new geometry holds safe done =
       let geo = old.kept.geometry in
       let put : (s : IsSoundOn held.now old safe) → Still held held' old new safe s = λ s.
       let now = done s in
-      subst (λ x. Since s.durably.mount s.durably.history held'.now x new.queue (held_by new.holdings) safe) (sym geometry)
-      (subst (λ b. Since s.durably.mount s.durably.history held'.now geo new.queue b safe) (sym holds) (put_since held.now geo old.queue (held_by old.holdings) safe s new.queue held'.now now.0 now.1)) in
+      subst (λ x. Since (base s) [] s.durably.mount s.durably.history held'.now x new.queue (held_by new.holdings) safe) (sym geometry)
+      (subst (λ b. Since (base s) [] s.durably.mount s.durably.history held'.now geo new.queue b safe) (sym holds) (put_since held.now geo old.queue (held_by old.holdings) safe s new.queue held'.now now.0 now.1)) in
       record {
         geometry = geometry;
         fewer = λ f t. t;
@@ -289,17 +372,30 @@ module _ {D : Type 0} where
               media = now.2.media;
               each = held_shown held.now geo old.queue (held_by old.holdings) safe s now.2.more now.2.each;
             };
+        owns = λ s puts o.
+            let now = done s in
+            let own = (put s).owns puts o in
+            let d = (put s).sound.durably in
+            record {
+              added = own.0;
+              pieces = own.1;
+              owns = own.2;
+              each = λ k d' low. let at = get_or now.2.more k d' in
+                  more_left geo d.mount puts own.0 d.history at
+                  (subst (λ h. LeavesOwn geo d.mount h puts at) (sym (put s).history)
+                  (subst (λ v. LeavesOwn geo v s.durably.history puts at) (sym (put s).mount) (held_own held.now geo old.queue (held_by old.holdings) safe s puts o now.2.more now.2.each k d' low)));
+            };
       }
 
   pub goes_synced : (held held' : Held) (old new : Alive D) → new.kept ≡ old.kept → new.holdings ≡ old.holdings → HasPut old.queue new.queue
       → ((mounted : View) → IsOnMedium mounted old.queue held.now → IsOnMedium mounted new.queue held'.now) → ((mounted : View) → IsOnMedium mounted old.queue held.now → HasHeld mounted old.queue held held')
-      → (safe : ℕ → Bool) → GoesSoundly held old held' new safe safe
+      → (safe : ℕ → Bool) → GoesSoundly held old held' new safe safe []
   goes_synced held held' old new kept holdings put medium more safe =
       goes_put held held' old new (ap (λ (k : Kept). k.geometry) kept) (ap held_by holdings) safe (λ s. (put, medium s.mounted s.on, more s.mounted s.on))
 
   pub goes_flushed : (held held' : Held) (old new : Alive D) → new.kept ≡ old.kept → new.holdings ≡ old.holdings → (order : Bool) (a count : ℕ) → new.queue ≡ after_flush order old.queue a
       → (count ≡ 0 → held'.media ≡ held.media) → (0 < count → (block : List ℕ) × (held' ≡ wrote order held a block)) → ((mounted : View) → IsOnMedium mounted old.queue held.now → IsOnMedium mounted new.queue held'.now)
-      → (safe : ℕ → Bool) → GoesSoundly held old held' new safe safe
+      → (safe : ℕ → Bool) → GoesSoundly held old held' new safe safe []
   goes_flushed held held' old new kept holdings order a count flushed still wrote_on medium safe =
       goes_put held held' old new (ap (λ (k : Kept). k.geometry) kept) (ap held_by holdings) safe (λ s.
       let put = subst (HasPut old.queue) (sym flushed) (put_after order old.queue s.closed a) in
@@ -369,7 +465,7 @@ sound_anew m geo queue held safe s none more files =
 
 -- With nothing left that is not durable, a volume is sound since there: of what users see then, with nothing written since.
 pub sound_from_here : (m : Medium) (geo : Geometry) (queue : Queued) (held safe : ℕ → Bool) → IsSound m geo queue held safe → unsynced_of queue ≡ []
-    → (more : ℕ → Bool) → ((f : ℕ) → IsTrue (more f) → IsReachable geo (image_view geo (image_of m)) f × (((image_view geo (image_of m)).inode f).mode ≡ 1)) → Since (image_view geo (image_of m)) [] m geo queue held more
+    → (more : ℕ → Bool) → ((f : ℕ) → IsTrue (more f) → IsReachable geo (image_view geo (image_of m)) f × (((image_view geo (image_of m)).inode f).mode ≡ 1)) → Anew (image_view geo (image_of m)) m geo queue held more
 sound_from_here m geo queue held safe s none more files =
     let d = s.durably in
     let durable = image_view geo m.durable in
@@ -400,4 +496,5 @@ sound_from_here m geo queue held safe s none more files =
       };
       mount = refl;
       history = refl;
+      owns = owns_first geo disk;
     }

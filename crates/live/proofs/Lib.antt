@@ -1,3 +1,4 @@
+pub mod Owning
 pub mod Durably
 mod DurablePlans
 mod Between

@@ -1,18 +1,21 @@
 -- What is durable of a mounted volume on the medium of its device, and what a loss of power leaves there.
-use Rattle.std.specs.Prelude.{◌≡◌, ℕ, Bool, List, ◌++◌, All, IsTrue}
+use Rattle.std.specs.Prelude.{◌≡◌, ◌⊎◌, ◌<◌, ℕ, Bool, List, [], ◌∷◌, ◌++◌, All, IsTrue, Option, None, if◌then◌else◌, length, map, nat_lt, slice_index, unwrap_or}
+use Rattle.std.specs.List.{Contains}
 use Rattle.model.specs.Image.{image_view}
 use Rattle.model.specs.Layout.{Geometry}
 use Rattle.model.specs.Reach.{IsReachable}
 use Rattle.model.specs.View.{View}
 use Rattle.device.specs.Media.{Held, MayBeLeft, Medium, image_of}
-use Rattle.ordering.specs.Cuts.{seen, users_view}
-use Rattle.machine.specs.Command.{Command}
-use Rattle.queue_model.specs.Files.{Written, updates}
+use Rattle.ordering.specs.Cuts.{IsClosed, seen, users_view}
+use Rattle.machine.specs.Command.{Command, Write}
+use Rattle.machine.specs.State.{handle_count}
+use Rattle.queue_model.specs.Files.{IsFileBlock, Written, generation, shown, updates}
+use Rattle.queue_model.specs.History.{Holds}
 use Rattle.queue_model.specs.Course.{IsSafeImage}
 use Rattle.cut_courses.specs.Durably.{IsDurably}
 use Rattle.softdep.specs.Queued.{Queued, AreClosed, unsynced_of, pending_of}
 use Rattle.softdep.specs.OnMedium.{IsOnMedium}
-use Rattle.live_states.specs.Holdings.{held_by}
+use Rattle.live_states.specs.Holdings.{held_by, opened_by}
 use Rattle.live_states.specs.Planned.{safe_after}
 use Rattle.live.specs.Alive.{Alive}
 use Rattle.live.specs.Mounting.{IsMountable}
@@ -53,18 +56,68 @@ pub record AddsOnly {D : Type 0} (held : Held) (old : Alive D) (held' : Held) (n
   pub media : held'.media ≡ held.media ++ more
   pub each : All (LeavesShown old.kept.geometry s.durably.mount (added ++ s.durably.history) safe') more
 
--- Where a volume was sound on the medium of its device it is so then, no file more is safe, and each medium that the device had since leaves what is safe then.
-pub record GoesSoundly {D : Type 0} (held : Held) (old : Alive D) (held' : Held) (new : Alive D) (safe safe' : ℕ → Bool) : Type 0 where
+-- ---- whose bytes a loss of power shows
+
+-- Bytes that are written at a position of a file.
+pub record Piece : Type 0 where
+  pub file : ℕ
+  pub position : ℕ
+  pub bytes : List ℕ
+
+-- what a command writes, where these handles are open
+abbrev pub pieces_of : (ℕ → Option ℕ) → Command → List Piece
+pieces_of opened (Write h k bytes) = record { file = unwrap_or (if nat_lt h handle_count then opened h else None) 0; position = k; bytes = bytes } ∷ []
+pieces_of opened _ = []
+
+-- a piece that was written, and which file its number was then, as `generation` counts since some mount
+pub record Put : Type 0 where
+  pub generation : ℕ
+  pub piece : Piece
+
+-- The file that a number is, of this generation, may show this as byte j at position k: a zero, that byte of a piece that was put there into this very file, or what the very file had there in the view of the mount.
+abbrev pub MayShow : Geometry → View → List Put → (n g k j byte : ℕ) → Type 0
+MayShow geo mount puts n g k j byte =
+    (byte ≡ 0)
+    ⊎ (((bytes : List ℕ) × Contains puts (record { generation = g; piece = record { file = n; position = k; bytes = bytes } }) × (j < length bytes) × (slice_index bytes j ≡ byte))
+    ⊎ ((g ≡ 0) × ((a : ℕ) × IsFileBlock geo mount n k a × (slice_index (mount.bytes a) j ≡ byte))))
+
+-- each byte of a block may be shown so
+abbrev pub MayHave : Geometry → View → List Put → ℕ → ℕ → ℕ → List ℕ → Type 0
+MayHave geo mount puts n g k bytes = (j : ℕ) → MayShow geo mount puts n g k j (slice_index bytes j)
+
+-- After this was written since a mount, of which this cut is durable, each block of a file has such bytes, as users see it and as each closed cut shows it that holds what is durable.
+pub record Owns (geo : Geometry) (mount : View) (history : List Written) (cut : List Bool) (puts : List Put) : Type 0 where
+  pub users : (n k b : ℕ) → IsFileBlock geo (users_view mount (updates history)) n k b → MayHave geo mount puts n (generation mount history n) k ((users_view mount (updates history)).bytes b)
+  pub cuts : (more : List Bool) → IsClosed (updates history) more → Holds more cut → (n k b : ℕ) → IsFileBlock geo (seen mount (updates history) more) n k b
+      → MayHave geo mount puts n (shown mount history more n) k ((seen mount (updates history) more).bytes b)
+
+-- Whatever a loss of power leaves of a medium is what a closed cut of these updates shows over a view, with such bytes in each block of a file.
+abbrev pub LeavesOwn : Geometry → View → List Written → List Put → Medium → Type 0
+LeavesOwn geo mount written puts m = (image : List (List ℕ)) → MayBeLeft m image
+    → (cut : List Bool) × (image_view geo image ≡ seen mount (updates written) cut) × IsClosed (updates written) cut
+    × ((n k b : ℕ) → IsFileBlock geo (image_view geo image) n k b → MayHave geo mount puts n (shown mount written cut n) k ((image_view geo image).bytes b))
+
+-- These pieces were put too since then, and each medium that the device had since leaves such bytes.
+pub record OwnsMore (geo : Geometry) (mount : View) (history : List Written) (cut : List Bool) (asked : List Piece) (puts : List Put) (more : List Medium) : Type 0 where
+  pub added : List Put
+  pub pieces : map (λ (put : Put). put.piece) added ≡ asked
+  pub owns : Owns geo mount history cut (added ++ puts)
+  pub each : All (LeavesOwn geo mount history (added ++ puts)) more
+
+-- Where a volume was sound on the medium of its device it is so then, no file more is safe, and each medium that the device had since leaves what is safe then. Where files had their own bytes they have them then, but for these pieces, which users wrote.
+pub record GoesSoundly {D : Type 0} (held : Held) (old : Alive D) (held' : Held) (new : Alive D) (safe safe' : ℕ → Bool) (asked : List Piece) : Type 0 where
   pub geometry : new.kept.geometry ≡ old.kept.geometry
   pub fewer : (f : ℕ) → IsTrue (safe' f) → IsTrue (safe f)
   pub sound : IsSoundOn held.now old safe → IsSoundOn held'.now new safe' × HeldSafely old.kept.geometry held held' safe'
   pub adds : (s : IsSoundOn held.now old safe) → AddsOnly held old held' new safe safe' s (sound s).0
+  pub owns : (s : IsSoundOn held.now old safe) (puts : List Put) → Owns old.kept.geometry s.durably.mount s.durably.history s.durably.cut puts
+      → OwnsMore old.kept.geometry (sound s).0.durably.mount (sound s).0.durably.history (sound s).0.durably.cut asked puts (adds s).more
 
--- whichever files are safe, they stay so
+-- whichever files are safe, they stay so, and nothing is written to a file
 abbrev pub StaysSound : {D : Type 0} → (D → Held) → Alive D → Alive D → Type 0
-StaysSound held_of old new = (safe : ℕ → Bool) → GoesSoundly (held_of old.device) old (held_of new.device) new safe safe
+StaysSound held_of old new = (safe : ℕ → Bool) → GoesSoundly (held_of old.device) old (held_of new.device) new safe safe []
 
--- and after a command, but for the file of which it took a name
+-- and after a command, but for the file of which it took a name, and for what it writes
 abbrev pub StaysSoundAfter : {D : Type 0} → (D → Held) → (D → List (List ℕ)) → Alive D → Command → Alive D → Type 0
 StaysSoundAfter held_of image_of old command new =
-    (safe : ℕ → Bool) → GoesSoundly (held_of old.device) old (held_of new.device) new safe (safe_after old.kept.geometry (seen_of image_of old) command safe)
+    (safe : ℕ → Bool) → GoesSoundly (held_of old.device) old (held_of new.device) new safe (safe_after old.kept.geometry (seen_of image_of old) command safe) (pieces_of (opened_by old.holdings) command)

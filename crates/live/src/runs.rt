@@ -1,6 +1,6 @@
 //! What holds of a mounted volume over a whole run of calls: laws, without code.
 
-ghost use Rattle.std.specs.Prelude.{◌≡◌, ◌⊎◌, ℕ, Bool, false, List, [], IsTrue};
+ghost use Rattle.std.specs.Prelude.{◌≡◌, ◌⊎◌, ◌++◌, ℕ, Bool, false, List, [], IsTrue};
 ghost use Rattle.layout.specs.declared.refusal.Refusal.{Refusal};
 ghost use Rattle.layout.specs.declared.refusal.Refusal.TheVariants.{Device as DeviceRefusal, NoMemory};
 ghost use Rattle.model.specs.Image.{image_view};
@@ -14,7 +14,7 @@ ghost use Rattle.softdep.specs.Queued.{fresh_queue, pending_of, unsynced_of};
 ghost use Rattle.live_states.specs.Holdings.{AreImagesOf, Beside, IsIdle, nothing_beside};
 ghost use Rattle.live_states.specs.Volume.{state_over};
 ghost use Rattle.device.specs.Media.{Held, Medium, image_of};
-ghost use Rattle.live.specs.Durable.{GoesSoundly, IsSoundOn, LeavesSafe};
+ghost use Rattle.live.specs.Durable.{GoesSoundly, IsSoundOn, LeavesSafe, Piece};
 ghost use Rattle.live.specs.Alive.{Alive, disk_of, state_of};
 ghost use Rattle.live.specs.Mounting.{IsMountable};
 ghost use Rattle.rules.specs.Loading.{LoadSoundRefuses};
@@ -62,8 +62,8 @@ pub fn sound_volumes_outlive_power_cuts<D: Device>()
         → (safe : ℕ → Bool) → ((f : ℕ) → IsTrue (safe f) → IsReachable live.kept.geometry (disk_of (image_of m) live) f × (((disk_of (image_of m) live).inode f).mode ≡ 1))
         → IsSoundOn m live safe }
     ensures left { (m : Medium) (live : Alive D) (safe : ℕ → Bool) → IsSoundOn m live safe → LeavesSafe live.kept.geometry safe m }
-    ensures along { (held held1 held2 : Held) (old mid new : Alive D) (safe safe1 safe2 : ℕ → Bool) → GoesSoundly held old held1 mid safe safe1
-        → GoesSoundly held1 mid held2 new safe1 safe2 → GoesSoundly held old held2 new safe safe2 }
+    ensures along { (held held1 held2 : Held) (old mid new : Alive D) (safe safe1 safe2 : ℕ → Bool) (asked more : List Piece)
+        → GoesSoundly held old held1 mid safe safe1 asked → GoesSoundly held1 mid held2 new safe1 safe2 more → GoesSoundly held old held2 new safe safe2 (more ++ asked) }
     ensures anew { (m : Medium) (live : Alive D) (safe : ℕ → Bool) → IsSoundOn m live safe → unsynced_of live.queue ≡ []
         → (more : ℕ → Bool) → ((f : ℕ) → IsTrue (more f) → IsReachable live.kept.geometry (disk_of (image_of m) live) f × (((disk_of (image_of m) live).inode f).mode ≡ 1))
         → IsSoundOn m live more }

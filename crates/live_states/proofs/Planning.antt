@@ -127,7 +127,7 @@ planned_with kept holdings seen (Write h k piece) answer draft holdings' planned
 planned_with kept holdings seen _ answer draft holdings' planned = planned
 
 -- and leaves what stands behind a piece
-leaves : (kept : Kept) (holdings : Holdings) (seen : List Seen) (command : Command) (answer : Answer) (draft : Draft) (holdings' : Holdings) (planned : IsPlannedFor kept holdings seen command answer draft holdings')
+pub leaves : (kept : Kept) (holdings : Holdings) (seen : List Seen) (command : Command) (answer : Answer) (draft : Draft) (holdings' : Holdings) (planned : IsPlannedFor kept holdings seen command answer draft holdings')
     (disk : View) (q : List Pending) (old : State) (safe : ℕ → Bool) (stands : Stands kept.geometry disk q old safe) (shows : Shows kept old.view) (has : Has holdings old) (sees : AreSeen seen old.view)
     → LeavesTheRest ((planned_with kept holdings seen command answer draft holdings' planned).done disk q old safe stands shows has sees)
 leaves kept holdings seen (Write h k piece) answer draft holdings' planned disk q old safe stands shows has sees = planned.rest disk q old safe stands shows has sees

@@ -60,6 +60,9 @@ frame_to_load honest others geo image Device told count h = tt
 frame_to_load honest others geo image (BadGroup g) told count h = λ t. record { geometry = geo; told = told t.0; count = count; in_volume = h.0; least = h.1 t.1 }
 frame_to_load honest others geo image _ told count h = absurd h
 
+pub no_memory_is_no_device : NoMemory ≡ Device → ⊥
+no_memory_is_no_device same = cc
+
 -- what is refused where one device was honest is refused where all were
 pub alone_to_load : (honest others : Type 0) (image : List (List ℕ)) (refusal : Refusal) → LoadRefuses honest image refusal → LoadRefuses (honest × others) image refusal
 alone_to_load honest others image NoMemory h = tt

@@ -1,5 +1,5 @@
 //! How an image is loaded by workers.
-ghost use Rattle.std.specs.Prelude.{◌≡◌, ◌⊎◌, ℕ, List, All, IfErr, IfOk, IsErrOf, IsTrue, Ok, OnOk, Some, length, slice_get, vec_len};
+ghost use Rattle.std.specs.Prelude.{◌≡◌, ◌⊎◌, ℕ, List, [], All, IfErr, IfOk, IsErrOf, IsTrue, Ok, OnOk, Some, length, slice_get, vec_len};
 ghost use Rattle.device.specs.Reading.{ReadsOnly};
 ghost use Rattle.device.specs.Writes.{HasFailed};
 ghost use Rattle.frozen.specs.Kept.{IsKeptOf, KeepsFrame};
@@ -29,7 +29,8 @@ use workers::{MOST_WORKERS, OpenGate, each_group};
 /// and with more than 64 of them, all is read through `device`.
 ///
 /// It is refused as `load` refuses, whichever worker met a refusal first: of several groups the first one's is told. Where it was
-/// another device that failed, all is read through `device`. Where memory runs out the other devices are lost.
+/// another device that failed, all is read through `device`. Where memory runs out the other devices may be lost, all of them;
+/// whatever it answers, those that are left were only read.
 pub fn load_by<D: Device + Send + Drop>(
     rt: &(impl Threads + Sync),
     alloc: Global,
@@ -48,6 +49,7 @@ pub fn load_by<D: Device + Send + Drop>(
 
     ensures reads { ReadsOnly D.honest D.image D.held device.old device.new }
     ensures others { OnOk result (AreRead D.honest D.image D.held others.old.items others.new.items) }
+    ensures lost { IfErr result (λ refusal. ((refusal ≡ NoMemory) × (others.new.items ≡ [])) ⊎ AreRead D.honest D.image D.held others.old.items others.new.items) }
 {
     if others.is_empty() || others.len() > MOST_WORKERS {
         return Ok(load(alloc, device)?);
@@ -68,6 +70,7 @@ fn read_alone<D: Device>(alloc: Global, device: &mut D, refusal: Refusal) -> Res
     ensures ok { IfOk result (λ frozen. D.honest device.new → IsKeptOf frozen (D.image device.old)) }
     ensures count { IfOk result (λ frozen. length (D.image device.old) ≡ block_count frozen.geometry) }
     ensures again { OnOk result (refusal ≡ Refusal.Device) }
+    ensures stands { IfErr result (λ told. (refusal ≡ Refusal.Device) ⊎ (told ≡ refusal)) }
     ensures refused { IfErr result (λ told. (told ≡ refusal) ⊎ LoadRefuses (D.honest device.new) (D.image device.old) told) }
     ensures cause { IsErrOf result Refusal.Device → HasFailed (D.failures device.old) (D.failures device.new) }
 
@@ -98,7 +101,7 @@ fn read_frame<D: Device + Send + Drop>(
     ensures refused { IfErr result (λ refusal. (image : List (List ℕ)) → Show D.image image devices.old.items
         → FrameRefuses (All D.honest devices.new.items) geometry.now image refusal) }
     ensures read { OnOk result (AreRead D.honest D.image D.held devices.old.items devices.new.items) }
-    ensures lost { IfErr result (λ refusal. (refusal ≡ NoMemory) ⊎ AreRead D.honest D.image D.held devices.old.items devices.new.items) }
+    ensures lost { IfErr result (λ refusal. ((refusal ≡ NoMemory) × (devices.new.items ≡ [])) ⊎ AreRead D.honest D.image D.held devices.old.items devices.new.items) }
 {
     let works = readers(alloc, geometry, mem::replace(devices, Vec::new(alloc)))?;
     let (headers, works) = each_group(rt, alloc, 0, geometry.groups(), works, &OpenGate)?;

@@ -5,4 +5,5 @@ mod Joining
 mod Seen
 mod Ended
 mod Planned
+mod Going
 pub mod MayMend

@@ -2,7 +2,7 @@
 //! volume is written; then a check of its device finds nothing.
 #![tactic(auto)]
 
-ghost use Rattle.std.specs.Prelude.{◌≡◌, [], IfErr, IfOk, IsOkUnless, IsSome, IsTrue, OnOk, Some};
+ghost use Rattle.std.specs.Prelude.{◌≡◌, [], IfErr, IfOk, IsErrOf, IsOkUnless, IsSome, IsTrue, OnOk, Some};
 ghost use Rattle.std.specs.Arc.{arc_value};
 ghost use Rattle.findings.specs.Findings.{AreFindings};
 ghost use Rattle.frozen.specs.Kept.{IsKeptOf};
@@ -16,6 +16,7 @@ ghost use Rattle.snapshot.specs.Alive.{disk_of};
 ghost use Rattle.softdep.specs.Queued.{pending_of};
 ghost use Rattle.workers.specs.Workers.{may_work};
 ghost use Rattle.mending.specs.Repairs.{HasPlan, IsSnapshotChecked, MayMend, MendsFrozen, Repaired};
+ghost use Rattle.mending.specs.Went.{FailedOnTheWay, Went};
 
 mod laws;
 
@@ -53,7 +54,11 @@ pub fn mend<D: Device, G: Gate>(
     ensures checked { IfOk result (λ checked. D.honest volume.new.device
         → IsChecked volume.old.kept.geometry (disk_of (D.image volume.old.device) volume.old) (arc_value checked)) }
     ensures geometry { IfOk result (λ checked. D.honest volume.new.device → volume.new.kept.geometry ≡ volume.old.kept.geometry) }
+    // Whatever came of it, commands that mend led from the volume as it was to the volume as it is, and nothing else was done.
+    ensures went { D.honest volume.new.device → Went D.held D.image volume.old volume.new }
     ensures error { IfErr result (λ r. D.honest volume.new.device → GivesOut r) }
+    // The device is blamed only where it failed, in the last of these commands.
+    ensures cause { IsErrOf result Refusal.Device → FailedOnTheWay D.honest D.held D.image D.failures volume.old volume.new }
     ensures honest { D.honest volume.new.device → D.honest volume.old.device }
 {
     snapshot::calls_join::<D>();
@@ -85,7 +90,11 @@ pub fn mend_checked<D: Device>(
     // What the device then holds is an image of the volume, which can be loaded.
     ensures framed { OnOk result (D.honest volume.new.device → IsImage volume.new.kept.geometry (D.image volume.new.device)) }
     ensures geometry { OnOk result (D.honest volume.new.device → volume.new.kept.geometry ≡ volume.old.kept.geometry) }
+    // Whatever came of it, commands that mend led from the volume as it was to the volume as it is, and nothing else was done.
+    ensures went { D.honest volume.new.device → Went D.held D.image volume.old volume.new }
     ensures error { IfErr result (λ r. D.honest volume.new.device → GivesOut r) }
+    // The device is blamed only where it failed, in the last of these commands.
+    ensures cause { IsErrOf result Refusal.Device → FailedOnTheWay D.honest D.held D.image D.failures volume.old volume.new }
     ensures honest { D.honest volume.new.device → D.honest volume.old.device }
 {
     snapshot::calls_join::<D>();
@@ -110,6 +119,7 @@ fn check_snapshot<D: Device, G: Gate>(
     requires { IsTrue (may_work workers) }
     ensures checked { IfOk result (IsSnapshotChecked volume.now) }
     ensures error { IsSome (latest_at volume.now.holdings.snapshots.standing volume.now.holdings.snapshots.freezes) → IsOkUnless result Refusal.NoMemory }
+    ensures device { IsErrOf result Refusal.Device → ⊥ }
 {
     let Some(snapshot) = volume.live().latest() else {
         return Err(Refusal::NoSnapshot);
@@ -127,7 +137,9 @@ fn mend_frozen<D: Device>(
 ) -> Result<(), Refusal>
     requires { latest_at volume.old.holdings.snapshots.standing volume.old.holdings.snapshots.freezes ≡ Some checked.now.frozen }
     ensures mends { OnOk result (D.honest volume.new.device → MendsFrozen D.held D.image volume.old number checked.now volume.new) }
+    ensures went { D.honest volume.new.device → Went D.held D.image volume.old volume.new }
     ensures error { IfErr result (λ r. D.honest volume.new.device → MayMend D.image volume.old number checked.now → GivesOut r) }
+    ensures cause { IsErrOf result Refusal.Device → FailedOnTheWay D.honest D.held D.image D.failures volume.old volume.new }
     ensures honest { D.honest volume.new.device → D.honest volume.old.device }
 {
     snapshot::calls_join::<D>();
@@ -142,7 +154,9 @@ fn mend_frozen<D: Device>(
 /// Carries out so many repairs of the check that is installed, from the first one on.
 fn repair_all<D: Device>(alloc: Global, volume: &mut Volume<D>, count: usize) -> Result<(), Refusal>
     ensures repaired { OnOk result (D.honest volume.new.device → Repaired D.held D.image volume.old count volume.new) }
+    ensures went { D.honest volume.new.device → Went D.held D.image volume.old volume.new }
     ensures error { IfErr result (λ r. D.honest volume.new.device → HasPlan D.image volume.old count → GivesOut r) }
+    ensures never { IsErrOf result Refusal.Device → ⊥ }
     ensures device { volume.new.device ≡ volume.old.device }
 {
     snapshot::calls_join::<D>();

@@ -1,5 +1,5 @@
 -- What a loss of power shows of what users saw at a sync.
-use Rattle.std.specs.Prelude.{◌≡◌, ℕ, List, ◌⊎◌}
+use Rattle.std.specs.Prelude.{◌≡◌, ℕ, List, ◌⊎◌, map}
 use Rattle.model.specs.Layout.{Geometry}
 use Rattle.model.specs.Image.{image_view}
 use Rattle.model.specs.View.{View}
@@ -7,6 +7,7 @@ use Rattle.model.specs.Cells.{SetBytes, SetInode}
 use Rattle.device.specs.Media.{MayBeLeft, Medium}
 use Rattle.ordering.specs.ClosedSets.{pending_at}
 use Rattle.queue_model.specs.Files.{Written, IsFileBlock, file_at, updates}
+use Rattle.snapshot.specs.Durable.{LeavesOwn, Piece, Put}
 
 -- Each record, with its size, is as it was in a view, or as one of these updates made it.
 abbrev pub RecordsAreKnown : View → List Written → View → Type 0
@@ -20,3 +21,9 @@ BlocksAreOwn geo view written image = (n k b : ℕ) → IsFileBlock geo image n 
 -- So it is in whatever a loss of power leaves of a medium.
 abbrev pub LeavesKnown : Geometry → View → List Written → Medium → Type 0
 LeavesKnown geo view written m = (image : List (List ℕ)) → MayBeLeft m image → RecordsAreKnown view written (image_view geo image) × BlocksAreOwn geo view written (image_view geo image)
+
+-- Whatever a loss of power leaves of a medium has in each block of a file the file's own bytes: zeroes, those that it had there in a view, or those of one of these pieces, which was written there into this very file.
+pub record LeavesOwnBytes (geo : Geometry) (view : View) (written : List Written) (asked : List Piece) (m : Medium) : Type 0 where
+  pub puts : List Put
+  pub pieces : map (λ (put : Put). put.piece) puts ≡ asked
+  pub leaves : LeavesOwn geo view written puts m

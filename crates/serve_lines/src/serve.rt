@@ -1,5 +1,6 @@
 //! The line `serve`: the volume of an image, mounted by Linux, whose connection is standard input and output.
-ghost use Rattle.std.specs.Prelude.{◌≡◌, ◌⊎◌, [], IfErr, IfOk};
+ghost use Rattle.std.specs.Prelude.{◌≡◌, ◌⊎◌, [], IfErr, IfOk, OnOk};
+ghost use Rattle.fuse_loop.specs.Sessions.{EndsWell};
 ghost use Rattle.serve_lines.specs.Ends.{MayEndService};
 
 use crate::holding::Holdable;
@@ -156,6 +157,8 @@ where
     ensures silent { IfOk result (λ answer. answer.text.items ≡ []) }
     // What is no image is refused before a message is taken.
     ensures refused { IfErr result (λ failure. MayEndService failure ⊎ (channel.new ≡ channel.old)) }
+    // It ends well only with the connection, or with DESTROY.
+    ensures ended { OnOk result (EndsWell (C.ended channel.new) (C.taken channel.new)) }
 {
     let owner = match line.owner {
         Some(word) => Some(numbers_given(rt.alloc(), word)?),
@@ -177,7 +180,8 @@ fn serve_image<R: Files + AllocGlobal + Clock + Eprint + Threads + Wait + Sync, 
 ) -> Result<(), Failure>
 where
     R::File: FileExt + Holdable + Send,
-    ensures { IfErr result (λ failure. MayEndService failure ⊎ (channel.new ≡ channel.old)) }
+    ensures refused { IfErr result (λ failure. MayEndService failure ⊎ (channel.new ≡ channel.old)) }
+    ensures ended { OnOk result (EndsWell (C.ended channel.new) (C.taken channel.new)) }
 {
     match access {
         Access::Read => viewed::serve_file(rt, image, owner, channel),

@@ -10,6 +10,9 @@ pub(crate) struct Told<'a, R> {
 }
 
 impl<R: Eprint> Teller for Told<'_, R> {
+    // No clause can say what was printed.
+    ghost told = { λ _ _. Unit {0} };
+
     /// Writes a line. Nobody misses it where standard error is closed.
     fn tell(&self, news: News) {
         let Told { rt, image } = self;

@@ -1,5 +1,6 @@
 //! An image that is read alone.
-ghost use Rattle.std.specs.Prelude.{◌≡◌, ◌⊎◌, IfErr};
+ghost use Rattle.std.specs.Prelude.{◌≡◌, ◌⊎◌, IfErr, OnOk};
+ghost use Rattle.fuse_loop.specs.Sessions.{EndsWell};
 ghost use Rattle.serve_lines.specs.Ends.{MayEndService};
 
 use crate::owner::{Numbers, owner_of};
@@ -24,7 +25,8 @@ pub(crate) fn serve_file<R: Files + AllocGlobal + Threads + Sync, C: Channel>(
 ) -> Result<(), Failure>
 where
     R::File: FileExt + Send,
-    ensures { IfErr result (λ failure. MayEndService failure ⊎ (channel.new ≡ channel.old)) }
+    ensures refused { IfErr result (λ failure. MayEndService failure ⊎ (channel.new ≡ channel.old)) }
+    ensures ended { OnOk result (EndsWell (C.ended channel.new) (C.taken channel.new)) }
 {
     let mut desk = desk_of(rt, image, owner)?;
     match serve(rt.alloc(), &mut desk, channel) {

@@ -1,5 +1,6 @@
 //! An image that is read and written.
-ghost use Rattle.std.specs.Prelude.{◌≡◌, ◌⊎◌, IfErr};
+ghost use Rattle.std.specs.Prelude.{◌≡◌, ◌⊎◌, IfErr, IsOk, OnOk};
+ghost use Rattle.fuse_loop.specs.Sessions.{EndsWell};
 ghost use Rattle.serve_lines.specs.Ends.{MayEndService};
 
 use crate::holding::{Holdable, held};
@@ -39,7 +40,8 @@ pub(crate) fn serve_file<
 ) -> Result<(), Failure>
 where
     R::File: FileExt + Holdable + Send,
-    ensures { IfErr result (λ failure. MayEndService failure ⊎ (channel.new ≡ channel.old)) }
+    ensures refused { IfErr result (λ failure. MayEndService failure ⊎ (channel.new ≡ channel.old)) }
+    ensures ended { OnOk result (EndsWell (C.ended channel.new) (C.taken channel.new)) }
 {
     let medium = held(rt, image)?;
     let desk = desk_of(rt, image, owner, rules)?;
@@ -58,7 +60,8 @@ fn outcome_of(
     served: Result<(), LeftError>,
     written: Result<(), Errno>,
 ) -> Result<(), Failure>
-    ensures { IfErr result MayEndService }
+    ensures left { IfErr result MayEndService }
+    ensures done { OnOk result (IsOk served × IsOk written) }
 {
     match served {
         Ok(()) => {}

@@ -6,12 +6,14 @@ use Rattle.std.proofs.lemmas.List.Sums.{sum_by-append, sum_by-cons}
 use Rattle.layout.specs.declared.refusal.Refusal.{Refusal}
 use Rattle.layout.specs.declared.refusal.Refusal.TheVariants.{Device, NoMemory, NoSnapshot, TooManySnapshots, TraceFull}
 use Rattle.model.specs.Layout.{Geometry}
-use Rattle.device.specs.Media.{Held}
-use Rattle.machine.specs.Command.{Command as Request, Reply as Response, Done as IsDone, Number as IsNumber, Bytes as AreBytes, Listed, Status as IsStatus, Image as IsImage}
+use Rattle.device.specs.Media.{Held, image_of as shown_by}
+use Rattle.machine.specs.Command.{Command as Request, Reply as Response, Write as WriteOf, Done as IsDone, Number as IsNumber, Bytes as AreBytes, Listed, Status as IsStatus, Image as IsImage}
+use Rattle.machine.specs.State.{State}
+use Rattle.machine.specs.Step.{Run}
 use Rattle.replies.specs.Replies.{IsCopied}
 use Rattle.replies.proofs.Copied.{run_refused, service_refused}
 use Rattle.queue_model.specs.Flush.{taken}
-use Rattle.softdep.specs.Queued.{pending_of, NothingNext, Queued, next_cut}
+use Rattle.softdep.specs.Queued.{pending_of, NothingNext, Queued, next_cut, unsynced_of}
 use Rattle.snapshot.specs.Alive.{Alive, disk_of, state_of}
 use Rattle.live_states.specs.Holdings.{Beside}
 use Rattle.snapshot.specs.declared.command.Command.{Command}
@@ -19,7 +21,10 @@ use Rattle.snapshot.specs.declared.answer.Answer.{Answer}
 use Rattle.snapshot.specs.declared.answer.Answer.TheVariants.{Done, Number, Bytes, Names, Status, Image}
 use Rattle.snapshot.specs.Asked.{HasBytesOrNames, IsReply, asked, mode_of}
 use Rattle.snapshot.specs.declared.command.Command.TheVariants.{Create, Mkdir, Link, Unlink, Rmdir, Rename, Open, Close, Read, Write, Truncate, List as ListOf, Stat, Freeze, SnapRead, Release, Install, Repair, Flush, Sync}
-use Rattle.snapshot.specs.Goes.{Applies, Goes, HasBeside}
+use Rattle.snapshot.specs.Durable.{GoesSoundly}
+use Rattle.snapshot.specs.Goes.{Applies, Goes, HasBeside, pieces_in}
+use Rattle.snapshot.specs.Stages.{Stage}
+use Rattle.snapshot.specs.Synced.{IsSynced}
 use Rattle.snapshot.specs.Writes.{Writes}
 use Rattle.snapshot.proofs.AppliesLemmas.{goes_nowhere, zip_push}
 use Rattle.snapshot.proofs.Joining.{joined}
@@ -30,7 +35,7 @@ use Rattle.shared.specs.Calls.{no_calls}
 use Rattle.shared.specs.Noted.{IsNoted, Notes}
 use Rattle.shared.specs.Opened.{Opened, opened_of}
 use Rattle.shared.specs.Repairing.{asks_repair, is_repair, is_repair_entry}
-use Rattle.shared.specs.Traces.{HasHistory, HasOpening, asked_by}
+use Rattle.shared.specs.Traces.{Begins, Calls, HasHistory, HasOpening, asked_by}
 
 -- ---- replies
 
@@ -56,6 +61,18 @@ copied_so (Ok (Bytes bytes)) (Ok answer) c is = subst (λ a. IsCopied (Ok a)) (s
 copied_so (Ok (Names names)) (Ok answer) c is = subst (λ a. IsCopied (Ok a)) (sym is) tt
 copied_so (Ok given) (Err s) c is = absurd is
 copied_so _ response c is = absurd c
+
+-- what an answer promises stays promised where it is noted
+pub noted_ok : (X : Type 0) (reply noted : Result Answer Refusal) → Notes reply noted → IfOk reply (λ answer. X) → IfOk noted (λ answer. X)
+noted_ok X (Err r) noted n x = subst (λ o. IfOk o (λ answer. X)) (sym n) tt
+noted_ok X (Ok Done) noted n x = subst (λ o. IfOk o (λ answer. X)) (sym n) x
+noted_ok X (Ok (Number k)) noted n x = subst (λ o. IfOk o (λ answer. X)) (sym n) x
+noted_ok X (Ok (Status status)) noted n x = subst (λ o. IfOk o (λ answer. X)) (sym n) x
+noted_ok X (Ok (Image number frozen)) noted n x = subst (λ o. IfOk o (λ answer. X)) (sym n) x
+noted_ok X (Ok (Bytes bytes)) (Ok answer) n x = x
+noted_ok X (Ok (Names names)) (Ok answer) n x = x
+noted_ok X (Ok (Bytes bytes)) (Err r) n x = tt
+noted_ok X (Ok (Names names)) (Err r) n x = tt
 
 -- ---- a reply that is handed out in place of another
 
@@ -84,6 +101,13 @@ untouched_so {P = P} reply answer untouched reading (inr (copied, none)) = subst
 
 module _ {D : Type 0} (held held' : Held) (image image' : List (List ℕ)) (old new : Alive D) where
   -- bytes and names may be refused
+  copied_asks : (geo : Geometry) (s t : State) (command : Request) (response : Response) → IsCopied response → (run : Run geo s (command ∷ []) (response ∷ []) t) → pieces_in geo s (command ∷ []) (response ∷ []) t run ≡ []
+  copied_asks geo s t (WriteOf h k bytes) (Ok (AreBytes b)) c run = absurd run.1.1
+  copied_asks geo s t (WriteOf h k bytes) (Ok (Listed names)) c run = absurd run.1.1
+  copied_asks geo s t (WriteOf h k bytes) (Ok _) c run = absurd c
+  copied_asks geo s t command (Err r) c run = absurd c
+  copied_asks geo s t _ (Ok answer) c run = refl
+
   goes_refused : (beside beside' : Beside) (command : Request) (response : Response) → IsCopied response → Goes beside held image old (command ∷ []) (response ∷ []) beside' held' image' new
       → Goes beside held image old (command ∷ []) (Err NoMemory ∷ []) beside' held' image' new
   goes_refused beside beside' command response c goes = record {
@@ -96,7 +120,7 @@ module _ {D : Type 0} (held held' : Held) (image image' : List (List ℕ)) (old 
         let s = goes.service mount h cut safe begin in (
           s.0,
           service_refused old.kept.geometry (disk_of image old) (pending_of old.queue) (state_of image old beside) safe (disk_of image' new) (pending_of new.queue) (state_of image' new beside') s.0 command response goes.later c s.1,
-          s.2,
+          subst (GoesSoundly held old held' new safe s.0) (copied_asks old.kept.geometry (state_of image old beside) (state_of image' new beside') command response c goes.run) s.2,
         );
   }
 
@@ -141,6 +165,10 @@ module _ {D : Type 0} (honest : D → Type 0) (held_of : D → Held) (image_of :
 
 -- ---- traces
 
+pub if_ok : (P Q : Answer → Type 0) (reply : Result Answer Refusal) → ((answer : Answer) → P answer → Q answer) → IfOk reply P → IfOk reply Q
+if_ok P Q (Ok answer) so holds = so answer holds
+if_ok P Q (Err r) so holds = tt
+
 -- an empty trace begins where it ends
 pub begins : {D : Type 0} (held : Held) (image : List (List ℕ)) (now : Alive D) → HasBeside image now → HasOpening held image [] now
 begins held image now has = record {
@@ -153,13 +181,15 @@ begins held image now has = record {
   noted = tt;
   beside = has.beside;
   goes = goes_nowhere held image now has.beside has.is;
+  through = Begins;
 }
 
 -- one more call
 pub noted_on : {D : Type 0} (held held' : Held) (image image' : List (List ℕ)) (trace : List Entry) (old new : Alive D) (command : Command) (reply noted : Result Answer Refusal)
     → HasOpening held image trace old → Applies held image old (asked old.kept.geometry command) reply held' image' new → Notes reply noted
+    → (command ≡ Sync → IfOk noted (λ answer. unsynced_of new.queue ≡ [])) → image' ≡ shown_by held'.now
     → HasOpening held' image' (trace ++ record { command = command; reply = noted } ∷ []) new
-noted_on held held' image image' trace old new command reply noted o applied notes =
+noted_on held held' image image' trace old new command reply noted o applied notes synced answers =
     let geo = o.opening.kept.geometry in
     let entry : Entry = record { command = command; reply = noted } in
     let last = applied o.beside o.goes.is in
@@ -175,6 +205,7 @@ noted_on held held' image image' trace old new command reply noted o applied not
       beside = last.0;
       goes = subst (λ cs. Goes o.opening_beside o.opening_held o.opening_image o.opening cs (o.responses ++ last.1 ∷ []) last.0 held' image' new) (sym (map-append (λ (e : Entry). asked geo e.command) trace (entry ∷ [])))
           (joined o.opening_beside o.beside last.0 o.opening_held held held' o.opening_image image image' o.opening old new (asked_by geo trace) (asked geo command ∷ []) o.responses (last.1 ∷ []) o.goes goes);
+      through = Calls entry last.1 (record { volume = new; beside = last.0; held = held'; image = image' }) o.through goes (λ is. if_ok (λ answer. unsynced_of new.queue ≡ []) (λ answer. (unsynced_of new.queue ≡ []) × (image' ≡ shown_by held'.now)) noted (λ answer none. (none, answers)) (synced is));
     }
 
 -- ---- histories
@@ -230,12 +261,13 @@ module _ {D : Type 0} (held_of : D → Held) (image_of : D → List (List ℕ)) 
   -- one more call
   pub called : (before : Counts) (trace : List Entry) (old new : Alive D) (command : Command) (reply noted : Result Answer Refusal) → HasHistory held_of image_of opens before trace old
       → Applies (held_of old.device) (image_of old.device) old (asked old.kept.geometry command) reply (held_of new.device) (image_of new.device) new → Notes reply noted
+      → (command ≡ Sync → IfOk noted (λ answer. unsynced_of new.queue ≡ [])) → image_of new.device ≡ shown_by (held_of new.device).now
       → HasHistory held_of image_of opens before (trace ++ record { command = command; reply = noted } ∷ []) new
   unfolding noted_on
-  called before trace old new command reply noted h applied notes =
+  called before trace old new command reply noted h applied notes synced answers =
       let p = h.past in
       record {
-        opening = noted_on (held_of old.device) (held_of new.device) (image_of old.device) (image_of new.device) trace old new command reply noted h.opening applied notes;
+        opening = noted_on (held_of old.device) (held_of new.device) (image_of old.device) (image_of new.device) trace old new command reply noted h.opening applied notes synced answers;
         past = record { first = p.first; known = p.known; beside = p.beside; stands = p.stands; commands = p.commands; responses = p.responses; repairs = p.repairs; calls = p.calls; goes = p.goes };
       }
 
@@ -271,10 +303,6 @@ module _ {D : Type 0} (held_of : D → Held) (image_of : D → List (List ℕ)) 
 pub answer_so : (P : Answer → Type 0) (reply answer : Result Answer Refusal) → IfOk reply P → (answer ≡ reply) ⊎ (HasBytesOrNames reply × (answer ≡ Err NoMemory)) → IfOk answer P
 answer_so P reply answer holds (inl same) = subst (λ r. IfOk r P) (sym same) holds
 answer_so P reply answer holds (inr (copied, none)) = subst (λ r. IfOk r P) (sym none) tt
-
-pub if_ok : (P Q : Answer → Type 0) (reply : Result Answer Refusal) → ((answer : Answer) → P answer → Q answer) → IfOk reply P → IfOk reply Q
-if_ok P Q (Ok answer) so holds = so answer holds
-if_ok P Q (Err r) so holds = tt
 
 -- what a flush of the next block counts
 pub counts_some : (queue : Queued) (a : ℕ) → IsNext queue a → (answer : Answer) → answer ≡ Number (taken (next_cut queue a)) → (n : ℕ) × (answer ≡ Number n) × ((n ≡ 0) ↔ NothingNext queue)

@@ -1,5 +1,5 @@
 -- What a volume went through by the calls of its trace.
-use Rattle.std.specs.Prelude.{◌≡◌, ◌+◌, ℕ, Bool, List, length, map}
+use Rattle.std.specs.Prelude.{◌≡◌, ◌⊎◌, ◌+◌, ℕ, Bool, List, [], ◌∷◌, ◌++◌, IfOk, IsOk, length, map}
 use Rattle.std.specs.List.{AllZip, count_by}
 use Rattle.machine.specs.Command.{Command, Reply as Response}
 use Rattle.model.specs.Layout.{Geometry}
@@ -13,7 +13,9 @@ use Rattle.snapshot.specs.Alive.{Alive, disk_of, state_of}
 use Rattle.snapshot.specs.Held.{HeldMore}
 use Rattle.snapshot.specs.Asked.{asked}
 use Rattle.snapshot.specs.Goes.{Goes, IsBeside}
-use Rattle.snapshot.specs.Stages.{Stage}
+use Rattle.snapshot.specs.Stages.{LeadsTo, Stage, geometry_at}
+use Rattle.snapshot.specs.Synced.{IsSynced}
+use Rattle.snapshot.specs.declared.command.Command.TheVariants.{Sync}
 use Rattle.shared.specs.Noted.{IsNoted}
 use Rattle.shared.specs.Opened.{Opened, opened_of}
 use Rattle.shared.specs.Repairing.{asks_repair}
@@ -28,6 +30,18 @@ asked_by geo trace = map (λ (entry : Entry). asked geo entry.command) trace
 abbrev pub AreNoted : List Entry → List Response → Type 0
 AreNoted trace responses = AllZip (λ (entry : Entry) response. IsNoted entry.reply response) trace responses
 
+-- The calls of a trace led from one stage to another, one after another; behind each sync that was answered all was durable.
+pub data Through {D : Type 0} (s : Stage D) : List Entry → List Response → Stage D → Type 0 where
+  Begins : Through s [] [] s
+  Calls : {trace : List Entry} {responses : List Response} {t : Stage D} (entry : Entry) (response : Response) (u : Stage D) → Through s trace responses t
+      → LeadsTo t (asked_by (geometry_at s) (entry ∷ [])) (response ∷ []) u → (entry.command ≡ Sync → IfOk entry.reply (λ answer. IsSynced u))
+      → Through s (trace ++ entry ∷ []) (responses ++ response ∷ []) u
+
+-- At this stage a sync of the trace was answered.
+abbrev pub IsAfterSync : {D : Type 0} {s : Stage D} {trace : List Entry} {responses : List Response} {now : Stage D} → Stage D → Through s trace responses now → Type 0
+IsAfterSync t Begins = ⊥
+IsAfterSync t (Calls entry response u through leads synced) = IsAfterSync t through ⊎ ((u ≡ t) × (entry.command ≡ Sync) × IsOk entry.reply)
+
 -- From a volume in balance, the commands of the trace led here, one after another, with replies of which all is noted but images; and so here is balance too.
 pub record HasOpening {D : Type 0} (held : Held) (image : List (List ℕ)) (trace : List Entry) (now : Alive D) : Type 0 where
   -- the volume before the first of these calls, what stood beside it, and what its device held and had held
@@ -40,6 +54,7 @@ pub record HasOpening {D : Type 0} (held : Held) (image : List (List ℕ)) (trac
   pub noted : AreNoted trace responses
   pub beside : Beside
   pub goes : Goes opening_beside opening_held opening_image opening (asked_by opening.kept.geometry trace) responses beside held image now
+  pub through : Through (record { volume = opening; beside = opening_beside; held = opening_held; image = opening_image }) trace responses (record { volume = now; beside = beside; held = held; image = image })
 
 -- the volume before the first of these calls, and the present one
 abbrev pub opening_at : {D : Type 0} {held : Held} {image : List (List ℕ)} {trace : List Entry} {now : Alive D} → HasOpening held image trace now → Stage D

@@ -1,17 +1,19 @@
 //! What holds of a volume with its trace: laws, without code.
 ghost use Rattle.std.specs.List.{All};
-ghost use Rattle.std.specs.Prelude.{◌≡◌, ◌++◌, ℕ, Bool, false, List};
+ghost use Rattle.std.specs.Prelude.{◌≡◌, ◌++◌, ℕ, Bool, false, IsTrue, List};
 ghost use Rattle.model.specs.View.{View};
 ghost use Rattle.device.specs.Media.{Held, images_held};
 ghost use Rattle.machine.specs.Balance.{Balance, Exact, OwesNothing};
+ghost use Rattle.machine.specs.Command.{Command, Reply};
 ghost use Rattle.machine.specs.Step.{Run};
 ghost use Rattle.queue_model.specs.Files.{Written};
 ghost use Rattle.snapshot.specs.Alive.{Alive};
-ghost use Rattle.snapshot.specs.Durable.{HeldSafely, IsSoundOn};
+ghost use Rattle.snapshot.specs.Durable.{HeldSafely, IsSoundOn, LeavesSafe};
 ghost use Rattle.snapshot.specs.Mounting.{IsMountable};
 ghost use Rattle.snapshot.specs.Cycles.{HasCycle};
-ghost use Rattle.snapshot.specs.Stages.{BeginsAt, LeadsTo, ServesTo, state_at};
-ghost use Rattle.shared.specs.Traces.{HasHistory, HasOpening, IsSafeTrace, asked_by, first_at, now_at, opening_at};
+ghost use Rattle.snapshot.specs.Stages.{BeginsAt, LeadsTo, ServesTo, Stage, geometry_at, state_at};
+ghost use Rattle.snapshot.specs.Synced.{HasFile, KeepsFiles};
+ghost use Rattle.shared.specs.Traces.{HasHistory, HasOpening, IsAfterSync, IsSafeTrace, asked_by, first_at, now_at, opening_at};
 ghost use Rattle.shared.specs.declared.counts.Counts.{Counts};
 ghost use Rattle.shared.specs.declared.entry.Entry.{Entry};
 
@@ -88,4 +90,19 @@ pub fn each_power_cut_of_a_trace_is_safe<D: Device>()
         × IsSoundOn held.now now safe' × HeldSafely o.opening.kept.geometry o.opening_held held safe' }
 {
     snapshot::each_power_cut_of_a_run_is_safe::<D>();
+}
+
+/// What a sync has seen outlives each loss of power, whatever the threads did and in whatever order. Where the volume that was shared was
+/// sound on the medium of its device, take any sync of the trace that was answered, and any files that were there then: whatever a loss
+/// of power left of the medium has them, with the bytes that users saw; and whatever it leaves of each medium since has those of
+/// which no unlink behind the sync took a name, with their bytes of then or those that a later command of the trace wrote to them.
+pub fn what_a_sync_of_a_trace_has_seen_outlives_power_cuts<D: Device, L: Sharing>()
+    ensures { (before : Counts) (trace : List Entry) (now : Alive D) → (h : HasHistory D.held D.image L.opens before trace now)
+        → IsSoundOn (D.held h.past.first.device).now h.past.first (λ f. false)
+        → (t : Stage D) → IsAfterSync t h.opening.through → (files : ℕ → Bool) → ((f : ℕ) → IsTrue (files f) → HasFile t f)
+        → (earlier commands : List Command) × (earlier ++ commands ≡ asked_by h.opening.opening.kept.geometry trace) × (replies : List Reply)
+        × LeavesSafe (geometry_at t) files t.held.now × KeepsFiles t files commands replies (now_at h.opening) }
+{
+    snapshot::calls_join::<D>();
+    snapshot::what_a_sync_has_seen_outlives_power_cuts::<D>();
 }

@@ -21,7 +21,7 @@ pub use entry::Entry;
 pub use laws::{
     each_image_of_a_trace_is_mountable, each_power_cut_of_a_trace_is_safe,
     each_stop_of_a_trace_is_safe, histories_are_calls, repairs_of_a_history_end_exact,
-    traces_lead_to_balance,
+    traces_lead_to_balance, what_a_sync_of_a_trace_has_seen_outlives_power_cuts,
 };
 pub use limits::{MOST_CALLS, MOST_SEATS};
 pub use progress::Progress;

@@ -1,5 +1,5 @@
 -- What a volume goes through by a call.
-use Rattle.std.proofs.Common.{◌≡◌, ℕ, Bool, true, false, List, [], ◌∷◌, ◌++◌, reverse, Ok, Err, IsTrue, refl, sym, ap, ◌∙◌, subst, map}
+use Rattle.std.proofs.Common.{◌≡◌, ℕ, Bool, true, false, List, [], ◌∷◌, ◌++◌, reverse, Ok, Err, IsTrue, Option, refl, sym, ap, ◌∙◌, subst, map}
 use Rattle.std.proofs.lemmas.List.Elements.{All-nil}
 use Rattle.std.proofs.lemmas.List.{append-nil}
 use Rattle.layout.specs.declared.refusal.Refusal.{Refusal}
@@ -12,7 +12,7 @@ use Rattle.ordering.proofs.Flushes.{users_flushed}
 use Rattle.queue_model.specs.Blocks.{home_of}
 use Rattle.queue_model.specs.Sync.{Writes, WritesNone, WritesNext}
 use Rattle.machine.specs.Balance.{Balance}
-use Rattle.machine.specs.Command.{Answer, Command, Reply}
+use Rattle.machine.specs.Command.{Answer, Command, Reply, Write}
 use Rattle.machine.specs.State.{State}
 use Rattle.machine.specs.Step.{Step}
 use Rattle.machine.proofs.AllSteps.{step_keeps}
@@ -28,6 +28,7 @@ use Rattle.live_states.specs.Planned.{safe_after}
 use Rattle.live_states.specs.Volume.{state_over}
 use Rattle.live.specs.Alive.{Alive, Answers, MayRefuse, StandsSo, disk_of, state_of}
 use Rattle.live.specs.Held.{HeldMore}
+use Rattle.live.specs.Durable.{GoesSoundly, pieces_of}
 use Rattle.live.proofs.Durably.{goes_still}
 use Rattle.snapshot.specs.Goes.{Goes, GoesSafely, IsBeside, StaysSafe}
 use Rattle.courses.proofs.Serving.{one_before}
@@ -131,6 +132,11 @@ module _ {D : Type 0} (held held' : Held) (image : List (List ℕ)) (old : Alive
 
 -- ---- a command that changes nothing
 
+-- what is quiet writes nothing
+pub quiet_asks : (opened : ℕ → Option ℕ) (command : Command) → IsTrue (is_quiet command) → pieces_of opened command ≡ []
+quiet_asks opened (Write h k bytes) quiet = cc
+quiet_asks opened _ quiet = refl
+
 module _ {D : Type 0} (held held' : Held) (image : List (List ℕ)) (old : Alive D) (beside : Beside) (is : IsBeside image old beside) (same_held : held' ≡ held) where
   quiet_here : (device : D) (command : Command) (answer : Answer) → IsTrue (is_quiet command) → Step old.kept.geometry (state_of image old beside) command (Ok answer) (state_of image old beside)
       → Goes beside held image old (command ∷ []) (Ok answer ∷ []) beside held' image (record { device = device; queue = old.queue; kept = old.kept; holdings = old.holdings })
@@ -145,7 +151,12 @@ module _ {D : Type 0} (held held' : Held) (image : List (List ℕ)) (old : Alive
         run = (s, step, refl);
         later = [];
         since = held_nothing geo held held' same_held;
-        service = λ mount h cut safe begin. (safe, CarriesOut command answer disk q s safe [] Starts step.0 (Quietly command answer s quiet step.1), goes_still held held' old (record { device = device; queue = old.queue; kept = old.kept; holdings = old.holdings }) same_held refl refl refl safe);
+        service = λ mount h cut safe begin. (
+          safe,
+          CarriesOut command answer disk q s safe [] Starts step.0 (Quietly command answer s quiet step.1),
+          subst (GoesSoundly held old held' (record { device = device; queue = old.queue; kept = old.kept; holdings = old.holdings }) safe safe) (sym (quiet_asks s.opened command quiet))
+              (goes_still held held' old (record { device = device; queue = old.queue; kept = old.kept; holdings = old.holdings }) same_held refl refl refl safe),
+        );
       }
 
   pub quietly : (image' : List (List ℕ)) (new : Alive D) (command : Command) (answer : Answer) → image' ≡ image → new.queue ≡ old.queue → new.kept ≡ old.kept → new.holdings ≡ old.holdings

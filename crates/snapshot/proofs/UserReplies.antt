@@ -14,18 +14,18 @@ use Rattle.courses.specs.Serves.{Quietly, Serves, is_quiet}
 use Rattle.softdep.specs.Queued.{Queued, pending_of}
 use Rattle.softdep.specs.Syncing.{AreWrites}
 use Rattle.frozen.specs.Kept.{Kept}
-use Rattle.live_states.specs.Holdings.{Beside, held_by}
+use Rattle.live_states.specs.Holdings.{Beside, held_by, opened_by}
 use Rattle.live_states.specs.Planned.{safe_after}
 use Rattle.live.specs.Alive.{Alive, Answers, MayRefuse, disk_of, state_of}
 use Rattle.live.specs.Held.{HeldMore}
 use Rattle.snapshot.specs.declared.answer.Answer.{Answer}
 use Rattle.snapshot.specs.declared.answer.Answer.TheVariants.{Done}
-use Rattle.live.specs.Durable.{GoesSoundly}
+use Rattle.live.specs.Durable.{GoesSoundly, pieces_of}
 use Rattle.live.proofs.Durably.{goes_still}
 use Rattle.snapshot.specs.Asked.{StandsFor}
 use Rattle.snapshot.specs.Goes.{GoesSafely, StaysSafe}
 use Rattle.snapshot.specs.Replied.{Replied}
-use Rattle.snapshot.proofs.Going.{held_nothing}
+use Rattle.snapshot.proofs.Going.{held_nothing, quiet_asks}
 
 -- nothing is flushed
 pub no_flushes : {D : Type 0} (held held' : Held) (image image' : List (List ℕ)) (old new : Alive D) → image' ≡ image → held' ≡ held → new.queue ≡ old.queue
@@ -201,7 +201,8 @@ module _ {D : Type 0} (honest : D → Type 0) (held_of : D → Held) (image_of :
   look_safely : honest live.device → GoesSafely (held_of live.device) (image_of live.device) live request (held_of live.device) live
   look_safely h safe =
       let held = held_of live.device in
-      subst (λ safe'. GoesSoundly held live held live safe safe') (sym (safely (users_view (disk_of (image_of live.device) live) (pending_of live.queue)) safe)) (goes_still held held live live refl refl refl refl safe)
+      subst (λ safe'. GoesSoundly held live held live safe safe' (pieces_of (opened_by live.holdings) request)) (sym (safely (users_view (disk_of (image_of live.device) live) (pending_of live.queue)) safe))
+      (subst (GoesSoundly held live held live safe safe) (sym (quiet_asks (opened_by live.holdings) request quiet)) (goes_still held held live live refl refl refl refl safe))
 
   module _ {T : Type 0} (as_given : T → Answer) (as_answer : T → Answered) (stands_for : (t : T) → StandsFor (as_given t) (as_answer t)) where
     pub looked : (outcome : Result T Refusal) (reply : Result Answer Refusal) → MatchResult outcome (λ t. reply ≡ Ok (as_given t)) (λ r. reply ≡ Err r)

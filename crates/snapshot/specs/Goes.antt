@@ -1,13 +1,15 @@
 -- What stands beside a volume, and what a volume goes through by its calls.
-use Rattle.std.specs.Prelude.{◌≡◌, ℕ, Bool, false, List, [], ◌∷◌, Ok, Result}
+use Rattle.std.specs.Prelude.{◌≡◌, ℕ, Bool, false, List, [], ◌∷◌, ◌++◌, Err, Ok, Result}
 use Rattle.layout.specs.declared.refusal.Refusal.{Refusal}
 use Rattle.model.specs.Image.{IsImage}
+use Rattle.model.specs.Layout.{Geometry}
 use Rattle.model.specs.View.{View}
 use Rattle.device.specs.Media.{Held}
 use Rattle.ordering.specs.Cuts.{users_view}
 use Rattle.machine.specs.Command.{Command, Done, Freeze, Image, Release, Reply}
 use Rattle.machine.specs.Snapshot.{settled}
 use Rattle.machine.specs.Standing.{begun, ended}
+use Rattle.machine.specs.State.{State}
 use Rattle.machine.specs.Step.{Run}
 use Rattle.plans_data.specs.Carried.{Stands}
 use Rattle.queue_model.specs.Files.{Written}
@@ -16,10 +18,10 @@ use Rattle.frozen.specs.Kept.{Kept}
 use Rattle.frozen_files.specs.Standing.{KeepsFiles}
 use Rattle.metadata.specs.Shown.{Shows}
 use Rattle.softdep.specs.Queued.{pending_of}
-use Rattle.live_states.specs.Holdings.{AreImagesOf, Beside}
+use Rattle.live_states.specs.Holdings.{AreImagesOf, Beside, opened_by}
 use Rattle.live_states.specs.Planned.{safe_after}
 use Rattle.live.specs.Alive.{Alive, HasBegun, disk_of, state_of}
-use Rattle.live.specs.Durable.{GoesSoundly}
+use Rattle.live.specs.Durable.{GoesSoundly, Piece, pieces_of}
 use Rattle.live.specs.Held.{HeldMore}
 use Rattle.snapshot.specs.declared.answer.Answer.{Answer as Given}
 use Rattle.snapshot.specs.Asked.{AreReplies, IsReply}
@@ -37,8 +39,15 @@ pub record HasBeside {D : Type 0} (image : List (List ℕ)) (live : Alive D) : T
   pub beside : Beside
   pub is : IsBeside image live beside
 
+-- what the commands of a run write that are carried out, newest first
+abbrev pub pieces_in : (geo : Geometry) (old : State) (commands : List Command) (replies : List Reply) (new : State) → Run geo old commands replies new → List Piece
+pieces_in geo old [] replies new run = []
+pieces_in geo old (c ∷ cs) [] new run = []
+pieces_in geo old (c ∷ cs) (Ok answer ∷ rs) new run = pieces_in geo run.0 cs rs new run.2 ++ pieces_of old.opened c
+pieces_in geo old (c ∷ cs) (Err r ∷ rs) new run = pieces_in geo run.0 cs rs new run.2
+
 -- From a volume over an image of its device, with this beside it, these commands got these replies, one after another. It leads to a volume, with something beside it, over another image, and to what the device held since.
--- Users see a run of the machine; and from wherever a volume may begin, whichever files no stop is to lose, what it goes through is a service of these commands, and no loss of power loses more files than a stop does.
+-- Users see a run of the machine; and from wherever a volume may begin, whichever files no stop is to lose, what it goes through is a service of these commands, and no loss of power loses more files than a stop does, or shows in a file what users did not write to it.
 pub record Goes {D : Type 0} (beside : Beside) (held : Held) (image : List (List ℕ)) (old : Alive D) (commands : List Command) (replies : List Reply)
     (beside' : Beside) (held' : Held) (image' : List (List ℕ)) (new : Alive D) : Type 0 where
   pub geometry : new.kept.geometry ≡ old.kept.geometry
@@ -49,15 +58,16 @@ pub record Goes {D : Type 0} (beside : Beside) (held : Held) (image : List (List
   pub since : HeldMore old.kept.geometry held held' later
   pub service : (mount : View) (h : List Written) (cut : List Bool) (safe : ℕ → Bool) → IsBeginning old.kept.geometry mount h cut (disk_of image old) (pending_of old.queue) (state_of image old beside) safe
       → (safe' : ℕ → Bool) × Service old.kept.geometry (disk_of image old) (pending_of old.queue) (state_of image old beside) safe (disk_of image' new) (pending_of new.queue) (state_of image' new beside') safe' commands replies later × GoesSoundly held old held' new safe safe'
+      (pieces_in old.kept.geometry (state_of image old beside) commands replies (state_of image' new beside') run)
 
--- a volume stays sound on its medium by a command, but for the file of which it took a name
+-- a volume stays sound on its medium by a command, but for the file of which it took a name, and for what it writes
 abbrev pub GoesSafely : {D : Type 0} → Held → List (List ℕ) → Alive D → Command → Held → Alive D → Type 0
 GoesSafely held image old command held' new =
-    (safe : ℕ → Bool) → GoesSoundly held old held' new safe (safe_after old.kept.geometry (users_view (disk_of image old) (pending_of old.queue)) command safe)
+    (safe : ℕ → Bool) → GoesSoundly held old held' new safe (safe_after old.kept.geometry (users_view (disk_of image old) (pending_of old.queue)) command safe) (pieces_of (opened_by old.holdings) command)
 
--- by nothing else does it lose any
+-- by nothing else does it lose any, or is anything written to one
 abbrev pub StaysSafe : {D : Type 0} → Held → Alive D → Held → Alive D → Type 0
-StaysSafe held old held' new = (safe : ℕ → Bool) → GoesSoundly held old held' new safe safe
+StaysSafe held old held' new = (safe : ℕ → Bool) → GoesSoundly held old held' new safe safe []
 
 -- A command got this reply, and what stands beside the volume stays, whatever it is.
 abbrev pub Replies : {D : Type 0} → Held → List (List ℕ) → Alive D → Command → Reply → Held → List (List ℕ) → Alive D → Type 0

@@ -1,15 +1,17 @@
 -- What a sync has seen, and what calls leave of it.
-use Rattle.std.specs.Prelude.{◌≡◌, ℕ, Bool, List, [], ◌++◌, All, IsTrue}
+use Rattle.std.specs.Prelude.{◌≡◌, ℕ, Bool, List, [], ◌++◌, All, IsTrue, map}
 use Rattle.model.specs.Reach.{IsReachable}
 use Rattle.model.specs.View.{View}
 use Rattle.device.specs.Media.{Medium, image_of}
 use Rattle.machine.specs.Command.{Command, Reply}
+use Rattle.machine.specs.Step.{Run}
 use Rattle.queue_model.specs.Files.{Written}
 use Rattle.courses.specs.Serves.{IsSpared}
 use Rattle.softdep.specs.Queued.{unsynced_of}
 use Rattle.live.specs.Alive.{disk_of}
-use Rattle.live.specs.Durable.{HeldSafely, LeavesShown}
-use Rattle.snapshot.specs.Stages.{ServesTo, Stage, geometry_at}
+use Rattle.live.specs.Durable.{HeldSafely, LeavesOwn, LeavesShown, Put}
+use Rattle.snapshot.specs.Goes.{pieces_in}
+use Rattle.snapshot.specs.Stages.{ServesTo, Stage, geometry_at, state_at}
 
 -- all is durable, on a device that answers what its medium has
 abbrev pub IsSynced : {D : Type 0} → Stage D → Type 0
@@ -32,3 +34,9 @@ pub record KeepsFiles {D : Type 0} (t : Stage D) (files : ℕ → Bool) (command
   pub more : List Medium
   pub media : u.held.media ≡ t.held.media ++ more
   pub shown : All (LeavesShown (geometry_at t) (disk_of t.image t.volume) written left) more
+  -- Of these commands each that wrote put its piece into the file that its handle was open on; and each block of a file has the file's own bytes: those of then, those of such a piece, or zeroes.
+  pub run : Run (geometry_at t) (state_at t) commands replies (state_at u)
+  pub puts : List Put
+  pub pieces : map (λ (put : Put). put.piece) puts ≡ pieces_in (geometry_at t) (state_at t) commands replies (state_at u) run
+  pub own_now : LeavesOwn (geometry_at t) (disk_of t.image t.volume) [] [] t.held.now
+  pub own : All (LeavesOwn (geometry_at t) (disk_of t.image t.volume) written puts) more

@@ -2,7 +2,11 @@
 use crate::reports::CLEAN_REPORT;
 use crate::trying::Wanted::{Printed, Refused};
 use crate::trying::{Row, give, gives, holds, made_small, writes};
+use export_host::get_from_file;
+use layout::Refusal;
+use progress::{Step, Watcher};
 use std::fs;
+use std::os::unix::fs::symlink;
 use std::process::Abort;
 use std::rt::Files;
 
@@ -115,4 +119,93 @@ fn what_is_too_large_is_not_left_in_part(rt: HostRuntime) {
     writes(&rt, "rows_hosts_full/b", bytes.as_slice());
     give(&rt, image, FULL);
     gives(&rt, "check --workers 1", image, Printed(CLEAN_REPORT, 0));
+}
+
+/// Lines on a fresh image, and a folder with a link to a file outside of it.
+const LINKED: &[Row<'static>] = &[
+    (
+        "put",
+        " /d",
+        "rows_hosts_linked",
+        Refused("refused 12 BadName\nat rows_hosts_linked/b\n", 3),
+    ),
+    ("ls", "", "/", Printed("", 0)),
+];
+
+#[test]
+fn a_link_in_a_folder_is_told_and_not_followed(rt: HostRuntime) {
+    let image = "rows_hosts_linked.img";
+    made_small(&rt, image);
+    writes(&rt, "rows_hosts_outside", b"not to be read");
+    made_folder(&rt, "rows_hosts_linked", "rows_hosts_linked/a");
+    symlink(&rt, "../rows_hosts_outside", "rows_hosts_linked/b").expect(&rt, "a link");
+    give(&rt, image, LINKED);
+}
+
+/// Lines on a fresh image: a file comes out where one stands, and where a link stands that leads to none.
+const STAYS: &[Row<'static>] = &[
+    ("put", " /d", "rows_hosts_stay", Printed("", 0)),
+    (
+        "get",
+        " /d/a",
+        "rows_hosts_stays",
+        Refused("refused 8 Exists\nat rows_hosts_stays\n", 3),
+    ),
+    (
+        "get",
+        " /d/a",
+        "rows_hosts_leads",
+        Refused("refused 8 Exists\nat rows_hosts_leads\n", 3),
+    ),
+];
+
+#[test]
+fn what_stands_on_the_host_stays(rt: HostRuntime) {
+    let image = "rows_hosts_stay.img";
+    made_small(&rt, image);
+    made_folder(&rt, "rows_hosts_stay", "rows_hosts_stay/a");
+    writes(&rt, "rows_hosts_stays", b"theirs");
+    let _ = fs::remove_file(&rt, "rows_hosts_leads");
+    symlink(&rt, "rows_hosts_nowhere", "rows_hosts_leads").expect(&rt, "a link");
+    give(&rt, image, STAYS);
+    holds(&rt, "get", "rows_hosts_stays", b"theirs");
+    let is_made = fs::metadata(&rt, "rows_hosts_nowhere").is_ok();
+    assert!(&rt; !is_made);
+}
+
+/// Another program, which makes a file on the host as soon as something was made there.
+#[derive(Drop)]
+struct Another<'a, R> {
+    rt: &'a R,
+    file: &'a str,
+}
+
+impl<R: Files> Watcher for Another<'_, R> {
+    fn sees(&self, _step: Step) {
+        let _ = fs::write(self.rt, self.file, b"theirs");
+    }
+}
+
+#[test]
+fn a_file_that_another_program_makes_meanwhile_stays(rt: HostRuntime) {
+    let image = "rows_hosts_raced.img";
+    made_small(&rt, image);
+    made_folder(&rt, "rows_hosts_race", "rows_hosts_race/a");
+    gives(
+        &rt,
+        "put rows_hosts_raced.img /d",
+        "rows_hosts_race",
+        Printed("", 0),
+    );
+    let _ = fs::remove_dir_all(&rt, "rows_hosts_raced");
+    let another = Another {
+        rt: &rt,
+        file: "rows_hosts_raced/a",
+    };
+    let cause = match get_from_file(&rt, image, "/d", "rows_hosts_raced", &another) {
+        Ok(()) => None,
+        Err(failure) => failure.cause(),
+    };
+    assert!(&rt; cause == Some(Refusal::Exists));
+    holds(&rt, "get", "rows_hosts_raced/a", b"theirs");
 }

@@ -29,6 +29,14 @@ const LAST: &[u8] = &[
 
 const DONE: &[u8] = &[16, 0, 0, 0, 0, 0, 0, 0, 4, 0, 0, 0, 0, 0, 0, 0];
 
+/// The attributes of the root are asked for; the user and the group stand in the reply from here on.
+const ROOT: &[u8] = &[
+    56, 0, 0, 0, 3, 0, 0, 0, 3, 0, 0, 0, 0, 0, 0, 0, 1, 0, 0, 0, 0, 0, 0, 0, 0, 0, 0, 0, 0, 0, 0,
+    0, 0, 0, 0, 0, 0, 0, 0, 0, 0, 0, 0, 0, 0, 0, 0, 0, 0, 0, 0, 0, 0, 0, 0, 0,
+];
+
+const OWNER: usize = 100;
+
 /// How the line is refused where something else than Linux writes to it.
 const NO_LINUX: Wanted<'static> = Refused(
     "error: standard input is no connection to Linux's FUSE; bin/fsvol-mount starts this line\n",
@@ -46,6 +54,30 @@ fn an_image_is_served_until_it_is_unmounted(rt: HostRuntime) {
         is_served(&rt, &["serve", "--owner", "1:2", "--read-only", image]);
     }
     ends_as_told(&rt, &["serve", image, "--read-only"]);
+    removes(&rt, image);
+}
+
+/// Words of a line that shows who owns the files.
+const OWNED: &[&[&str]] = &[
+    &["--owner", "1:2", "--read-only"],
+    &["--owner", "1:2", "--check", "0"],
+];
+
+#[test]
+fn the_owner_is_shown_as_it_is_given(rt: HostRuntime) {
+    let image = "rows_mounting_owner.img";
+    made_small(&rt, image);
+    for words in OWNED {
+        let mut line = vec![in rt.alloc(); "serve", image].expect(&rt, "memory");
+        line.extend_from_slice(words).expect(&rt, "memory");
+        let messages = [FIRST, ROOT, LAST];
+        let channel = served(&rt, line.as_slice(), &messages, Printed("", 0), 3);
+        let owner = channel
+            .replies()
+            .get(1)
+            .and_then(|reply| reply.get(OWNER..OWNER + 8));
+        assert!(&rt; owner == Some(&[1, 0, 0, 0, 2, 0, 0, 0]), "{words:?}");
+    }
     removes(&rt, image);
 }
 

@@ -1,5 +1,5 @@
 -- One more block of records, and the end of an upgrade.
-use Rattle.std.proofs.Common.{◌≡◌, ◌<◌, ◌≤◌, ◌+◌, ◌-◌, ◌*◌, ◌/◌, ℕ, List, [], ◌∷◌, ◌++◌, length, slice_set, inl, inr, refl, sym, ap, ◌∙◌, subst, arith, append_assoc, append-nil, length-append, Option, Some, None, IsSome, unwrap_or, option_copied, min, ◌^◌, le_of_lt, Bor, get_or-set_same, get_or-set_other}
+use Rattle.std.proofs.Common.{◌≡◌, ◌<◌, ◌≤◌, ◌+◌, ◌-◌, ◌*◌, ◌/◌, ℕ, Bool, List, [], ◌∷◌, ◌++◌, length, slice_set, inl, inr, refl, sym, ap, ◌∙◌, subst, arith, append_assoc, append-nil, length-append, Option, Some, None, IsSome, unwrap_or, option_copied, min, ◌^◌, le_of_lt, Bor, get_or-set_same, get_or-set_other}
 use Rattle.std.proofs.Math.Nat.{min-eq_left, min-eq_right}
 use Rattle.std.proofs.lemmas.Bool.{cases_lt}
 use Rattle.std.proofs.lemmas.List.{length-set}
@@ -16,10 +16,10 @@ use Rattle.frozen.proofs.FrozenLemmas.{first_is_frame, records_are_frame}
 use Rattle.versions.specs.Shown.{of_version}
 use Rattle.versions.proofs.Same.{same_version}
 use Rattle.upgrading.specs.Upgraded.{AreOfVolume, ChangesABlock, IsSameVolume, IsUpgraded, Upgrades, last_held}
-use Rattle.upgrading.specs.Steps.{Clears, HasCleared, IsStage, IsUpgradable, Leaves, TellsVersion, Writes, cleared, doubled}
+use Rattle.upgrading.specs.Steps.{Clears, HasCleared, IsPartlyCleared, IsStage, IsUpgradable, Leaves, TellsVersion, Writes, cleared, doubled}
 use Rattle.upgrading.proofs.Chains.{changes_more, last_of_more}
 use Rattle.upgrading.proofs.Places.{all_eights, one_block, same_eight}
-use Rattle.upgrading.proofs.Stages.{double_changes, double_image, double_same, single_same}
+use Rattle.upgrading.proofs.Stages.{double_changes, double_image, double_same, single_same, stage_partly}
 
 kept_there : (o : Option (List ℕ)) → IsSome o → (b : List ℕ) × (o ≡ Some b)
 kept_there None some = cc
@@ -112,7 +112,7 @@ module _ (kept : Kept) (start : List (List ℕ)) (up : IsUpgradable kept start) 
     }
 
     written_same : IsSameVolume geo start written
-    written_same = single_same geo start was up.single up.obeys (n + 1) written written_stage
+    written_same = single_same geo start was up.single up.obeys written (stage_partly geo start was up.single up.obeys (n + 1) written written_stage)
 
     written_changes : (cleared (block_at start at) ≡ block_at start at → ⊥) → ChangesABlock start image written
     written_changes differs = record {
@@ -175,11 +175,11 @@ cleared_stays kept start before n image held writes image' held' h same_image sa
   of_volume = h.of_volume;
 }
 
-pub more_cleared : (kept : Kept) (start : List (List ℕ)) (before : Held) (n : ℕ) (image : List (List ℕ)) (held : Held) (writes : ℕ)
+pub more_cleared : (keeps_order : Bool) (kept : Kept) (start : List (List ℕ)) (before : Held) (n : ℕ) (image : List (List ℕ)) (held : Held) (writes : ℕ)
     (image' : List (List ℕ)) (held' : Held) (w : ℕ) → HasCleared kept start before n image held writes → 8 * n < inode_count kept.geometry
-    → Clears (inode_block kept.geometry (8 * n)) (kept_bytes kept.blocks (inode_block kept.geometry (8 * n))) image held image' held' w
+    → Clears keeps_order (inode_block kept.geometry (8 * n)) (kept_bytes kept.blocks (inode_block kept.geometry (8 * n))) image held image' held' w
     → HasCleared kept start before (n + 1) image' held' (writes + w)
-more_cleared kept start before n image held writes image' held' w h inside (Leaves clear same_image same_held) = record {
+more_cleared keeps_order kept start before n image held writes image' held' w h inside (Leaves clear same_image same_held) = record {
   more = h.more;
   held_now = ap images_held same_held ∙ h.held_now;
   image_now = same_image ∙ h.image_now;
@@ -189,7 +189,7 @@ more_cleared kept start before n image held writes image' held' w h inside (Leav
       (left_stage kept start up n image (h.stage up) inside (subst (λ b. cleared b ≡ b) (records_are kept start up (8 * n) inside) clear));
   of_volume = h.of_volume;
 }
-more_cleared kept start before n image held writes image' held' w h inside (Writes differs image_is held_is) = record {
+more_cleared keeps_order kept start before n image held writes image' held' w h inside (Writes differs image_is held_is went) = record {
   more = h.more ++ image' ∷ [];
   held_now = held_is ∙ ap (λ x. x ++ image' ∷ []) h.held_now ∙ append_assoc (images_held before) h.more (image' ∷ []);
   image_now = sym (last_of_more start h.more image');
@@ -218,11 +218,11 @@ module _ (kept : Kept) (start : List (List ℕ)) (frame : KeepsFrame kept) (of_i
     obeys = image_obeys;
   }
 
-  pub upgraded_before : (before : Held) (image : List (List ℕ)) (held : Held) → kept.geometry.version ≡ 2 → image ≡ start → held ≡ before
+  pub upgraded_before : (before : Held) (image : List (List ℕ)) (held : Held) → kept.geometry.version ≡ 2 → image ≡ start → images_held held ≡ images_held before
       → IsUpgraded start before image held 0
   upgraded_before before image held double same_image same_held = record {
     more = [];
-    held_now = ap images_held same_held ∙ sym (append-nil (images_held before));
+    held_now = same_held ∙ sym (append-nil (images_held before));
     counted = refl;
     geometry = kept.geometry;
     was_image = of_image.is_image;
@@ -232,11 +232,11 @@ module _ (kept : Kept) (start : List (List ℕ)) (frame : KeepsFrame kept) (of_i
   }
 
 -- ---- the end
-pub nothing_written : (honest : Type 0) (start : List (List ℕ)) (before : Held) (image : List (List ℕ)) (held : Held) → image ≡ start → held ≡ before
+pub nothing_written : (honest : Type 0) (start : List (List ℕ)) (before : Held) (image : List (List ℕ)) (held : Held) → image ≡ start → images_held held ≡ images_held before
     → Upgrades honest start before image held
 nothing_written honest start before image held same_image same_held = record {
   more = [];
-  held_now = ap images_held same_held ∙ sym (append-nil (images_held before));
+  held_now = same_held ∙ sym (append-nil (images_held before));
   image_now = same_image;
   of_volume = λ h. inl refl;
 }
@@ -266,6 +266,9 @@ module _ (honest : Type 0) (kept : Kept) (start : List (List ℕ)) (before : Hel
       all : 8 * (inode_count kept.geometry / 8) ≡ inode_count kept.geometry
       all = all_eights kept.geometry ready.frame.geometry
 
+      partly : IsPartlyCleared kept.geometry start image
+      partly = stage_partly kept.geometry start ready.of_image.is_image ready.single ready.obeys (inode_count kept.geometry / 8) image (h.stage ready)
+
       told_is : image' ≡ slice_set image 0 (doubled (block_at start 0))
       told_is = tells.image_is ∙ ap (λ b. slice_set image 0 (doubled b)) (first_block_is kept start ready)
 
@@ -273,9 +276,9 @@ module _ (honest : Type 0) (kept : Kept) (start : List (List ℕ)) (before : Hel
       all_of_volume =
           more_held kept.geometry start h.more image image' (h.of_volume ready) h.image_now
           (subst (IsSameVolume kept.geometry start) (sym told_is)
-          (double_same kept.geometry start ready.of_image.is_image ready.single ready.obeys (inode_count kept.geometry / 8) image (h.stage ready) all))
+          (double_same kept.geometry start ready.of_image.is_image ready.single ready.obeys image partly (inode_count kept.geometry / 8) (h.stage ready) all))
           (subst (ChangesABlock start image) (sym told_is)
-          (double_changes kept.geometry start ready.of_image.is_image ready.single ready.obeys (inode_count kept.geometry / 8) image (h.stage ready) all))
+          (double_changes kept.geometry start ready.of_image.is_image ready.single ready.obeys image partly (inode_count kept.geometry / 8) (h.stage ready) all))
 
       pub upgraded : IsUpgraded start before image' held' (writes + 1)
       upgraded = record {
@@ -287,7 +290,7 @@ module _ (honest : Type 0) (kept : Kept) (start : List (List ℕ)) (before : Hel
         obeyed = ready.obeys;
         is_image =
             subst (IsImage (of_version 2 kept.geometry)) (sym told_is)
-            (double_image kept.geometry start ready.of_image.is_image ready.single ready.obeys (inode_count kept.geometry / 8) image (h.stage ready) all);
+            (double_image kept.geometry start ready.of_image.is_image ready.single ready.obeys image partly (inode_count kept.geometry / 8) (h.stage ready) all);
         again = λ two. absurd (omega (arith, two, ready.single));
       }
 

@@ -1,4 +1,4 @@
--- An image whose blocks of records are cleared up to one is of the same volume, and so is one that then tells version 2.
+-- An image some of whose blocks of records are cleared is of the same volume, and so is one all of whose are and that then tells version 2.
 use Rattle.std.proofs.Common.{◌≡◌, ◌<◌, ◌≤◌, ◌+◌, ◌*◌, ◌/◌, ◌%◌, ℕ, ◌&&◌, ltb, leb, List, [], length, slice_index, slice_set, All, inl, inr, ◌⊎◌, refl, sym, ap, ◌∙◌, subst, arith, IsTrue, get_or-set_same, get_or-set_other}
 use mathlib.Core.Path.{fun_ext}
 use Rattle.std.proofs.lemmas.Bool.{cases_lt, cases_eq, and_from, lt-ltb, le-leb}
@@ -16,7 +16,7 @@ use Rattle.model.proofs.SlotLemmas.{number_below}
 use Rattle.versions.specs.Shown.{ShowsTheSame, of_version}
 use Rattle.versions.proofs.Same.{same_version, shows_itself, shows_the_same}
 use Rattle.upgrading.specs.Upgraded.{ChangesABlock, HasClearBytes, IsSameVolume, MayChange, OfRecord, OfVersion, byte_at}
-use Rattle.upgrading.specs.Steps.{IsStage, cleared, doubled}
+use Rattle.upgrading.specs.Steps.{IsClearedAt, IsPartlyCleared, IsStage, cleared, doubled}
 use Rattle.upgrading.proofs.Cleared.{cleared_block, cleared_other, cleared_record, cleared_zero, doubled_block, doubled_differs, doubled_other, doubled_super}
 
 module _ (geo : Geometry) (start : List (List ℕ)) (was : IsImage geo start) (single : geo.version ≡ 1) (obeys : ObeysRules geo (image_view geo start)) where
@@ -46,32 +46,27 @@ module _ (geo : Geometry) (start : List (List ℕ)) (was : IsImage geo start) (s
       (fun_ext (λ a. ap (λ b. is_data_address geo a && map_bit b 160 (data_bit geo a)) (maps (group_of_address geo a))))
       (fun_ext (λ a. same_cond (is_data_address geo a) (block a) (block_at start a) [] (plain a)))
 
-  module _ (n : ℕ) (image : List (List ℕ)) (stage : IsStage geo start n image) where
-    -- each block is one of the first image, or a cleared one
-    IsCleared : ℕ → Type 0
-    IsCleared a = (m : ℕ) × (m < 8 * n) × (a ≡ inode_block geo m)
-
-    block_cases : (a : ℕ) → IsCleared a ⊎ (block_at image a ≡ block_at start a)
-    unfolding IsCleared
-    block_cases a = elim (decide_below (λ m. a ≡ inode_block geo m) (λ m. cases_eq a (inode_block geo m)) (8 * n)) [
-      | inl found ↦ inl found
+  -- the blocks up to one are cleared
+  pub stage_partly : (n : ℕ) (image : List (List ℕ)) → IsStage geo start n image → IsPartlyCleared geo start image
+  stage_partly n image stage = record {
+    count = stage.count;
+    each = λ a. elim (decide_below (λ m. a ≡ inode_block geo m) (λ m. cases_eq a (inode_block geo m)) (8 * n)) [
+      | inl is ↦ inl (is.0, omega (arith, is.1, stage.few), is.2, ap (block_at image) is.2 ∙ stage.done is.0 is.1 ∙ ap (λ x. cleared (block_at start x)) (sym is.2))
       | inr none ↦ inr (stage.others a (λ m low e. none (m, low, e)))
-    ]
+    ];
+  }
 
-    number_low : (m : ℕ) → m < 8 * n → m < inode_count geo
-    number_low m low = omega (arith, stage.few)
-
-    cleared_is : (a : ℕ) → IsCleared a → block_at image a ≡ cleared (block_at start a)
-    unfolding IsCleared
-    cleared_is a is = ap (block_at image) is.2 ∙ stage.done is.0 is.1 ∙ ap (λ x. cleared (block_at start x)) (sym is.2)
-
-    cleared_whole : (a : ℕ) → IsCleared a → IsBlock (block_at start a)
-    unfolding IsCleared
-    cleared_whole a is = subst (λ x. IsBlock (block_at start x)) (sym is.2) (records_long is.0 (number_low is.0 is.1))
+  -- ---- whichever blocks are cleared
+  module _ (image : List (List ℕ)) (partly : IsPartlyCleared geo start image) where
+    cleared_whole : (a : ℕ) → IsClearedAt geo start image a → IsBlock (block_at start a)
+    cleared_whole a is = subst (λ x. IsBlock (block_at start x)) (sym is.2) (records_long is.0 is.1)
 
     -- no record: the block stays
     no_record : (a : ℕ) → ((m : ℕ) → inode_block geo m ≡ a → ⊥) → block_at image a ≡ block_at start a
-    no_record a none = stage.others a (λ m low e. none m (sym e))
+    no_record a none = elim (partly.each a) [
+      | inl is ↦ absurd (none is.0 (sym is.2))
+      | inr same ↦ same
+    ]
 
     maps_stay : (g : ℕ) → block_at image (group_block geo g) ≡ block_at start (group_block geo g)
     maps_stay g = no_record (group_block geo g) (λ m e. inodes_are_no_maps geo ok m g (sym e))
@@ -83,17 +78,17 @@ module _ (geo : Geometry) (start : List (List ℕ)) (was : IsImage geo start) (s
     first_stays = no_record 0 (λ m e. omega (arith, e))
 
     record_stays : (m : ℕ) → IsTrue (is_number geo m) → inode_at 1 (block_at image (inode_block geo m)) (inode_byte m) ≡ inode_at 1 (block_at start (inode_block geo m)) (inode_byte m)
-    record_stays m number = elim (block_cases (inode_block geo m)) [
+    record_stays m number = elim (partly.each (inode_block geo m)) [
       | inl is ↦
-          ap (λ b. inode_at 1 b (inode_byte m)) (cleared_is (inode_block geo m) is)
+          ap (λ b. inode_at 1 b (inode_byte m)) is.3
           ∙ cleared_record (block_at start (inode_block geo m)) (cleared_whole (inode_block geo m) is).length (m % 8) (omega arith) 1
       | inr same ↦ ap (λ b. inode_at 1 b (inode_byte m)) same
     ]
 
     whole_block : (a : ℕ) → a < length image → IsBlock (block_at image a)
-    whole_block a low = elim (block_cases a) [
-      | inl is ↦ subst IsBlock (sym (cleared_is a is)) (cleared_block (block_at start a) (cleared_whole a is))
-      | inr same ↦ subst IsBlock (sym same) (block_long a (omega (arith, low, stage.count)))
+    whole_block a low = elim (partly.each a) [
+      | inl is ↦ subst IsBlock (sym is.3) (cleared_block (block_at start a) (cleared_whole a is))
+      | inr same ↦ subst IsBlock (sym same) (block_long a (omega (arith, low, partly.count)))
     ]
 
     whole_blocks : All IsBlock image
@@ -102,24 +97,23 @@ module _ (geo : Geometry) (start : List (List ℕ)) (was : IsImage geo start) (s
     single_image : IsImage geo image
     single_image = record {
       geometry = ok;
-      count = stage.count ∙ was.count;
+      count = partly.count ∙ was.count;
       blocks = whole_blocks;
       first = subst (λ b. IsSuper geo b) (sym first_stays) was.first;
       group_blocks = λ g low. subst (λ b. IsGroupBlock g b) (sym (maps_stay g)) (was.group_blocks g low);
     }
 
     other_bytes : (a b : ℕ) → (MayChange geo a b → ⊥) → byte_at image a b ≡ byte_at start a b
-    unfolding IsCleared
-    other_bytes a b none = elim (block_cases a) [
-      | inl is ↦ ap (λ block. slice_index block b) (cleared_is a is) ∙ cleared_other (block_at start a) (cleared_whole a is).length b (side is)
+    other_bytes a b none = elim (partly.each a) [
+      | inl is ↦ ap (λ block. slice_index block b) is.3 ∙ cleared_other (block_at start a) (cleared_whole a is).length b (side is)
       | inr same ↦ ap (λ block. slice_index block b) same
     ]
       where
-        side : IsCleared a → (b % 128 < 60) ⊎ (64 ≤ b % 128)
+        side : IsClearedAt geo start image a → (b % 128 < 60) ⊎ (64 ≤ b % 128)
         side is = elim (cases_lt (b % 128) 60) [
           | inl low ↦ inl low
           | inr from ↦ elim (cases_lt (b % 128) 64) [
-            | inl until ↦ absurd (none (OfRecord is.0 (number_low is.0 is.1) is.2 (and_from (leb 60 (b % 128)) (ltb (b % 128) 64) (le-leb 60 (b % 128) from) (lt-ltb (b % 128) 64 until))))
+            | inl until ↦ absurd (none (OfRecord is.0 is.1 is.2 (and_from (leb 60 (b % 128)) (ltb (b % 128) 64) (le-leb 60 (b % 128) from) (lt-ltb (b % 128) 64 until))))
             | inr past ↦ inr past
           ]
         ]
@@ -141,7 +135,7 @@ module _ (geo : Geometry) (start : List (List ℕ)) (was : IsImage geo start) (s
     }
 
     -- ---- and then of version 2, if all records are cleared
-    module _ (all : 8 * n ≡ inode_count geo) where
+    module _ (n : ℕ) (stage : IsStage geo start n image) (all : 8 * n ≡ inode_count geo) where
       abbrev pub told : List (List ℕ)
       told = slice_set image 0 (doubled (block_at start 0))
 

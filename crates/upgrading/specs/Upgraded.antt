@@ -3,7 +3,7 @@ use Rattle.std.specs.Prelude.{◌≡◌, ◌≢◌, ℕ, ◌+◌, ◌%◌, ◌<�
 use Rattle.model.specs.Layout.{Geometry, inode_block, inode_byte, inode_count}
 use Rattle.model.specs.Image.{IsImage, block_at, image_view}
 use Rattle.model.specs.Rules.{ObeysRules}
-use Rattle.device.specs.Media.{Held, images_held}
+use Rattle.device.specs.Media.{Held, MayBeLeft, Medium, images_held}
 use Rattle.versions.specs.Shown.{ShowsTheSame, of_version}
 
 -- ---- one image
@@ -80,3 +80,34 @@ pub record IsUpgraded (start : List (List ℕ)) (before : Held) (image : List (L
   pub obeyed : ObeysRules geometry (image_view geometry start)
   pub is_image : IsImage (of_version 2 geometry) image
   pub again : geometry.version ≡ 2 → more ≡ []
+
+-- ---- what a loss of power leaves
+
+-- An image is one of the same volume as an image that a loss of power might have left of this medium, if that was one that obeys the rules.
+pub record IsOfOneLeft (geo : Geometry) (m : Medium) (image : List (List ℕ)) : Type 0 where
+  pub was : List (List ℕ)
+  pub might : MayBeLeft m was
+  pub same : IsImage geo was → ObeysRules geo (image_view geo was) → IsSameVolume geo was image
+
+-- Whatever a loss of power leaves of the medium (m) is one of the same volume as an image that it might have left of the medium before.
+abbrev pub LeavesVolume : Geometry → Medium → Medium → Type 0
+LeavesVolume geo before m = (image : List (List ℕ)) → MayBeLeft m image → IsOfOneLeft geo before image
+
+-- whatever a loss of power leaves of the medium (m), it might have left of the medium before
+abbrev pub LeavesNoMore : Medium → Medium → Type 0
+LeavesNoMore before m = (image : List (List ℕ)) → MayBeLeft m image → MayBeLeft before image
+
+-- The first image is one of version 1 that obeys the rules. Each of these media, and the one that there is now, leaves images of that volume: where nothing was
+-- loose at first these are images of the same volume as the first one, which alone was left then.
+pub record LeaveVolume (geo : Geometry) (start : List (List ℕ)) (before : Medium) (more : List Medium) (now : Medium) : Type 0 where
+  pub is_image : IsImage geo start
+  pub single : geo.version ≡ 1
+  pub obeys : ObeysRules geo (image_view geo start)
+  pub each : All (LeavesVolume geo before) more
+  pub last : LeavesVolume geo before now
+
+-- Whatever comes of an upgrade of this image, which was read honestly, and at whatever moment the power is lost: unless the device had no other medium, what is left is of the same volume.
+pub record KeepsVolume (honest : Type 0) (start : List (List ℕ)) (before held : Held) : Type 0 where
+  pub more : List Medium
+  pub media : held.media ≡ before.media ++ more
+  pub of_volume : honest → ((more ≡ []) × LeavesNoMore before.now held.now) ⊎ ((geo : Geometry) × LeaveVolume geo start before.now more held.now)

@@ -2,7 +2,7 @@ ghost use Rattle.std.specs.Prelude.{◌≡◌, ℕ, ◌+◌, ◌*◌, ◌/◌, �
 ghost use Rattle.model.specs.Layout.{block_count, inode_count};
 ghost use Rattle.layout.specs.Fresh as fresh;
 ghost use Rattle.device.specs.Writes.{CountsFaults};
-ghost use Rattle.upgrading.specs.Steps.{Clears, HasCleared, cleared};
+ghost use Rattle.upgrading.specs.Steps.{Clears, HasCleared, HasLeft, cleared};
 
 use byteorder::{ByteOrder, LittleEndian};
 use device::{Device, DeviceFault};
@@ -21,6 +21,7 @@ pub(crate) fn clear_records<D: Device>(device: &mut D, frozen: &Frozen) -> Resul
         (D.image device.new) (D.held device.new)) }
     ensures stopped { OnErr result ((n writes : ℕ)
         × HasCleared frozen.now (D.image device.old) (D.held device.old) n (D.image device.new) (D.held device.new) writes) }
+    ensures left { HasLeft frozen.now (D.image device.old) (D.held device.old) (D.held device.new) }
     ensures few { IfOk result (λ writes. writes ≤ 8192) }
     ensures count { length (D.image device.new) ≡ length (D.image device.old) }
     ensures honest { D.honest device.new → D.honest device.old }
@@ -40,7 +41,7 @@ pub(crate) fn clear_records<D: Device>(device: &mut D, frozen: &Frozen) -> Resul
 /// written: 1 or 0.
 fn clear_block<D: Device>(device: &mut D, address: u32, records: &Block) -> Result<u32, DeviceFault>
     requires { address < length (D.image device.old) }
-    ensures clears { IfOk result (Clears address records.now (D.image device.old) (D.held device.old) (D.image device.new) (D.held device.new)) }
+    ensures clears { IfOk result (Clears D.KEEPS_ORDER address records.now (D.image device.old) (D.held device.old) (D.image device.new) (D.held device.new)) }
     ensures few { IfOk result (λ writes. writes ≤ 1) }
     ensures fault { OnErr result ((D.image device.new ≡ D.image device.old) × (D.held device.new ≡ D.held device.old)) }
     ensures count { length (D.image device.new) ≡ length (D.image device.old) }

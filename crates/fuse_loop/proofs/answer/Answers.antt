@@ -1,8 +1,8 @@
 use Rattle.std.proofs.Common.{◌≡◌, [], ◌∷◌, true, false, inl, inr, refl, sym, ap, subst, ◌∙◌}
 use Rattle.std.proofs.lemmas.List.{append-nil}
 use Rattle.fuse_wire.specs.Requests.{decode}
-use Rattle.fuse_loop.specs.Sessions.{NotGiven, NotTurned, Untouched, is_in_place}
-use Rattle.fuse_loop.proofs.SessionLemmas.{answered_by, answers_one, if_err, not_given, on_ok, same_message}
+use Rattle.fuse_loop.specs.Sessions.{IsDestroy, NotGiven, NotTurned, Untouched, is_in_place}
+use Rattle.fuse_loop.proofs.SessionLemmas.{answered_by, answers_one, if_err, if_ok, is_destroy, not_both, not_given, on_ok, same_message}
 use Rattle.fuse_loop.proofs.answer.Goals as goal
 
 pub returns-then-not-is_in_place-clause-left : goal.returns-then-not-is_in_place-clause-left
@@ -49,3 +49,10 @@ returns-in-Ended-clause-answered g c = on_ok c.give-in-Ended.result c.give-in-En
 pub returns-in-Ended-clause-left : goal.returns-in-Ended-clause-left
 returns-in-Ended-clause-left g c = if_err c.give-in-Ended.result c.give-in-Ended.ensures.left (λ why h. not_given _ why _ _ _ c.turn.new.reply.items c.in-Ok.turned h.0
     (subst (λ bytes. g.T.Answering.turns c.args.desk.now bytes c.in-Ok.turned c.turn.new.reply.items c.turn.new.self) c.as_slice-bytes.ensures c.in-Ok.ensures.turn))
+
+pub returns-in-Replied-clause-ended : goal.returns-in-Replied-clause-ended
+returns-in-Replied-clause-ended g c = if_ok c.give.result c.give.ensures.more (λ more h stops. absurd (not_both more h stops))
+
+pub returns-in-Ended-clause-ended : goal.returns-in-Ended-clause-ended
+returns-in-Ended-clause-ended g c = if_ok c.give-in-Ended.result c.give-in-Ended.ensures.more (λ more h stops.
+    subst (λ bytes. IsDestroy bytes) c.as_slice-bytes.ensures (is_destroy c.as_slice-bytes.result.now c.in-Ok.ensures.unread c.in-Ok.ensures.turned c.in-Ended.is))

@@ -3,6 +3,7 @@ use Rattle.snapshot.specs.Asked.{asked}
 use Rattle.snapshot.specs.Goes.{Runs}
 use Rattle.snapshot.proofs.AppliesLemmas.{runs_next, runs_none}
 use Rattle.image_changes.specs.Asking.{AllAnswer}
+use Rattle.image_changes.proofs.BlameLemmas.{blames_last, blames_none}
 use Rattle.image_changes.proofs.StopLemmas.{each_done, last_refused, longer, one_more}
 use Rattle.image_changes.proofs.carry_out.Goals as goal
 
@@ -75,3 +76,25 @@ pub returns-clause-stopped : goal.returns-clause-stopped
 returns-clause-stopped g c =
     let inv = c.loop-command.invariant in
     each_done (length c.args.commands.now) c.loop-command.replies.items inv.answered (omega (arith, inv.long, c.loop-command-test.false, c.loop-command.auto.command-index-end))
+
+pub returns-in-Err-clause-blames : goal.returns-in-Err-clause-blames
+returns-in-Err-clause-blames g c =
+    let inv = c.loop-command.invariant in
+    let D = g.D.Device in
+    blames_last D.honest D.held D.image D.failures c.args.volume.now c.loop-command.volume c.apply.new.self c.args.commands.now c.loop-command.replies.items c.push-in-Err.new.self.items c.in-Err.refusal c.loop-command.command-index
+    c.in_ok-push-in-Err.ensures.items inv.long inv.honest inv.ran (λ device. c.apply.ensures.cause (c.in-Err.is ∙ ap Err device))
+
+pub returns-clause-blames : goal.returns-clause-blames
+returns-clause-blames g c =
+    let live = c.loop-command.volume in
+    let D = g.D.Device in
+    blames_none D.honest D.held D.image D.failures c.args.volume.now live live c.args.commands.now c.loop-command.replies.items c.loop-command.invariant.answered
+
+pub returns-clause-ran : goal.returns-clause-ran
+returns-clause-ran g c = λ h.
+    let inv = c.loop-command.invariant in
+    let old = c.args.volume.now in
+    let new = c.loop-command.volume in
+    let held = g.D.Device.held in
+    let image = g.D.Device.image in
+    subst (λ n. Runs (held old.device) (image old.device) old (map (asked old.kept.geometry) (take n c.args.commands.now)) c.loop-command.replies.items (held new.device) (image new.device) new) (sym inv.long) (inv.ran h)

@@ -1,4 +1,4 @@
-use Rattle.std.proofs.Common.{◌≡◌, ◌∙◌, Some, ap, refl, subst, sym}
+use Rattle.std.proofs.Common.{◌≡◌, ◌∙◌, Err, Some, ap, refl, subst, sym}
 use Rattle.std.specs.Arc.{arc_value}
 use Rattle.std.proofs.lemmas.Result.{err_from_is_err_and}
 use Rattle.frozen.specs.Kept.{KeepsMetadata, Kept}
@@ -12,8 +12,11 @@ use Rattle.snapshot.specs.Alive.{Alive, state_of}
 use Rattle.snapshot.specs.Asked.{check_of}
 use Rattle.mending.proofs.MayMend.{may_mend, of_loaded}
 use Rattle.mending.proofs.Ended.{Ended, checked_before, ends}
+use Rattle.layout.specs.declared.refusal.Refusal.TheVariants.{Device}
+use Rattle.snapshot.proofs.Blaming.{same_refusal}
 use Rattle.snapshot.proofs.Refusals.{may_freeze, refused_so}
 use Rattle.machine.specs.Command.{Freeze}
+use Rattle.mending.proofs.Going.{by_freeze, by_reply, failed_at_once, failed_later, not_refused, went_nowhere, went_on}
 use Rattle.mending.proofs.Joining.{joins_of}
 use Rattle.mending.proofs.Seen.{alone, settled_idle}
 use Rattle.mending.proofs.mend_checked.Goals as goal
@@ -72,6 +75,40 @@ returns-in_err-mend_frozen-clause-error g c =
     (may_mend image c.damaged_where_a_rule_is_broken.ensures (held v0.device) (held v1.device) (image v0.device) v0 v1 number snapshot checked c.requires.pending c.requires.idle (c.requires.mounted h0) is freezes found
     (of_loaded image c.damaged_where_a_rule_is_broken.ensures (held v0.device) (held v1.device) (image v0.device) v0 v1 number snapshot checked c.requires.pending c.requires.idle (c.requires.mounted h0) is freezes found (sym (ap (λ (k : Kept). k.geometry) c.requires.kept)) (c.requires.loaded h0))))
 
+pub returns-in_err-snapshot-clause-went : goal.returns-in_err-snapshot-clause-went
+returns-in_err-snapshot-clause-went g c = λ honest. went_nowhere g.D.Device.held g.D.Device.image c.args.volume.now
+
+pub returns-in_err-number-clause-went : goal.returns-in_err-number-clause-went
+returns-in_err-number-clause-went g c = λ honest.
+    by_reply g.D.Device.held g.D.Device.image c.args.volume.now c.freeze_as.new.self Freeze _ refl (c.in_err-number.ensures.refused honest)
+
+pub returns-in_err-number-clause-cause : goal.returns-in_err-number-clause-cause
+returns-in_err-number-clause-cause g c =
+    let p = err_from_is_err_and c.from_residual-in_err-number.result c.from_residual-in_err-number.ensures.1 in
+    rw (p.1, p.2) (λ e.
+    failed_at_once g.D.Device.honest g.D.Device.held g.D.Device.image g.D.Device.failures c.args.volume.now c.freeze_as.new.self (c.in_err-number.ensures.cause (ap Err (same_refusal _ Device e))))
+
+pub returns-in_err-mend_frozen-clause-went : goal.returns-in_err-mend_frozen-clause-went
+returns-in_err-mend_frozen-clause-went g c = λ honest.
+    let held = g.D.Device.held in
+    let image = g.D.Device.image in
+    let old = c.args.volume.now in
+    let new = c.freeze_as.new.self in
+    let end = c.mend_frozen.new.volume in
+    went_on held image old new end (by_freeze held image old new c.in_ok-number.number (arc_value c.in_ok-snapshot.snapshot) (c.in_ok-number.ensures.frozen (c.mend_frozen.ensures.honest honest))) (c.mend_frozen.ensures.went honest)
+
+pub returns-in_err-mend_frozen-clause-cause : goal.returns-in_err-mend_frozen-clause-cause
+returns-in_err-mend_frozen-clause-cause g c =
+    let p = err_from_is_err_and c.from_residual-in_err-mend_frozen.result c.from_residual-in_err-mend_frozen.ensures.1 in
+    let held = g.D.Device.held in
+    let image = g.D.Device.image in
+    let old = c.args.volume.now in
+    let new = c.freeze_as.new.self in
+    let end = c.mend_frozen.new.volume in
+    rw (p.1, p.2) (λ e.
+    failed_later g.D.Device.honest held image g.D.Device.failures old new end c.freeze_as.ensures.honest (λ h. by_freeze held image old new c.in_ok-number.number (arc_value c.in_ok-snapshot.snapshot) (c.in_ok-number.ensures.frozen h))
+    (c.in_err-mend_frozen.ensures.cause (ap Err (same_refusal _ Device e))))
+
 pub returns : goal.returns
 returns g c =
     let held = g.D.Device.held in
@@ -101,6 +138,8 @@ returns g c =
           (c.requires.mounted (first h2)) c.requires.pending c.requires.idle e.is e.is_settled.findings e.count e.cycle.goes;
       framed = λ h2. (ended h2).cycle.goes.is.framed;
       geometry = λ h2. (ended h2).cycle.goes.geometry;
+      went = λ h2. went_on held image v0 v1 v2 (by_freeze held image v0 v1 number (arc_value c.in_ok-snapshot.snapshot) (c.in_ok-number.ensures.frozen (c.mend_frozen.ensures.honest h2))) (c.mend_frozen.ensures.went h2);
       error = tt;
+      cause = λ e. absurd (not_refused _ Device e);
       honest = first;
     }

@@ -1,11 +1,14 @@
-use Rattle.std.proofs.Common.{◌≡◌, ◌<◌, ◌∙◌, sym, refl, subst, arith}
+use Rattle.std.proofs.Common.{◌≡◌, ◌<◌, ◌∙◌, Err, sym, refl, subst, arith}
 use Rattle.std.proofs.Math.Numerals.{add-one}
 use Rattle.std.proofs.lemmas.Result.{err_from_is_err_and}
 use Rattle.machine.specs.Command.{RepairAt}
+use Rattle.layout.specs.declared.refusal.Refusal.TheVariants.{Device}
 use Rattle.snapshot.specs.Alive.{state_of}
+use Rattle.snapshot.proofs.Blaming.{never_device, same_refusal}
 use Rattle.snapshot.proofs.Refusals.{refused_so}
 use Rattle.mending.specs.Repairs.{Repairs}
 use Rattle.mending.proofs.Planned.{may_repair, planned_on}
+use Rattle.mending.proofs.Going.{by_repairs, by_reply, went_nowhere, went_on}
 use Rattle.mending.proofs.Joining.{joins_of, one_more, starts}
 use Rattle.mending.proofs.repair_all.Goals as goal
 
@@ -53,3 +56,27 @@ returns-in_err-repair-clause-error g c =
     let planned = planned_on start.kept.geometry (state_of (image start.device) start plan.beside) (state_of (image old.device) old plan.beside) place c.args.count goes.run plan.is_planned in
     refused_so (held old.device) (image old.device) old (held new.device) (image new.device) new plan.beside goes.is (RepairAt place)
     (may_repair old.kept.geometry (state_of (image old.device) old plan.beside) place c.args.count planned low) tt _ (c.in_err-repair.ensures.refused honest))
+
+pub returns-clause-went : goal.returns-clause-went
+returns-clause-went g c = λ honest.
+    by_repairs g.D.Device.held g.D.Device.image c.args.volume.now c.loop-place.volume c.loop-place.place (c.loop-place.invariant.repaired honest)
+
+pub returns-in_err-repair-clause-went : goal.returns-in_err-repair-clause-went
+returns-in_err-repair-clause-went g c = λ honest.
+    let held = g.D.Device.held in
+    let image = g.D.Device.image in
+    let start = c.args.volume.now in
+    let old = c.loop-place.volume in
+    let new = c.repair.new.self in
+    let place = c.loop-place.place in
+    went_on held image start old new (by_repairs held image start old place (c.loop-place.invariant.repaired (subst g.D.Device.honest c.repair.ensures.device honest)))
+    (by_reply held image old new (RepairAt place) _ refl (c.in_err-repair.ensures.refused honest))
+
+pub returns-in_err-repair-clause-never : goal.returns-in_err-repair-clause-never
+returns-in_err-repair-clause-never g c =
+    let p = err_from_is_err_and c.from_residual.result c.from_residual.ensures.1 in
+    let old = c.loop-place.volume in
+    rw (p.1, p.2) (λ e. never_device old.kept old.holdings (RepairAt c.loop-place.place) _ c.in_err-repair.ensures.cause (same_refusal _ Device e))
+
+pub returns-in_default-clause-went : goal.returns-in_default-clause-went
+returns-in_default-clause-went g c = λ honest. went_nowhere g.D.Device.held g.D.Device.image c.args.volume.now

@@ -9,7 +9,7 @@ use Rattle.frozen.specs.Loading.{AreBlocksOf, LoadRefuses}
 use Rattle.layout.specs.declared.refusal.Refusal.{Refusal}
 use Rattle.frozen.proofs.KeepingLemmas.{all_kept_of}
 use Rattle.device.proofs.ReadingLemmas.{reads_on}
-use Rattle.loaders.proofs.FrameLemmas.{alone_to_load, frame_to_load}
+use Rattle.loaders.proofs.FrameLemmas.{alone_to_load, frame_to_load, no_memory_is_no_device}
 use Rattle.loaders.proofs.by_workers.load_by.Goals as goal
 
 pub returns-clause-ok : goal.returns-clause-ok
@@ -44,3 +44,13 @@ returns-in-Err-clause-refused g c =
 
 pub returns-clause-reads : goal.returns-clause-reads
 returns-clause-reads g c = reads_on c.in_ok-geometry.ensures.reads c.in_ok-fill.ensures.reads
+
+pub returns-in-Err-clause-lost : goal.returns-in-Err-clause-lost
+returns-in-Err-clause-lost g c =
+    IfErr-weaker c.read_alone.result _ _ (λ told stands. elim c.in-Err.ensures.lost [
+      | inl none ↦ elim stands [
+        | inl device ↦ absurd (no_memory_is_no_device (sym none.0 ∙ device))
+        | inr same ↦ inl (same ∙ none.0, none.1)
+      ]
+      | inr read ↦ inr read
+    ]) c.read_alone.ensures.stands

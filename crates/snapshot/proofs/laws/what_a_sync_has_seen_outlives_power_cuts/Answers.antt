@@ -7,8 +7,9 @@ use Rattle.softdep.specs.Queued.{pending_of}
 use Rattle.live_states.specs.Holdings.{held_by}
 use Rattle.live.specs.Alive.{disk_of}
 use Rattle.live.proofs.Durably.{leaves_safe, sound_from_here}
+use Rattle.snapshot.specs.Goes.{pieces_in}
 use Rattle.snapshot.specs.Stages.{geometry_at, state_at}
-use Rattle.snapshot.proofs.SyncedLemmas.{shown_now, shown_then}
+use Rattle.snapshot.proofs.SyncedLemmas.{owned_now, owned_then, shown_now, shown_then}
 use Rattle.snapshot.proofs.laws.what_a_sync_has_seen_outlives_power_cuts.Goals as goal
 
 pub returns : goal.returns
@@ -27,7 +28,8 @@ returns g c = λ s t u commands more replies others is leads sound synced files 
     (λ f a. subst (λ image. IsReachable at (image_view at image) f × (((image_view at image).inode f).mode ≡ 1)) synced.1 (there f a)) in
     let on = here.sound in
     let later = then.service is.begun.mount anew.0 anew.1 files begin in
-    let adds = later.2.adds on in (
+    let adds = later.2.adds on in
+    let own = owned_then t u files later.0 on (later.2.sound on).0 here.mount here.history synced.1 here.owns adds (pieces_in at (state_at t) more others (state_at u) then.run) (later.2.owns on [] here.owns) in (
       leaves_safe t.held.now at t.volume.queue (held_by t.volume.holdings) files on,
       record {
         later = then.later;
@@ -41,5 +43,10 @@ returns g c = λ s t u commands more replies others is leads sound synced files 
         more = adds.more;
         media = adds.media;
         shown = shown_then t u files later.0 on (later.2.sound on).0 here.mount here.history synced.1 adds;
+        run = then.run;
+        puts = own.0;
+        pieces = own.1;
+        own_now = owned_now t u files later.0 on (later.2.sound on).0 here.mount here.history synced.1 here.owns;
+        own = own.2;
       },
     )

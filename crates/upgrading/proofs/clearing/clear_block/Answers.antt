@@ -3,6 +3,7 @@ use Rattle.std.proofs.lemmas.Bool.{both_ways}
 use Rattle.std.proofs.lemmas.Bool.Decides.{Decides-eqb}
 use Rattle.std.proofs.lemmas.Slice.Eq.{slice_eq-Decides}
 use Rattle.device.proofs.MediaLemmas.{images_held-write}
+use Rattle.device.specs.Media.{wrote}
 use Rattle.upgrading.specs.Steps.{Leaves, Writes}
 use Rattle.upgrading.proofs.clearing.clear_block.Goals as goal
 
@@ -19,3 +20,4 @@ returns-clause-clears g c =
     (c.in_ok-write.ensures.written ∙ ap (slice_set image c.args.address) c.without_pointers-block.ensures)
     (images_held-write g.D.Device.KEEPS_ORDER (g.D.Device.held c.args.device.now) (g.D.Device.held c.write.new.self) c.args.address c.without_pointers-block.result image'
     c.in_ok-write.ensures.held (g.met.D.Device.answers c.write.new.self))
+    (c.in_ok-write.ensures.held ∙ ap (wrote g.D.Device.KEEPS_ORDER (g.D.Device.held c.args.device.now) c.args.address) c.without_pointers-block.ensures)

@@ -1,12 +1,12 @@
 use Rattle.std.proofs.Common.{IfOk, subst}
 use Rattle.fuse_loop.proofs.TendedLemmas.{turns_tended}
 use Rattle.fuse_loop.specs.Tended.{TurnsTended}
-use Rattle.fuse_daemon.proofs.WentLemmas.{went_on}
+use Rattle.fuse_daemon.proofs.WentLemmas.{part_of_turn, went_on}
 use Rattle.fuse_daemon.proofs.going.Going.turn.Goals as goal
 
 pub invariant_of-self : goal.invariant_of-self
-invariant_of-self g c = went_on g.D.Device.honest g.D.Device.held g.D.Device.image g.B.Beginning.begins c.self.inside.desk.volume c.turn.new.self.volume c.turn.new.self.calls
-    c.self.invariant c.turn.ensures.goes
+invariant_of-self g c = went_on g.D.Device.honest g.D.Device.held g.D.Device.image g.B.Beginning.begins c.self.inside.desk c.turn.new.self
+    c.self.invariant (part_of_turn c.self.inside.desk c.turn.new.self c.args.message.now c.turn.new.reply.items c.turn.result c.turn.ensures.idle c.turn.ensures.turn) c.turn.ensures.goes
 
 pub returns-clause-turn : goal.returns-clause-turn
 returns-clause-turn g c =

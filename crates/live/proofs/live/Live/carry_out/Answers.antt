@@ -9,7 +9,6 @@ use Rattle.live.specs.Ended.{ended}
 use Rattle.live.proofs.Carrying.{answers, held_within, keeps_after, left_marks, live_after, still_marks, still_repairs}
 use Rattle.frozen.specs.Kept.{Kept}
 use Rattle.metadata.proofs.Steps.{same_geometry}
-use Rattle.live_states.proofs.Planning.{planned_with}
 use Rattle.live.specs.Durable.{StaysSoundAfter}
 use Rattle.live.proofs.DurablePlans.{goes_planned}
 use Rattle.live.proofs.live.Live.carry_out.Goals as goal
@@ -86,5 +85,5 @@ returns-clause-sound g c = λ sights command answer planned h sees.
     subst (λ (l : Alive _). StaysSoundAfter g.D.Device.held g.D.Device.image l command new) c.self.view_is
     (goes_planned (g.D.Device.held before.device) (g.D.Device.image before.device) (g.met.D.Device.answers before.device) before new (ap (λ (k : Kept). k.geometry) is.metadata ∙ same_geometry before.kept is.staged.blocks.items) volume
     sights command answer c.args.planned.plan
-    (subst (IsPlannedWith before.kept before.holdings sights command answer c.args.planned.plan) (sym held) (planned_with before.kept before.holdings sights command answer c.args.planned.plan holdings was))
+    (subst (IsPlannedFor before.kept before.holdings sights command answer c.args.planned.plan) (sym held) was)
     (subst (λ (l : Alive _). AreSeen sights (users_view (disk_of (g.D.Device.image l.device) l) (pending_of l.queue))) (sym c.self.view_is) sees) is.queued)

@@ -1,4 +1,4 @@
-use Rattle.std.proofs.Common.{[], inr, sym, ap, ◌∙◌, subst}
+use Rattle.std.proofs.Common.{[], append-nil, inr, sym, ap, ◌∙◌, subst}
 use Rattle.std.proofs.lemmas.Result.{err_from_is_err_and}
 use Rattle.machine.specs.Command.{Done, Write}
 use Rattle.softdep.specs.Queued.{pending_of}
@@ -10,7 +10,8 @@ use Rattle.live.proofs.Between.{answered, still_seen}
 use Rattle.live.proofs.Commands.{refused_with}
 use Rattle.live.proofs.LettingGo.{answers_with}
 use Rattle.frozen.specs.Kept.{Kept}
-use Rattle.live_states.specs.Holdings.{held_by}
+use Rattle.live_states.specs.Holdings.{held_by, opened_by}
+use Rattle.live.specs.Durable.{GoesSoundly, pieces_of}
 use Rattle.live.proofs.Durably.{goes_still, goes_then}
 use Rattle.live.proofs.live.Live.write.Goals as goal
 
@@ -112,9 +113,12 @@ returns-clause-sound g c = λ h safe.
     let kept' = ap (λ (l : Alive _). l.kept) is ∙ untouched.1 in
     let holdings' = ap (λ (l : Alive _). l.holdings) is ∙ untouched.2 in
     let held = g.D.Device.held in
-    goes_then (held old.device) (held mid.device) (held new.device) old mid new safe safe safe
+    let asked = pieces_of (opened_by old.holdings) command in
+    subst (GoesSoundly (held old.device) old (held new.device) new safe safe) (append-nil asked)
+    (goes_then (held old.device) (held mid.device) (held new.device) old mid new safe safe safe [] asked
     (goes_still (held old.device) (held mid.device) old mid (ap (λ (l : Alive _). held l.device) is ∙ c.in_ok-read_under.ensures.held) queue (ap (λ (k : Kept). k.geometry) kept') (ap held_by holdings') safe)
-    (goes_then (held mid.device) (held then.device) (held new.device) mid then new safe safe safe
+    (goes_then (held mid.device) (held then.device) (held new.device) mid then new safe safe safe asked []
+    (subst (λ o. GoesSoundly (held mid.device) mid (held then.device) then safe safe (pieces_of (opened_by o) command)) holdings'
     (c.in_ok-carry_out.ensures.sound seen command Done planned honest
-    (still_seen was (g.D.Device.image mid.device) old mid same queue kept' holdings' seen (c.in_ok-read_under.ensures.seen (subst (λ (l : Alive _). g.D.Device.honest l.device) is honest))) safe)
-    (goes_still (held then.device) (held new.device) then new (ap held c.let_go.ensures.device) c.let_go.ensures.queue c.let_go.ensures.geometry (ap held_by c.let_go.ensures.holdings) safe))
+    (still_seen was (g.D.Device.image mid.device) old mid same queue kept' holdings' seen (c.in_ok-read_under.ensures.seen (subst (λ (l : Alive _). g.D.Device.honest l.device) is honest))) safe))
+    (goes_still (held then.device) (held new.device) then new (ap held c.let_go.ensures.device) c.let_go.ensures.queue c.let_go.ensures.geometry (ap held_by c.let_go.ensures.holdings) safe)))

@@ -1,6 +1,7 @@
 use Rattle.std.proofs.Common.{rules, subst, inl, inr, refl, ◌≡◌, ◌++◌, ◌∷◌, [], sym, ◌∙◌, ap, ◌+◌, cond}
 use Rattle.std.specs.List.{count_by}
 use Rattle.std.proofs.lemmas.List.Sums.{sum_by_push}
+use Rattle.softdep.specs.Queued.{unsynced_of}
 use Rattle.snapshot.specs.Asked.{asked}
 use Rattle.snapshot.specs.Refusing.{IsCause}
 use Rattle.snapshot.proofs.Blaming.{not_full}
@@ -8,7 +9,7 @@ use Rattle.shared.specs.declared.entry.Entry.{Entry}
 use Rattle.shared.specs.Calls.{IsOfSharing}
 use Rattle.shared.specs.Repairing.{is_repair_entry}
 use Rattle.shared.specs.Shown.{Shown}
-use Rattle.shared.proofs.TraceLemmas.{answer_so, applied_so, called, caused_so, error_so, never_full, untouched_so, writes_so}
+use Rattle.shared.proofs.TraceLemmas.{answer_so, applied_so, called, caused_so, error_so, never_full, noted_ok, untouched_so, writes_so}
 use Rattle.shared.proofs.booked.Booked.call.Goals as goal
 
 pub invariant_of-self : goal.invariant_of-self
@@ -31,7 +32,9 @@ invariant_of-self g c =
       λ h. rw items (called held image g.L.Sharing.opens b.before b.trace.items old new c.args.command c.with_note-reply.result.0 c.with_note-reply.result.1
           (c.self.invariant.6 (c.apply-reply.ensures.honest h))
           (applied_so (held old.device) (held new.device) (image old.device) (image new.device) old new (asked old.kept.geometry c.args.command) c.apply-reply.result c.with_note-reply.result.0 c.with_note-reply.ensures.same (c.apply-reply.ensures.applied h))
-          c.with_note-reply.ensures.noted),
+          c.with_note-reply.ensures.noted (λ is. noted_ok (unsynced_of new.queue ≡ []) c.with_note-reply.result.0 c.with_note-reply.result.1 c.with_note-reply.ensures.noted
+          (answer_so (λ answer. unsynced_of new.queue ≡ []) c.apply-reply.result c.with_note-reply.result.0 (c.apply-reply.ensures.synced is) c.with_note-reply.ensures.same))
+          (g.met.D.Device.answers new.device)),
       search rules,
     )
 
