@@ -25,3 +25,4 @@ mod PlansHold
 mod BytesHeld
 pub mod Lasting
 pub mod ServiceBytes
+pub mod Sizes

@@ -1,0 +1,286 @@
+-- Which sizes a plan writes: each record that it writes has the size that users saw of the inode before the command, or that which they see after it.
+use Rattle.std.proofs.Common.{◌≡◌, ◌⊎◌, ◌+◌, ◌-◌, ℕ, Bool, true, false, nat_lt, not, List, [], ◌∷◌, inl, inr, arith, IsFalse, IsTrue, refl, sym, ap, ◌∙◌, subst}
+use Rattle.std.proofs.lemmas.Bool.{both_ways, cases_Bool, cond-true, cond-false}
+use Rattle.findings.specs.declared.repair.Repair.{Repair}
+use Rattle.findings.specs.declared.repair.Repair.TheVariants.{DropInode, FreeBlock, FreeNumber, LowerCount}
+use Rattle.model.specs.Layout.{Geometry, is_number}
+use Rattle.model.specs.Reach.{IsReachableDirectory}
+use Rattle.model.specs.Rules.{ObeysRules}
+use Rattle.model.specs.Slots.{Names}
+use Rattle.model.specs.View.{View, Inode, free_inode, new_file}
+use Rattle.model.specs.Cells.{Update, SetInode, SetNumber, SetBlock, SetBytes, put_at}
+use Rattle.model.specs.Uses.{blocks_of}
+use Rattle.ordering.specs.Cuts.{Cell, Block, Pending, Record, BlockBit, NumberBit, users_view}
+use Rattle.ordering.proofs.Records.{put_here, put_there}
+use Rattle.machine.specs.Cells.{block_of}
+use Rattle.machine.specs.Effects.{new_directory, size_after, with_links}
+use Rattle.machine.specs.State.{State, is_open}
+use Rattle.plans_data.specs.Append.{Holder, KeptInNew, KeptInRecord, KeptInTable, appended, filled, known, linked, pointed, sized}
+use Rattle.plans_data.specs.Freeing.{cleared, freeing}
+use Rattle.plans_data.specs.Release.{releasing}
+use Rattle.plans_data.specs.Relink.{closing, goes_away, inode_of, open_of, relinking, repairing, without_handle}
+use Rattle.plans_data.specs.Truncate.{truncation}
+use Rattle.plans_data.specs.Write.{enlarged, relocated}
+use Rattle.plans_naming.specs.Create.{born, creating_grown}
+use Rattle.plans_naming.specs.Entries.{no_entry, slot_written}
+use Rattle.plans_naming.specs.Grow.{empty_block, grown}
+use Rattle.plans_naming.specs.Link.{linking_grown, raised}
+use Rattle.plans_naming.specs.Make.{made, making_grown}
+use Rattle.courses.specs.Plans.{IsPlan, WritesInPlace, WritesAppended, WritesMoved, Truncates, Relinks, Closes, Repairs, Creates, CreatesGrown, Links, LinksGrown, Unlinks, UnlinksLast, Makes, MakesGrown, Removes, RemovesName, Renames, Moves, MovesGrown}
+use Rattle.courses.proofs.NamingPlans.{other_record}
+use Rattle.courses.proofs.Pieces.{reachable_mode}
+
+-- each update behind those that were pending is such a one
+pub data Behind (Is : Update → Type 0) (q : List Pending) : List Pending → Type 0 where
+  Start : Behind Is q q
+  On : {p : List Pending} (u : Pending) → Behind Is q p → Is u.change → Behind Is q (u ∷ p)
+
+-- an update writes no record
+abbrev pub WritesNoRecord : Update → Type 0
+WritesNoRecord (SetInode n x) = ⊥
+WritesNoRecord (SetNumber n marked) = Unit {0}
+WritesNoRecord (SetBlock a marked) = Unit {0}
+WritesNoRecord (SetBytes a bytes) = Unit {0}
+
+-- the end of a snapshot writes none
+pub released : (blocks : List ℕ) (q p : List Pending) → Behind WritesNoRecord q p → Behind WritesNoRecord q (releasing blocks p)
+released [] q p s = s
+released (b ∷ bs) q p s = released bs q (record { change = SetBlock b false; after = [] } ∷ p) (On (record { change = SetBlock b false; after = [] }) s tt)
+
+-- an update that writes a record writes one of these two sizes
+abbrev pub SizeIs : View → View → Update → Type 0
+SizeIs v w (SetInode n x) = (x.size ≡ (v.inode n).size) ⊎ (x.size ≡ (w.inode n).size)
+SizeIs v w (SetNumber n marked) = Unit {0}
+SizeIs v w (SetBlock a marked) = Unit {0}
+SizeIs v w (SetBytes a bytes) = Unit {0}
+
+-- so do all updates behind those that were pending
+abbrev pub Sized : View → View → List Pending → List Pending → Type 0
+Sized v w q p = Behind (SizeIs v w) q p
+
+module _ (v w : View) (q : List Pending) where
+  cleared_sized : (n : ℕ) (bs : List ℕ) (p : List Pending) → Sized v w q p → Sized v w q (cleared n bs p)
+  cleared_sized n [] p s = s
+  cleared_sized n (b ∷ bs) p s = cleared_sized n bs (record { change = SetBlock b false; after = Record n ∷ [] } ∷ p) (On (record { change = SetBlock b false; after = Record n ∷ [] }) s tt)
+
+  filled_sized : (b : ℕ) (bytes : List ℕ) (p : List Pending) → Sized v w q p → Sized v w q (filled b bytes p)
+  filled_sized b bytes p s = On (record { change = SetBytes b bytes; after = BlockBit b ∷ [] }) (On (record { change = SetBlock b true; after = [] }) s tt) tt
+
+  linked_sized : (geo : Geometry) (n k b : ℕ) (holder : Holder) (p : List Pending) → Sized v w q p → Sized v w q (linked geo n k b holder p)
+  linked_sized geo n k b KeptInRecord p s = s
+  linked_sized geo n k b (KeptInTable m x table over) p s = On _ s tt
+  linked_sized geo n k b (KeptInNew m x table up) p s =
+      linked_sized geo n m x up _ (On (record { change = SetBytes x table; after = BlockBit x ∷ Block b ∷ [] }) (On (record { change = SetBlock x true; after = [] }) s tt) tt)
+
+  -- a record that has the size of before, or that of after
+  was : (n : ℕ) (x : Inode) (after : List Cell) (p : List Pending) → x.size ≡ (v.inode n).size → Sized v w q p → Sized v w q (record { change = SetInode n x; after = after } ∷ p)
+  was n x after p e s = On (record { change = SetInode n x; after = after }) s (inl e)
+
+  will : (n : ℕ) (x : Inode) (after : List Cell) (p : List Pending) → x.size ≡ (w.inode n).size → Sized v w q p → Sized v w q (record { change = SetInode n x; after = after } ∷ p)
+  will n x after p e s = On (record { change = SetInode n x; after = after }) s (inr e)
+
+  slot_sized : (block : ℕ) (bytes : List ℕ) (s : ℕ) (entry : List ℕ) (after : List Cell) (p : List Pending) → Sized v w q p → Sized v w q (slot_written block bytes s entry after ∷ p)
+  slot_sized block bytes s entry after p z = On (slot_written block bytes s entry after) z tt
+
+  freeing_sized : (n : ℕ) (blocks : List ℕ) (after : List Cell) (p : List Pending) → 0 ≡ (w.inode n).size → Sized v w q p → Sized v w q (freeing n blocks after p)
+  freeing_sized n blocks after p e s = cleared_sized n blocks _ (On (record { change = SetNumber n false; after = Record n ∷ [] }) (will n free_inode after p e s) tt)
+
+  appended_sized : (geo : Geometry) (n : ℕ) (inode : Inode) (k b : ℕ) (bytes : List ℕ) (size : ℕ) (holder : Holder) (p : List Pending) → size ≡ (w.inode n).size → Sized v w q p → Sized v w q (appended geo n inode k b bytes size holder p)
+  appended_sized geo n inode k b bytes size holder p e s =
+      will n (sized (pointed geo inode k b holder) size) (known b holder) _ e (linked_sized geo n k b holder _ (filled_sized b bytes p s))
+
+  enlarged_sized : (n : ℕ) (inode : Inode) (size : ℕ) (after : List Cell) (p : List Pending) → (nat_lt inode.size size ≡ true → size ≡ (w.inode n).size) → Sized v w q p → Sized v w q (enlarged n inode size after p)
+  enlarged_sized n inode size after p e s =
+      let more = record { change = SetInode n (sized inode size); after = after } ∷ p in
+      elim (cases_Bool (nat_lt inode.size size)) [
+        | inl t ↦ subst (λ l. Sized v w q l) (sym (cond-true (nat_lt inode.size size) more p t)) (will n (sized inode size) after p (e t) s)
+        | inr f ↦ subst (λ l. Sized v w q l) (sym (cond-false (nat_lt inode.size size) more p f)) s
+      ]
+
+-- ---- the records of the view behind them
+
+cleared_inodes : (disk : View) (n : ℕ) (bs : List ℕ) (p : List Pending) → (users_view disk (cleared n bs p)).inode ≡ (users_view disk p).inode
+cleared_inodes disk n [] p = refl
+cleared_inodes disk n (b ∷ bs) p = cleared_inodes disk n bs (record { change = SetBlock b false; after = Record n ∷ [] } ∷ p)
+
+freed_size : (disk : View) (n : ℕ) (blocks : List ℕ) (after : List Cell) (p : List Pending) → 0 ≡ ((users_view disk (freeing n blocks after p)).inode n).size
+freed_size disk n blocks after p =
+    sym (ap (λ (f : ℕ → Inode). (f n).size) (cleared_inodes disk n blocks (record { change = SetNumber n false; after = Record n ∷ [] } ∷ record { change = SetInode n free_inode; after = after } ∷ p))
+    ∙ ap (λ (x : Inode). x.size) (put_here (users_view disk p).inode n free_inode))
+
+enlarged_size : (disk : View) (n : ℕ) (inode : Inode) (size : ℕ) (after : List Cell) (p : List Pending) → nat_lt inode.size size ≡ true → size ≡ ((users_view disk (enlarged n inode size after p)).inode n).size
+enlarged_size disk n inode size after p t =
+    let more = record { change = SetInode n (sized inode size); after = after } ∷ p in
+    sym (ap (λ l. ((users_view disk l).inode n).size) (cond-true (nat_lt inode.size size) more p t) ∙ ap (λ (x : Inode). x.size) (put_here (users_view disk p).inode n (sized inode size)))
+
+appended_size : (geo : Geometry) (disk : View) (n : ℕ) (inode : Inode) (k b : ℕ) (bytes : List ℕ) (size : ℕ) (holder : Holder) (p : List Pending) → size ≡ ((users_view disk (appended geo n inode k b bytes size holder p)).inode n).size
+appended_size geo disk n inode k b bytes size holder p =
+    sym (ap (λ (x : Inode). x.size) (put_here (users_view disk (linked geo n k b holder (filled b bytes p))).inode n (sized (pointed geo inode k b holder) size)))
+
+-- ---- by the kinds of plans
+
+moved_sized : (geo : Geometry) (disk : View) (q : List Pending) (v : View) (n : ℕ) (inode : Inode) (k b : ℕ) (bytes : List ℕ) (size : ℕ) (holder : Holder)
+    → Sized v (users_view disk (relocated geo n inode k b bytes size holder q)) q (relocated geo n inode k b bytes size holder q)
+moved_sized geo disk q v n inode k b bytes size KeptInRecord =
+    appended_sized v _ q geo n inode k b bytes size KeptInRecord q (appended_size geo disk n inode k b bytes size KeptInRecord q) Start
+moved_sized geo disk q v n inode k b bytes size (KeptInNew m x table up) =
+    appended_sized v _ q geo n inode k b bytes size (KeptInNew m x table up) q (appended_size geo disk n inode k b bytes size (KeptInNew m x table up) q) Start
+moved_sized geo disk q v n inode k b bytes size (KeptInTable m x table over) =
+    let cells = known b (KeptInTable m x table over) in
+    let under = linked geo n k b (KeptInTable m x table over) (filled b bytes q) in
+    enlarged_sized v _ q n inode size cells under (enlarged_size disk n inode size cells under)
+    (linked_sized v _ q geo n k b (KeptInTable m x table over) (filled b bytes q) (filled_sized v _ q b bytes q Start))
+
+module _ (disk : View) (q : List Pending) where
+  abbrev v : View
+  v = users_view disk q
+
+  abbrev All : List Pending → Type 0
+  All p = Sized (users_view disk q) (users_view disk p) q p
+
+  freed : (n : ℕ) (blocks : List ℕ) → All (freeing n blocks [] q)
+  freed n blocks = freeing_sized v _ q n blocks [] q (freed_size disk n blocks [] q) Start
+
+  relinked : (n links : ℕ) (opened : Bool) (blocks : List ℕ) → All (relinking n ((users_view disk q).inode n) links opened blocks q)
+  relinked n links opened blocks =
+      let gone = freeing n blocks [] q in
+      let stays : List Pending = record { change = SetInode n (with_links (v.inode n) links); after = [] } ∷ q in
+      elim (cases_Bool (goes_away links opened)) [
+        | inl t ↦ subst All (sym (cond-true (goes_away links opened) gone stays t)) (freed n blocks)
+        | inr f ↦ subst All (sym (cond-false (goes_away links opened) gone stays f)) (was v _ q n (with_links (v.inode n) links) [] q refl Start)
+      ]
+
+  closed : (n : ℕ) (opened : Bool) (blocks : List ℕ) → All (closing n ((users_view disk q).inode n) opened blocks q)
+  closed n opened blocks =
+      let gone = freeing n blocks [] q in
+      let goes = goes_away (v.inode n).links opened in
+      elim (cases_Bool goes) [
+        | inl t ↦ subst All (sym (cond-true goes gone q t)) (freed n blocks)
+        | inr f ↦ subst All (sym (cond-false goes gone q f)) Start
+      ]
+
+  repaired : (r : Repair) (opened : Bool) (blocks : List ℕ) → All (repairing r (inode_of (users_view disk q) r) opened blocks q)
+  repaired (DropInode n) opened blocks = relinked n 0 opened blocks
+  repaired (LowerCount n x) opened blocks = relinked n ((v.inode n).links - x) opened blocks
+  repaired (FreeBlock a) opened blocks = On (record { change = SetBlock a false; after = [] }) Start tt
+  repaired (FreeNumber n) opened blocks = On (record { change = SetNumber n false; after = [] }) Start tt
+
+  truncated : (n size : ℕ) (blocks : List ℕ) → All (truncation n ((users_view disk q).inode n) size blocks q)
+  truncated n size blocks =
+      let set : List Pending = record { change = SetInode n (sized (v.inode n) size); after = [] } ∷ q in
+      cleared_sized v _ q n blocks set (will v _ q n (sized (v.inode n) size) [] q
+      (sym (ap (λ (f : ℕ → Inode). (f n).size) (cleared_inodes disk n blocks set) ∙ ap (λ (x : Inode). x.size) (put_here v.inode n (sized (v.inode n) size)))) Start)
+
+  -- a directory grows, after updates that have such sizes
+  module _ (geo : Geometry) (rules : ObeysRules geo (users_view disk q)) (d : ℕ) (parent : Inode) (b : ℕ) (holder : Holder) (p top : List Pending) (same : (users_view disk top).inode ≡ (users_view disk (grown geo d parent b holder p)).inode) where
+    grown_size : parent.size + 1024 ≡ ((users_view disk top).inode d).size
+    grown_size = appended_size geo disk d parent (blocks_of parent.size) b empty_block (parent.size + 1024) holder p ∙ sym (ap (λ (f : ℕ → Inode). (f d).size) same)
+
+    grown_on : Sized (users_view disk q) (users_view disk top) q p → Sized (users_view disk q) (users_view disk top) q (grown geo d parent b holder p)
+    grown_on s = appended_sized v (users_view disk top) q geo d parent (blocks_of parent.size) b empty_block (parent.size + 1024) holder p grown_size s
+
+    beside : (i : ℕ) → (i ≡ d → ⊥) → ((users_view disk top).inode i).size ≡ ((users_view disk p).inode i).size
+    beside i other = ap (λ (f : ℕ → Inode). (f i).size) same ∙ ap (λ (x : Inode). x.size) (other_record geo disk q rules i d parent b holder p other)
+
+-- a number that is not marked is none of a directory
+unmarked_apart : (geo : Geometry) (v : View) → ObeysRules geo v → (n d : ℕ) → IsTrue (is_number geo n) → IsFalse (v.number_marked n) → IsReachableDirectory geo v d → n ≡ d → ⊥
+unmarked_apart geo v o n d number unmarked reachable e =
+    let two = reachable_mode geo v d reachable in
+    let same = ap (λ j. (v.inode j).mode) e in
+    both_ways (v.number_marked n) unmarked (o.rule4 n number (λ z. omega (arith, z, two, same)))
+
+-- a directory is made
+made_sized : (disk : View) (q : List Pending) (w : View) (i b : ℕ) (dots : List ℕ) (d : ℕ) → 1024 ≡ (w.inode i).size → Sized (users_view disk q) w q (made i b dots d ((users_view disk q).inode d) q)
+made_sized disk q w i b dots d e =
+    let v = users_view disk q in
+    will v w q i (new_directory b) (NumberBit i ∷ Block b ∷ []) _ e
+    (On (record { change = SetBytes b dots; after = BlockBit b ∷ Record d ∷ [] })
+    (was v w q d (with_links (v.inode d) ((v.inode d).links + 1)) [] _ refl (On (record { change = SetBlock b true; after = [] }) (On (record { change = SetNumber i true; after = [] }) Start tt) tt)) tt)
+
+pub plan_sized : (geo : Geometry) (disk : View) (q : List Pending) (old : State) (safe : ℕ → Bool) → ObeysRules geo (users_view disk q) → (file : ℕ) (p : List Pending) (held' safe' : ℕ → Bool) → IsPlan geo disk q old safe file p held' safe'
+    → Sized (users_view disk q) (users_view disk p) q p
+plan_sized geo disk q old safe o file p held' safe' (WritesInPlace n k piece bytes may) =
+    let v = users_view disk q in
+    let b = block_of geo v n k in
+    let under : List Pending = record { change = SetBytes b bytes; after = [] } ∷ q in
+    enlarged_sized v _ q n (v.inode n) (size_after v n k piece) (Block b ∷ []) under (enlarged_size disk n (v.inode n) (size_after v n k piece) (Block b ∷ []) under) (On (record { change = SetBytes b bytes; after = [] }) Start tt)
+plan_sized geo disk q old safe o file p held' safe' (WritesAppended n k b piece bytes holder may) =
+    let v = users_view disk q in
+    appended_sized v _ q geo n (v.inode n) k b bytes (size_after v n k piece) holder q (appended_size geo disk n (v.inode n) k b bytes (size_after v n k piece) holder q) Start
+plan_sized geo disk q old safe o file p held' safe' (WritesMoved n k b piece bytes holder may) =
+    let v = users_view disk q in moved_sized geo disk q v n (v.inode n) k b bytes (size_after v n k piece) holder
+plan_sized geo disk q old safe o file p held' safe' (Truncates n size blocks may) = truncated disk q n size blocks
+plan_sized geo disk q old safe o file p held' safe' (Relinks n links blocks may) = relinked disk q n links (is_open old n) blocks
+plan_sized geo disk q old safe o file p held' safe' (Closes h n blocks may) = closed disk q n (is_open (without_handle h old) n) blocks
+plan_sized geo disk q old safe o file p held' safe' (Repairs r f blocks may) = repaired disk q r (open_of old r) blocks
+plan_sized geo disk q old safe o file p held' safe' (Creates n d s block name entry after can) =
+    let v = users_view disk q in
+    slot_sized v _ q block (v.bytes block) s entry after (born n new_file [] q)
+    (will v _ q n new_file (NumberBit n ∷ []) _ (sym (ap (λ (x : Inode). x.size) (put_here v.inode n new_file))) (On (record { change = SetNumber n true; after = [] }) Start tt))
+plan_sized geo disk q old safe o file p held' safe' (CreatesGrown n d b kept s name entry after marked can) =
+    let v = users_view disk q in
+    let under = born n new_file [] q in
+    let apart : n ≡ d → ⊥ = λ e. unmarked_apart geo v o n d can.number can.unmarked can.enter.reachable e in
+    slot_sized v _ q b empty_block s entry after (grown geo d (v.inode d) b kept under)
+    (grown_on disk q geo o d (v.inode d) b kept under (creating_grown geo n d (v.inode d) b kept s entry after q) refl
+    (will v _ q n new_file (NumberBit n ∷ []) _ (sym (beside disk q geo o d (v.inode d) b kept under (creating_grown geo n d (v.inode d) b kept s entry after q) refl n apart ∙ ap (λ (x : Inode). x.size) (put_here v.inode n new_file)))
+    (On (record { change = SetNumber n true; after = [] }) Start tt)))
+plan_sized geo disk q old safe o file p held' safe' (Links i d s block name entry after can) =
+    let v = users_view disk q in
+    slot_sized v _ q block (v.bytes block) s entry after (raised i (v.inode i) q) (was v _ q i (with_links (v.inode i) ((v.inode i).links + 1)) [] q refl Start)
+plan_sized geo disk q old safe o file p held' safe' (LinksGrown i d b kept s name entry after marked can) =
+    let v = users_view disk q in
+    slot_sized v _ q b empty_block s entry after (grown geo d (v.inode d) b kept (raised i (v.inode i) q))
+    (grown_on disk q geo o d (v.inode d) b kept (raised i (v.inode i) q) (linking_grown geo i (v.inode i) d (v.inode d) b kept s entry after q) refl (was v _ q i (with_links (v.inode i) ((v.inode i).links + 1)) [] q refl Start))
+plan_sized geo disk q old safe o file p held' safe' (Unlinks i d s block name can) =
+    let v = users_view disk q in
+    was v _ q i (with_links (v.inode i) ((v.inode i).links - 1)) (Block block ∷ []) _ refl (slot_sized v _ q block (v.bytes block) s no_entry [] q Start)
+plan_sized geo disk q old safe o file p held' safe' (UnlinksLast i d s block name blocks can free one) =
+    let v = users_view disk q in
+    let under : List Pending = slot_written block (v.bytes block) s no_entry [] ∷ q in
+    freeing_sized v _ q i blocks (Block block ∷ []) under (freed_size disk i blocks (Block block ∷ []) under) (slot_sized v _ q block (v.bytes block) s no_entry [] q Start)
+plan_sized geo disk q old safe o file p held' safe' (Makes i b dots d s block name entry after can marked) =
+    let v = users_view disk q in
+    slot_sized v _ q block (v.bytes block) s entry after (made i b dots d (v.inode d) q) (made_sized disk q _ i b dots d (sym (ap (λ (x : Inode). x.size) (put_here (put_at v.inode d (with_links (v.inode d) ((v.inode d).links + 1))) i (new_directory b)))))
+plan_sized geo disk q old safe o file p held' safe' (MakesGrown i a dots d b kept s name entry after marked can) =
+    let v = users_view disk q in
+    let parent = with_links (v.inode d) ((v.inode d).links + 1) in
+    let under = made i a dots d (v.inode d) q in
+    let top = making_grown geo i a dots d (v.inode d) b kept s entry after q in
+    let apart : i ≡ d → ⊥ = λ e. unmarked_apart geo v o i d can.make.number can.make.unmarked can.enter.reachable e in
+    slot_sized v _ q b empty_block s entry after (grown geo d parent b kept under)
+    (grown_on disk q geo o d parent b kept under top refl
+    (made_sized disk q _ i a dots d (sym (beside disk q geo o d parent b kept under top refl i apart ∙ ap (λ (x : Inode). x.size) (put_here (put_at v.inode d (with_links (v.inode d) ((v.inode d).links + 1))) i (new_directory a))))))
+plan_sized geo disk q old safe o file p held' safe' (Removes i b d s block name after blocks can free two unsafe) =
+    let v = users_view disk q in
+    let under : List Pending = slot_written block (v.bytes block) s no_entry after ∷ q in
+    let parent = with_links (v.inode d) ((v.inode d).links - 1) in
+    let apart : i ≡ d → ⊥ = λ e. can.empty s i can.place.after_dots (subst (λ k. Names geo v k s i) (sym e) (name, can.place.holds)) in
+    was v _ q d parent (Block block ∷ []) _ refl
+    (freeing_sized v _ q i blocks (Block block ∷ []) under
+    (freed_size disk i blocks (Block block ∷ []) under ∙ sym (ap (λ (x : Inode). x.size) (put_there (users_view disk (freeing i blocks (Block block ∷ []) under)).inode d i parent apart)))
+    (slot_sized v _ q block (v.bytes block) s no_entry after q Start))
+plan_sized geo disk q old safe o file p held' safe' (RemovesName i b d s block name after can unsafe) =
+    let v = users_view disk q in
+    was v _ q d (with_links (v.inode d) ((v.inode d).links - 1)) (Block block ∷ []) _ refl
+    (was v _ q i (with_links (v.inode i) ((v.inode i).links - 2)) (Block block ∷ []) _ refl (slot_sized v _ q block (v.bytes block) s no_entry after q Start))
+plan_sized geo disk q old safe o file p held' safe' (Renames i d s block name other entry after can) =
+    let v = users_view disk q in slot_sized v _ q block (v.bytes block) s entry after q Start
+plan_sized geo disk q old safe o file p held' safe' (Moves i d' s' block' name' entry after' d s block name after can) =
+    let v = users_view disk q in
+    was v _ q i (v.inode i) (Block block ∷ []) _ refl
+    (slot_sized v _ q block (v.bytes block) s no_entry after _
+    (slot_sized v _ q block' (v.bytes block') s' entry after' (raised i (v.inode i) q) (was v _ q i (with_links (v.inode i) ((v.inode i).links + 1)) [] q refl Start)))
+plan_sized geo disk q old safe o file p held' safe' (MovesGrown i d' b kept s' name' entry after' d s block name after marked can) =
+    let v = users_view disk q in
+    let raise = raised i (v.inode i) q in
+    let grow = grown geo d' (v.inode d') b kept raise in
+    let one = can.to.file in
+    let apart : d' ≡ i → ⊥ = λ e. let same = ap (λ j. (v.inode j).mode) e in let two = reachable_mode geo v d' can.to.enter.reachable in omega (arith, one, two, same) in
+    was v _ q i (v.inode i) (Block block ∷ []) _ refl
+    (slot_sized v _ q block (v.bytes block) s no_entry after _
+    (slot_sized v _ q b empty_block s' entry after' grow
+    (appended_sized v _ q geo d' (v.inode d') (blocks_of (v.inode d').size) b empty_block ((v.inode d').size + 1024) kept raise
+    (appended_size geo disk d' (v.inode d') (blocks_of (v.inode d').size) b empty_block ((v.inode d').size + 1024) kept raise
+    ∙ sym (ap (λ (x : Inode). x.size) (put_there (users_view disk grow).inode i d' (v.inode i) apart)))
+    (was v _ q i (with_links (v.inode i) ((v.inode i).links + 1)) [] q refl Start))))
