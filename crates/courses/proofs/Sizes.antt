@@ -32,8 +32,8 @@ use Rattle.courses.proofs.Pieces.{reachable_mode}
 
 -- each update behind those that were pending is such a one
 pub data Behind (Is : Update → Type 0) (q : List Pending) : List Pending → Type 0 where
-  Start : Behind Is q q
-  On : {p : List Pending} (u : Pending) → Behind Is q p → Is u.change → Behind Is q (u ∷ p)
+  Here : Behind Is q q
+  Then : {p : List Pending} (u : Pending) → Behind Is q p → Is u.change → Behind Is q (u ∷ p)
 
 -- an update writes no record
 abbrev pub WritesNoRecord : Update → Type 0
@@ -45,7 +45,7 @@ WritesNoRecord (SetBytes a bytes) = Unit {0}
 -- the end of a snapshot writes none
 pub released : (blocks : List ℕ) (q p : List Pending) → Behind WritesNoRecord q p → Behind WritesNoRecord q (releasing blocks p)
 released [] q p s = s
-released (b ∷ bs) q p s = released bs q (record { change = SetBlock b false; after = [] } ∷ p) (On (record { change = SetBlock b false; after = [] }) s tt)
+released (b ∷ bs) q p s = released bs q (record { change = SetBlock b false; after = [] } ∷ p) (Then (record { change = SetBlock b false; after = [] }) s tt)
 
 -- an update that writes a record writes one of these two sizes
 abbrev pub SizeIs : View → View → Update → Type 0
@@ -55,8 +55,13 @@ SizeIs v w (SetBlock a marked) = Unit {0}
 SizeIs v w (SetBytes a bytes) = Unit {0}
 
 -- so do all updates behind those that were pending
-abbrev pub Sized : View → View → List Pending → List Pending → Type 0
-Sized v w q p = Behind (SizeIs v w) q p
+pub data Sized (v w : View) (q : List Pending) : List Pending → Type 0 where
+  Start : Sized v w q q
+  On : {p : List Pending} (u : Pending) → Sized v w q p → SizeIs v w u.change → Sized v w q (u ∷ p)
+
+pub each_sized : (v w : View) (q p : List Pending) → Sized v w q p → Behind (SizeIs v w) q p
+each_sized v w q p Start = Here
+each_sized v w q p (On {p = r} u s is) = Then u (each_sized v w q r s) is
 
 module _ (v w : View) (q : List Pending) where
   cleared_sized : (n : ℕ) (bs : List ℕ) (p : List Pending) → Sized v w q p → Sized v w q (cleared n bs p)
