@@ -22,7 +22,7 @@ use Rattle.snapshot.specs.declared.answer.Answer.TheVariants.{Done, Number, Byte
 use Rattle.snapshot.specs.Asked.{HasBytesOrNames, IsReply, asked, mode_of}
 use Rattle.snapshot.specs.declared.command.Command.TheVariants.{Create, Mkdir, Link, Unlink, Rmdir, Rename, Open, Close, Read, Write, Truncate, List as ListOf, Stat, Freeze, SnapRead, Release, Install, Repair, Flush, Sync}
 use Rattle.snapshot.specs.Durable.{GoesSoundly}
-use Rattle.snapshot.specs.Goes.{Applies, Goes, HasBeside, pieces_in}
+use Rattle.snapshot.specs.Goes.{Applies, Goes, HasBeside, pieces_in, views_in}
 use Rattle.snapshot.specs.Stages.{Stage}
 use Rattle.snapshot.specs.Synced.{IsSynced}
 use Rattle.snapshot.specs.Writes.{Writes}
@@ -120,7 +120,7 @@ module _ {D : Type 0} (held held' : Held) (image image' : List (List ℕ)) (old 
         let s = goes.service mount h cut safe begin in (
           s.0,
           service_refused old.kept.geometry (disk_of image old) (pending_of old.queue) (state_of image old beside) safe (disk_of image' new) (pending_of new.queue) (state_of image' new beside') s.0 command response goes.later c s.1,
-          subst (GoesSoundly held old held' new safe s.0) (copied_asks old.kept.geometry (state_of image old beside) (state_of image' new beside') command response c goes.run) s.2,
+          subst (λ pieces. GoesSoundly held old held' new safe s.0 pieces (views_in old.kept.geometry (state_of image old beside) (command ∷ []) (response ∷ []) (state_of image' new beside') goes.run)) (copied_asks old.kept.geometry (state_of image old beside) (state_of image' new beside') command response c goes.run) s.2,
         );
   }
 
