@@ -1,5 +1,5 @@
 -- A command of users is answered, or refused.
-use Rattle.std.proofs.Common.{◌≡◌, ℕ, Bool, List, [], Ok, Err, Result, IfErr, IfOk, IsTrue, MatchResult, OnErr, OnOk, refl, sym, ap, ◌∙◌, subst}
+use Rattle.std.proofs.Common.{◌∷◌, ◌≡◌, ℕ, Bool, List, [], Ok, Err, Result, IfErr, IfOk, IsTrue, MatchResult, OnErr, OnOk, refl, sym, ap, ◌∙◌, subst}
 use Rattle.std.proofs.lemmas.List.Elements.{All-nil}
 use Rattle.std.proofs.lemmas.List.{append-nil}
 use Rattle.layout.specs.declared.refusal.Refusal.{Refusal}

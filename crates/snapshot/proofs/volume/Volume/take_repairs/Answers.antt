@@ -11,7 +11,7 @@ use Rattle.live_states.specs.Snapshots.{AreRepairsOf, IsInstallable, installing}
 use Rattle.live_states.proofs.Installing.{installed_quietly}
 use Rattle.live_states.proofs.Standing.{has}
 use Rattle.live.specs.Alive.{Alive, Answers, StandsSo}
-use Rattle.live.proofs.Durably.{goes_still}
+use Rattle.live.proofs.Durably.{goes_seen, goes_still}
 use Rattle.snapshot.specs.Asked.{check_of}
 use Rattle.snapshot.specs.Goes.{GoesSafely, HasBeside, Replies}
 use Rattle.snapshot.proofs.CallLemmas.{if_err, kept_ok, on_ok₂, quiet_ok, same_err, same_device}
