@@ -171,6 +171,12 @@ pub stays_still : {D T : Type 0} (held held' : Held) (old new : Alive D) (H : Ty
 stays_still held held' old new H (Ok t) same left = λ h safe. goes_still held held' old new same left.0 (ap (λ (k : Kept). k.geometry) left.1) (ap held_by left.2) safe
 stays_still held held' old new H (Err e) same left = tt
 
+-- and what writes no record may have any sizes
+pub sees_any : {D T : Type 0} (held held' : Held) (old new : Alive D) (H : Type 0) (views : List View) (r : Result T Refusal) → OnOk r (H → StaysSafe held old held' new)
+    → OnOk r (H → (safe : ℕ → Bool) → GoesSoundly held old held' new safe safe [] views)
+sees_any held held' old new H views (Ok t) stays = λ h safe. goes_seen held held' old new safe safe [] views (stays h safe)
+sees_any held held' old new H views (Err e) stays = tt
+
 -- a flush that is refused wrote nothing
 pub unflushed : {D T : Type 0} (honest : D → Type 0) (held_of : D → Held) (image_of : D → List (List ℕ)) (old new : Alive D) (r : Result T Refusal)
     → OnErr r ((new.queue ≡ old.queue) × (image_of new.device ≡ image_of old.device) × (held_of new.device ≡ held_of old.device))
