@@ -6,4 +6,4 @@ use Rattle.tool_answers.proofs.words.namings.Given as goal
 
 abbrev pub invariant-loop-path : goal.invariant-loop-path
 invariant-loop-path l = (geo : Geometry) → map (asked geo) l.commands.items
-    ≡ map (λ path. naming_of l.fn.naming path.items (new_name l.fn.aim l.fn.target.now path.items)) (take l.path-index l.paths)
+    ≡ map (λ path. naming_of l.fn.naming path.items (new_name l.fn.aim l.fn.target path.items)) (take l.path-index l.paths)
