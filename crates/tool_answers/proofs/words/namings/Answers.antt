@@ -10,7 +10,7 @@ loop-path-preserved c = λ geo.
     deed_added (asked geo) (λ (path : Vec ℕ Global). naming_of c.args.naming path.items (new_name c.args.aim c.args.target.now path.items)) c.args.paths.now c.loop-path.path-index
     c.path-item.result c.loop-path.commands.items c.push.new.self.items c.in_ok-naming_of.field-0 (omega (arith, c.loop-path-test.true)) c.path-item.is c.in_ok-push.ensures.items
     (c.loop-path.invariant geo)
-    (c.in_ok-naming_of.ensures geo ∙ ap₂ (λ (old new : List ℕ). naming_of c.args.naming old new) c.deref-2.ensures.value
+    (c.in_ok-naming_of.ensures geo ∙ ap₂ (λ (old new : List ℕ). naming_of c.args.naming old new) c.deref-in-loop-path.ensures.value
     (c.in_ok-new.ensures ∙ ap (new_name c.args.aim c.args.target.now) c.deref.ensures.value))
 
 pub returns : goal.returns
