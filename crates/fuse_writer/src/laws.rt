@@ -29,7 +29,8 @@ pub fn a_request_acts_on_the_inode_that_was_told()
 /// What FSYNC has answered outlives each loss of power. Of a volume that was sound on the medium of its device, let calls lead to one of
 /// which nothing is left that is not durable, as each turn of FSYNC does that is answered without an error, and more calls from there to
 /// another one. Then whatever a loss of power leaves at the first has the files of then with the bytes that users saw, and whatever it
-/// leaves of each medium up to the second has those of which no unlink took a name, with these bytes or those of a later write to them.
+/// leaves of each medium up to the second has those of which no unlink took a name, with these bytes or those of a later write to them,
+/// and with sizes that users saw.
 pub fn what_fsync_answered_outlives_power_cuts<D: Device>()
     ensures { (first then now : Alive D) (calls more : List Call) → HasBeside (D.image first.device) first
         → GoesBy D.honest D.held D.image first calls then → GoesBy D.honest D.held D.image then more now → D.honest now.device

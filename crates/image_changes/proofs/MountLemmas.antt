@@ -1,5 +1,5 @@
 -- How a mount is refused whose image was loaded before.
-use Rattle.std.proofs.Common.{◌≡◌, ◌∙◌, ◌⊎◌, inl, inr, ℕ, List, Result, Ok, Err, IfOk, sym, subst}
+use Rattle.std.proofs.Common.{◌≡◌, ◌∙◌, ◌⊎◌, inl, inr, ℕ, List, Result, Ok, Err, IfErr, IfOk, sym, subst}
 use Rattle.findings.proofs.Soft.{rule_where_obeyed}
 use Rattle.frozen.specs.Kept.{IsKeptOf, Kept, frozen_view}
 use Rattle.frozen.specs.Loading.{LoadRefuses}
@@ -14,6 +14,14 @@ use Rattle.rules.specs.Loading.{BreaksRule, LoadSoundRefuses}
 pub of_both : {T E : Type 0} (r : Result T E) (P Q R : T → Type 0) → ((t : T) → P t → Q t → R t) → IfOk r P → IfOk r Q → IfOk r R
 of_both (Ok t) P Q R f p q = f t p q
 of_both (Err e) P Q R f p q = tt
+
+pub both_refused : {T E : Type 0} (r : Result T E) (P Q R : E → Type 0) → ((e : E) → P e → Q e → R e) → IfErr r P → IfErr r Q → IfErr r R
+both_refused (Ok t) P Q R f p q = tt
+both_refused (Err e) P Q R f p q = f e p q
+
+pub of_three : {T E : Type 0} (r : Result T E) (P Q R S : E → Type 0) → ((e : E) → P e → Q e → R e → S e) → IfErr r P → IfErr r Q → IfErr r R → IfErr r S
+of_three (Ok t) P Q R S f p q s = tt
+of_three (Err e) P Q R S f p q s = f e p q s
 
 -- what was loaded breaks a rule, and so does its image
 pub image_breaks : (kept : Kept) (image : List (List ℕ)) → IsKeptOf kept image → (ObeysRules kept.geometry (frozen_view kept) → ⊥) → BreaksRule image

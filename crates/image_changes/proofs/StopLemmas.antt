@@ -1,9 +1,7 @@
 -- Replies of which each answers, where they stop, and what stops them.
-use Rattle.std.proofs.Common.{◌≡◌, ◌<◌, ◌+◌, ℕ, zero, suc, List, [], ◌∷◌, ◌++◌, length, Ok, Err, Result, None, Some, inl, inr, sym, ap, ◌∙◌, subst, arith}
+use Rattle.std.proofs.Common.{◌≡◌, ◌<◌, ◌+◌, ℕ, zero, suc, List, [], ◌∷◌, ◌++◌, length, Ok, Err, Result, None, Some, sym, ap, ◌∙◌, subst, arith}
 use Rattle.std.proofs.lemmas.List.{length-append, length_push, same_from_push}
 use Rattle.layout.specs.declared.refusal.Refusal.{Refusal}
-use Rattle.frozen.specs.Loading.{GivesOut}
-use Rattle.rules.specs.Loading.{LoadSoundRefuses}
 use Rattle.snapshot.specs.declared.answer.Answer.{Answer}
 use Rattle.image_changes.specs.Asking.{AllAnswer}
 use Rattle.image_changes.specs.Stops.{IsOutcome, StopsAtRefusal}
@@ -33,11 +31,6 @@ stops (suc n) (Err q ∷ rs) r a low = absurd a
 -- the next one was refused
 pub last_refused : (n : ℕ) (replies more : List (Result Answer Refusal)) (reply : Result Answer Refusal) (r : Refusal) → reply ≡ Err r → more ≡ replies ++ reply ∷ [] → AllAnswer replies → length replies < n → StopsAtRefusal n more
 last_refused n replies more reply r is same all low = subst (StopsAtRefusal n) (sym (same ∙ ap (λ x. replies ++ x ∷ []) is)) (stops n replies r all low)
-
--- want of memory and a fault refuse a mount too
-pub given_out : (honest : Type 0) (image : List (List ℕ)) (r : Refusal) → GivesOut r → LoadSoundRefuses honest image r
-given_out honest image r (inl memory) = subst (LoadSoundRefuses honest image) (sym memory) tt
-given_out honest image r (inr device) = subst (LoadSoundRefuses honest image) (sym device) tt
 
 -- ---- what comes last
 

@@ -3,7 +3,6 @@ use Rattle.std.specs.Prelude.{◌≡◌, ℕ, List, [], ◌∷◌, ◌++◌, map
 use Rattle.layout.specs.declared.refusal.Refusal.{Refusal}
 use Rattle.device.specs.Media.{Held}
 use Rattle.snapshot.specs.Alive.{Alive}
-use Rattle.rules.specs.Loading.{LoadSoundRefuses}
 use Rattle.snapshot.specs.Mounting.{IsMountable}
 use Rattle.live_states.specs.Holdings.{IsIdle}
 use Rattle.softdep.specs.Queued.{fresh_queue, pending_of}
@@ -34,8 +33,3 @@ pub record ChangesMounted {D : Type 0} (held : Held) (image : List (List ℕ)) (
   pub fresh : mounted.queue ≡ fresh_queue mounted.kept.geometry
   pub idle : IsIdle mounted.holdings
   pub changes : Changes held image mounted commands replies held' image' new
-
--- A device that held this image was let go, which was not changed, or not wholly, and refused so: where the device was honest, as one whose volume cannot be mounted, for want of memory, or for a fault.
-pub record IsNotChanged {D : Type 0} (honest_of : D → Type 0) (image : List (List ℕ)) (r : Refusal) : Type 0 where
-  pub after : D
-  pub refuses : honest_of after → LoadSoundRefuses (honest_of after) image r

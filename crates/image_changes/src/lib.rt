@@ -21,7 +21,7 @@ pub use asking::{answer_to, ask};
 use device::Device;
 pub use flushing::{flush_in_passes, flush_ready};
 use layout::Refusal;
-pub use mounted::{Changed, change_device, mount, mount_by};
+pub use mounted::{Changed, NotChanged, Refused, change_device, mount, mount_by};
 use snapshot::{Command, Reply, Volume};
 use std::alloc::Global;
 

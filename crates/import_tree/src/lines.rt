@@ -176,7 +176,7 @@ where
 {
     match mount(rt.alloc(), device) {
         Ok(mut volume) => put_new_in_volume(rt, &mut volume, items, watcher, pusher),
-        Err(refusal) => unless_refused(rt, image, items, Failure::from(refusal)),
+        Err(refused) => unless_refused(rt, image, items, Failure::from(refused.cause)),
     }
 }
 

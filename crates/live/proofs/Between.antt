@@ -1,7 +1,8 @@
 -- A volume that is as it was, but for its device, which holds what it held.
-use Rattle.std.proofs.Common.{◌≡◌, List, ℕ, sym, subst}
+use Rattle.std.proofs.Common.{◌≡◌, ◌∙◌, List, ℕ, ap, sym, subst}
 use Rattle.ordering.specs.Cuts.{users_view}
 use Rattle.model.specs.Image.{image_view}
+use Rattle.model.specs.Layout.{Geometry}
 use Rattle.model.specs.View.{View}
 use Rattle.machine.specs.Command.{Answer, Command}
 use Rattle.frozen.specs.Kept.{Kept}
@@ -9,6 +10,14 @@ use Rattle.softdep.specs.Queued.{Queued, pending_of}
 use Rattle.live_states.specs.Holdings.{Beside, Holdings, AreImagesOf}
 use Rattle.live_states.specs.Planned.{AreSeen, Seen}
 use Rattle.live.specs.Alive.{Alive, Answers, AnswersBeside, disk_of}
+
+-- what users see is told by these three
+pub seen_same : (image image' : List (List ℕ)) (queue queue' : Queued) (geo geo' : Geometry) → image' ≡ image → queue' ≡ queue → geo' ≡ geo
+    → users_view (image_view geo' image') (pending_of queue') ≡ users_view (image_view geo image) (pending_of queue)
+seen_same image image' queue queue' geo geo' same_image same_queue same_geometry =
+    ap (λ g. users_view (image_view g image') (pending_of queue')) same_geometry
+    ∙ ap (λ i. users_view (image_view geo i) (pending_of queue')) same_image
+    ∙ ap (λ q. users_view (image_view geo image) (pending_of q)) same_queue
 
 module _ {D : Type 0} (image image' : List (List ℕ)) (old mid : Alive D) (same : image' ≡ image) (queue : mid.queue ≡ old.queue) (kept : mid.kept ≡ old.kept) (holdings : mid.holdings ≡ old.holdings) where
   -- users see the same bytes

@@ -1,10 +1,12 @@
 -- A plan that is issued leaves a volume sound on its medium, which stays as it is.
-use Rattle.std.proofs.Common.{◌≡◌, ℕ, Bool, List, [], ◌∷◌, ◌++◌, Contains, append-nil, arith, map, refl, sym, ap, ◌∙◌, subst, IsSome, IsTrue, Ok, length, ap₂}
+use Rattle.std.proofs.Common.{◌≡◌, ◌≤◌, ℕ, Bool, List, [], ◌∷◌, ◌++◌, Contains, append-nil, arith, drop, inl, inr, map, refl, slice_index_or, sym, ap, ◌∙◌, subst, IsSome, IsTrue, Ok, length, ap₂}
+use Rattle.std.specs.List.{All}
 use Rattle.std.proofs.lemmas.Bool.{and_parts}
-use Rattle.std.proofs.lemmas.List.Elements.{All-nil}
+use Rattle.std.proofs.lemmas.List.Elements.{All-cons, All-nil, All-weaker}
+use Rattle.model.specs.Cells.{SetBlock, SetBytes, SetInode, SetNumber, Update as Cells}
 use Rattle.model.specs.Image.{image_view}
 use Rattle.model.specs.Layout.{Geometry}
-use Rattle.model.specs.View.{View}
+use Rattle.model.specs.View.{View, Inode}
 use Rattle.device.specs.Media.{Held, Medium, image_of}
 use Rattle.ordering.specs.Agrees.{AllAgree}
 use Rattle.ordering.specs.Cuts.{Pending, rest, seen, users_view}
@@ -28,6 +30,7 @@ use Rattle.courses.specs.Serves.{CarriesOut, IsBeginning, IsSafeService, Release
 use Rattle.courses.proofs.Doing.{Steps, steps}
 use Rattle.courses.proofs.LifeCourses.{life_lived}
 use Rattle.courses.proofs.ServiceLemmas.{plan_safe, service_safe}
+use Rattle.courses.proofs.Sizes.{Behind, Here, SizeIs, Then, WritesNoRecord, each_sized, plan_sized, released as releases_blocks}
 use Rattle.cut_courses.specs.Durably.{IsDurably}
 use Rattle.cut_courses.proofs.Along.{users_same}
 use Rattle.frozen.specs.Kept.{Kept, KeepsMetadata}
@@ -49,9 +52,9 @@ use Rattle.live_states.proofs.SnapshotEnds.{accepts, cleared, few, held_after}
 use Rattle.live_states.proofs.Planning.{leaves, planned_with}
 use Rattle.live_states.proofs.Standing.{has}
 use Rattle.live.specs.Alive.{Alive}
-use Rattle.live.specs.Durable.{GoesSoundly, IsSound, IsSoundOn, LeavesShown, Owns, Piece, Put, pieces_of}
+use Rattle.live.specs.Durable.{GoesSoundly, HasSizeIn, IsSound, IsSoundOn, LeavesShown, Owns, Piece, Put, PutAlong, Starts, pieces_of}
 use Rattle.live.proofs.Durably.{Since, base, held_nothing, owned}
-use Rattle.live.proofs.Owning.{OwnsWith, plan_owns, release_owns}
+use Rattle.live.proofs.Owning.{OwnsWith, along_written, plan_owns, release_owns}
 
 -- what was written by a plan is what was written before it, and more
 named_more : (geo : Geometry) (mount : View) (file : ℕ) (h : List Written) (q : List Pending) (h' : List Written) (p : List Pending) → Named geo mount file h q h' p → (added : List Written) × (h' ≡ added ++ h)
@@ -60,10 +63,36 @@ named_more geo mount file h q h' p (More {h' = before} {p = r} u named names) =
     let one = named_more geo mount file h q before r named in
     (record { update = u; file = file } ∷ one.0, ap (λ l. record { update = u; file = file } ∷ l) one.1)
 
+named_long : (geo : Geometry) (mount : View) (file : ℕ) (h : List Written) (q : List Pending) (h' : List Written) (p : List Pending) → Named geo mount file h q h' p → length q ≤ length p
+named_long geo mount file h q h' p Before = omega arith
+named_long geo mount file h q h' p (More {h' = before} {p = r} u named names) = let one = named_long geo mount file h q before r named in omega (arith, one)
+
+-- and if each update of the plan is such a one, each of what was written by it is
+named_each : (Is : Cells → Type 0) (geo : Geometry) (mount : View) (file : ℕ) (h : List Written) (q : List Pending) (h' : List Written) (p p' : List Pending) (named : Named geo mount file h q h' p) → Behind Is q p' → p' ≡ p
+    → All (λ (w : Written). Is w.update.change) (named_more geo mount file h q h' p named).0
+unfolding named_more
+named_each Is geo mount file h q h' p p' Before behind same = All-nil (λ (w : Written). Is w.update.change)
+named_each Is geo mount file h q h' p p' (More {h' = before} {p = r} u named names) Here same =
+    let low = named_long geo mount file h q before r named in let long = ap length same in absurd (omega (arith, low, long))
+named_each Is geo mount file h q h' p p' (More {h' = before} {p = r} u named names) (Then {p = s} u' behind is) same =
+    let one = named_more geo mount file h q before r named in
+    All-cons (λ (w : Written). Is w.update.change) (record { update = u; file = file }) one.0 (subst (λ (x : Pending). Is x.change) (ap (λ l. slice_index_or l 0 u) same) is)
+    (named_each Is geo mount file h q before r s named behind (ap (drop 1) same))
+
+-- each record has a size of one of the two views
+sized_in : (v w : View) (u : Written) → SizeIs v w u.update.change → HasSizeIn (w ∷ v ∷ []) u
+sized_in v w u is n x same = elim (subst (SizeIs v w) same is) [
+  | inl before ↦ (v, (1, omega arith, refl), before)
+  | inr then ↦ (w, (0, omega arith, refl), then)
+]
+
+none_sized : (u : Written) → WritesNoRecord u.update.change → HasSizeIn [] u
+none_sized u is n x same = absurd (subst WritesNoRecord same is)
+
 -- An issue that leads to such a moment over what is durable; and where files have their own bytes then, they have them since.
 pub issued_since : (m : Medium) (geo : Geometry) (queue : Queued) (held held' safe safe' : ℕ → Bool) (s : IsSound m geo queue held safe) (queue' : Queued) (ws : List Written) → queue' ≡ issued queue ws → (h' : List Written) (cut' : List Bool)
     → IsMoment geo s.durably.mount h' cut' (at_rest held' safe') (image_view geo m.durable) (unsynced_of queue') → ((f : ℕ) → IsTrue (safe' f) → ((users_view (image_view geo m.durable) (unsynced_of queue')).inode f).mode ≡ 1)
-    → (asked : List Piece) → ((puts : List Put) → Owns geo s.durably.mount s.durably.history s.durably.cut puts → OwnsWith geo s.durably.mount h' cut' asked puts)
+    → (asked : List Piece) → ((puts : List Put) → Owns geo s.durably.mount s.durably.history s.durably.cut puts → OwnsWith geo s.durably.mount s.durably.history h' cut' asked puts)
     → Since (base s) asked s.durably.mount h' m geo queue' held' safe'
 issued_since m geo queue held held' safe safe' s queue' ws is h' cut' moment files asked own =
     let on' = subst (λ w. IsOnMedium s.mounted w m) (sym is) (on_issued s.mounted queue m ws s.on) in
@@ -71,7 +100,7 @@ issued_since m geo queue held held' safe safe' s queue' ws is h' cut' moment fil
     let geometry' = ap (λ (w : Queued). w.geometry) is ∙ geometry_issued queue ws ∙ s.geometry in
     let disk = image_view geo (image_of m) in
     let durably' : (d : IsDurably geo (image_view geo m.durable) (unsynced_of queue') disk (pending_of queue') held' safe') × (d.mount ≡ s.durably.mount) × (d.history ≡ h')
-    × ((puts : List Put) → Owns geo s.durably.mount s.durably.history s.durably.cut puts → OwnsWith geo d.mount d.history d.cut asked puts) = (
+    × ((puts : List Put) → Owns geo s.durably.mount s.durably.history s.durably.cut puts → OwnsWith geo d.mount s.durably.history d.history d.cut asked puts) = (
       record {
         mount = s.durably.mount;
         history = h';
@@ -191,28 +220,52 @@ module _ (m : Medium) (kept : Kept) (holdings : Holdings) (queue : Queued) (safe
     )
     asks n k piece _ none = absurd none
 
-    owning : (puts : List Put) → Owns kept.geometry s.durably.mount s.durably.history s.durably.cut puts → OwnsWith kept.geometry s.durably.mount lived.h' lived.cut' (pieces_of (opened_by holdings) command) puts
+    -- what was written by it
+    more : (added : List Written) × (lived.h' ≡ added ++ s.durably.history)
+    more =
+        let first = named_more geo s.durably.mount draft.file lived.wrote.0 U lived.h' U' lived.wrote.2 in
+        (first.0, first.1 ∙ ap (λ l. first.0 ++ l) lived.wrote.1)
+
+    owning : (puts : List Put) → Owns kept.geometry s.durably.mount s.durably.history s.durably.cut puts → OwnsWith kept.geometry s.durably.mount s.durably.history lived.h' lived.cut' (pieces_of (opened_by holdings) command) puts
     owning puts o =
         plan_owns geo s.durably.mount s.durably.history s.durably.cut D U (held_by holdings) safe s.durably.moment puts o old refl draft.file U' (held_by holdings') safe' taken.is_plan
         (taken.leaves (leaves kept holdings sights command answer draft holdings' planned D U old safe begin.stands shows held sees'))
-        (pieces_of (opened_by holdings) command) (λ n k piece write. asks n k piece command (taken.asks n k piece write)) lived
+        (pieces_of (opened_by holdings) command) (λ n k piece write. asks n k piece command (taken.asks n k piece write)) lived more.0 more.1
+
+    sizing : All (HasSizeIn (users_view (image_view kept.geometry m.durable) (over (unsynced_of queue) draft.updates) ∷ users_view (image_view kept.geometry m.durable) (unsynced_of queue) ∷ [])) more.0
+    unfolding more
+    sizing =
+        let v = users_view D U in
+        let w = users_view D U' in
+        All-weaker (λ (u : Written). SizeIs v w u.update.change) (HasSizeIn (w ∷ v ∷ [])) (sized_in v w) more.0
+        (named_each (SizeIs v w) geo s.durably.mount draft.file lived.wrote.0 U lived.h' U' U' lived.wrote.2
+        (each_sized v w U U' (plan_sized geo D U old safe begin.stands.balance.rules draft.file U' (held_by holdings') safe' taken.is_plan)) refl)
 
     module _ (queue' : Queued) (is : queue' ≡ issued queue (map written draft.updates)) where
       unsynced' : unsynced_of queue' ≡ over (unsynced_of queue) draft.updates
       unsynced' = ap unsynced_of is ∙ unsynced_issued queue (map written draft.updates)
 
+      since_plan : Since (base s) (pieces_of (opened_by holdings) command) s.durably.mount lived.h' m kept.geometry queue' (held_by holdings') (safe_after kept.geometry (users_view D U) command safe)
+      since_plan =
+          issued_since m geo queue (held_by holdings) (held_by holdings') safe safe' s queue' (map written draft.updates) is lived.h' lived.cut'
+          (subst (IsMoment geo s.durably.mount lived.h' lived.cut' (at_rest (held_by holdings') safe') D) (sym unsynced') lived.moment)
+          (λ f t. ap (λ (v : View). (v.inode f).mode) (ap (users_view D) unsynced') ∙ service.stands.files f t)
+          (pieces_of (opened_by holdings) command) owning
+
+      -- what users see then
+      users' : users_view (image_view kept.geometry m.durable) (over (unsynced_of queue) draft.updates) ≡ users_view (image_view kept.geometry (image_of m)) (pending_of queue')
+      users' = ap (users_view D) (sym unsynced') ∙ users_same geo D (unsynced_of queue') disk (pending_of queue') (held_by holdings') safe' since_plan.sound.durably
+
       pub planned_since : (added : List Written)
           × Since (base s) (pieces_of (opened_by holdings) command) s.durably.mount (added ++ s.durably.history) m kept.geometry queue' (held_by holdings') (safe_after kept.geometry (users_view (image_view kept.geometry (image_of m)) (pending_of queue)) command safe)
+          × All (HasSizeIn (users_view (image_view kept.geometry (image_of m)) (pending_of queue') ∷ users_view (image_view kept.geometry (image_of m)) (pending_of queue) ∷ [])) added
       planned_since =
-          let first = named_more geo s.durably.mount draft.file lived.wrote.0 U lived.h' U' lived.wrote.2 in
           let asked = pieces_of (opened_by holdings) command in (
-            first.0,
-            subst (λ v. Since (base s) asked s.durably.mount (first.0 ++ s.durably.history) m geo queue' (held_by holdings') (safe_after geo v command safe)) e
-                (subst (λ h. Since (base s) asked s.durably.mount h m geo queue' (held_by holdings') safe') (first.1 ∙ ap (λ l. first.0 ++ l) lived.wrote.1)
-                (issued_since m geo queue (held_by holdings) (held_by holdings') safe safe' s queue' (map written draft.updates) is lived.h' lived.cut'
-                (subst (IsMoment geo s.durably.mount lived.h' lived.cut' (at_rest (held_by holdings') safe') D) (sym unsynced') lived.moment)
-                (λ f t. ap (λ (v : View). (v.inode f).mode) (ap (users_view D) unsynced') ∙ service.stands.files f t)
-                asked owning)),
+            more.0,
+            subst (λ v. Since (base s) asked s.durably.mount (more.0 ++ s.durably.history) m geo queue' (held_by holdings') (safe_after geo v command safe)) e
+                (subst (λ h. Since (base s) asked s.durably.mount h m geo queue' (held_by holdings') safe') more.1 since_plan),
+            subst (λ v. All (HasSizeIn (users_view disk (pending_of queue') ∷ v ∷ [])) more.0) e
+                (subst (λ w. All (HasSizeIn (w ∷ users_view D U ∷ [])) more.0) users' sizing),
           )
 
 -- ---- of a volume
@@ -227,16 +280,21 @@ pub goes_planned : {D : Type 0} (held : Held) (image : List (List ℕ)) → imag
     → (sights : List Seen) (command : Command) (answer : Answer) (draft : Draft) → IsPlannedFor old.kept old.holdings sights command answer draft new.holdings
     → AreSeen sights (users_view (image_view old.kept.geometry image) (pending_of old.queue)) → new.queue ≡ issued old.queue (map written draft.updates)
     → (safe : ℕ → Bool) → GoesSoundly held old held new safe (safe_after old.kept.geometry (users_view (image_view old.kept.geometry image) (pending_of old.queue)) command safe) (pieces_of (opened_by old.holdings) command)
+    (users_view (image_view new.kept.geometry image) (pending_of new.queue) ∷ users_view (image_view old.kept.geometry image) (pending_of old.queue) ∷ [])
 goes_planned held image answers old new geometry volume sights command answer draft planned sees is safe =
     let geo = old.kept.geometry in
     let safe' = safe_after geo (users_view (image_view geo image) (pending_of old.queue)) command safe in
     let asked = pieces_of (opened_by old.holdings) command in
-    let since : (s : IsSound held.now geo old.queue (held_by old.holdings) safe) → (added : List Written) × Since (base s) asked s.durably.mount (added ++ s.durably.history) held.now new.kept.geometry new.queue (held_by new.holdings) safe' = λ s.
+    let views = users_view (image_view new.kept.geometry image) (pending_of new.queue) ∷ users_view (image_view geo image) (pending_of old.queue) ∷ [] in
+    let since : (s : IsSound held.now geo old.queue (held_by old.holdings) safe) → (added : List Written) × Since (base s) asked s.durably.mount (added ++ s.durably.history) held.now new.kept.geometry new.queue (held_by new.holdings) safe'
+    × All (HasSizeIn views) added = λ s.
     let planned' = planned_since held.now old.kept old.holdings old.queue safe s (subst (λ i. IsVolume old.kept old.holdings (pending_of old.queue) (image_view geo i)) answers volume) sights command answer draft new.holdings planned
     (subst (λ i. AreSeen sights (users_view (image_view geo i) (pending_of old.queue))) answers sees) new.queue is in (
       planned'.0,
       subst (λ x. Since (base s) asked s.durably.mount (planned'.0 ++ s.durably.history) held.now x new.queue (held_by new.holdings) safe') (sym geometry)
           (subst (λ i. Since (base s) asked s.durably.mount (planned'.0 ++ s.durably.history) held.now geo new.queue (held_by new.holdings) (safe_after geo (users_view (image_view geo i) (pending_of old.queue)) command safe)) (sym answers) planned'.1),
+      subst (λ x. All (HasSizeIn (users_view (image_view x image) (pending_of new.queue) ∷ users_view (image_view geo image) (pending_of old.queue) ∷ [])) planned'.0) (sym geometry)
+          (subst (λ i. All (HasSizeIn (users_view (image_view geo i) (pending_of new.queue) ∷ users_view (image_view geo i) (pending_of old.queue) ∷ [])) planned'.0) (sym answers) planned'.2),
     ) in
     record {
       geometry = geometry;
@@ -251,6 +309,7 @@ goes_planned held image answers old new geometry volume sights command answer dr
         each = All-nil (LeavesShown geo s.durably.mount ((since s).0 ++ s.durably.history) safe');
       };
       owns = λ s puts o. owned asked (since s).1 puts o;
+      sizes = λ s. (since s).2;
     }
 
 -- ---- a snapshot ends, with nothing left that is not durable
@@ -258,7 +317,7 @@ goes_planned held image answers old new geometry volume sights command answer dr
 pub goes_released : {D : Type 0} (held : Held) (image : List (List ℕ)) → image ≡ image_of held.now → (old new : Alive D) → new.kept.geometry ≡ old.kept.geometry → KeepsMetadata old.kept
     → IsVolume old.kept old.holdings [] (image_view old.kept.geometry image) → pending_of old.queue ≡ [] → unsynced_of old.queue ≡ [] → (number : ℕ) → IsSome (image_at old.holdings.snapshots.standing number)
     → (us : List Update) → over [] us ≡ releasing (let_go_blocks old.holdings number) [] → (staged : Staged) → IsStaged old.kept (changes us) staged → new.queue ≡ issued old.queue (map written us)
-    → new.holdings ≡ let_go old.holdings number → (safe : ℕ → Bool) → GoesSoundly held old held new safe safe []
+    → new.holdings ≡ let_go old.holdings number → (safe : ℕ → Bool) → GoesSoundly held old held new safe safe [] []
 goes_released held image answers old new geometry keeps volume0 none_pending none_unsynced number stands us list staged staged_is queue holds safe = record {
   geometry = geometry;
   fewer = λ f t. t;
@@ -272,9 +331,10 @@ goes_released held image answers old new geometry keeps volume0 none_pending non
     each = All-nil (LeavesShown old.kept.geometry s.durably.mount ((since s).0 ++ s.durably.history) safe);
   };
   owns = λ s puts o. owned [] (since s).1 puts o;
+  sizes = λ s. (since s).2;
 }
   where
-    since : (s : IsSoundOn held.now old safe) → (added : List Written) × Since (base s) [] s.durably.mount (added ++ s.durably.history) held.now new.kept.geometry new.queue (held_by new.holdings) safe
+    since : (s : IsSoundOn held.now old safe) → (added : List Written) × Since (base s) [] s.durably.mount (added ++ s.durably.history) held.now new.kept.geometry new.queue (held_by new.holdings) safe × All (HasSizeIn []) added
     since s =
         let geo = old.kept.geometry in
         let m = held.now in
@@ -313,11 +373,14 @@ goes_released held image answers old new geometry keeps volume0 none_pending non
         subst (λ v. IsMoment geo d.mount lived.h' lived.cut' (at_rest (held_by new.holdings) safe) v (unsynced_of new.queue)) (sym same)
         (subst (IsMoment geo d.mount lived.h' lived.cut' (at_rest (held_by new.holdings) safe) disk) (sym unsynced')
         (subst (λ b. IsMoment geo d.mount lived.h' lived.cut' (at_rest b safe) disk left) holds' lived.moment)) in
-        let more = named_more geo d.mount 0 lived.wrote.0 [] lived.h' left lived.wrote.2 in (
+        let more = named_more geo d.mount 0 lived.wrote.0 [] lived.h' left lived.wrote.2 in
+        let longer = more.1 ∙ ap (λ l. more.0 ++ l) lived.wrote.1 in (
           more.0,
           subst (λ x. Since (base s) [] d.mount (more.0 ++ d.history) m x new.queue (held_by new.holdings) safe) (sym geometry)
-              (subst (λ h. Since (base s) [] d.mount h m geo new.queue (held_by new.holdings) safe) (more.1 ∙ ap (λ l. more.0 ++ l) lived.wrote.1)
+              (subst (λ h. Since (base s) [] d.mount h m geo new.queue (held_by new.holdings) safe) longer
               (issued_since m geo old.queue (held_by old.holdings) (held_by new.holdings) safe safe s new.queue (map written us) queue lived.h' lived.cut' now
               (λ f t. ap (λ (v : View). (v.inode f).mode) (ap₂ users_view same unsynced' ∙ service.stands.same) ∙ service.stands.files f t)
-              [] (λ puts o. ([], refl, release_owns geo d.mount d.history d.cut disk (held_by old.holdings) safe moment puts o was (held_still was number) (let_go_below was number n) refl may lived)))),
+              [] (λ puts o. ([], refl, subst (λ l. PutAlong d.mount d.history l []) (sym longer) (along_written d.mount d.history d.history [] more.0 Starts), release_owns geo d.mount d.history d.cut disk (held_by old.holdings) safe moment puts o was (held_still was number) (let_go_below was number n) refl may lived)))),
+          All-weaker (λ (u : Written). WritesNoRecord u.update.change) (HasSizeIn []) none_sized more.0
+              (named_each WritesNoRecord geo d.mount 0 lived.wrote.0 [] lived.h' left left lived.wrote.2 (releases_blocks (let_go_below was number n) [] [] Here) refl),
         )

@@ -3,7 +3,7 @@ use Rattle.std.proofs.Common.{◌≡◌, ℕ, suc, ◌<◌, Bool, false, List, [
 use Rattle.std.specs.List.{All}
 use Rattle.std.proofs.lemmas.Bool.{cases_eq}
 use Rattle.std.proofs.lemmas.List.{append_assoc, map-append}
-use Rattle.std.proofs.lemmas.List.Elements.{All-append, All-nil}
+use Rattle.std.proofs.lemmas.List.Elements.{All-append, All-nil, All-weaker}
 use Rattle.model.specs.Image.{IsImage, image_view}
 use Rattle.model.specs.Layout.{Geometry}
 use Rattle.model.specs.Reach.{IsReachable}
@@ -34,9 +34,9 @@ use Rattle.softdep.proofs.Swept.{held_more, held_same, held_nothing as put_held_
 use Rattle.live_states.specs.Holdings.{held_by}
 use Rattle.frozen.specs.Kept.{Kept}
 use Rattle.live.specs.Alive.{Alive}
-use Rattle.live.specs.Durable.{AddsOnly, GoesSoundly, HeldSafely, IsSound, IsSoundOn, LeavesOwn, LeavesSafe, LeavesShown, MayHave, Owns, OwnsMore, Piece, Put}
+use Rattle.live.specs.Durable.{AddsOnly, GoesSoundly, HasSizeIn, HeldSafely, IsSound, IsSoundOn, LeavesOwn, LeavesSafe, LeavesShown, MayHave, Owns, OwnsMore, Piece, Put, PutAlong, Starts}
 use Rattle.live.specs.Mounting.{IsMountable}
-use Rattle.live.proofs.Owning.{OwnsWith, left_later, more_left, owns_first, owns_put}
+use Rattle.live.proofs.Owning.{OwnsWith, along_then, first_member, later_member, left_later, more_left, owns_first, owns_put}
 
 -- ---- what a loss of power leaves
 
@@ -111,14 +111,14 @@ pub record Since (from : Base) (asked : List Piece) (view : View) (h : List Writ
   pub sound : IsSound m geo queue held safe
   pub mount : sound.durably.mount ≡ view
   pub history : sound.durably.history ≡ h
-  pub owns : (puts : List Put) → Owns from.geometry from.mount from.history from.cut puts → OwnsWith from.geometry sound.durably.mount sound.durably.history sound.durably.cut asked puts
+  pub owns : (puts : List Put) → Owns from.geometry from.mount from.history from.cut puts → OwnsWith from.geometry sound.durably.mount from.history sound.durably.history sound.durably.cut asked puts
 
 -- with no medium since
 pub owned : {from : Base} {view : View} {h : List Written} {m : Medium} {geo : Geometry} {queue : Queued} {held safe : ℕ → Bool} (asked : List Piece) (since : Since from asked view h m geo queue held safe)
-    (puts : List Put) → Owns from.geometry from.mount from.history from.cut puts → OwnsMore from.geometry since.sound.durably.mount since.sound.durably.history since.sound.durably.cut asked puts []
+    (puts : List Put) → Owns from.geometry from.mount from.history from.cut puts → OwnsMore from.geometry since.sound.durably.mount from.history since.sound.durably.history since.sound.durably.cut asked puts []
 owned {from = from} asked since puts o =
     let own = since.owns puts o in
-    record { added = own.0; pieces = own.1; owns = own.2; each = All-nil (LeavesOwn from.geometry since.sound.durably.mount since.sound.durably.history (own.0 ++ puts)) }
+    record { added = own.0; pieces = own.1; along = own.2; owns = own.3; each = All-nil (LeavesOwn from.geometry since.sound.durably.mount since.sound.durably.history (own.0 ++ puts)) }
 
 -- So it is since now, with nothing written since.
 pub record Anew (view : View) (m : Medium) (geo : Geometry) (queue : Queued) (held safe : ℕ → Bool) : Type 0 where
@@ -168,7 +168,7 @@ module _ (m : Medium) (geo : Geometry) (queue : Queued) (held safe : ℕ → Boo
   answers' = subst (λ x. image_view x (image_of m') ≡ seen (image_view x m'.durable) (unsynced_of queue') queue'.loose) geometry' (answers_view s.mounted queue' m' on')
 
   durably' : (d : IsDurably geo (image_view geo m'.durable) (unsynced_of queue') (image_view geo (image_of m')) (pending_of queue') held safe) × (d.mount ≡ s.durably.mount) × (d.history ≡ s.durably.history)
-      × ((puts : List Put) → Owns geo s.durably.mount s.durably.history s.durably.cut puts → OwnsWith geo d.mount d.history d.cut [] puts)
+      × ((puts : List Put) → Owns geo s.durably.mount s.durably.history s.durably.cut puts → OwnsWith geo d.mount s.durably.history d.history d.cut [] puts)
   durably' =
       let d = s.durably in
       let next = joined (updates d.history) d.cut put.synced in
@@ -185,7 +185,7 @@ module _ (m : Medium) (geo : Geometry) (queue : Queued) (held safe : ℕ → Boo
         },
         refl,
         refl,
-        λ puts o. ([], refl, owns_put geo d.mount d.history d.cut put.synced puts d.moment.good.closed (subst (λ p. IsClosed p put.synced) (sym d.moment.pending) put.synced_closed) o),
+        λ puts o. ([], refl, Starts, owns_put geo d.mount d.history d.cut put.synced puts d.moment.good.closed (subst (λ p. IsClosed p put.synced) (sym d.moment.pending) put.synced_closed) o),
       )
 
   users' : users_view (image_view geo (image_of m')) (pending_of queue') ≡ users_view (image_view geo (image_of m)) (pending_of queue)
@@ -242,7 +242,7 @@ held_own m geo queue held safe s puts o more each =
     let there = put_since m geo queue held safe s one.queue _ one.put one.on in
     let at = get_or more k d in
     let own = there.owns puts o in
-    let now = subst (λ l. Owns geo there.sound.durably.mount there.sound.durably.history there.sound.durably.cut (l ++ puts)) (none_added own.0 own.1) own.2 in
+    let now = subst (λ l. Owns geo there.sound.durably.mount there.sound.durably.history there.sound.durably.cut (l ++ puts)) (none_added own.0 own.1) own.3 in
     subst (λ h. LeavesOwn geo s.durably.mount h puts at) there.history (subst (λ v. LeavesOwn geo v there.sound.durably.history puts at) there.mount (leaves_own at geo one.queue held safe there.sound puts now))
 
 -- ---- a volume goes on
@@ -250,10 +250,16 @@ held_own m geo queue held safe s puts o more each =
 pub held_nothing : (geo : Geometry) (held held' : Held) (safe : ℕ → Bool) → held'.media ≡ held.media → HeldSafely geo held held' safe
 held_nothing geo held held' safe same = record { more = []; media = same ∙ sym (append-nil held.media); each = All-nil (LeavesSafe geo safe) }
 
+first_sized : (more views : List View) (w : Written) → HasSizeIn more w → HasSizeIn (more ++ views) w
+first_sized more views w has n x is = let one = has n x is in (one.0, first_member more views one.0 one.1, one.2)
+
+later_sized : (more views : List View) (w : Written) → HasSizeIn views w → HasSizeIn (more ++ views) w
+later_sized more views w has n x is = let one = has n x is in (one.0, later_member more views one.0 one.1, one.2)
+
 module _ {D : Type 0} where
-  pub goes_then : (held held1 held2 : Held) (old mid new : Alive D) (safe safe1 safe2 : ℕ → Bool) (asked more : List Piece) → GoesSoundly held old held1 mid safe safe1 asked → GoesSoundly held1 mid held2 new safe1 safe2 more
-      → GoesSoundly held old held2 new safe safe2 (more ++ asked)
-  goes_then held held1 held2 old mid new safe safe1 safe2 asked more first later = record {
+  pub goes_then : (held held1 held2 : Held) (old mid new : Alive D) (safe safe1 safe2 : ℕ → Bool) (asked more : List Piece) (views others : List View) → GoesSoundly held old held1 mid safe safe1 asked views → GoesSoundly held1 mid held2 new safe1 safe2 more others
+      → GoesSoundly held old held2 new safe safe2 (more ++ asked) (others ++ views)
+  goes_then held held1 held2 old mid new safe safe1 safe2 asked more views others first later = record {
     geometry = later.geometry ∙ first.geometry;
     fewer = λ f t. first.fewer f (later.fewer f t);
     sound = λ s.
@@ -301,6 +307,8 @@ module _ {D : Type 0} where
         record {
           added = now.added ++ was.added;
           pieces = map-append (λ (put : Put). put.piece) now.added was.added ∙ ap₂ (λ xs ys. xs ++ ys) now.pieces was.pieces;
+          along = along_then two.durably.mount s.durably.history one.durably.history two.durably.history was.added now.added
+              (subst (λ v. PutAlong v s.durably.history one.durably.history was.added) (sym behind.mount) was.along) now.along;
           owns = subst (λ l. Owns geo two.durably.mount two.durably.history two.durably.cut l) all (subst (λ x. Owns x two.durably.mount two.durably.history two.durably.cut (now.added ++ (was.added ++ puts))) first.geometry now.owns);
           each = All-append (LeavesOwn geo two.durably.mount two.durably.history ((now.added ++ was.added) ++ puts)) before.more behind.more
               (λ k d low. let at = get_or before.more k d in
@@ -313,6 +321,12 @@ module _ {D : Type 0} where
               subst (λ l. LeavesOwn geo two.durably.mount two.durably.history l at) all
               (subst (λ x. LeavesOwn x two.durably.mount two.durably.history (now.added ++ (was.added ++ puts)) at) first.geometry (now.each k d low)));
         };
+    sizes = λ s.
+        let one = (first.sound s).0 in
+        let before = (first.adds s).added in
+        let behind = (later.adds one).added in
+        All-append (HasSizeIn (others ++ views)) behind before (All-weaker (HasSizeIn others) (HasSizeIn (others ++ views)) (first_sized others views) behind (later.sizes one))
+        (All-weaker (HasSizeIn views) (HasSizeIn (others ++ views)) (later_sized others views) before (first.sizes s));
   }
 
   -- nothing was written and nothing added
@@ -336,20 +350,21 @@ module _ {D : Type 0} where
       subst (λ (h : Held). Since (base s) [] s.durably.mount s.durably.history h.now new.kept.geometry new.queue (held_by new.holdings) safe) (sym same)
       (subst (λ x. Since (base s) [] s.durably.mount s.durably.history held.now x new.queue (held_by new.holdings) safe) (sym geometry)
       (subst (λ w. Since (base s) [] s.durably.mount s.durably.history held.now old.kept.geometry w (held_by new.holdings) safe) (sym queue)
-      (subst (λ b. Since (base s) [] s.durably.mount s.durably.history held.now old.kept.geometry old.queue b safe) (sym holds) (record { sound = s; mount = refl; history = refl; owns = λ puts o. ([], refl, o) }))))
+      (subst (λ b. Since (base s) [] s.durably.mount s.durably.history held.now old.kept.geometry old.queue b safe) (sym holds) (record { sound = s; mount = refl; history = refl; owns = λ puts o. ([], refl, Starts, o) }))))
 
-  pub goes_still : (held held' : Held) (old new : Alive D) → held' ≡ held → new.queue ≡ old.queue → new.kept.geometry ≡ old.kept.geometry → held_by new.holdings ≡ held_by old.holdings → (safe : ℕ → Bool) → GoesSoundly held old held' new safe safe []
+  pub goes_still : (held held' : Held) (old new : Alive D) → held' ≡ held → new.queue ≡ old.queue → new.kept.geometry ≡ old.kept.geometry → held_by new.holdings ≡ held_by old.holdings → (safe : ℕ → Bool) → GoesSoundly held old held' new safe safe [] []
   goes_still held held' old new same queue geometry holds safe = record {
     geometry = geometry;
     fewer = λ f t. t;
     sound = λ s. ((still_since held held' old new same queue geometry holds safe s).sound, held_nothing old.kept.geometry held held' safe (ap (λ (h : Held). h.media) same));
     adds = λ s. adds_nothing held held' old new safe s (still_since held held' old new same queue geometry holds safe s) (ap (λ (h : Held). h.media) same);
     owns = λ s puts o. owned [] (still_since held held' old new same queue geometry holds safe s) puts o;
+    sizes = λ s. All-nil (HasSizeIn []);
   }
 
   -- writes, and the word of the device
   goes_put : (held held' : Held) (old new : Alive D) → new.kept.geometry ≡ old.kept.geometry → held_by new.holdings ≡ held_by old.holdings → (safe : ℕ → Bool)
-      → ((s : IsSoundOn held.now old safe) → HasPut old.queue new.queue × IsOnMedium s.mounted new.queue held'.now × HasHeld s.mounted old.queue held held') → GoesSoundly held old held' new safe safe []
+      → ((s : IsSoundOn held.now old safe) → HasPut old.queue new.queue × IsOnMedium s.mounted new.queue held'.now × HasHeld s.mounted old.queue held held') → GoesSoundly held old held' new safe safe [] []
   goes_put held held' old new geometry holds safe done =
       let geo = old.kept.geometry in
       let put : (s : IsSoundOn held.now old safe) → Still held held' old new safe s = λ s.
@@ -379,23 +394,25 @@ module _ {D : Type 0} where
             record {
               added = own.0;
               pieces = own.1;
-              owns = own.2;
+              along = own.2;
+              owns = own.3;
               each = λ k d' low. let at = get_or now.2.more k d' in
                   more_left geo d.mount puts own.0 d.history at
                   (subst (λ h. LeavesOwn geo d.mount h puts at) (sym (put s).history)
                   (subst (λ v. LeavesOwn geo v s.durably.history puts at) (sym (put s).mount) (held_own held.now geo old.queue (held_by old.holdings) safe s puts o now.2.more now.2.each k d' low)));
             };
+        sizes = λ s. All-nil (HasSizeIn []);
       }
 
   pub goes_synced : (held held' : Held) (old new : Alive D) → new.kept ≡ old.kept → new.holdings ≡ old.holdings → HasPut old.queue new.queue
       → ((mounted : View) → IsOnMedium mounted old.queue held.now → IsOnMedium mounted new.queue held'.now) → ((mounted : View) → IsOnMedium mounted old.queue held.now → HasHeld mounted old.queue held held')
-      → (safe : ℕ → Bool) → GoesSoundly held old held' new safe safe []
+      → (safe : ℕ → Bool) → GoesSoundly held old held' new safe safe [] []
   goes_synced held held' old new kept holdings put medium more safe =
       goes_put held held' old new (ap (λ (k : Kept). k.geometry) kept) (ap held_by holdings) safe (λ s. (put, medium s.mounted s.on, more s.mounted s.on))
 
   pub goes_flushed : (held held' : Held) (old new : Alive D) → new.kept ≡ old.kept → new.holdings ≡ old.holdings → (order : Bool) (a count : ℕ) → new.queue ≡ after_flush order old.queue a
       → (count ≡ 0 → held'.media ≡ held.media) → (0 < count → (block : List ℕ) × (held' ≡ wrote order held a block)) → ((mounted : View) → IsOnMedium mounted old.queue held.now → IsOnMedium mounted new.queue held'.now)
-      → (safe : ℕ → Bool) → GoesSoundly held old held' new safe safe []
+      → (safe : ℕ → Bool) → GoesSoundly held old held' new safe safe [] []
   goes_flushed held held' old new kept holdings order a count flushed still wrote_on medium safe =
       goes_put held held' old new (ap (λ (k : Kept). k.geometry) kept) (ap held_by holdings) safe (λ s.
       let put = subst (HasPut old.queue) (sym flushed) (put_after order old.queue s.closed a) in
@@ -409,6 +426,17 @@ module _ {D : Type 0} where
               held_more s.mounted old.queue held held held' order a w.0 (put_held_nothing s.mounted old.queue held) w.1 (record { queue = new.queue; put = put; on = on })
         ],
       ))
+
+  -- where no record was written, each has the size of any views
+  pub goes_seen : (held held' : Held) (old new : Alive D) (safe safe' : ℕ → Bool) (asked : List Piece) (views : List View) → GoesSoundly held old held' new safe safe' asked [] → GoesSoundly held old held' new safe safe' asked views
+  goes_seen held held' old new safe safe' asked views goes = record {
+    geometry = goes.geometry;
+    fewer = goes.fewer;
+    sound = goes.sound;
+    adds = goes.adds;
+    owns = goes.owns;
+    sizes = λ s. All-weaker (HasSizeIn []) (HasSizeIn views) (first_sized [] views) (goes.adds s).added (goes.sizes s);
+  }
 
 -- ---- where a volume begins
 

@@ -16,15 +16,15 @@ use Rattle.courses.specs.Plans.{IsPlan}
 use Rattle.courses.proofs.Lasting.{plan_lasts, release_lasts}
 use Rattle.courses.proofs.LifeBytes.{IsWriteOf, LeavesBehind}
 use Rattle.courses.proofs.OwnBytes.{over_byte, zero_byte}
-use Rattle.live.specs.Durable.{LeavesOwn, MayHave, MayShow, Owns, Piece, Put}
+use Rattle.live.specs.Durable.{HasSizeIn, LeavesOwn, MayHave, MayShow, Owns, Piece, Put, PutAlong, Puts, Starts, Writes}
 
 -- ---- members
 
-later_member : {X : Type 0} (added puts : List X) (x : X) → Contains puts x → Contains (added ++ puts) x
+pub later_member : {X : Type 0} (added puts : List X) (x : X) → Contains puts x → Contains (added ++ puts) x
 later_member [] puts x c = c
 later_member (a ∷ added) puts x c = let one = later_member added puts x c in let low = one.1 in (suc one.0, omega (arith, low), one.2)
 
-first_member : {X : Type 0} (added puts : List X) (x : X) → Contains added x → Contains (added ++ puts) x
+pub first_member : {X : Type 0} (added puts : List X) (x : X) → Contains added x → Contains (added ++ puts) x
 first_member [] puts x (i, low, e) = absurd (omega (arith, low))
 first_member (a ∷ added) puts x (zero, low, e) = (zero, omega arith, e)
 first_member (a ∷ added) puts x (suc i, low, e) = let one = first_member added puts x (i, omega (arith, low), e) in let less = one.1 in (suc one.0, omega (arith, less), one.2)
@@ -71,15 +71,30 @@ pub owns_put : (geo : Geometry) (mount : View) (h : List Written) (cut next : Li
     → Owns geo mount h (joined (updates h) cut next) puts
 owns_put geo mount h cut next puts k l o = record { users = o.users; cuts = write_holds geo mount (MayHave geo mount puts) h cut next k l o.cuts }
 
+-- ---- one after another
+
+pub along_written : (mount : View) (start h : List Written) (puts : List Put) (more : List Written) → PutAlong mount start h puts → PutAlong mount start (more ++ h) puts
+along_written mount start h puts [] along = along
+along_written mount start h puts (w ∷ more) along = Writes w (along_written mount start h puts more along)
+
+pub along_then : (mount : View) (start mid h : List Written) (puts more : List Put) → PutAlong mount start mid puts → PutAlong mount mid h more → PutAlong mount start h (more ++ puts)
+along_then mount start mid h puts more first Starts = first
+along_then mount start mid h puts more first (Writes {h = before} {puts = others} w later) = Writes w (along_then mount start mid before puts others first later)
+along_then mount start mid h puts more first (Puts {h = same} {puts = others} piece later) = Puts piece (along_then mount start mid same puts others first later)
+
 -- ---- over a plan
 
 pieces_in : (mount : View) (h : List Written) (asked : List Piece) → map (λ (put : Put). put.piece) (map (λ (p : Piece). record { generation = generation mount h p.file; piece = p }) asked) ≡ asked
 pieces_in mount h [] = refl
 pieces_in mount h (p ∷ asked) = ap (λ l. p ∷ l) (pieces_in mount h asked)
 
--- After this was written, of which this is durable, files have their own bytes, these pieces among them.
-abbrev pub OwnsWith : Geometry → View → List Written → List Bool → List Piece → List Put → Type 0
-OwnsWith geo mount h cut asked puts = (added : List Put) × (map (λ (put : Put). put.piece) added ≡ asked) × Owns geo mount h cut (added ++ puts)
+put_here : (mount : View) (h : List Written) (asked : List Piece) → PutAlong mount h h (map (λ (p : Piece). record { generation = generation mount h p.file; piece = p }) asked)
+put_here mount h [] = Starts
+put_here mount h (p ∷ asked) = Puts p (put_here mount h asked)
+
+-- After this was written behind what was, and of it this is durable, files have their own bytes, these pieces among them.
+abbrev pub OwnsWith : Geometry → View → List Written → List Written → List Bool → List Piece → List Put → Type 0
+OwnsWith geo mount start h cut asked puts = (added : List Put) × (map (λ (put : Put). put.piece) added ≡ asked) × PutAlong mount start h added × Owns geo mount h cut (added ++ puts)
 
 module _ (geo : Geometry) (mount : View) (h : List Written) (cut : List Bool) (disk : View) (q : List Pending) (held safe : ℕ → Bool)
     (moment : IsMoment geo mount h cut (at_rest held safe) disk q) (puts : List Put) (o : Owns geo mount h cut puts) where
@@ -95,15 +110,15 @@ module _ (geo : Geometry) (mount : View) (h : List Written) (cut : List Bool) (d
 
   pub plan_owns : (old : State) (e : old.held ≡ held) (file : ℕ) (p : List Pending) (held' safe' : ℕ → Bool) (plan : IsPlan geo disk q old safe file p held' safe') → LeavesBehind plan
       → (asked : List Piece) → ((n k : ℕ) (piece : List ℕ) → IsWriteOf n k piece plan → Contains asked (record { file = n; position = k; bytes = piece }))
-      → (lived : IsLived geo mount h cut disk q held safe disk p held' safe' [] (Carries old file p held' safe' Begins e plan)) → OwnsWith geo mount lived.h' lived.cut' asked puts
-  plan_owns old e file p held' safe' plan leaves asked asks lived =
+      → (lived : IsLived geo mount h cut disk q held safe disk p held' safe' [] (Carries old file p held' safe' Begins e plan)) → (more : List Written) → lived.h' ≡ more ++ h → OwnsWith geo mount h lived.h' lived.cut' asked puts
+  plan_owns old e file p held' safe' plan leaves asked asks lived more longer =
       let put : Piece → Put = λ piece. record { generation = generation mount h piece.file; piece = piece } in
       let added = map put asked in
       let all = added ++ puts in
       let now = more_own geo mount puts added h cut o in
       let lasts = plan_lasts geo mount (MayHave geo mount all) h cut disk q held safe moment now.users now.cuts old e file p held' safe' plan leaves
       (λ n k piece under write was. over_may all n (generation mount h n) k piece under (first_member added puts _ (mapped_member put asked _ (asks n k piece write))) was) lived in
-      (added, pieces_in mount h asked, record { users = lasts.0; cuts = lasts.1 })
+      (added, pieces_in mount h asked, subst (λ l. PutAlong mount h l added) (sym longer) (along_written mount h h added more (put_here mount h asked)), record { users = lasts.0; cuts = lasts.1 })
 
 -- ---- over the end of a snapshot
 

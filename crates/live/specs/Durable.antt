@@ -4,7 +4,8 @@ use Rattle.std.specs.List.{Contains}
 use Rattle.model.specs.Image.{image_view}
 use Rattle.model.specs.Layout.{Geometry}
 use Rattle.model.specs.Reach.{IsReachable}
-use Rattle.model.specs.View.{View}
+use Rattle.model.specs.Cells.{SetInode}
+use Rattle.model.specs.View.{View, Inode}
 use Rattle.device.specs.Media.{Held, MayBeLeft, Medium, image_of}
 use Rattle.ordering.specs.Cuts.{IsClosed, seen, users_view}
 use Rattle.machine.specs.Command.{Command, Write}
@@ -74,6 +75,12 @@ pub record Put : Type 0 where
   pub generation : ℕ
   pub piece : Piece
 
+-- Pieces were put one after another while this was written behind what was, each into the file that its number was then.
+pub data PutAlong (mount : View) (start : List Written) : List Written → List Put → Type 0 where
+  Starts : PutAlong mount start start []
+  Writes : {h : List Written} {puts : List Put} (w : Written) → PutAlong mount start h puts → PutAlong mount start (w ∷ h) puts
+  Puts : {h : List Written} {puts : List Put} (piece : Piece) → PutAlong mount start h puts → PutAlong mount start h (record { generation = generation mount h piece.file; piece = piece } ∷ puts)
+
 -- The file that a number is, of this generation, may show this as byte j at position k: a zero, that byte of a piece that was put there into this very file, or what the very file had there in the view of the mount.
 abbrev pub MayShow : Geometry → View → List Put → (n g k j byte : ℕ) → Type 0
 MayShow geo mount puts n g k j byte =
@@ -97,27 +104,42 @@ LeavesOwn geo mount written puts m = (image : List (List ℕ)) → MayBeLeft m i
     → (cut : List Bool) × (image_view geo image ≡ seen mount (updates written) cut) × IsClosed (updates written) cut
     × ((n k b : ℕ) → IsFileBlock geo (image_view geo image) n k b → MayHave geo mount puts n (shown mount written cut n) k ((image_view geo image).bytes b))
 
--- These pieces were put too since then, and each medium that the device had since leaves such bytes.
-pub record OwnsMore (geo : Geometry) (mount : View) (history : List Written) (cut : List Bool) (asked : List Piece) (puts : List Put) (more : List Medium) : Type 0 where
+-- These pieces were put too since this was written, and each medium that the device had since leaves such bytes.
+pub record OwnsMore (geo : Geometry) (mount : View) (start history : List Written) (cut : List Bool) (asked : List Piece) (puts : List Put) (more : List Medium) : Type 0 where
   pub added : List Put
   pub pieces : map (λ (put : Put). put.piece) added ≡ asked
+  pub along : PutAlong mount start history added
   pub owns : Owns geo mount history cut (added ++ puts)
   pub each : All (LeavesOwn geo mount history (added ++ puts)) more
 
--- Where a volume was sound on the medium of its device it is so then, no file more is safe, and each medium that the device had since leaves what is safe then. Where files had their own bytes they have them then, but for these pieces, which users wrote.
-pub record GoesSoundly {D : Type 0} (held : Held) (old : Alive D) (held' : Held) (new : Alive D) (safe safe' : ℕ → Bool) (asked : List Piece) : Type 0 where
+-- ---- how large a loss of power shows a file
+
+-- the number has this size in one of these views
+abbrev pub IsSizeIn : List View → ℕ → ℕ → Type 0
+IsSizeIn views n size = (view : View) × Contains views view × (size ≡ (view.inode n).size)
+
+-- a record that this writes has the size of one of these views
+abbrev pub HasSizeIn : List View → Written → Type 0
+HasSizeIn views w = (n : ℕ) (x : Inode) → w.update.change ≡ SetInode n x → IsSizeIn views n x.size
+
+-- ---- what a volume goes through
+
+-- Where a volume was sound on the medium of its device it is so then, no file more is safe, and each medium that the device had since leaves what is safe then. Where files had their own bytes they have them then, but for these pieces, which users wrote; and each record that was written since has a size of one of these views, which users saw.
+pub record GoesSoundly {D : Type 0} (held : Held) (old : Alive D) (held' : Held) (new : Alive D) (safe safe' : ℕ → Bool) (asked : List Piece) (views : List View) : Type 0 where
   pub geometry : new.kept.geometry ≡ old.kept.geometry
   pub fewer : (f : ℕ) → IsTrue (safe' f) → IsTrue (safe f)
   pub sound : IsSoundOn held.now old safe → IsSoundOn held'.now new safe' × HeldSafely old.kept.geometry held held' safe'
   pub adds : (s : IsSoundOn held.now old safe) → AddsOnly held old held' new safe safe' s (sound s).0
   pub owns : (s : IsSoundOn held.now old safe) (puts : List Put) → Owns old.kept.geometry s.durably.mount s.durably.history s.durably.cut puts
-      → OwnsMore old.kept.geometry (sound s).0.durably.mount (sound s).0.durably.history (sound s).0.durably.cut asked puts (adds s).more
+      → OwnsMore old.kept.geometry (sound s).0.durably.mount s.durably.history (sound s).0.durably.history (sound s).0.durably.cut asked puts (adds s).more
+  pub sizes : (s : IsSoundOn held.now old safe) → All (HasSizeIn views) (adds s).added
 
 -- whichever files are safe, they stay so, and nothing is written to a file
 abbrev pub StaysSound : {D : Type 0} → (D → Held) → Alive D → Alive D → Type 0
-StaysSound held_of old new = (safe : ℕ → Bool) → GoesSoundly (held_of old.device) old (held_of new.device) new safe safe []
+StaysSound held_of old new = (safe : ℕ → Bool) → GoesSoundly (held_of old.device) old (held_of new.device) new safe safe [] []
 
--- and after a command, but for the file of which it took a name, and for what it writes
+-- and after a command, but for the file of which it took a name, and for what it writes; each record that it writes has the size that users saw before it, or that which they see then
 abbrev pub StaysSoundAfter : {D : Type 0} → (D → Held) → (D → List (List ℕ)) → Alive D → Command → Alive D → Type 0
 StaysSoundAfter held_of image_of old command new =
-    (safe : ℕ → Bool) → GoesSoundly (held_of old.device) old (held_of new.device) new safe (safe_after old.kept.geometry (seen_of image_of old) command safe) (pieces_of (opened_by old.holdings) command)
+    (safe : ℕ → Bool) → GoesSoundly (held_of old.device) old (held_of new.device) new safe (safe_after old.kept.geometry (seen_of image_of old) command safe)
+    (pieces_of (opened_by old.holdings) command) (seen_of image_of new ∷ seen_of image_of old ∷ [])

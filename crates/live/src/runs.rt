@@ -62,8 +62,8 @@ pub fn sound_volumes_outlive_power_cuts<D: Device>()
         → (safe : ℕ → Bool) → ((f : ℕ) → IsTrue (safe f) → IsReachable live.kept.geometry (disk_of (image_of m) live) f × (((disk_of (image_of m) live).inode f).mode ≡ 1))
         → IsSoundOn m live safe }
     ensures left { (m : Medium) (live : Alive D) (safe : ℕ → Bool) → IsSoundOn m live safe → LeavesSafe live.kept.geometry safe m }
-    ensures along { (held held1 held2 : Held) (old mid new : Alive D) (safe safe1 safe2 : ℕ → Bool) (asked more : List Piece)
-        → GoesSoundly held old held1 mid safe safe1 asked → GoesSoundly held1 mid held2 new safe1 safe2 more → GoesSoundly held old held2 new safe safe2 (more ++ asked) }
+    ensures along { (held held1 held2 : Held) (old mid new : Alive D) (safe safe1 safe2 : ℕ → Bool) (asked more : List Piece) (views others : List View)
+        → GoesSoundly held old held1 mid safe safe1 asked views → GoesSoundly held1 mid held2 new safe1 safe2 more others → GoesSoundly held old held2 new safe safe2 (more ++ asked) (others ++ views) }
     ensures anew { (m : Medium) (live : Alive D) (safe : ℕ → Bool) → IsSoundOn m live safe → unsynced_of live.queue ≡ []
         → (more : ℕ → Bool) → ((f : ℕ) → IsTrue (more f) → IsReachable live.kept.geometry (disk_of (image_of m) live) f × (((disk_of (image_of m) live).inode f).mode ≡ 1))
         → IsSoundOn m live more }

@@ -1,6 +1,8 @@
 -- What a closed cut shows of single cells.
-use Rattle.std.proofs.Common.{◌≡◌, ℕ, suc, Bool, true, false, List, [], ◌∷◌, ◌⊎◌, inl, inr, refl, sym, ap, ◌∙◌, subst}
+use Rattle.std.proofs.Common.{◌≡◌, ℕ, zero, suc, Bool, true, false, List, [], ◌∷◌, ◌⊎◌, inl, inr, refl, sym, ap, ◌∙◌, subst}
+use Rattle.std.specs.List.{All}
 use Rattle.std.proofs.lemmas.Bool.{cases_eq}
+use Rattle.std.proofs.lemmas.List.Elements.{All-head, All-tail}
 use Rattle.model.specs.Layout.{Geometry}
 use Rattle.model.specs.Image.{image_view}
 use Rattle.model.specs.View.{Inode, View}
@@ -10,8 +12,8 @@ use Rattle.device.specs.Media.{Medium}
 use Rattle.ordering.specs.Cuts.{Cell, Pending, seen}
 use Rattle.ordering.specs.ClosedSets.{pending_at}
 use Rattle.queue_model.specs.Files.{Written, IsFileBlock, updates}
-use Rattle.snapshot.specs.Durable.{LeavesShown}
-use Rattle.promises.specs.Known.{LeavesKnown}
+use Rattle.snapshot.specs.Durable.{HasSizeIn, IsSizeIn, LeavesShown}
+use Rattle.promises.specs.Known.{LeavesKnown, LeavesSizes}
 
 abbrev IsKnown : View → List Pending → ℕ → Inode → Type 0
 IsKnown view us n there = (there ≡ view.inode n) ⊎ ((i : ℕ) × ((pending_at us i).change ≡ SetInode n there))
@@ -47,3 +49,16 @@ leaves_known geo view written safe m shown image may =
         | inr had ↦ inl (ap (λ (v : View). v.bytes b) one.1 ∙ had.0, had.2)
       ],
     )
+
+-- ---- sizes
+
+sized_at : (views : List View) (written : List Written) → All (HasSizeIn views) written → (i n : ℕ) (x : Inode) → (pending_at (updates written) i).change ≡ SetInode n x → IsSizeIn views n x.size
+sized_at views [] sized i n x is = cc
+sized_at views (w ∷ written) sized zero n x is = All-head (HasSizeIn views) w written sized n x is
+sized_at views (w ∷ written) sized (suc i) n x is = sized_at views written (All-tail (HasSizeIn views) w written sized) i n x is
+
+pub leaves_sizes : (geo : Geometry) (view : View) (written : List Written) (safe : ℕ → Bool) (m : Medium) (views : List View) → All (HasSizeIn views) written → LeavesShown geo view written safe m → LeavesSizes geo view views m
+leaves_sizes geo view written safe m views sized shown image may n = elim ((leaves_known geo view written safe m shown image may).0 n) [
+  | inl same ↦ inl (ap (λ (x : Inode). x.size) same)
+  | inr one ↦ inr (sized_at views written sized one.0 n ((image_view geo image).inode n) one.1)
+]

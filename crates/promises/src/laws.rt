@@ -12,7 +12,7 @@ ghost use Rattle.model.specs.View.{View};
 ghost use Rattle.device.specs.Media.{Medium, images_held};
 ghost use Rattle.snapshot.specs.Alive.{Alive};
 ghost use Rattle.snapshot.specs.Cycles.{HasCycle};
-ghost use Rattle.snapshot.specs.Goes.{pieces_in};
+ghost use Rattle.snapshot.specs.Goes.{pieces_in, views_in};
 ghost use Rattle.snapshot.specs.Durable.{IsSoundOn, LeavesSafe};
 ghost use Rattle.snapshot.specs.Alive.{disk_of};
 ghost use Rattle.snapshot.specs.Stages.{LeadsTo, Stage, StandsAt, geometry_at, state_at};
@@ -20,7 +20,7 @@ ghost use Rattle.snapshot.specs.Synced.{HasFile, IsSynced, KeepsFiles};
 ghost use Rattle.shared.specs.Traces.{HasHistory, asked_by, now_at};
 ghost use Rattle.shared.specs.declared.counts.Counts.{Counts};
 ghost use Rattle.shared.specs.declared.entry.Entry.{Entry};
-ghost use Rattle.promises.specs.Known.{LeavesKnown, LeavesOwnBytes};
+ghost use Rattle.promises.specs.Known.{LeavesKnown, LeavesOwnBytes, LeavesSizes};
 ghost use Rattle.promises.specs.Leaky.{IsOnlyLeaky, LeavesLeaky};
 
 use device::Device;
@@ -50,10 +50,12 @@ pub fn every_stop_is_only_leaky<D: Device>()
 /// a volume is sound, as it is just mounted, and of each medium that the device had since, whatever calls were made. And what a
 /// sync has seen outlives it (`synced`): the files that are there where all is durable, as after each sync that is answered, are
 /// in whatever is left then; and, but for those of which an unlink took a name since, in whatever is left of each later medium. In that
-/// each record, with its size, is as it was at the sync, or as an update since made it; and each block of a file has the bytes that this
-/// file had there at the sync, or those that an update since gave it in the name of this very file (`known`). Such updates are what users
-/// asked for: each byte of each block of a file is a zero, one that the file had at this position at the sync, or one of a piece that a later
-/// command wrote at this position through a handle on this number (`own`). Each such piece counts for one file that the number was since.
+/// each record is as it was at the sync, or as an update since made it; and each block of a file has the bytes that this file had there at
+/// the sync, or those that an update since gave it in the name of this very file (`known`). Such updates are what users asked for: each
+/// byte of each block of a file is a zero, one that the file had at this position at the sync, or one of a piece that a later command
+/// wrote at this position through a handle on this number, which counts for the file that the number was when it was put, in the order of
+/// the commands (`own`). And each file has the size that users saw at the sync, or one that they saw before or behind a later
+/// command (`sizes`).
 pub fn every_power_cut_is_only_leaky<D: Device>()
     ensures leaky { (s t : Stage D) (commands : List Command) (replies : List Reply) → StandsAt s → LeadsTo s commands replies t
         → IsSoundOn s.held.now s.volume (λ f. false)
@@ -66,6 +68,9 @@ pub fn every_power_cut_is_only_leaky<D: Device>()
     ensures known { (t u : Stage D) (files : ℕ → Bool) (more : List Command) (others : List Reply) → (keeps : KeepsFiles t files more others u)
         → LeavesKnown (geometry_at t) (disk_of t.image t.volume) [] t.held.now
         × All (LeavesKnown (geometry_at t) (disk_of t.image t.volume) keeps.written) keeps.more }
+    ensures sizes { (t u : Stage D) (files : ℕ → Bool) (more : List Command) (others : List Reply) → (keeps : KeepsFiles t files more others u)
+        → LeavesSizes (geometry_at t) (disk_of t.image t.volume) [] t.held.now
+        × All (LeavesSizes (geometry_at t) (disk_of t.image t.volume) (views_in (geometry_at t) (state_at t) more others (state_at u) keeps.run)) keeps.more }
     ensures own { (t u : Stage D) (files : ℕ → Bool) (more : List Command) (others : List Reply) → (keeps : KeepsFiles t files more others u)
         → LeavesOwnBytes (geometry_at t) (disk_of t.image t.volume) [] [] t.held.now
         × All (LeavesOwnBytes (geometry_at t) (disk_of t.image t.volume) keeps.written

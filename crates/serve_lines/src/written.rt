@@ -87,6 +87,6 @@ where
     let owner = owner_of(rt, image, owner)?;
     let device: FileDevice<R::File, Brand> = FileDevice::open_to_write(rt, image)?;
     let others = others_of(alloc, &device, workers_here(rt))?;
-    let volume = mount_by(rt, alloc, device, others)?;
+    let volume = mount_by(rt, alloc, device, others).map_err(|refused| refused.cause)?;
     Ok(Desk::new(alloc, volume, owner, rules)?)
 }

@@ -22,7 +22,7 @@ use Rattle.snapshot.specs.declared.answer.Answer.TheVariants.{Done, Number, Byte
 use Rattle.snapshot.specs.Asked.{HasBytesOrNames, IsReply, asked, mode_of}
 use Rattle.snapshot.specs.declared.command.Command.TheVariants.{Create, Mkdir, Link, Unlink, Rmdir, Rename, Open, Close, Read, Write, Truncate, List as ListOf, Stat, Freeze, SnapRead, Release, Install, Repair, Flush, Sync}
 use Rattle.snapshot.specs.Durable.{GoesSoundly}
-use Rattle.snapshot.specs.Goes.{Applies, Goes, HasBeside, pieces_in}
+use Rattle.snapshot.specs.Goes.{Applies, Goes, HasBeside, pieces_in, views_in}
 use Rattle.snapshot.specs.Stages.{Stage}
 use Rattle.snapshot.specs.Synced.{IsSynced}
 use Rattle.snapshot.specs.Writes.{Writes}
@@ -110,19 +110,26 @@ module _ {D : Type 0} (held held' : Held) (image image' : List (List ℕ)) (old 
 
   goes_refused : (beside beside' : Beside) (command : Request) (response : Response) → IsCopied response → Goes beside held image old (command ∷ []) (response ∷ []) beside' held' image' new
       → Goes beside held image old (command ∷ []) (Err NoMemory ∷ []) beside' held' image' new
-  goes_refused beside beside' command response c goes = record {
-    geometry = goes.geometry;
-    is = goes.is;
-    run = run_refused old.kept.geometry (state_of image old beside) (state_of image' new beside') command response c goes.run;
-    later = goes.later;
-    since = goes.since;
-    service = λ mount h cut safe begin.
-        let s = goes.service mount h cut safe begin in (
-          s.0,
-          service_refused old.kept.geometry (disk_of image old) (pending_of old.queue) (state_of image old beside) safe (disk_of image' new) (pending_of new.queue) (state_of image' new beside') s.0 command response goes.later c s.1,
-          subst (GoesSoundly held old held' new safe s.0) (copied_asks old.kept.geometry (state_of image old beside) (state_of image' new beside') command response c goes.run) s.2,
-        );
-  }
+  goes_refused beside beside' command response c goes =
+      let geo = old.kept.geometry in
+      let was = state_of image old beside in
+      let now = state_of image' new beside' in
+      let run = run_refused geo was now command response c goes.run in
+      let same_views : views_in geo was (command ∷ []) (response ∷ []) now goes.run ≡ views_in geo was (command ∷ []) (Err NoMemory ∷ []) now run = ap (λ (t : State). t.view ∷ was.view ∷ []) (sym goes.run.2 ∙ run.2) in
+      record {
+        geometry = goes.geometry;
+        is = goes.is;
+        run = run;
+        later = goes.later;
+        since = goes.since;
+        service = λ mount h cut safe begin.
+            let s = goes.service mount h cut safe begin in (
+              s.0,
+              service_refused geo (disk_of image old) (pending_of old.queue) was safe (disk_of image' new) (pending_of new.queue) now s.0 command response goes.later c s.1,
+              subst (GoesSoundly held old held' new safe s.0 []) same_views
+                  (subst (λ pieces. GoesSoundly held old held' new safe s.0 pieces (views_in geo was (command ∷ []) (response ∷ []) now goes.run)) (copied_asks geo was now command response c goes.run) s.2),
+            );
+      }
 
   pub applied_so : (command : Request) (reply answer : Result Answer Refusal) → (answer ≡ reply) ⊎ (HasBytesOrNames reply × (answer ≡ Err NoMemory))
       → Applies held image old command reply held' image' new → Applies held image old command answer held' image' new

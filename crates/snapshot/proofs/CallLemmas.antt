@@ -80,7 +80,7 @@ module _ {D : Type 0} (honest : D → Type 0) (held_of : D → Held) (image_of :
 
   -- the device is as it was
   pub quiet_ok : (command : Request) (answer : Answered) → new.device ≡ old.device → (honest new.device → StandsSo (image_of new.device) new)
-      → (honest old.device → Answers (image_of old.device) old command answer (image_of new.device) new []) → (honest old.device → GoesSafely (held_of old.device) (image_of old.device) old command (held_of new.device) new) → honest new.device → Replying command (Ok answer)
+      → (honest old.device → Answers (image_of old.device) old command answer (image_of new.device) new []) → (honest old.device → GoesSafely (held_of old.device) (image_of old.device) old command (held_of new.device) (image_of new.device) new) → honest new.device → Replying command (Ok answer)
   quiet_ok command answer same so done sound h beside is =
       answered (held_of old.device) (held_of new.device) (image_of old.device) (image_of new.device) old new beside command answer []
       (held_nothing old.kept.geometry (held_of old.device) (held_of new.device) (ap held_of same)) (done (subst honest same h)) (sound (subst honest same h)) (so h) is

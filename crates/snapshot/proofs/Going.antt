@@ -29,7 +29,7 @@ use Rattle.live_states.specs.Volume.{state_over}
 use Rattle.live.specs.Alive.{Alive, Answers, MayRefuse, StandsSo, disk_of, state_of}
 use Rattle.live.specs.Held.{HeldMore}
 use Rattle.live.specs.Durable.{GoesSoundly, pieces_of}
-use Rattle.live.proofs.Durably.{goes_still}
+use Rattle.live.proofs.Durably.{goes_seen, goes_still}
 use Rattle.snapshot.specs.Goes.{Goes, GoesSafely, IsBeside, StaysSafe}
 use Rattle.courses.proofs.Serving.{one_before}
 
@@ -77,7 +77,7 @@ held_nothing geo held held' e = record { more = []; held_now = ap images_held e 
 -- ---- a command that is carried out
 
 module _ {D : Type 0} (held held' : Held) (image image' : List (List ℕ)) (old new : Alive D) (beside : Beside) where
-  pub answered : (command : Command) (answer : Answer) (later : List View) → HeldMore old.kept.geometry held held' later → Answers image old command answer image' new later → GoesSafely held image old command held' new → StandsSo image' new → IsBeside image old beside
+  pub answered : (command : Command) (answer : Answer) (later : List View) → HeldMore old.kept.geometry held held' later → Answers image old command answer image' new later → GoesSafely held image old command held' image' new → StandsSo image' new → IsBeside image old beside
       → Goes beside held image old (command ∷ []) (Ok answer ∷ []) beside held' image' new
   answered command answer later since answers sound so is =
       let a = answers beside is.belongs in
@@ -113,7 +113,11 @@ module _ {D : Type 0} (held held' : Held) (image : List (List ℕ)) (old : Alive
     run = (state_of image old beside, step, refl);
     later = [];
     since = held_nothing old.kept.geometry held held' same_held;
-    service = λ mount h cut safe begin. (safe, Refuses command r Starts step, goes_still held held' old (record { device = device; queue = old.queue; kept = old.kept; holdings = old.holdings }) same_held refl refl refl safe);
+    service = λ mount h cut safe begin. (
+      safe,
+      Refuses command r Starts step,
+      goes_seen _ _ _ _ _ _ _ _ (goes_still held held' old (record { device = device; queue = old.queue; kept = old.kept; holdings = old.holdings }) same_held refl refl refl safe),
+    );
   }
 
   pub refused : (image' : List (List ℕ)) (new : Alive D) (command : Command) (r : Refusal) → image' ≡ image → new.queue ≡ old.queue → new.kept ≡ old.kept → new.holdings ≡ old.holdings
@@ -154,8 +158,8 @@ module _ {D : Type 0} (held held' : Held) (image : List (List ℕ)) (old : Alive
         service = λ mount h cut safe begin. (
           safe,
           CarriesOut command answer disk q s safe [] Starts step.0 (Quietly command answer s quiet step.1),
-          subst (GoesSoundly held old held' (record { device = device; queue = old.queue; kept = old.kept; holdings = old.holdings }) safe safe) (sym (quiet_asks s.opened command quiet))
-              (goes_still held held' old (record { device = device; queue = old.queue; kept = old.kept; holdings = old.holdings }) same_held refl refl refl safe),
+          subst (λ pieces. GoesSoundly held old held' (record { device = device; queue = old.queue; kept = old.kept; holdings = old.holdings }) safe safe pieces (s.view ∷ s.view ∷ [])) (sym (quiet_asks s.opened command quiet))
+              (goes_seen _ _ _ _ _ _ _ _ (goes_still held held' old (record { device = device; queue = old.queue; kept = old.kept; holdings = old.holdings }) same_held refl refl refl safe)),
         );
       }
 

@@ -20,7 +20,7 @@ use Rattle.live.specs.Alive.{Alive, disk_of, state_of}
 use Rattle.live.specs.Held.{HeldMore}
 use Rattle.live.specs.Durable.{GoesSoundly, pieces_of}
 use Rattle.live.proofs.Durably.{goes_then}
-use Rattle.snapshot.specs.Goes.{Goes, pieces_in}
+use Rattle.snapshot.specs.Goes.{Goes, pieces_in, views_in}
 
 -- ---- runs
 
@@ -28,14 +28,19 @@ use Rattle.snapshot.specs.Goes.{Goes, pieces_in}
 runs_join : (geo : Geometry) (old mid new : State) (commands more : List Command) (replies others : List Reply) (run : Run geo old commands replies mid) (then : Run geo mid more others new)
     → (all : Run geo old (commands ++ more) (replies ++ others) new)
     × (pieces_in geo old (commands ++ more) (replies ++ others) new all ≡ pieces_in geo mid more others new then ++ pieces_in geo old commands replies mid run)
+    × (views_in geo old (commands ++ more) (replies ++ others) new all ≡ views_in geo mid more others new then ++ views_in geo old commands replies mid run)
 runs_join geo old mid new [] more [] others e run =
-    subst (λ s. (all : Run geo s more others new) × (pieces_in geo s more others new all ≡ pieces_in geo mid more others new run ++ [])) e (run, sym (append-nil (pieces_in geo mid more others new run)))
+    subst (λ s. (all : Run geo s more others new) × (pieces_in geo s more others new all ≡ pieces_in geo mid more others new run ++ []) × (views_in geo s more others new all ≡ views_in geo mid more others new run ++ [])) e
+    (run, sym (append-nil (pieces_in geo mid more others new run)), sym (append-nil (views_in geo mid more others new run)))
 runs_join geo old mid new (c ∷ cs) more (Ok a ∷ rs) others run then =
-    let rest = runs_join geo run.0 mid new cs more rs others run.2 then in
-    ((run.0, run.1, rest.0), ap (λ l. l ++ pieces_of old.opened c) rest.1 ∙ append_assoc (pieces_in geo mid more others new then) (pieces_in geo run.0 cs rs mid run.2) (pieces_of old.opened c))
+    let rest = runs_join geo run.0 mid new cs more rs others run.2 then in (
+      (run.0, run.1, rest.0),
+      ap (λ l. l ++ pieces_of old.opened c) rest.1 ∙ append_assoc (pieces_in geo mid more others new then) (pieces_in geo run.0 cs rs mid run.2) (pieces_of old.opened c),
+      ap (λ l. l ++ run.0.view ∷ old.view ∷ []) rest.2 ∙ append_assoc (views_in geo mid more others new then) (views_in geo run.0 cs rs mid run.2) (run.0.view ∷ old.view ∷ []),
+    )
 runs_join geo old mid new (c ∷ cs) more (Err r ∷ rs) others run then =
     let rest = runs_join geo run.0 mid new cs more rs others run.2 then in
-    ((run.0, run.1, rest.0), rest.1)
+    ((run.0, run.1, rest.0), rest.1, ap (λ l. l ++ run.0.view ∷ old.view ∷ []) rest.2 ∙ append_assoc (views_in geo mid more others new then) (views_in geo run.0 cs rs mid run.2) (run.0.view ∷ old.view ∷ []))
 runs_join geo old mid new [] more (r ∷ rs) others run then = absurd run
 runs_join geo old mid new (c ∷ cs) more [] others run then = absurd run
 
@@ -98,11 +103,11 @@ module _ {D : Type 0} (beside beside' beside'' : Beside) (held held' held'' : He
 
   abbrev FirstBy : Geometry → Type 0
   FirstBy g = (run : Run geo s commands replies (state_by g)) × ((mount : View) (h : List Written) (cut : List Bool) (safe : ℕ → Bool) → IsBeginning geo mount h cut disk q s safe
-      → (safe' : ℕ → Bool) × Service geo disk q s safe (disk_by g) (pending_of mid.queue) (state_by g) safe' commands replies one.later × GoesSoundly held old held' mid safe safe' (pieces_in geo s commands replies (state_by g) run))
+      → (safe' : ℕ → Bool) × Service geo disk q s safe (disk_by g) (pending_of mid.queue) (state_by g) safe' commands replies one.later × GoesSoundly held old held' mid safe safe' (pieces_in geo s commands replies (state_by g) run) (views_in geo s commands replies (state_by g) run))
 
   abbrev SecondBy : Geometry → Type 0
   SecondBy g = (run : Run g (state_by g) more others (state_of image'' new beside'')) × ((mount : View) (h : List Written) (cut : List Bool) (safe : ℕ → Bool) → IsBeginning g mount h cut (disk_by g) (pending_of mid.queue) (state_by g) safe
-      → (safe' : ℕ → Bool) × Service g (disk_by g) (pending_of mid.queue) (state_by g) safe (disk_of image'' new) (pending_of new.queue) (state_of image'' new beside'') safe' more others two.later × GoesSoundly held' mid held'' new safe safe' (pieces_in g (state_by g) more others (state_of image'' new beside'') run))
+      → (safe' : ℕ → Bool) × Service g (disk_by g) (pending_of mid.queue) (state_by g) safe (disk_of image'' new) (pending_of new.queue) (state_of image'' new beside'') safe' more others two.later × GoesSoundly held' mid held'' new safe safe' (pieces_in g (state_by g) more others (state_of image'' new beside'') run) (views_in g (state_by g) more others (state_of image'' new beside'') run))
 
   first : FirstBy geo
   first = subst FirstBy one.geometry (one.run, one.service)
@@ -113,11 +118,13 @@ module _ {D : Type 0} (beside beside' beside'' : Beside) (held held' held'' : He
   runs : (run : Run old.kept.geometry (state_of image old beside) (commands ++ more) (replies ++ others) (state_of image'' new beside''))
       × (pieces_in old.kept.geometry (state_of image old beside) (commands ++ more) (replies ++ others) (state_of image'' new beside'') run
       ≡ pieces_in old.kept.geometry (state_by old.kept.geometry) more others (state_of image'' new beside'') second.0 ++ pieces_in old.kept.geometry (state_of image old beside) commands replies (state_by old.kept.geometry) first.0)
+      × (views_in old.kept.geometry (state_of image old beside) (commands ++ more) (replies ++ others) (state_of image'' new beside'') run
+      ≡ views_in old.kept.geometry (state_by old.kept.geometry) more others (state_of image'' new beside'') second.0 ++ views_in old.kept.geometry (state_of image old beside) commands replies (state_by old.kept.geometry) first.0)
   runs = runs_join geo s (state_by geo) (state_of image'' new beside'') commands more replies others first.0 second.0
 
   both : (mount : View) (h : List Written) (cut : List Bool) (safe : ℕ → Bool) → IsBeginning geo mount h cut disk q s safe
       → (safe' : ℕ → Bool) × Service geo disk q s safe (disk_of image'' new) (pending_of new.queue) (state_of image'' new beside'') safe' (commands ++ more) (replies ++ others) (two.later ++ one.later) × GoesSoundly held old held'' new safe safe'
-      (pieces_in geo s (commands ++ more) (replies ++ others) (state_of image'' new beside'') runs.0)
+      (pieces_in geo s (commands ++ more) (replies ++ others) (state_of image'' new beside'') runs.0) (views_in geo s (commands ++ more) (replies ++ others) (state_of image'' new beside'') runs.0)
   both mount h cut safe begin =
       let f = first.1 mount h cut safe begin in
       let safely = service_safe geo mount h cut disk q s safe begin (disk_by geo) (pending_of mid.queue) (state_by geo) f.0 commands replies one.later f.1 in
@@ -125,8 +132,10 @@ module _ {D : Type 0} (beside beside' beside'' : Beside) (held held' held'' : He
         l.0,
         services_join geo disk q s safe (disk_by geo) (pending_of mid.queue) (state_by geo) f.0 commands replies one.later f.1
             (disk_of image'' new) (pending_of new.queue) (state_of image'' new beside'') l.0 more others two.later l.1,
-        subst (GoesSoundly held old held'' new safe l.0) (sym runs.1)
-            (goes_then held held' held'' old mid new safe f.0 l.0 (pieces_in geo s commands replies (state_by geo) first.0) (pieces_in geo (state_by geo) more others (state_of image'' new beside'') second.0) f.2 l.2),
+        subst (λ pieces. GoesSoundly held old held'' new safe l.0 pieces (views_in geo s (commands ++ more) (replies ++ others) (state_of image'' new beside'') runs.0)) (sym runs.1)
+            (subst (GoesSoundly held old held'' new safe l.0 (pieces_in geo (state_by geo) more others (state_of image'' new beside'') second.0 ++ pieces_in geo s commands replies (state_by geo) first.0)) (sym runs.2)
+            (goes_then held held' held'' old mid new safe f.0 l.0 (pieces_in geo s commands replies (state_by geo) first.0) (pieces_in geo (state_by geo) more others (state_of image'' new beside'') second.0)
+            (views_in geo s commands replies (state_by geo) first.0) (views_in geo (state_by geo) more others (state_of image'' new beside'') second.0) f.2 l.2)),
       )
 
   pub joined : Goes beside held image old (commands ++ more) (replies ++ others) beside'' held'' image'' new

@@ -31,6 +31,7 @@ use Rattle.live_states.specs.Snapshots.{keeping, let_go, let_go_blocks}
 use Rattle.live_states.proofs.Images.{images_begun, images_ended, same_at, same_kept, same_room}
 use Rattle.live_states.specs.Volume.{state_over}
 use Rattle.live.specs.Alive.{Alive, StandsSo, disk_of, state_of}
+use Rattle.live.proofs.Durably.{goes_seen}
 use Rattle.snapshot.specs.Goes.{Goes, IsBeside, StaysSafe}
 use Rattle.snapshot.proofs.Going.{beside_then, flushed_since, flushed_state, images}
 
@@ -136,7 +137,7 @@ module _ {D : Type 0} (held held' : Held) (image image' : List (List ℕ)) (old 
                 (subst (λ xs. Service geo disk q s safe disk' [] (frozen geo s) safe (Freeze ∷ []) (Ok (Image s.snapshots.freezes (settled geo s)) ∷ []) xs) same_later
                 (CarriesOut Freeze (Image s.snapshots.freezes (settled geo s)) disk' [] (frozen geo s) safe later Starts accepted
                 (Freezes flushes.blocks (map (image_view geo) flushes.more) disk' (subst (λ p. Writes (home_of geo) disk q flushes.blocks (map (image_view geo) flushes.more) disk' p) none flushes.writes))))),
-            sound safe,
+            goes_seen _ _ _ _ _ _ _ _ (sound safe),
           );
         }
 
@@ -180,6 +181,6 @@ module _ {D : Type 0} (held held' : Held) (image image' : List (List ℕ)) (old 
                 (subst (λ xs. Service geo disk q s safe disk' (releasing (let_go_below s n m) []) (released s n) safe (Release n ∷ []) (Ok Done ∷ []) xs) same_later
                 (CarriesOut (Release n) Done disk' (releasing (let_go_below s n m) []) (released s n) safe later Starts ends_accepted
                 (Releases n flushes.blocks (map (image_view geo) flushes.more) disk' m (subst (λ p. Writes (home_of geo) disk q flushes.blocks (map (image_view geo) flushes.more) disk' p) none flushes.writes) few))))),
-            sound safe,
+            goes_seen _ _ _ _ _ _ _ _ (sound safe),
           );
         }

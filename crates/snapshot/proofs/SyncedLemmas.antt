@@ -6,7 +6,7 @@ use Rattle.device.specs.Media.{Medium, image_of}
 use Rattle.queue_model.specs.Files.{Written}
 use Rattle.live_states.specs.Holdings.{held_by}
 use Rattle.live.specs.Alive.{disk_of}
-use Rattle.live.specs.Durable.{AddsOnly, IsSoundOn, LeavesOwn, LeavesShown, Owns, OwnsMore, Piece, Put}
+use Rattle.live.specs.Durable.{AddsOnly, IsSoundOn, LeavesOwn, LeavesShown, Owns, OwnsMore, Piece, Put, PutAlong}
 use Rattle.live.proofs.Durably.{leaves_own, leaves_shown}
 use Rattle.snapshot.specs.Stages.{Stage, geometry_at}
 
@@ -33,11 +33,14 @@ module _ {D : Type 0} (t u : Stage D) (files left : ℕ → Bool) (on : IsSoundO
         (subst (λ h. LeavesOwn (geometry_at t) on.durably.mount h [] t.held.now) none (leaves_own t.held.now (geometry_at t) t.volume.queue (held_by t.volume.holdings) files on [] first))
 
     pub owned_then : (adds : AddsOnly t.held t.volume u.held u.volume files left on after) (asked : List Piece)
-        → OwnsMore (geometry_at t) after.durably.mount after.durably.history after.durably.cut asked [] adds.more
-        → (puts : List Put) × (map (λ (put : Put). put.piece) puts ≡ asked) × All (LeavesOwn (geometry_at t) (disk_of t.image t.volume) adds.added puts) adds.more
+        → OwnsMore (geometry_at t) after.durably.mount on.durably.history after.durably.history after.durably.cut asked [] adds.more
+        → (puts : List Put) × (map (λ (put : Put). put.piece) puts ≡ asked) × PutAlong (disk_of t.image t.volume) [] adds.added puts × All (LeavesOwn (geometry_at t) (disk_of t.image t.volume) adds.added puts) adds.more
     owned_then adds asked more = (
       more.added,
       more.pieces,
+      subst (λ v. PutAlong v [] adds.added more.added) (adds.mount ∙ view)
+          (subst (λ h. PutAlong after.durably.mount [] h more.added) (adds.history ∙ ap (λ h. adds.added ++ h) none ∙ append-nil adds.added)
+          (subst (λ h. PutAlong after.durably.mount h after.durably.history more.added) none more.along)),
       subst (λ v. All (LeavesOwn (geometry_at t) v adds.added more.added) adds.more) (adds.mount ∙ view)
           (subst (λ h. All (LeavesOwn (geometry_at t) after.durably.mount h more.added) adds.more) (adds.history ∙ ap (λ h. adds.added ++ h) none ∙ append-nil adds.added)
           (subst (λ l. All (LeavesOwn (geometry_at t) after.durably.mount after.durably.history l) adds.more) (append-nil more.added) more.each)),

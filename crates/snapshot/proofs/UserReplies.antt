@@ -1,5 +1,5 @@
 -- A command of users is answered, or refused.
-use Rattle.std.proofs.Common.{◌≡◌, ℕ, Bool, List, [], Ok, Err, Result, IfErr, IfOk, IsTrue, MatchResult, OnErr, OnOk, refl, sym, ap, ◌∙◌, subst}
+use Rattle.std.proofs.Common.{◌∷◌, ◌≡◌, ℕ, Bool, List, [], Ok, Err, Result, IfErr, IfOk, IsTrue, MatchResult, OnErr, OnOk, refl, sym, ap, ◌∙◌, subst}
 use Rattle.std.proofs.lemmas.List.Elements.{All-nil}
 use Rattle.std.proofs.lemmas.List.{append-nil}
 use Rattle.layout.specs.declared.refusal.Refusal.{Refusal}
@@ -21,7 +21,7 @@ use Rattle.live.specs.Held.{HeldMore}
 use Rattle.snapshot.specs.declared.answer.Answer.{Answer}
 use Rattle.snapshot.specs.declared.answer.Answer.TheVariants.{Done}
 use Rattle.live.specs.Durable.{GoesSoundly, pieces_of}
-use Rattle.live.proofs.Durably.{goes_still}
+use Rattle.live.proofs.Durably.{goes_seen, goes_still}
 use Rattle.snapshot.specs.Asked.{StandsFor}
 use Rattle.snapshot.specs.Goes.{GoesSafely, StaysSafe}
 use Rattle.snapshot.specs.Replied.{Replied}
@@ -42,7 +42,7 @@ module _ {D : Type 0} (held held' : Held) (image image' : List (List ℕ)) (old 
       → IfOk outcome (λ t. (later : List View) × HeldMore old.kept.geometry held held' later × Answers image old command (as_answer t) image' new later)
       → IfErr outcome (λ r. MayRefuse image old command r)
       → OnErr outcome (AreWrites old.kept.geometry image held (pending_of old.queue) image' held' (pending_of new.queue) × (new.kept ≡ old.kept) × (new.holdings ≡ old.holdings) × StaysSafe held old held' new)
-      → OnOk outcome (GoesSafely held image old command held' new)
+      → OnOk outcome (GoesSafely held image old command held' image' new)
       → Replied held image old command reply held' image' new
   replied (Ok t) reply told done refused left sound =
       subst (λ x. Replied held image old command x held' image' new) (sym told) (record { answer = as_answer t; stands_for = stands_for t; later = done.0; since = done.1; answers = done.2; sound = sound })
@@ -68,7 +68,7 @@ module _ {D : Type 0} (honest : D → Type 0) (held_of : D → Held) (image_of :
   Flushes = AreWrites old.kept.geometry (image_of old.device) (held_of old.device) (pending_of old.queue) (image_of new.device) (held_of new.device) (pending_of new.queue)
 
   abbrev Safely : Type 0
-  Safely = GoesSafely (held_of old.device) (image_of old.device) old request (held_of new.device) new
+  Safely = GoesSafely (held_of old.device) (image_of old.device) old request (held_of new.device) (image_of new.device) new
 
   abbrev Stays : Type 0
   Stays = StaysSafe (held_of old.device) old (held_of new.device) new
@@ -171,6 +171,12 @@ pub stays_still : {D T : Type 0} (held held' : Held) (old new : Alive D) (H : Ty
 stays_still held held' old new H (Ok t) same left = λ h safe. goes_still held held' old new same left.0 (ap (λ (k : Kept). k.geometry) left.1) (ap held_by left.2) safe
 stays_still held held' old new H (Err e) same left = tt
 
+-- and what writes no record may have any sizes
+pub sees_any : {D T : Type 0} (held held' : Held) (old new : Alive D) (H : Type 0) (views : List View) (r : Result T Refusal) → OnOk r (H → StaysSafe held old held' new)
+    → OnOk r (H → (safe : ℕ → Bool) → GoesSoundly held old held' new safe safe [] views)
+sees_any held held' old new H views (Ok t) stays = λ h safe. goes_seen held held' old new safe safe [] views (stays h safe)
+sees_any held held' old new H views (Err e) stays = tt
+
 -- a flush that is refused wrote nothing
 pub unflushed : {D T : Type 0} (honest : D → Type 0) (held_of : D → Held) (image_of : D → List (List ℕ)) (old new : Alive D) (r : Result T Refusal)
     → OnErr r ((new.queue ≡ old.queue) × (image_of new.device ≡ image_of old.device) × (held_of new.device ≡ held_of old.device))
@@ -198,11 +204,12 @@ module _ {D : Type 0} (honest : D → Type 0) (held_of : D → Held) (image_of :
         serves = λ safe stands. subst (λ safe'. Serves geo disk q s safe request answer disk q s safe' []) (sym (safely (users_view disk q) safe)) (Quietly request answer s quiet (shown beside).1);
       }
 
-  look_safely : honest live.device → GoesSafely (held_of live.device) (image_of live.device) live request (held_of live.device) live
+  look_safely : honest live.device → GoesSafely (held_of live.device) (image_of live.device) live request (held_of live.device) (image_of live.device) live
   look_safely h safe =
       let held = held_of live.device in
-      subst (λ safe'. GoesSoundly held live held live safe safe' (pieces_of (opened_by live.holdings) request)) (sym (safely (users_view (disk_of (image_of live.device) live) (pending_of live.queue)) safe))
-      (subst (GoesSoundly held live held live safe safe) (sym (quiet_asks (opened_by live.holdings) request quiet)) (goes_still held held live live refl refl refl refl safe))
+      let v = users_view (disk_of (image_of live.device) live) (pending_of live.queue) in
+      subst (λ safe'. GoesSoundly held live held live safe safe' (pieces_of (opened_by live.holdings) request) (v ∷ v ∷ [])) (sym (safely v safe))
+      (subst (λ pieces. GoesSoundly held live held live safe safe pieces (v ∷ v ∷ [])) (sym (quiet_asks (opened_by live.holdings) request quiet)) (goes_seen _ _ _ _ _ _ _ _ (goes_still held held live live refl refl refl refl safe)))
 
   module _ {T : Type 0} (as_given : T → Answer) (as_answer : T → Answered) (stands_for : (t : T) → StandsFor (as_given t) (as_answer t)) where
     pub looked : (outcome : Result T Refusal) (reply : Result Answer Refusal) → MatchResult outcome (λ t. reply ≡ Ok (as_given t)) (λ r. reply ≡ Err r)

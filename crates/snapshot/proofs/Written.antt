@@ -83,7 +83,7 @@ module _ {D : Type 0} (honest : D → Type 0) (held_of : D → Held) (image_of :
           subst (λ n. Goes beside (held_of old.device) (image_of old.device) old (Freeze ∷ []) (Ok (Image n view) ∷ []) (record { snapshots = begun beside.snapshots view }) (held_of mid.device) (image_of mid.device) Kept')
               (is.belongs.0 ∙ sym facts.3)
               (freezes (held_of old.device) (held_of mid.device) (image_of old.device) (image_of mid.device) old beside is mid.queue (flushes h) none mid.device snapshot room shows begun_now so
-              (λ safe. goes_then (held_of old.device) (held_of mid.device) (held_of mid.device) old Mid Kept' safe safe safe [] [] (sound_mid h safe) (goes_still (held_of mid.device) (held_of mid.device) Mid Kept' refl refl refl refl safe))),
+              (λ safe. goes_then (held_of old.device) (held_of mid.device) (held_of mid.device) old Mid Kept' safe safe safe [] [] [] [] (sound_mid h safe) (goes_still (held_of mid.device) (held_of mid.device) Mid Kept' refl refl refl refl safe))),
         ))
 
     pub begins : (honest new.device → StandsSo (image_of new.device) new) → honest mid.device → Begins mid → IsFrozen new
@@ -113,7 +113,7 @@ module _ {D : Type 0} (honest : D → Type 0) (held_of : D → Held) (image_of :
         let gone : Alive D = Gone mid.device (let_go old.holdings number) in
         let ends_soundly = subst (λ (n : Alive D). StaysSafe (held_of mid.device) Mid (held_of n.device) n) (ap₂ (λ (d : D) (o : Holdings). Gone d o) facts.0 facts.1) facts.5 in
         releases (held_of old.device) (held_of mid.device) (image_of old.device) (image_of mid.device) old beside is mid.queue (flushes h) none mid.device new.queue new.kept number standing facts.2 facts.3 ended_now so
-        (λ safe. goes_then (held_of old.device) (held_of mid.device) (held_of mid.device) old Mid gone safe safe safe [] [] (sound_mid h safe) (ends_soundly safe))))
+        (λ safe. goes_then (held_of old.device) (held_of mid.device) (held_of mid.device) old Mid gone safe safe safe [] [] [] [] (sound_mid h safe) (ends_soundly safe))))
 
     pub ends : (honest new.device → StandsSo (image_of new.device) new) → honest mid.device → Ends mid → IsReleased new
     ends so h facts =

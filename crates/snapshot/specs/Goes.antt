@@ -46,8 +46,14 @@ pieces_in geo old (c ∷ cs) [] new run = []
 pieces_in geo old (c ∷ cs) (Ok answer ∷ rs) new run = pieces_in geo run.0 cs rs new run.2 ++ pieces_of old.opened c
 pieces_in geo old (c ∷ cs) (Err r ∷ rs) new run = pieces_in geo run.0 cs rs new run.2
 
+-- what users saw before and behind each command of a run, newest first
+abbrev pub views_in : (geo : Geometry) (old : State) (commands : List Command) (replies : List Reply) (new : State) → Run geo old commands replies new → List View
+views_in geo old [] replies new run = []
+views_in geo old (c ∷ cs) [] new run = []
+views_in geo old (c ∷ cs) (r ∷ rs) new run = views_in geo run.0 cs rs new run.2 ++ run.0.view ∷ old.view ∷ []
+
 -- From a volume over an image of its device, with this beside it, these commands got these replies, one after another. It leads to a volume, with something beside it, over another image, and to what the device held since.
--- Users see a run of the machine; and from wherever a volume may begin, whichever files no stop is to lose, what it goes through is a service of these commands, and no loss of power loses more files than a stop does, or shows in a file what users did not write to it.
+-- Users see a run of the machine; and from wherever a volume may begin, whichever files no stop is to lose, what it goes through is a service of these commands, and no loss of power loses more files than a stop does, or shows in a file what users did not write to it, or a size that users did not see.
 pub record Goes {D : Type 0} (beside : Beside) (held : Held) (image : List (List ℕ)) (old : Alive D) (commands : List Command) (replies : List Reply)
     (beside' : Beside) (held' : Held) (image' : List (List ℕ)) (new : Alive D) : Type 0 where
   pub geometry : new.kept.geometry ≡ old.kept.geometry
@@ -58,16 +64,17 @@ pub record Goes {D : Type 0} (beside : Beside) (held : Held) (image : List (List
   pub since : HeldMore old.kept.geometry held held' later
   pub service : (mount : View) (h : List Written) (cut : List Bool) (safe : ℕ → Bool) → IsBeginning old.kept.geometry mount h cut (disk_of image old) (pending_of old.queue) (state_of image old beside) safe
       → (safe' : ℕ → Bool) × Service old.kept.geometry (disk_of image old) (pending_of old.queue) (state_of image old beside) safe (disk_of image' new) (pending_of new.queue) (state_of image' new beside') safe' commands replies later × GoesSoundly held old held' new safe safe'
-      (pieces_in old.kept.geometry (state_of image old beside) commands replies (state_of image' new beside') run)
+      (pieces_in old.kept.geometry (state_of image old beside) commands replies (state_of image' new beside') run) (views_in old.kept.geometry (state_of image old beside) commands replies (state_of image' new beside') run)
 
--- a volume stays sound on its medium by a command, but for the file of which it took a name, and for what it writes
-abbrev pub GoesSafely : {D : Type 0} → Held → List (List ℕ) → Alive D → Command → Held → Alive D → Type 0
-GoesSafely held image old command held' new =
+-- a volume stays sound on its medium by a command, but for the file of which it took a name, and for what it writes, with sizes that users see before or behind it
+abbrev pub GoesSafely : {D : Type 0} → Held → List (List ℕ) → Alive D → Command → Held → List (List ℕ) → Alive D → Type 0
+GoesSafely held image old command held' image' new =
     (safe : ℕ → Bool) → GoesSoundly held old held' new safe (safe_after old.kept.geometry (users_view (disk_of image old) (pending_of old.queue)) command safe) (pieces_of (opened_by old.holdings) command)
+    (users_view (disk_of image' new) (pending_of new.queue) ∷ users_view (disk_of image old) (pending_of old.queue) ∷ [])
 
 -- by nothing else does it lose any, or is anything written to one
 abbrev pub StaysSafe : {D : Type 0} → Held → Alive D → Held → Alive D → Type 0
-StaysSafe held old held' new = (safe : ℕ → Bool) → GoesSoundly held old held' new safe safe []
+StaysSafe held old held' new = (safe : ℕ → Bool) → GoesSoundly held old held' new safe safe [] []
 
 -- A command got this reply, and what stands beside the volume stays, whatever it is.
 abbrev pub Replies : {D : Type 0} → Held → List (List ℕ) → Alive D → Command → Reply → Held → List (List ℕ) → Alive D → Type 0

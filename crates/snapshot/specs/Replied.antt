@@ -19,7 +19,7 @@ pub record Answering {D : Type 0} (held : Held) (image : List (List ℕ)) (old :
   pub later : List View
   pub since : HeldMore old.kept.geometry held held' later
   pub answers : Answers image old command answer image' new later
-  pub sound : GoesSafely held image old command held' new
+  pub sound : GoesSafely held image old command held' image' new
 
 -- It refused, and its device was flushed at most.
 pub record Refusing {D : Type 0} (held : Held) (image : List (List ℕ)) (old : Alive D) (command : Request) (r : Refusal) (held' : Held) (image' : List (List ℕ)) (new : Alive D) : Type 0 where

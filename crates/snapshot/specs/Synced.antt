@@ -9,8 +9,8 @@ use Rattle.queue_model.specs.Files.{Written}
 use Rattle.courses.specs.Serves.{IsSpared}
 use Rattle.softdep.specs.Queued.{unsynced_of}
 use Rattle.live.specs.Alive.{disk_of}
-use Rattle.live.specs.Durable.{HeldSafely, LeavesOwn, LeavesShown, Put}
-use Rattle.snapshot.specs.Goes.{pieces_in}
+use Rattle.live.specs.Durable.{HasSizeIn, HeldSafely, LeavesOwn, LeavesShown, Put, PutAlong}
+use Rattle.snapshot.specs.Goes.{pieces_in, views_in}
 use Rattle.snapshot.specs.Stages.{ServesTo, Stage, geometry_at, state_at}
 
 -- all is durable, on a device that answers what its medium has
@@ -34,9 +34,12 @@ pub record KeepsFiles {D : Type 0} (t : Stage D) (files : ℕ → Bool) (command
   pub more : List Medium
   pub media : u.held.media ≡ t.held.media ++ more
   pub shown : All (LeavesShown (geometry_at t) (disk_of t.image t.volume) written left) more
-  -- Of these commands each that wrote put its piece into the file that its handle was open on; and each block of a file has the file's own bytes: those of then, those of such a piece, or zeroes.
+  -- Of these commands each that wrote put its piece into the file that its handle was open on, which is the file that this number was then; and each block of a file has the file's own bytes: those of then, those of such a piece, or zeroes.
   pub run : Run (geometry_at t) (state_at t) commands replies (state_at u)
   pub puts : List Put
   pub pieces : map (λ (put : Put). put.piece) puts ≡ pieces_in (geometry_at t) (state_at t) commands replies (state_at u) run
+  pub along : PutAlong (disk_of t.image t.volume) [] written puts
   pub own_now : LeavesOwn (geometry_at t) (disk_of t.image t.volume) [] [] t.held.now
   pub own : All (LeavesOwn (geometry_at t) (disk_of t.image t.volume) written puts) more
+  -- each record that was written since has a size that users saw of it before or behind one of these commands
+  pub sizes : All (HasSizeIn (views_in (geometry_at t) (state_at t) commands replies (state_at u) run)) written

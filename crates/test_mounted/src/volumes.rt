@@ -33,7 +33,7 @@ pub fn mounted_of(
     bytes: &[Byte],
 ) -> Result<Volume<MemDevice>, Refusal> {
     let geometry = Geometry::new(groups, 16, inodes)?.with_version(version)?;
-    mount(alloc, MemDevice::formatted(alloc, &geometry, bytes)?)
+    Ok(mount(alloc, MemDevice::formatted(alloc, &geometry, bytes)?)?)
 }
 
 /// What the device of a volume holds.

@@ -184,7 +184,7 @@ where
     R::File: FileExt,
 {
     let device: FileDevice<R::File, Brand> = FileDevice::open_to_write(rt, image)?;
-    Ok(mount(rt.alloc(), device)?)
+    Ok(mount(rt.alloc(), device).map_err(|refused| refused.cause)?)
 }
 
 /// Gives names in the volume of a file's image, and writes all.
@@ -277,6 +277,6 @@ where
     R::File: FileExt,
 {
     let device: FileDevice<R::File, Brand> = FileDevice::open_to_write(rt, image)?;
-    let changed = change_device(rt.alloc(), device, commands)?;
+    let changed = change_device(rt.alloc(), device, commands).map_err(Refusal::from)?;
     Ok(outcome_of(changed.replies.as_slice()))
 }

@@ -7,7 +7,7 @@ pub returns-in-Ok-clause-mounted : goal.returns-in-Ok-clause-mounted
 returns-in-Ok-clause-mounted g c =
     subst (λ (l : Alive _). g.D.Device.honest l.device → IsMountable l.kept.geometry (g.D.Device.image c.args.device)) (sym c.new.ensures) c.in-Ok.ensures.mounted
 
-pub returns-clause-refused : goal.returns-clause-refused
-returns-clause-refused g c =
+pub returns-in-Err-clause-refused : goal.returns-in-Err-clause-refused
+returns-in-Err-clause-refused g c =
     let e = c.in-Err.ensures in
-    record { after = c.in-Err.field-0.device; image_stays = e.untouched.0; held_stays = e.untouched.1; refuses = e.refused; cause = e.cause }
+    record { image_stays = e.untouched.0; held_stays = e.untouched.1; refuses = e.refused; cause = e.cause }

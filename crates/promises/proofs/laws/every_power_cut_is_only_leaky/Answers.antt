@@ -1,17 +1,17 @@
 use Rattle.std.proofs.Common.{List, [], ℕ, false, ◌++◌, ◌∷◌, Ok, refl, subst}
-use Rattle.std.proofs.lemmas.List.Elements.{All-weaker}
+use Rattle.std.proofs.lemmas.List.Elements.{All-nil, All-weaker}
 use Rattle.machine.specs.Command.{Done, Image}
 use Rattle.machine.specs.State.{mounted}
 use Rattle.machine.specs.Step.{Run}
 use Rattle.model.specs.Image.{image_view}
 use Rattle.snapshot.specs.Alive.{disk_of}
-use Rattle.snapshot.specs.Durable.{LeavesOwn, LeavesSafe, LeavesShown}
-use Rattle.snapshot.specs.Goes.{pieces_in}
+use Rattle.snapshot.specs.Durable.{HasSizeIn, LeavesOwn, LeavesSafe, LeavesShown, Starts}
+use Rattle.snapshot.specs.Goes.{pieces_in, views_in}
 use Rattle.snapshot.specs.Mounting.{IsMountable}
 use Rattle.snapshot.specs.Stages.{geometry_at, state_at}
-use Rattle.promises.specs.Known.{LeavesKnown, LeavesOwnBytes}
+use Rattle.promises.specs.Known.{LeavesKnown, LeavesOwnBytes, LeavesSizes}
 use Rattle.promises.specs.Leaky.{IsOnlyLeaky, LeavesLeaky}
-use Rattle.promises.proofs.Known.{leaves_known}
+use Rattle.promises.proofs.Known.{leaves_known, leaves_sizes}
 use Rattle.promises.proofs.laws.every_power_cut_is_only_leaky.Goals as goal
 
 pub returns-clause-leaky : goal.returns-clause-leaky
@@ -42,13 +42,22 @@ returns-clause-known g c = λ t u files more others keeps.
       All-weaker (LeavesShown geo view keeps.written keeps.left) (LeavesKnown geo view keeps.written) (λ m shown. leaves_known geo view keeps.written keeps.left m shown) keeps.more keeps.shown,
     )
 
+pub returns-clause-sizes : goal.returns-clause-sizes
+returns-clause-sizes g c = λ t u files more others keeps.
+    let geo = geometry_at t in
+    let view = disk_of t.image t.volume in
+    let views = views_in geo (state_at t) more others (state_at u) keeps.run in (
+      leaves_sizes geo view [] files t.held.now [] (All-nil (HasSizeIn [])) keeps.now,
+      All-weaker (LeavesShown geo view keeps.written keeps.left) (LeavesSizes geo view views) (λ m shown. leaves_sizes geo view keeps.written keeps.left m views keeps.sizes shown) keeps.more keeps.shown,
+    )
+
 pub returns-clause-own : goal.returns-clause-own
 returns-clause-own g c = λ t u files more others keeps.
     let geo = geometry_at t in
     let view = disk_of t.image t.volume in (
-      record { puts = []; pieces = refl; leaves = keeps.own_now },
+      record { puts = []; pieces = refl; along = Starts; leaves = keeps.own_now },
       All-weaker (LeavesOwn geo view keeps.written keeps.puts) (LeavesOwnBytes geo view keeps.written (pieces_in geo (state_at t) more others (state_at u) keeps.run))
-          (λ m own. record { puts = keeps.puts; pieces = keeps.pieces; leaves = own }) keeps.more keeps.own,
+          (λ m own. record { puts = keeps.puts; pieces = keeps.pieces; along = keeps.along; leaves = own }) keeps.more keeps.own,
     )
 
 pub returns-clause-synced : goal.returns-clause-synced

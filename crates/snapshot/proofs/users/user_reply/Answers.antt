@@ -10,7 +10,7 @@ use Rattle.snapshot.specs.Asked.{asked, mode_of}
 use Rattle.snapshot.proofs.AnswerLemmas.{neither}
 use Rattle.snapshot.proofs.Blaming.{cause_blamed, device_blamed, of_caused, of_device, of_device_or_caused, of_first, of_flush, of_refused, replied_so}
 use Rattle.snapshot.proofs.Writing.{flush_counts, refused_writes, untouched, unwritten_writes, writes_flush}
-use Rattle.snapshot.proofs.UserReplies.{looked, on_err_always, on_ok_always, on_ok_whenever, once_done, plain, plainly_done, reading, reading_done, stays_still, unflushed, writing, writing_done}
+use Rattle.snapshot.proofs.UserReplies.{looked, on_err_always, on_ok_always, on_ok_whenever, once_done, plain, plainly_done, reading, reading_done, sees_any, stays_still, unflushed, writing, writing_done}
 use Rattle.snapshot.proofs.users.user_reply.Goals as goal
 
 pub returns-in-Create-clause-replied : goal.returns-in-Create-clause-replied
@@ -53,7 +53,7 @@ pub returns-in-Open-clause-replied : goal.returns-in-Open-clause-replied
 returns-in-Open-clause-replied g c =
     plain g.D.Device.honest g.D.Device.held g.D.Device.image c.args.live.now c.open.new.self (asked c.args.live.now.kept.geometry c.args.command.now) (AsksOpen c.deref-in-Open.result.now)
     (ap (asked c.args.live.now.kept.geometry) c.in-Open.is ∙ ap AsksOpen (sym c.deref-in-Open.ensures.value))
-    (λ (n : ℕ). Number n) (λ (n : ℕ). IsNumber n) (λ n. refl) c.open.result c.number-in-Open.result c.number-in-Open.ensures c.open.ensures.device c.open.ensures.done c.open.ensures.refused c.open.ensures.untouched (on_ok_whenever _ _ c.open.result c.open.ensures.sound)
+    (λ (n : ℕ). Number n) (λ (n : ℕ). IsNumber n) (λ n. refl) c.open.result c.number-in-Open.result c.number-in-Open.ensures c.open.ensures.device c.open.ensures.done c.open.ensures.refused c.open.ensures.untouched (sees_any (g.D.Device.held c.args.live.now.device) (g.D.Device.held c.open.new.self.device) c.args.live.now c.open.new.self _ _ c.open.result (on_ok_whenever _ _ c.open.result c.open.ensures.sound))
 
 pub returns-in-Close-clause-replied : goal.returns-in-Close-clause-replied
 returns-in-Close-clause-replied g c =
@@ -66,7 +66,7 @@ returns-in-Read-clause-replied g c =
     reading g.D.Device.honest g.D.Device.held g.D.Device.image c.args.live.now c.read.new.self (asked c.args.live.now.kept.geometry c.args.command.now) (AsksRead c.in-Read.handle c.in-Read.index)
     (ap (asked c.args.live.now.kept.geometry) c.in-Read.is)
     Bytes (λ bytes. AreBytes bytes.items) (λ bytes. refl) c.read.result c.bytes.result c.bytes.ensures c.read.ensures.image c.read.ensures.held c.read.ensures.done c.read.ensures.refused
-    (on_err_always _ c.read.result c.read.ensures.untouched) (stays_still (g.D.Device.held c.args.live.now.device) (g.D.Device.held c.read.new.self.device) c.args.live.now c.read.new.self (g.D.Device.honest c.read.new.self.device) c.read.result c.read.ensures.held c.read.ensures.untouched)
+    (on_err_always _ c.read.result c.read.ensures.untouched) (sees_any (g.D.Device.held c.args.live.now.device) (g.D.Device.held c.read.new.self.device) c.args.live.now c.read.new.self _ _ c.read.result (stays_still (g.D.Device.held c.args.live.now.device) (g.D.Device.held c.read.new.self.device) c.args.live.now c.read.new.self (g.D.Device.honest c.read.new.self.device) c.read.result c.read.ensures.held c.read.ensures.untouched))
 
 pub returns-in-Write-clause-replied : goal.returns-in-Write-clause-replied
 returns-in-Write-clause-replied g c =
@@ -97,14 +97,14 @@ returns-in-Flush-clause-replied g c =
     writing g.D.Device.honest g.D.Device.held g.D.Device.image c.args.live.now c.flush.new.self (asked c.args.live.now.kept.geometry c.args.command.now) (AsksFlush c.in-Flush.address)
     (ap (asked c.args.live.now.kept.geometry) c.in-Flush.is)
     (λ (n : ℕ). Number n) (λ (n : ℕ). IsNumber n) (λ n. refl) c.flush.result c.count.result c.count.ensures c.flush.ensures.done c.flush.ensures.refused
-    (unflushed g.D.Device.honest g.D.Device.held g.D.Device.image c.args.live.now c.flush.new.self c.flush.result c.flush.ensures.untouched) c.flush.ensures.metadata c.flush.ensures.holdings (on_ok_always _ c.flush.result c.flush.ensures.sound) (on_err_always _ c.flush.result c.flush.ensures.sound)
+    (unflushed g.D.Device.honest g.D.Device.held g.D.Device.image c.args.live.now c.flush.new.self c.flush.result c.flush.ensures.untouched) c.flush.ensures.metadata c.flush.ensures.holdings (sees_any (g.D.Device.held c.args.live.now.device) (g.D.Device.held c.flush.new.self.device) c.args.live.now c.flush.new.self _ _ c.flush.result (on_ok_always _ c.flush.result c.flush.ensures.sound)) (on_err_always _ c.flush.result c.flush.ensures.sound)
 
 pub returns-in-Sync-clause-replied : goal.returns-in-Sync-clause-replied
 returns-in-Sync-clause-replied g c =
     writing_done g.D.Device.honest g.D.Device.held g.D.Device.image c.args.live.now c.sync.new.self (asked c.args.live.now.kept.geometry c.args.command.now) AsksSync
     (ap (asked c.args.live.now.kept.geometry) c.in-Sync.is)
     c.sync.result c.done-in-Sync.result c.done-in-Sync.ensures c.sync.ensures.done c.sync.ensures.refused
-    (on_err_always _ c.sync.result c.sync.ensures.writes) c.sync.ensures.metadata c.sync.ensures.holdings (on_ok_always _ c.sync.result c.sync.ensures.sound) (on_err_always _ c.sync.result c.sync.ensures.sound)
+    (on_err_always _ c.sync.result c.sync.ensures.writes) c.sync.ensures.metadata c.sync.ensures.holdings (sees_any (g.D.Device.held c.args.live.now.device) (g.D.Device.held c.sync.new.self.device) c.args.live.now c.sync.new.self _ _ c.sync.result (on_ok_always _ c.sync.result c.sync.ensures.sound)) (on_err_always _ c.sync.result c.sync.ensures.sound)
 
 pub returns-in-Sync-clause-synced : goal.returns-in-Sync-clause-synced
 returns-in-Sync-clause-synced g c = λ _. once_done _ c.sync.result c.done-in-Sync.result c.done-in-Sync.ensures c.sync.ensures.unsynced

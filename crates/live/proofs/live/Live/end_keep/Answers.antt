@@ -91,7 +91,7 @@ returns-clause-sound g c = λ h none safe.
     let none_pending = subst (λ (l : Alive _). pending_of l.queue ≡ []) (sym c.self.view_is) c.requires.pending in
     let volume = subst (λ q. IsVolume before.kept before.holdings q (image_view before.kept.geometry (g.D.Device.image device))) none_pending
     (c.self.invariant.alive.true (subst (λ (l : Alive _). g.D.Device.honest l.device) (sym c.self.view_is) h)) in
-    subst (λ (l : Alive _). GoesSoundly (g.D.Device.held l.device) l (g.D.Device.held device) new safe safe []) c.self.view_is
+    subst (λ (l : Alive _). GoesSoundly (g.D.Device.held l.device) l (g.D.Device.held device) new safe safe [] []) c.self.view_is
     (goes_released (g.D.Device.held device) (g.D.Device.image device) (g.met.D.Device.answers device) before new (ap (λ (k : Kept). k.geometry) is.metadata ∙ same_geometry before.kept is.staged.blocks.items) c.self.invariant.alive.keeps volume
     none_pending (subst (λ (l : Alive _). unsynced_of l.queue ≡ []) (sym c.self.view_is) none) c.args.number (subst (λ (l : Alive _). IsSome (image_at l.holdings.snapshots.standing c.args.number)) (sym c.self.view_is) c.requires.stands)
     c.in_ok-plan.plan.updates (c.in_ok-plan.ensures.updates ∙ ap (λ bs. releasing bs []) (c.as_slice.ensures.value ∙ c.in_ok-blocks.ensures)) is.staged is.is_staged is.queued c.let_go.ensures safe)

@@ -89,7 +89,7 @@ pub returns-clause-sound : goal.returns-clause-sound
 returns-clause-sound g c = λ h safe.
     let e = c.in_ok-count.ensures in
     let new : Alive _ = record { device = c.flush.new.device; queue = c.flush.new.self; kept = c.self.inside.metadata; holdings = c.self.inside.holdings } in
-    subst (λ (l : Alive _). GoesSoundly (g.D.Device.held l.device) l (g.D.Device.held c.flush.new.device) new safe safe []) c.self.view_is
+    subst (λ (l : Alive _). GoesSoundly (g.D.Device.held l.device) l (g.D.Device.held c.flush.new.device) new safe safe [] []) c.self.view_is
     (goes_flushed (g.D.Device.held c.self.inside.device) (g.D.Device.held c.flush.new.device) (record { device = c.self.inside.device; queue = c.self.inside.queue; kept = c.self.inside.metadata; holdings = c.self.inside.holdings }) new
     refl refl g.D.Device.KEEPS_ORDER c.args.address c.in_ok-count.count e.flushed (λ zero. (e.unwritten zero).1) (λ some. let w = e.written some in (w.0, w.2)) (e.medium h) safe)
 
@@ -97,7 +97,7 @@ pub returns-in_err-count-clause-sound : goal.returns-in_err-count-clause-sound
 returns-in_err-count-clause-sound g c = λ h safe.
     let e = c.in_err-count.ensures in
     let new : Alive _ = record { device = c.flush.new.device; queue = c.flush.new.self; kept = c.self.inside.metadata; holdings = c.self.inside.holdings } in
-    subst (λ (l : Alive _). GoesSoundly (g.D.Device.held l.device) l (g.D.Device.held c.flush.new.device) new safe safe []) c.self.view_is
+    subst (λ (l : Alive _). GoesSoundly (g.D.Device.held l.device) l (g.D.Device.held c.flush.new.device) new safe safe [] []) c.self.view_is
     (goes_still (g.D.Device.held c.self.inside.device) (g.D.Device.held c.flush.new.device) (record { device = c.self.inside.device; queue = c.self.inside.queue; kept = c.self.inside.metadata; holdings = c.self.inside.holdings }) new
     e.held e.refused refl refl safe)
 

@@ -51,5 +51,5 @@ returns-clause-sound g c = λ safe.
     let device = c.self.inside.device in
     let before : Alive _ = record { device = device; queue = c.self.inside.queue; kept = c.self.inside.metadata; holdings = c.self.inside.holdings } in
     let new : Alive _ = record { device = device; queue = c.self.inside.queue; kept = c.self.inside.metadata; holdings = c.open.new.self } in
-    subst (λ (l : Alive _). GoesSoundly (g.D.Device.held l.device) l (g.D.Device.held device) new safe safe []) c.self.view_is
+    subst (λ (l : Alive _). GoesSoundly (g.D.Device.held l.device) l (g.D.Device.held device) new safe safe [] []) c.self.view_is
     (goes_still (g.D.Device.held device) (g.D.Device.held device) before new refl refl refl (ap {B = ℕ → Bool} (λ (l : List Bool). λ a. slice_index_or l a false) c.in_ok-open.ensures.opened.held) safe)

@@ -82,7 +82,7 @@ pub returns-in_err-sync-clause-sound : goal.returns-in_err-sync-clause-sound
 returns-in_err-sync-clause-sound g c = λ h safe.
     let e = c.in_err-sync.ensures in
     let new : Alive _ = record { device = c.sync.new.device; queue = c.sync.new.self; kept = c.self.inside.metadata; holdings = c.self.inside.holdings } in
-    subst (λ (l : Alive _). GoesSoundly (g.D.Device.held l.device) l (g.D.Device.held c.sync.new.device) new safe safe []) c.self.view_is
+    subst (λ (l : Alive _). GoesSoundly (g.D.Device.held l.device) l (g.D.Device.held c.sync.new.device) new safe safe [] []) c.self.view_is
     (goes_synced (g.D.Device.held c.self.inside.device) (g.D.Device.held c.sync.new.device) (record { device = c.self.inside.device; queue = c.self.inside.queue; kept = c.self.inside.metadata; holdings = c.self.inside.holdings }) new
     refl refl e.put (e.medium h) (e.held h) safe)
 
@@ -90,6 +90,6 @@ pub returns-clause-sound : goal.returns-clause-sound
 returns-clause-sound g c = λ h safe.
     let e = c.in_ok-sync.ensures in
     let new : Alive _ = record { device = c.sync.new.device; queue = c.sync.new.self; kept = c.self.inside.metadata; holdings = c.self.inside.holdings } in
-    subst (λ (l : Alive _). GoesSoundly (g.D.Device.held l.device) l (g.D.Device.held c.sync.new.device) new safe safe []) c.self.view_is
+    subst (λ (l : Alive _). GoesSoundly (g.D.Device.held l.device) l (g.D.Device.held c.sync.new.device) new safe safe [] []) c.self.view_is
     (goes_synced (g.D.Device.held c.self.inside.device) (g.D.Device.held c.sync.new.device) (record { device = c.self.inside.device; queue = c.self.inside.queue; kept = c.self.inside.metadata; holdings = c.self.inside.holdings }) new
     refl refl e.put (e.medium h) (e.held h) safe)

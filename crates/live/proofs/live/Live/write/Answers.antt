@@ -1,4 +1,4 @@
-use Rattle.std.proofs.Common.{[], append-nil, inr, sym, ap, ◌∙◌, subst}
+use Rattle.std.proofs.Common.{[], ◌∷◌, ◌++◌, ◌≡◌, append-nil, inr, sym, ap, ◌∙◌, subst}
 use Rattle.std.proofs.lemmas.Result.{err_from_is_err_and}
 use Rattle.machine.specs.Command.{Done, Write}
 use Rattle.softdep.specs.Queued.{pending_of}
@@ -6,7 +6,8 @@ use Rattle.live_states.specs.Planned.{IsRefusedWith}
 use Rattle.live_states.proofs.Standing.{stands_with}
 use Rattle.live_writes.specs.Aimed.{IsAimed, seen_before}
 use Rattle.live.specs.Alive.{Alive, Answers, MayRefuse}
-use Rattle.live.proofs.Between.{answered, still_seen}
+use Rattle.live.specs.Seen.{seen_of}
+use Rattle.live.proofs.Between.{answered, seen_same, still_seen}
 use Rattle.live.proofs.Commands.{refused_with}
 use Rattle.live.proofs.LettingGo.{answers_with}
 use Rattle.frozen.specs.Kept.{Kept}
@@ -114,11 +115,17 @@ returns-clause-sound g c = λ h safe.
     let holdings' = ap (λ (l : Alive _). l.holdings) is ∙ untouched.2 in
     let held = g.D.Device.held in
     let asked = pieces_of (opened_by old.holdings) command in
-    subst (GoesSoundly (held old.device) old (held new.device) new safe safe) (append-nil asked)
-    (goes_then (held old.device) (held mid.device) (held new.device) old mid new safe safe safe [] asked
+    let image = g.D.Device.image in
+    let sees = seen_of image in
+    let seen_mid : sees mid ≡ sees old = seen_same was (image mid.device) old.queue mid.queue old.kept.geometry mid.kept.geometry same queue (ap (λ (k : Kept). k.geometry) kept') in
+    let seen_new : sees new ≡ sees then = seen_same (image then.device) (image new.device) then.queue new.queue then.kept.geometry new.kept.geometry (ap image c.let_go.ensures.device) c.let_go.ensures.queue c.let_go.ensures.geometry in
+    subst (λ p. GoesSoundly (held old.device) old (held new.device) new safe safe p (sees new ∷ sees old ∷ [])) (append-nil asked)
+    (subst (λ v. GoesSoundly (held old.device) old (held new.device) new safe safe (asked ++ []) (sees new ∷ v ∷ [])) seen_mid
+    (subst (λ v. GoesSoundly (held old.device) old (held new.device) new safe safe (asked ++ []) (v ∷ sees mid ∷ [])) (sym seen_new)
+    (goes_then (held old.device) (held mid.device) (held new.device) old mid new safe safe safe [] asked [] (sees then ∷ sees mid ∷ [])
     (goes_still (held old.device) (held mid.device) old mid (ap (λ (l : Alive _). held l.device) is ∙ c.in_ok-read_under.ensures.held) queue (ap (λ (k : Kept). k.geometry) kept') (ap held_by holdings') safe)
-    (goes_then (held mid.device) (held then.device) (held new.device) mid then new safe safe safe asked []
-    (subst (λ o. GoesSoundly (held mid.device) mid (held then.device) then safe safe (pieces_of (opened_by o) command)) holdings'
+    (goes_then (held mid.device) (held then.device) (held new.device) mid then new safe safe safe asked [] (sees then ∷ sees mid ∷ []) []
+    (subst (λ o. GoesSoundly (held mid.device) mid (held then.device) then safe safe (pieces_of (opened_by o) command) (sees then ∷ sees mid ∷ [])) holdings'
     (c.in_ok-carry_out.ensures.sound seen command Done planned honest
     (still_seen was (g.D.Device.image mid.device) old mid same queue kept' holdings' seen (c.in_ok-read_under.ensures.seen (subst (λ (l : Alive _). g.D.Device.honest l.device) is honest))) safe))
-    (goes_still (held then.device) (held new.device) then new (ap held c.let_go.ensures.device) c.let_go.ensures.queue c.let_go.ensures.geometry (ap held_by c.let_go.ensures.holdings) safe)))
+    (goes_still (held then.device) (held new.device) then new (ap held c.let_go.ensures.device) c.let_go.ensures.queue c.let_go.ensures.geometry (ap held_by c.let_go.ensures.holdings) safe)))))

@@ -11,7 +11,7 @@ use Rattle.live_states.specs.Snapshots.{AreRepairsOf, IsInstallable, installing}
 use Rattle.live_states.proofs.Installing.{installed_quietly}
 use Rattle.live_states.proofs.Standing.{has}
 use Rattle.live.specs.Alive.{Alive, Answers, StandsSo}
-use Rattle.live.proofs.Durably.{goes_still}
+use Rattle.live.proofs.Durably.{goes_seen, goes_still}
 use Rattle.snapshot.specs.Asked.{check_of}
 use Rattle.snapshot.specs.Goes.{GoesSafely, HasBeside, Replies}
 use Rattle.snapshot.proofs.CallLemmas.{if_err, kept_ok, on_ok₂, quiet_ok, same_err, same_device}
@@ -61,9 +61,9 @@ module _ {D : Type 0} {T : Type 0} (honest : D → Type 0) (held_of : D → Held
   device : new.device ≡ old.device
   device = same_device old new (installing old.holdings items) outcome installed untouched
 
-  sound : new ≡ record old { holdings = installing old.holdings items } → GoesSafely (held_of old.device) (image_of old.device) old (Install check) (held_of new.device) new
-  sound e = subst (λ (l : Alive D). GoesSafely (held_of old.device) (image_of old.device) old (Install check) (held_of l.device) l) (sym e)
-      (goes_still (held_of old.device) (held_of old.device) old (record old { holdings = installing old.holdings items }) refl refl refl refl)
+  sound : new ≡ record old { holdings = installing old.holdings items } → GoesSafely (held_of old.device) (image_of old.device) old (Install check) (held_of new.device) (image_of new.device) new
+  sound e = subst (λ (l : Alive D). GoesSafely (held_of old.device) (image_of old.device) old (Install check) (held_of l.device) (image_of l.device) l) (sym e)
+      (λ safe. goes_seen _ _ _ _ _ _ _ _ (goes_still (held_of old.device) (held_of old.device) old (record old { holdings = installing old.holdings items }) refl refl refl refl safe))
 
   installs : OnOk outcome (honest new.device → Replies (held_of old.device) (image_of old.device) old (Install check) (Ok Done) (held_of new.device) (image_of new.device) new)
   installs = on_ok₂ (λ d e. quiet_ok honest held_of image_of old new (Install check) Done device so (d check quietly_done) (λ h. sound e)) outcome done installed
