@@ -1,5 +1,8 @@
-ghost use Rattle.std.specs.Prelude.{◌≡◌, ℕ, ◌+◌, ◌-◌, ◌^◌, min, Bool, None, Some, if◌then◌else◌};
-ghost use Rattle.device.specs.Fused.{blows, left_after};
+ghost use Rattle.std.specs.Prelude.{◌≡◌, ℕ, ◌+◌, ◌-◌, ◌^◌, ◌<◌, min, Bool, None, Some, OnOk, OnErr, length, slice_set, if◌then◌else◌};
+ghost use Rattle.model.specs.Image.{block_at};
+ghost use Rattle.device.specs.Fused.{GoesThrough, blows, faults_of, left_after};
+ghost use Rattle.device.specs.Media.{synced, wrote};
+ghost use Rattle.device.specs.Writes.{CountsFaults};
 
 use crate::{Device, DeviceFault};
 use layout::Block;
@@ -75,7 +78,7 @@ impl<D: Device> Device for Fuse<D> {
 
     ghost held = { λ fuse. D.held fuse.device };
 
-    ghost failures = { λ fuse. min (D.failures fuse.device + fuse.failures) (2 ^ 64 - 1) };
+    ghost failures = { faults_of D.failures };
 
     const KEEPS_ORDER: bool = D::KEEPS_ORDER;
 
@@ -83,21 +86,45 @@ impl<D: Device> Device for Fuse<D> {
         self.device.blocks()
     }
 
-    fn read(&mut self, address: u32, to: &mut Block) -> Result<(), DeviceFault> {
+    fn read(&mut self, address: u32, to: &mut Block) -> Result<(), DeviceFault>
+        requires { address < length (D.image self.old.device) }
+        ensures block { OnOk result (D.honest self.new.device → to.new ≡ block_at (D.image self.old.device) address) }
+        ensures same { D.image self.new.device ≡ D.image self.old.device }
+        ensures held { D.held self.new.device ≡ D.held self.old.device }
+        ensures honest { D.honest self.new.device → D.honest self.old.device }
+        ensures cause { CountsFaults result (faults_of D.failures self.old) (faults_of D.failures self.new) }
+        ensures counted { GoesThrough self.old result self.new }
+    {
         if self.blows() {
             return Err(DeviceFault);
         }
         self.device.read(address, to)
     }
 
-    fn write(&mut self, address: u32, from: &Block) -> Result<(), DeviceFault> {
+    fn write(&mut self, address: u32, from: &Block) -> Result<(), DeviceFault>
+        requires { address < length (D.image self.old.device) }
+        ensures written { OnOk result (D.image self.new.device ≡ slice_set (D.image self.old.device) address from.now) }
+        ensures held { OnOk result (D.held self.new.device ≡ wrote D.KEEPS_ORDER (D.held self.old.device) address from.now) }
+        ensures fault { OnErr result (D.image self.new.device ≡ D.image self.old.device) }
+        ensures fault_held { OnErr result (D.held self.new.device ≡ D.held self.old.device) }
+        ensures honest { D.honest self.new.device → D.honest self.old.device }
+        ensures cause { CountsFaults result (faults_of D.failures self.old) (faults_of D.failures self.new) }
+        ensures counted { GoesThrough self.old result self.new }
+    {
         if self.blows() {
             return Err(DeviceFault);
         }
         self.device.write(address, from)
     }
 
-    fn sync(&mut self) -> Result<(), DeviceFault> {
+    fn sync(&mut self) -> Result<(), DeviceFault>
+        ensures same { D.image self.new.device ≡ D.image self.old.device }
+        ensures held { OnOk result (D.held self.new.device ≡ synced (D.held self.old.device)) }
+        ensures fault_held { OnErr result (D.held self.new.device ≡ D.held self.old.device) }
+        ensures honest { D.honest self.new.device → D.honest self.old.device }
+        ensures cause { CountsFaults result (faults_of D.failures self.old) (faults_of D.failures self.new) }
+        ensures counted { GoesThrough self.old result self.new }
+    {
         if self.blows() {
             return Err(DeviceFault);
         }
