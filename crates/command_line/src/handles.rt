@@ -42,7 +42,7 @@ pub fn others_of<F: FileExt + OpenFile + Drop, S: Start>(
     let is_large = device.blocks() >= LEAST_BLOCKS;
     let count = if is_large && workers > 1 { workers } else { 0 };
     for _worker in 0..count {
-        let Ok(other) = device.again() else {
+        let Ok(other) = device.again(alloc) else {
             break;
         };
         others.push(other)?;

@@ -3,7 +3,6 @@ use Rattle.std.proofs.Common.{◌≡◌, ℕ, true, false, List, [], ◌∷◌, 
 use Rattle.std.proofs.lemmas.List.{append_assoc}
 use Rattle.std.proofs.lemmas.List.Elements.{All-push, All-nil}
 use Rattle.file_device.specs.declared.file.Call.{Call}
-use Rattle.file_device.specs.declared.file.Call.TheVariants.{WriteBlock}
 use Rattle.device.specs.MediaLaws.{image_after-push}
 use Rattle.device.specs.Memory.{IsWriteTo}
 use Rattle.device.specs.Writes.{Write, image_after}

@@ -4,7 +4,7 @@ use Rattle.std.proofs.Common.{get_or-set_same, get_or-set_other}
 use Rattle.std.specs.Prelude.{IfSome, is_some}
 use Rattle.std.proofs.lemmas.Bool.{eq-eqb, ne_eqb, true≢false, false≢true}
 use Rattle.std.proofs.lemmas.Bool.Decides.{eqb_tells}
-use Rattle.std.proofs.lemmas.List.{append_assoc, map-append, length-take-le, length-set, take_more, take_more_set}
+use Rattle.std.proofs.lemmas.List.{append_assoc, map-append, length-take-le, length-set, take_more, take_more_set, get_or-take}
 use Rattle.model.specs.Image.{block_at}
 use Rattle.device.specs.Writes.{Write, image_after}
 use Rattle.file_device.specs.Calls.{Answered, call_at, calls_of, writes_from}
@@ -44,6 +44,17 @@ none_of (Some x) is_none tells none = absurd (true≢false (tells ∙ ap not non
 pub some_of : {X : Type 0} (P : X → Type 0) (r : Option X) (is_none : Bool) → IfSome r P → is_some r ≡ not is_none → is_none ≡ false → (x : X) × P x
 some_of P None is_none said tells some = absurd (false≢true (tells ∙ ap not some))
 some_of P (Some x) is_none said tells some = (x, said)
+
+-- a block of the room, among those that are kept
+pub kept_in : (run : Run) (a : ℕ) (all : List (List ℕ)) → all ≡ run.blocks.value.all → length all ≡ 32 → run.span.first ≤ a → a - run.span.first < run.span.count
+    → IsKept run a (slice_index_or all (a - run.span.first) [])
+kept_in run a all same room from to =
+    let long : length (blocks_of_run run) ≡ run.span.count = length-take-le run.span.count run.blocks.value.all (omega (arith, ap length same, room, run.span.few)) in
+    record {
+      from = from;
+      to = omega (arith, from, to, long);
+      is = ap (λ bs. slice_index_or bs (a - run.span.first) []) same ∙ sym (get_or-take run.span.count run.blocks.value.all (a - run.span.first) [] to);
+    }
 
 -- ---- a block is replaced
 

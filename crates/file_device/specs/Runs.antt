@@ -11,7 +11,7 @@ use Rattle.file_device.specs.Calls.{Answered, AreHonest, has_refused, writes_fro
 
 -- the blocks of a run
 abbrev pub blocks_of_run : Run → List (List ℕ)
-blocks_of_run run = take run.span.count run.blocks
+blocks_of_run run = take run.span.count run.blocks.value.all
 
 -- the blocks of a run, as writes
 abbrev pub writes_of_run : Run → List Write
@@ -24,7 +24,7 @@ slots_from i (slot ∷ slots) = option_map (λ (s : Slot). (31 * s.quotient + i,
 
 -- what each slot holds
 abbrev pub slots_of : Earlier → List (Option Write)
-slots_of earlier = slots_from 0 earlier.slots
+slots_of earlier = slots_from 0 earlier.slots.value.all
 
 -- the writes in slots
 abbrev pub filled : List (Option Write) → List Write

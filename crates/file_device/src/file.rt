@@ -18,6 +18,7 @@ use crate::run::{Earlier, RUN_BLOCKS, Run};
 use device::{Device, DeviceFault};
 use http_server::Log;
 use layout::{BLOCK_BYTES, Block};
+use std::alloc::Global;
 use std::fs::{OpenFile, OpenOptions};
 use std::marker::{Brand, Model, PhantomData};
 use std::os::unix::fs::FileExt;
@@ -123,20 +124,21 @@ impl<F: Drop, S: Start> Model for FileDevice<F, S> {
 
 impl<F: Drop, S: Start> FileDevice<F, S> {
     /// The device over a file of this many blocks, with no call made yet.
-    fn over(file: F, count: u32) -> FileDevice<F, S>
-        ensures { result ≡ record { count = count; answered = []; waiting = []; failures = 0 } }
+    fn over(alloc: Global, file: F, count: u32) -> Result<FileDevice<F, S>, OpenError>
+        ensures new { IfOk result (λ device. device ≡ record { count = count; answered = []; waiting = []; failures = 0 }) }
+        ensures error { IfErr result IsOfCall }
     {
-        FileDevice {
+        Ok(FileDevice {
             file,
             count,
             failures: 0,
             answered: Log::new(),
-            kept: Run::before(0),
+            kept: Run::before(alloc, 0)?,
             waits: false,
-            earlier: Earlier::none(),
+            earlier: Earlier::none(alloc)?,
             broken: false,
             start: PhantomData,
-        }
+        })
     }
 
     /// The same device, whose file is asked through another value, which asks it the same.
@@ -386,14 +388,17 @@ fn call_at(is_write: bool, address: u32) -> Call
 impl<F: OpenFile + Drop, S: Start> FileDevice<F, S> {
     /// Opens a file for reading alone. It is refused where it cannot be opened or measured, where it is a directory, and where
     /// its length is no whole number of blocks, or none.
-    pub fn open<R: Files<File = F>>(rt: &R, path: &str) -> Result<FileDevice<F, S>, OpenError>
+    pub fn open<R: Files<File = F> + AllocGlobal>(
+        rt: &R,
+        path: &str,
+    ) -> Result<FileDevice<F, S>, OpenError>
         ensures new { IfOk result (λ device. (device.answered ≡ []) × (device.waiting ≡ []) × (device.failures ≡ 0) × (0 < device.count)) }
         ensures error { IfErr result MayNotOpen }
     {
         match fs::open(rt, path) {
             Ok(file) => {
                 let count = blocks_in(&file)?;
-                Ok(FileDevice::over(file, count))
+                FileDevice::over(rt.alloc(), file, count)
             }
             Err(error) => Err(OpenError::of_call(error)),
         }
@@ -401,20 +406,20 @@ impl<F: OpenFile + Drop, S: Start> FileDevice<F, S> {
 
     /// Another device over the same open file, with no call made yet. Nothing may have been written through this one, so both show
     /// the same. It is refused where the host gives no further handle of the file.
-    pub fn again(&self) -> Result<FileDevice<F, S>, OpenError>
+    pub fn again(&self, alloc: Global) -> Result<FileDevice<F, S>, OpenError>
         requires { all_writes self.now ≡ [] }
         ensures new { IfOk result (λ device. (device.answered ≡ []) × (device.waiting ≡ []) × (device.failures ≡ 0)) }
         ensures image { IfOk result (λ device. image_now S.first device ≡ image_now S.first self.now) }
         ensures error { IfErr result IsOfCall }
     {
         match self.file.try_clone() {
-            Ok(file) => Ok(FileDevice::over(file, self.count)),
+            Ok(file) => FileDevice::over(alloc, file, self.count),
             Err(error) => Err(OpenError::of_call(error)),
         }
     }
 
     /// Makes a file of this many blocks, all zero, for reading and writing. A file that was there is replaced.
-    pub fn create<R: Files<File = F>>(
+    pub fn create<R: Files<File = F> + AllocGlobal>(
         rt: &R,
         path: &str,
         blocks: u32,
@@ -423,7 +428,7 @@ impl<F: OpenFile + Drop, S: Start> FileDevice<F, S> {
         ensures error { IfErr result IsOfCall }
     {
         match created(rt, path, blocks) {
-            Ok(file) => Ok(FileDevice::over(file, blocks)),
+            Ok(file) => FileDevice::over(rt.alloc(), file, blocks),
             Err(error) => Err(OpenError::of_call(error)),
         }
     }
@@ -432,7 +437,7 @@ impl<F: OpenFile + Drop, S: Start> FileDevice<F, S> {
 impl<F: OpenFile + Drop, S: Start> FileDevice<F, S> {
     /// Opens a file for reading and writing, and waits until all that others wrote to it has reached the medium. It is refused
     /// as by `open`, and where that fails.
-    pub fn open_to_write<R: Files<File = F>>(
+    pub fn open_to_write<R: Files<File = F> + AllocGlobal>(
         rt: &R,
         path: &str,
     ) -> Result<FileDevice<F, S>, OpenError>
@@ -443,7 +448,7 @@ impl<F: OpenFile + Drop, S: Start> FileDevice<F, S> {
         match OpenOptions::new().read(true).write(true).open(rt, path) {
             Ok(file) => {
                 let count = blocks_in(&file)?;
-                FileDevice::over(file, count).synced()
+                FileDevice::over(rt.alloc(), file, count)?.synced()
             }
             Err(error) => Err(OpenError::of_call(error)),
         }

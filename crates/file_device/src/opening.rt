@@ -4,6 +4,7 @@ ghost use Rattle.layout.specs.declared.refusal.Refusal.TheVariants.{BadLength};
 ghost use Rattle.file_device.specs.Opening.{IsOfCall};
 
 use layout::Refusal;
+use std::alloc::AllocError;
 use std::io;
 
 /// Why a file is not opened or made.
@@ -37,6 +38,14 @@ impl OpenError {
             cause: Refusal::BadLength,
             why: None,
         }
+    }
+}
+
+impl From<AllocError> for OpenError {
+    ghost from_gives = { λ error refused. IsOfCall refused };
+
+    fn from(_error: AllocError) -> OpenError {
+        OpenError::of_call(io::Error::from(io::ErrorKind::OutOfMemory))
     }
 }
 

@@ -15,7 +15,13 @@ pub const RUN_BLOCKS: usize = 32;
 pub struct Run {
     span: Span,
     /// The blocks, and behind them whatever was left there.
-    blocks: [Block; RUN_BLOCKS],
+    blocks: Box<Blocks>,
+}
+
+/// The room for the blocks of a run.
+#[derive(Drop)]
+struct Blocks {
+    all: [Block; RUN_BLOCKS],
 }
 
 /// Where a run stands.

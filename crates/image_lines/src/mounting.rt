@@ -1,13 +1,15 @@
 //! The volume of a device whose image was checked.
-ghost use Rattle.std.specs.Prelude.{◌≡◌, [], IfErr, IfOk, IsTrue, length};
+ghost use Rattle.std.specs.Prelude.{◌≡◌, ◌⊎◌, [], IfErr, IfOk, IsTrue, length};
 ghost use Rattle.findings.specs.declared.verdicts.Verdict.TheVariants.{Damaged};
 ghost use Rattle.frozen.specs.Kept.{IsKeptOf};
+ghost use Rattle.image_changes.specs.GivenBack.{IsGivenBack};
 ghost use Rattle.joint_devices.specs.Joined.{AllHonest, of_device};
-ghost use Rattle.layout.specs.declared.refusal.Refusal.TheVariants.{NoMemory};
+ghost use Rattle.layout.specs.declared.refusal.Refusal.TheVariants.{Damaged as DamagedRefusal, NoMemory};
 ghost use Rattle.live_states.specs.Holdings.{IsIdle};
 ghost use Rattle.loaders.specs.Readers.{Show};
 ghost use Rattle.model.specs.Layout.{block_count};
-ghost use Rattle.snapshot.specs.Mounting.{IsMountable, IsNotMounted};
+ghost use Rattle.rules.specs.Loading.{BreaksRule};
+ghost use Rattle.snapshot.specs.Mounting.{IsMountable};
 ghost use Rattle.softdep.specs.Queued.{fresh_queue, pending_of};
 ghost use Rattle.workers.specs.Workers.{may_work};
 
@@ -15,6 +17,7 @@ use crate::check::check_by;
 use device::Device;
 use findings::Verdict;
 use fsck::Checked;
+use image_changes::Refused;
 use joint_devices::Joint;
 use layout::Refusal;
 use snapshot::{Live, NotMounted, tells_its_image};
@@ -23,10 +26,10 @@ use std::thread::Threads;
 use workers::Gate;
 
 /// Mounts the volume of a device once its image is checked with this many workers, which pass the gate as in `fsck::check`.
-/// Refused as `Live::mount` is; then the device is let go.
+/// Refused as `Live::mount` is; then the device is given back.
 ///
-/// The image is loaded by as many workers as there are other devices, which show the same. These are let go before the volume is
-/// used.
+/// The image is loaded by as many workers as there are other devices, which show the same. These are dropped before the volume is
+/// used, or the device given back.
 pub fn mount<D: Device + Send + Drop, G: Gate>(
     rt: &(impl Threads + Sync),
     alloc: Global,
@@ -34,7 +37,7 @@ pub fn mount<D: Device + Send + Drop, G: Gate>(
     mut others: Vec<D>,
     workers: u32,
     gate: &G,
-) -> Result<Live<Joint<D>>, Refusal>
+) -> Result<Live<Joint<D>>, Refused<Joint<D>>>
     requires workers { IsTrue (may_work workers) }
     requires show { Show D.image (D.image device) others.items }
     ensures image { IfOk result (λ live. D.image live.device.device ≡ D.image device) }
@@ -44,24 +47,49 @@ pub fn mount<D: Device + Send + Drop, G: Gate>(
     ensures fresh { IfOk result (λ live. live.queue ≡ fresh_queue live.kept.geometry) }
     ensures idle { IfOk result (λ live. IsIdle live.holdings) }
     ensures mounted { IfOk result (λ live. AllHonest D.honest live.device → IsMountable live.kept.geometry (D.image device)) }
-    ensures refused { IfErr result (IsNotMounted (AllHonest D.honest) (of_device D.image) (of_device D.held) (of_device D.failures)
+    ensures refused { IfErr result (IsGivenBack (AllHonest D.honest) (of_device D.image) (of_device D.held) (of_device D.failures)
         (record { device = device; readers = others.items })) }
 {
-    let checked = check_by(rt, alloc, &mut device, &mut others, workers, gate)?;
+    let checked = check_by(rt, alloc, &mut device, &mut others, workers, gate);
     let device = Joint::new(device, others);
+    match checked {
+        Ok(checked) => mount_unless_damaged(alloc, device, &checked),
+        Err(cause) => Err(Refused { device, cause }),
+    }
+}
+
+/// Mounts the volume of a device whose image was checked. Refused with `Damaged` where it is, and with `NoMemory`.
+fn mount_unless_damaged<D: Device + Drop>(
+    alloc: Global,
+    device: D,
+    checked: &Checked,
+) -> Result<Live<D>, Refused<D>>
+    requires loaded { D.honest device → IsKeptOf checked.now.frozen (D.image device) }
+    requires count { length (D.image device) ≡ block_count checked.now.frozen.geometry }
+    ensures device { IfOk result (λ live. live.device ≡ device) }
+    ensures pending { IfOk result (λ live. pending_of live.queue ≡ []) }
+    ensures fresh { IfOk result (λ live. live.queue ≡ fresh_queue live.kept.geometry) }
+    ensures idle { IfOk result (λ live. IsIdle live.holdings) }
+    ensures mounted { IfOk result (λ live. D.honest device → IsMountable live.kept.geometry (D.image device)) }
+    ensures untouched { IfErr result (λ refused. refused.device ≡ device) }
+    ensures refused { IfErr result (λ refused. (refused.cause ≡ NoMemory) ⊎ ((refused.cause ≡ DamagedRefusal) × (D.honest device → BreaksRule (D.image device)))) }
+{
     match checked.verdict() {
-        Verdict::Damaged => Err(Refusal::Damaged),
-        Verdict::Clean | Verdict::Soft => mount_checked(alloc, device, &checked),
+        Verdict::Damaged => Err(Refused {
+            device,
+            cause: Refusal::Damaged,
+        }),
+        Verdict::Clean | Verdict::Soft => mount_checked(alloc, device, checked),
     }
 }
 
 /// Mounts the volume of a device whose image was checked, and is not damaged: nothing is read again. Refused with `NoMemory`
-/// alone; then the device is let go.
+/// alone; then the device is given back.
 pub fn mount_checked<D: Device + Drop>(
     alloc: Global,
     device: D,
     checked: &Checked,
-) -> Result<Live<D>, Refusal>
+) -> Result<Live<D>, Refused<D>>
     requires loaded { D.honest device → IsKeptOf checked.now.frozen (D.image device) }
     requires count { length (D.image device) ≡ block_count checked.now.frozen.geometry }
     requires sound { checked.now.verdict ≡ Damaged → ⊥ }
@@ -71,13 +99,22 @@ pub fn mount_checked<D: Device + Drop>(
     ensures fresh { IfOk result (λ live. live.queue ≡ fresh_queue live.kept.geometry) }
     ensures idle { IfOk result (λ live. IsIdle live.holdings) }
     ensures mounted { IfOk result (λ live. D.honest device → IsMountable live.kept.geometry (D.image device)) }
-    ensures error { IfErr result (λ r. r ≡ NoMemory) }
+    ensures untouched { IfErr result (λ refused. refused.device ≡ device) }
+    ensures error { IfErr result (λ refused. refused.cause ≡ NoMemory) }
 {
     findings::rules_hold_where_findings_are_soft();
     tells_its_image(checked);
-    let frozen = checked.frozen().copy(alloc)?;
+    let frozen = match checked.frozen().copy(alloc) {
+        Ok(frozen) => frozen,
+        Err(_) => {
+            return Err(Refused {
+                device,
+                cause: Refusal::NoMemory,
+            });
+        }
+    };
     match Live::mount_loaded(alloc, device, frozen) {
         Ok(live) => Ok(live),
-        Err(NotMounted { device: _, cause }) => Err(cause),
+        Err(NotMounted { device, cause }) => Err(Refused { device, cause }),
     }
 }

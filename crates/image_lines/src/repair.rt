@@ -1,13 +1,13 @@
 //! The line `repair`: the report of an image, and what is mended of it.
-ghost use Rattle.std.specs.Prelude.{◌≡◌, ◌++◌, ◌<◌, [], Err, IfErr, IfOk, IsFalse, IsOkUnless, IsTrue, OnOk, length};
+ghost use Rattle.std.specs.Prelude.{◌≡◌, ◌⊎◌, ◌++◌, ◌<◌, [], Err, IfErr, IfOk, IsErrOf, IsFalse, IsOkUnless, IsTrue, OnOk, length};
 ghost use Rattle.std.specs.String.{string_bytes};
 ghost use Rattle.failures.specs.Status.{plain};
 ghost use Rattle.file_device.specs.Calls.{all_writes};
-ghost use Rattle.findings.specs.declared.verdicts.Verdict.TheVariants.{Soft};
+ghost use Rattle.findings.specs.declared.verdicts.Verdict.TheVariants.{Clean, Damaged, Soft};
 ghost use Rattle.frozen.specs.Kept.{IsKeptOf};
 ghost use Rattle.frozen.specs.Loading.{GivesOut};
 ghost use Rattle.layout.specs.declared.refusal.Refusal.TheVariants.{BadWorkers};
-ghost use Rattle.joint_devices.specs.Joined.{AllHonest};
+ghost use Rattle.joint_devices.specs.Joined.{AllHonest, of_device};
 ghost use Rattle.live_states.specs.Holdings.{IsIdle};
 ghost use Rattle.loaders.specs.Readers.{Show};
 ghost use Rattle.model.specs.Layout.{block_count};
@@ -15,8 +15,10 @@ ghost use Rattle.snapshot.specs.Mounting.{IsMountable};
 ghost use Rattle.softdep.specs.Queued.{pending_of};
 ghost use Rattle.workers.specs.Workers.{may_work};
 ghost use Rattle.image_lines.specs.Status.{status_of_verdict};
-ghost use Rattle.image_lines.specs.declared.repair.Outcome.TheVariants.{Mended};
-ghost use Rattle.image_lines.specs.Repaired.{IsNotRepaired, IsRepaired, device_of, done_text, repair_lines, repair_text_of};
+ghost use Rattle.image_lines.specs.declared.repair.Outcome.TheVariants.{Left, Mended};
+ghost use Rattle.image_lines.specs.Checks.{IsCheckOf};
+ghost use Rattle.image_lines.specs.Repaired.{ComesTo, IsMended, IsNotRepaired, IsRepaired, device_of, done_text, outcome_in, repair_lines, repair_text_of};
+ghost use Rattle.mending.specs.Went.{FailedOnTheWay, Went};
 
 use crate::check::{allow_workers, by_workers, check_by, check_file, told};
 use crate::mounting::mount_checked;
@@ -26,6 +28,7 @@ use device::Device;
 use file_device::{FileDevice, OpenError, Start};
 use findings::{Repair, Verdict};
 use fsck::Checked;
+use image_changes::Refused;
 use joint_devices::Joint;
 use layout::Refusal;
 use mending::mend_checked;
@@ -118,7 +121,9 @@ fn repair_device<F: FileExt + OpenFile + Send + Drop, S: Start + Send, G: Gate>(
     ensures { IfOk result (λ answer. answer.status < 3) }
 {
     let others = others_of(alloc, &device, workers)?;
-    let Repaired { answer, outcome } = repair(rt, alloc, device, others, workers, gate)?;
+    let Repaired { answer, outcome } = repair(rt, alloc, device, others, workers, gate).map_err(
+        |refused| refused.cause,
+    )?;
     mem::forget(outcome);
     Ok(answer)
 }
@@ -145,9 +150,9 @@ where
 /// What came of a device whose image was to be mended.
 #[derive(Drop)]
 pub enum Outcome<D: Device> {
-    /// The image is clean or damaged, and was not written.
+    /// The image was not written.
     Left(D),
-    /// The image was soft, and was mended.
+    /// The image was soft; its volume was mounted and mended, as far as it was not refused.
     Mended(Volume<D>),
 }
 
@@ -158,9 +163,16 @@ pub struct Repaired<D: Device> {
     pub outcome: Outcome<D>,
 }
 
+/// Why an image was not repaired, and what came of the device.
+#[derive(Drop)]
+pub struct NotRepaired<D: Device> {
+    pub cause: Refusal,
+    pub outcome: Outcome<D>,
+}
+
 /// Checks a device's image with this many workers, which pass the gate as in `fsck::check`. Where it is soft, the volume is
 /// mounted and mended by this check: the image is read once, and checked once. Refused with `BadWorkers`, as an image that
-/// cannot be loaded, with `NoMemory` and with `Device`.
+/// cannot be loaded, with `NoMemory` and with `Device`; then the device is given back, or its volume as far as it was mended.
 ///
 /// The image is loaded by as many workers as there are other devices, which show the same. These are read alone, and let go
 /// before the first write.
@@ -171,7 +183,7 @@ pub fn repair<D: Device + Send + Drop, G: Gate>(
     mut others: Vec<D>,
     workers: u32,
     gate: &G,
-) -> Result<Repaired<Joint<D>>, Refusal>
+) -> Result<Repaired<Joint<D>>, NotRepaired<Joint<D>>>
     requires { Show D.image (D.image device) others.items }
 
     // Where each device was honest, they showed an image, and what is printed is this image's. Where it is soft, a check finds
@@ -179,16 +191,74 @@ pub fn repair<D: Device + Send + Drop, G: Gate>(
     ensures repaired { IfOk result (λ repaired. AllHonest D.honest (device_of repaired.outcome)
         → IsRepaired (D.image device) repaired.answer.text.items repaired.answer.status repaired.outcome (D.image (device_of repaired.outcome).device)) }
     ensures status { IfOk result (λ repaired. repaired.answer.status < 3) }
-    ensures workers { IsFalse (may_work workers) → result ≡ Err BadWorkers }
-    ensures refused { IsTrue (may_work workers) → IfErr result (IsNotRepaired (AllHonest D.honest) (D.image device)) }
+    // Whatever came of it, the device was not written, or its volume was mounted and mended, and nothing else was done to it.
+    ensures went { ComesTo (AllHonest D.honest) (of_device D.image) (of_device D.held) (record { device = device; readers = others.items }) (outcome_in result) }
+    // These it looks at first, before the device.
+    ensures workers { IsFalse (may_work workers) → result ≡ Err (record { cause = BadWorkers; outcome = Left (record { device = device; readers = others.items }) }) }
+    ensures refused { IsTrue (may_work workers) → IfErr result (IsNotRepaired (AllHonest D.honest) (of_device D.image) (of_device D.held) (of_device D.failures)
+        (record { device = device; readers = others.items })) }
 {
-    allow_workers(workers)?;
-    let checked = check_by(rt, alloc, &mut device, &mut others, workers, gate)?;
+    if let Err(cause) = allow_workers(workers) {
+        return Err(NotRepaired {
+            cause,
+            outcome: Outcome::Left(Joint::new(device, others)),
+        });
+    }
+    let checked = check_by(rt, alloc, &mut device, &mut others, workers, gate);
     let device = Joint::new(device, others);
+    match checked {
+        Ok(checked) => repair_checked(alloc, device, &checked),
+        Err(cause) => Err(NotRepaired {
+            cause,
+            outcome: Outcome::Left(device),
+        }),
+    }
+}
+
+/// Mends a device whose image was checked where it is soft, and leaves it else.
+fn repair_checked<D: Device + Drop>(
+    alloc: Global,
+    device: D,
+    checked: &Checked,
+) -> Result<Repaired<D>, NotRepaired<D>>
+    requires checked { D.honest device → IsCheckOf (D.image device) checked.now }
+    requires loaded { D.honest device → IsKeptOf checked.now.frozen (D.image device) }
+    requires count { length (D.image device) ≡ block_count checked.now.frozen.geometry }
+    ensures repaired { IfOk result (λ repaired. D.honest (device_of repaired.outcome)
+        → IsRepaired (D.image device) repaired.answer.text.items repaired.answer.status repaired.outcome (D.image (device_of repaired.outcome))) }
+    ensures status { IfOk result (λ repaired. repaired.answer.status < 3) }
+    ensures went { ComesTo D.honest D.image D.held device (outcome_in result) }
+    ensures refused { IfErr result (IsNotRepaired D.honest D.image D.held D.failures device) }
+    ensures left { IfErr result (λ refused. refused.cause ≡ Refusal.Device → IsMended refused.outcome) }
+{
     match checked.verdict() {
-        Verdict::Soft => mend_device(alloc, device, &checked),
-        Verdict::Clean | Verdict::Damaged => Ok(Repaired {
-            answer: told(alloc, &checked)?,
+        Verdict::Soft => mend_device(alloc, device, checked),
+        Verdict::Clean | Verdict::Damaged => leave_device(alloc, device, checked),
+    }
+}
+
+/// Leaves a device whose image was checked and is not soft, and tells what was found.
+fn leave_device<D: Device + Drop>(
+    alloc: Global,
+    device: D,
+    checked: &Checked,
+) -> Result<Repaired<D>, NotRepaired<D>>
+    requires checked { D.honest device → IsCheckOf (D.image device) checked.now }
+    requires other { (checked.now.verdict ≡ Clean) ⊎ (checked.now.verdict ≡ Damaged) }
+    ensures repaired { IfOk result (λ repaired. D.honest (device_of repaired.outcome)
+        → IsRepaired (D.image device) repaired.answer.text.items repaired.answer.status repaired.outcome (D.image (device_of repaired.outcome))) }
+    ensures status { IfOk result (λ repaired. repaired.answer.status < 3) }
+    ensures went { ComesTo D.honest D.image D.held device (outcome_in result) }
+    ensures refused { IfErr result (IsNotRepaired D.honest D.image D.held D.failures device) }
+    ensures left { IfErr result (λ refused. refused.cause ≡ Refusal.Device → IsMended refused.outcome) }
+{
+    match told(alloc, checked) {
+        Ok(answer) => Ok(Repaired {
+            answer,
+            outcome: Outcome::Left(device),
+        }),
+        Err(cause) => Err(NotRepaired {
+            cause,
             outcome: Outcome::Left(device),
         }),
     }
@@ -199,21 +269,36 @@ fn mend_device<D: Device + Drop>(
     alloc: Global,
     device: D,
     checked: &Checked,
-) -> Result<Repaired<D>, Refusal>
+) -> Result<Repaired<D>, NotRepaired<D>>
     requires loaded { D.honest device → IsKeptOf checked.now.frozen (D.image device) }
     requires count { length (D.image device) ≡ block_count checked.now.frozen.geometry }
     requires soft { checked.now.verdict ≡ Soft }
     ensures repaired { IfOk result (λ repaired. D.honest (device_of repaired.outcome)
         → IsRepaired (D.image device) repaired.answer.text.items repaired.answer.status repaired.outcome (D.image (device_of repaired.outcome))) }
     ensures status { IfOk result (λ repaired. repaired.answer.status < 3) }
-    ensures refused { IfErr result (IsNotRepaired D.honest (D.image device)) }
+    ensures went { ComesTo D.honest D.image D.held device (outcome_in result) }
+    ensures refused { IfErr result (IsNotRepaired D.honest D.image D.held D.failures device) }
+    ensures left { IfErr result (λ refused. refused.cause ≡ Refusal.Device → IsMended refused.outcome) }
 {
-    let mut volume = Volume::new(mount_checked(alloc, device, checked)?);
-    let answer = mend_volume(alloc, &mut volume, checked)?;
-    Ok(Repaired {
-        answer,
-        outcome: Outcome::Mended(volume),
-    })
+    let mut volume = match mount_checked(alloc, device, checked) {
+        Ok(live) => Volume::new(live),
+        Err(Refused { device, cause }) => {
+            return Err(NotRepaired {
+                cause,
+                outcome: Outcome::Left(device),
+            });
+        }
+    };
+    match mend_volume(alloc, &mut volume, checked) {
+        Ok(answer) => Ok(Repaired {
+            answer,
+            outcome: Outcome::Mended(volume),
+        }),
+        Err(cause) => Err(NotRepaired {
+            cause,
+            outcome: Outcome::Mended(volume),
+        }),
+    }
 }
 
 /// Mends a volume that was just mounted by the check of its image, and tells what was mended.
@@ -230,7 +315,10 @@ fn mend_volume<D: Device>(
     ensures repaired { IfOk result (λ answer. D.honest volume.new.device
         → IsRepaired (D.image volume.old.device) answer.text.items answer.status (Mended volume.new) (D.image volume.new.device)) }
     ensures status { IfOk result (λ answer. answer.status < 3) }
+    ensures went { D.honest volume.new.device → Went D.held D.image volume.old volume.new }
     ensures error { IfErr result (λ r. D.honest volume.new.device → GivesOut r) }
+    ensures cause { IsErrOf result Refusal.Device → FailedOnTheWay D.honest D.held D.image D.failures volume.old volume.new }
+    ensures honest { D.honest volume.new.device → D.honest volume.old.device }
 {
     fsck::damaged_where_a_rule_is_broken();
     fsck::a_checked_image_is_the_images();

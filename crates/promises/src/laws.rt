@@ -54,7 +54,7 @@ pub fn every_stop_is_only_leaky<D: Device>()
 /// the sync, or those that an update since gave it in the name of this very file (`known`). Such updates are what users asked for: each
 /// byte of each block of a file is a zero, one that the file had at this position at the sync, or one of a piece that a later command
 /// wrote at this position through a handle on this number, which counts for the file that the number was when it was put, in the order of
-/// the commands (`own`). And each file has the size that users saw at the sync, or one that they saw before or behind a later
+/// the commands (`own`). And each number has the size that users saw of it at the sync, or one that they saw before or behind a later
 /// command (`sizes`).
 pub fn every_power_cut_is_only_leaky<D: Device>()
     ensures leaky { (s t : Stage D) (commands : List Command) (replies : List Reply) → StandsAt s → LeadsTo s commands replies t

@@ -215,8 +215,12 @@ fn first_wrong(device: &mut FakeDevice, steps: &[Step]) -> Option<usize> {
 
 /// A device over blocks of this byte.
 fn over_blocks(alloc: Global, byte: u8, blocks: u8) -> Result<FakeDevice, AllocError> {
-    let bytes = vec![in alloc; byte; blocks as usize * BLOCK_BYTES]?;
-    Ok(FileDevice::over(FakeFile::new(bytes), blocks as u32))
+    over_bytes(alloc, vec![in alloc; byte; blocks as usize * BLOCK_BYTES]?, blocks)
+}
+
+/// A device of so many blocks over these bytes.
+fn over_bytes(alloc: Global, bytes: Vec<u8>, blocks: u8) -> Result<FakeDevice, AllocError> {
+    FileDevice::over(alloc, FakeFile::new(bytes), u32::from(blocks)).map_err(|_| AllocError)
 }
 
 /// Aborts at the first step at which a device over blocks of the byte 0xAA shows something else.
@@ -301,7 +305,7 @@ fn a_sync_that_fails_is_the_last(rt: HostRuntime) -> Result<(), AllocError> {
 #[test]
 fn a_short_file_is_a_fault(rt: HostRuntime) -> Result<(), AllocError> {
     let bytes = vec![in rt.alloc(); 0xAA; 3583]?;
-    let mut device: FakeDevice = FileDevice::over(FakeFile::new(bytes), 5);
+    let mut device = over_bytes(rt.alloc(), bytes, 5)?;
     let steps = [
         Step::Read(2, Some(0xAA)),
         Step::Read(3, None),
@@ -465,7 +469,7 @@ fn written(alloc: Global) -> Result<FakeDevice, Refusal> {
 /// The same over zeroes.
 fn known(alloc: Global) -> Result<FakeDevice, Refusal> {
     let bytes = vec![in alloc; 0; 33 * BLOCK_BYTES]?;
-    let mut device: FakeDevice = FileDevice::over(FakeFile::new(bytes), 33);
+    let mut device: FakeDevice = FileDevice::over(alloc, FakeFile::new(bytes), 33)?;
     format(&mut device, &Geometry::new(2, 16, 16)?, Before::Zeroes)?;
     device.give()?;
     Ok(device)

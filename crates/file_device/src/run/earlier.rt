@@ -1,8 +1,9 @@
 //! Single blocks of a file.
-ghost use Rattle.std.specs.Prelude.{◌≡◌, ◌%◌, ◌/◌, ℕ, List, [], None, Some, IfSome, length, slice_set};
+ghost use Rattle.std.specs.Prelude.{◌≡◌, ◌%◌, ◌/◌, ℕ, List, [], None, Some, IfOk, IfSome, length, slice_set};
 ghost use Rattle.file_device.specs.Runs.{IsEarlier, replaced, slots_of, writes_of_earlier};
 
 use layout::Block;
+use std::alloc::{AllocError, Global};
 
 /// How many slots there are.
 const SLOTS: usize = 31;
@@ -12,7 +13,13 @@ const SLOTS: usize = 31;
 #[derive(Drop)]
 pub struct Earlier {
     /// What each slot holds, by its number.
-    slots: [Option<Slot>; SLOTS],
+    slots: Box<Slots>,
+}
+
+/// The room for the slots.
+#[derive(Drop)]
+struct Slots {
+    all: [Option<Slot>; SLOTS],
 }
 
 /// A block in a slot.
@@ -25,12 +32,17 @@ struct Slot {
 
 impl Earlier {
     /// No block.
-    pub fn none() -> Earlier
-        ensures { writes_of_earlier result ≡ [] }
+    pub fn none(alloc: Global) -> Result<Earlier, AllocError>
+        ensures { IfOk result (λ earlier. writes_of_earlier earlier ≡ []) }
     {
-        Earlier {
-            slots: [None; SLOTS],
-        }
+        Ok(Earlier {
+            slots: Box::new(
+                alloc,
+                Slots {
+                    all: [None; SLOTS],
+                },
+            )?,
+        })
     }
 
     /// The block of this address; `None` where its slot holds another's, or none.
@@ -39,7 +51,7 @@ impl Earlier {
         ensures none { result ≡ None → (block : List ℕ) → IsEarlier self.now address block → ⊥ }
         ensures slots { length (slots_of self.now) ≡ 31 }
     {
-        match &self.slots[slot_of(address)] {
+        match &self.slots.all[slot_of(address)] {
             Some(slot) if slot.quotient == quotient_of(address) => Some(&slot.block),
             _ => None,
         }
@@ -49,7 +61,7 @@ impl Earlier {
     pub fn keep(&mut self, address: u32, block: &Block)
         ensures { slots_of self.new ≡ slice_set (slots_of self.old) (address % 31) (Some (address, block.now)) }
     {
-        self.slots[slot_of(address)] = Some(Slot {
+        self.slots.all[slot_of(address)] = Some(Slot {
             quotient: quotient_of(address),
             block: *block,
         });

@@ -1,23 +1,29 @@
-ghost use Rattle.std.specs.Prelude.{◌≡◌, ◌⊎◌, ◌+◌, ◌<◌, ◌≤◌, [], ◌∷◌, true, None, List, ℕ, IfSome};
+ghost use Rattle.std.specs.Prelude.{◌≡◌, ◌⊎◌, ◌+◌, ◌<◌, ◌≤◌, [], ◌∷◌, true, None, List, ℕ, IfOk, IfSome};
 ghost use Rattle.file_device.specs.Runs.{IsKept, blocks_of_run, with_block, writes_of_run};
 
-use super::{RUN_BLOCKS, Run, Span};
+use super::{Blocks, RUN_BLOCKS, Run, Span};
 use crate::file::offset;
 use layout::{BLOCK_BYTES, Block};
+use std::alloc::{AllocError, Global};
 use std::os::unix::fs::FileExt;
 
 impl Run {
     /// No block, and behind it this address.
-    pub fn before(address: u32) -> Run
-        ensures { writes_of_run result ≡ [] }
+    pub fn before(alloc: Global, address: u32) -> Result<Run, AllocError>
+        ensures { IfOk result (λ run. writes_of_run run ≡ []) }
     {
-        Run {
+        Ok(Run {
             span: Span {
                 first: address,
                 count: 0,
             },
-            blocks: [[0; BLOCK_BYTES]; RUN_BLOCKS],
-        }
+            blocks: Box::new(
+                alloc,
+                Blocks {
+                    all: [[0; BLOCK_BYTES]; RUN_BLOCKS],
+                },
+            )?,
+        })
     }
 
     /// Lets go of all blocks; behind them comes this address.
@@ -59,7 +65,7 @@ impl Run {
         if at >= self.span.count {
             return None;
         }
-        Some(&self.blocks[at])
+        Some(&self.blocks.all[at])
     }
 
     /// Adds a block behind the last one.
@@ -68,7 +74,7 @@ impl Run {
         requires within { self.old.span.first + self.old.span.count < 4294967296 }
         ensures { writes_of_run self.new ≡ with_block self.old block.now }
     {
-        self.blocks[self.span.count] = *block;
+        self.blocks.all[self.span.count] = *block;
         self.span = Span {
             first: self.span.first,
             count: self.span.count + 1,
@@ -91,7 +97,7 @@ impl Run {
         ensures count { (self.new.span.count ≡ 0) ⊎ (self.new.span.count ≡ count) }
     {
         self.clear(address);
-        if !fill(&mut self.blocks, file, address, count) {
+        if !fill(&mut self.blocks.all, file, address, count) {
             return;
         }
         self.span = Span {
@@ -111,7 +117,7 @@ impl Run {
     pub fn blocks(&self) -> &[Block]
         ensures { result.now ≡ blocks_of_run self.now }
     {
-        &self.blocks[..self.span.count]
+        &self.blocks.all[..self.span.count]
     }
 }
 

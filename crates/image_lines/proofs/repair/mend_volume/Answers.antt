@@ -1,16 +1,23 @@
-use Rattle.std.proofs.Common.{ap, inl, refl, subst, sym}
+use Rattle.std.proofs.Common.{Err, ap, inl, refl, subst, sym}
 use Rattle.std.proofs.lemmas.Result.{err_from_is_err_and, IfErr-weaker}
 use Rattle.frozen.specs.Kept.{Kept}
 use Rattle.fsck.specs.Checked.{IsChecked}
 use Rattle.model.specs.Image.{image_view}
 use Rattle.image_changes.proofs.MountLemmas.{of_both}
-use Rattle.image_lines.proofs.RepairLemmas.{mended_well}
+use Rattle.layout.specs.declared.refusal.Refusal.TheVariants.{Device}
+use Rattle.snapshot.proofs.Blaming.{same_refusal}
+use Rattle.image_lines.proofs.RepairLemmas.{blames_none, mended_well}
 use Rattle.image_lines.proofs.repair.mend_volume.Goals as goal
 
 pub returns-in_err-mend_checked-clause-error : goal.returns-in_err-mend_checked-clause-error
 returns-in_err-mend_checked-clause-error g c =
     let p = err_from_is_err_and c.from_residual.result c.from_residual.ensures.1 in
     rw (p.1, p.2) (λ h. c.in_err-mend_checked.ensures.error h)
+
+pub returns-in_err-mend_checked-clause-cause : goal.returns-in_err-mend_checked-clause-cause
+returns-in_err-mend_checked-clause-cause g c =
+    let p = err_from_is_err_and c.from_residual.result c.from_residual.ensures.1 in
+    rw (p.1, p.2) (λ e. c.in_err-mend_checked.ensures.cause (ap Err (same_refusal _ Device e)))
 
 pub returns-clause-repaired : goal.returns-clause-repaired
 returns-clause-repaired g c =
@@ -27,3 +34,6 @@ returns-clause-repaired g c =
 
 pub returns-clause-error : goal.returns-clause-error
 returns-clause-error g c = IfErr-weaker c.told_of_repairs.result _ _ (λ r memory h. inl memory) c.told_of_repairs.ensures.error
+
+pub returns-clause-cause : goal.returns-clause-cause
+returns-clause-cause g c = λ e. absurd (blames_none c.told_of_repairs.result c.told_of_repairs.ensures.error e)

@@ -1,60 +1,74 @@
-use Rattle.std.proofs.Common.{rules, ◌≡◌, ◌∙◌, ap, inl, subst, sym, IfErr, IfOk, ◌⊎◌}
-use Rattle.std.proofs.lemmas.Result.{err_from_is_err_and}
-use Rattle.findings.specs.declared.verdicts.Verdict.{Verdict}
-use Rattle.findings.specs.declared.verdicts.Verdict.TheVariants.{Clean, Damaged}
+use Rattle.std.proofs.Common.{◌≡◌, ◌∙◌, Err, IfOk, ap, ap₂, length, subst, sym}
 use Rattle.frozen.specs.Kept.{IsKeptOf}
-use Rattle.joint_devices.specs.Joined.{AllHonest, Joined}
-use Rattle.image_lines.specs.Repaired.{IsNotRepaired, IsRepaired, device_of}
-use Rattle.image_lines.proofs.RepairLemmas.{given_out, left_alone}
+use Rattle.layout.specs.declared.refusal.Refusal.{Refusal}
+use Rattle.joint_devices.specs.Joined.{AllHonest, Joined, of_device}
+use Rattle.image_changes.proofs.MountLemmas.{both_refused}
+use Rattle.image_lines.specs.Checks.{IsCheckOf}
+use Rattle.image_lines.specs.Repaired.{IsNotRepaired, IsRepaired, device_of, outcome_in}
+use Rattle.image_lines.specs.declared.repair.NotRepaired.{NotRepaired}
+use Rattle.image_lines.specs.declared.repair.Outcome.TheVariants.{Left}
+use Rattle.image_lines.proofs.RepairLemmas.{still_comes, still_refused}
 use Rattle.image_lines.proofs.repair.repair.Goals as goal
 
-pub mend_device-requires-clause-loaded : goal.mend_device-requires-clause-loaded
-mend_device-requires-clause-loaded g c =
-    let kept = c.in_ok-checked.checked.frozen in
-    let image = g.D.Device.image in
-    subst (λ (joint : Joined g.row.D.Denot). AllHonest g.D.Device.honest joint → IsKeptOf kept (image joint.device)) (sym c.new-device.ensures)
-    (λ h. subst (IsKeptOf kept) (sym c.check_by.ensures.reads.same) (c.in_ok-checked.ensures.loaded h.0 h.1))
+pub returns-in-Err-clause-went : goal.returns-in-Err-clause-went
+returns-in-Err-clause-went g c = (ap (λ (joint : Joined g.row.D.Denot). g.D.Device.image joint.device) c.new.ensures, ap (λ (joint : Joined g.row.D.Denot). g.D.Device.held joint.device) c.new.ensures)
 
-pub returns-in_err-checked-clause-refused : goal.returns-in_err-checked-clause-refused
-returns-in_err-checked-clause-refused g c =
-    let p = err_from_is_err_and c.from_residual-in_err-checked.result c.from_residual-in_err-checked.ensures.1 in
-    let after : Joined g.row.D.Denot = record { device = c.check_by.new.device; readers = c.check_by.new.others.items } in
-    rw (p.1, p.2) (λ may. record { after = after; refuses = λ h. c.in_err-checked.ensures.refused may })
+pub returns-in-Err-clause-workers : goal.returns-in-Err-clause-workers
+returns-in-Err-clause-workers g c = λ none.
+    ap₂ (λ (cause : Refusal) (joint : Joined g.row.D.Denot). let refused : NotRepaired (Joined g.row.D.Denot) = record { cause = cause; outcome = Left joint } in Err refused) c.in-Err.ensures.error c.new.ensures
 
-pub returns-in-Soft-clause-repaired : goal.returns-in-Soft-clause-repaired
-returns-in-Soft-clause-repaired g c =
+pub returns-in-Err-clause-refused : goal.returns-in-Err-clause-refused
+returns-in-Err-clause-refused g c = λ may. absurd (c.in-Err.ensures.allowed may)
+
+pub repair_checked-requires-clause-checked : goal.repair_checked-requires-clause-checked
+repair_checked-requires-clause-checked g c =
+    let checked = c.in-Ok.checked in
+    subst (λ (joint : Joined g.row.D.Denot). AllHonest g.D.Device.honest joint → IsCheckOf (g.D.Device.image joint.device) checked) (sym c.new-device.ensures)
+    (λ h. subst (λ i. IsCheckOf i checked) (sym c.check_by-checked.ensures.reads.same) (c.in-Ok.ensures.checked h.0 h.1))
+
+pub repair_checked-requires-clause-loaded : goal.repair_checked-requires-clause-loaded
+repair_checked-requires-clause-loaded g c =
+    let kept = c.in-Ok.checked.frozen in
+    subst (λ (joint : Joined g.row.D.Denot). AllHonest g.D.Device.honest joint → IsKeptOf kept (g.D.Device.image joint.device)) (sym c.new-device.ensures)
+    (λ h. subst (IsKeptOf kept) (sym c.check_by-checked.ensures.reads.same) (c.in-Ok.ensures.loaded h.0 h.1))
+
+pub repair_checked-requires-clause-count : goal.repair_checked-requires-clause-count
+repair_checked-requires-clause-count g c =
+    ap (λ (joint : Joined g.row.D.Denot). length (g.D.Device.image joint.device)) c.new-device.ensures ∙ ap length c.check_by-checked.ensures.reads.same ∙ c.in-Ok.ensures.count
+
+pub returns-in-Ok-clause-repaired : goal.returns-in-Ok-clause-repaired
+returns-in-Ok-clause-repaired g c =
     let honest = g.D.Device.honest in
     let image = g.D.Device.image in
-    subst (λ i. IfOk c.mend_device.result (λ repaired. AllHonest honest (device_of repaired.outcome) → IsRepaired i repaired.answer.text.items repaired.answer.status repaired.outcome (image (device_of repaired.outcome).device)))
-    (ap (λ (joint : Joined g.row.D.Denot). image joint.device) c.new-device.ensures ∙ c.check_by.ensures.reads.same) c.mend_device.ensures.repaired
+    subst (λ i. IfOk c.repair_checked.result (λ repaired. AllHonest honest (device_of repaired.outcome) → IsRepaired i repaired.answer.text.items repaired.answer.status repaired.outcome (image (device_of repaired.outcome).device)))
+    (ap (λ (joint : Joined g.row.D.Denot). image joint.device) c.new-device.ensures ∙ c.check_by-checked.ensures.reads.same) c.repair_checked.ensures.repaired
 
-pub returns-in-Soft-clause-refused : goal.returns-in-Soft-clause-refused
-returns-in-Soft-clause-refused g c = λ may.
+pub returns-in-Ok-clause-went : goal.returns-in-Ok-clause-went
+returns-in-Ok-clause-went g c =
     let image = g.D.Device.image in
-    subst (λ i. IfErr c.mend_device.result (IsNotRepaired (AllHonest g.D.Device.honest) i))
-    (ap (λ (joint : Joined g.row.D.Denot). image joint.device) c.new-device.ensures ∙ c.check_by.ensures.reads.same) c.mend_device.ensures.refused
+    let held = g.D.Device.held in
+    let reads = c.check_by-checked.ensures.reads in
+    still_comes (AllHonest g.D.Device.honest) (of_device image) (of_device held) (of_device g.D.Device.failures) c.new-device.result (record { device = c.args.device; readers = c.args.others.items })
+    (ap (λ (joint : Joined g.row.D.Denot). image joint.device) c.new-device.ensures ∙ reads.same) (ap (λ (joint : Joined g.row.D.Denot). held joint.device) c.new-device.ensures ∙ reads.held)
+    (outcome_in c.repair_checked.result) c.repair_checked.ensures.went
 
-pub returns-in_err-told-in-Clean-clause-refused : goal.returns-in_err-told-in-Clean-clause-refused
-returns-in_err-told-in-Clean-clause-refused g c =
-    let p = err_from_is_err_and c.from_residual-in_err-told-in-Clean.result c.from_residual-in_err-told-in-Clean.ensures.1 in
-    let device = c.new-device.result in
-    rw (p.1, p.2) (λ may. record { after = device; refuses = λ h. given_out (AllHonest g.D.Device.honest device) (g.D.Device.image c.args.device) _ (inl c.in_err-told-in-Clean.ensures.error) })
-
-pub returns : goal.returns
-returns g c =
-    let honest = g.D.Device.honest in
+pub returns-in-Ok-clause-refused : goal.returns-in-Ok-clause-refused
+returns-in-Ok-clause-refused g c = λ may.
     let image = g.D.Device.image in
-    let checked = c.in_ok-checked.checked in
-    let told = c.in_ok-told-in-Clean.field-0 in
-    record {
-      repaired = λ h.
-          let all : AllHonest honest (record { device = c.check_by.new.device; readers = c.check_by.new.others.items }) = subst (AllHonest honest) c.new-device.ensures h in
-          let found = c.in_ok-checked.ensures.checked all.0 all.1 in
-          left_alone c.new-device.result (image c.args.device) (image c.new-device.result.device) told.text.items told.status found.0 checked found.1 found.2
-          c.in_ok-told-in-Clean.ensures.text c.in_ok-told-in-Clean.ensures.status
-          (subst (λ (v : Verdict). (v ≡ Clean) ⊎ (v ≡ Damaged)) c.verdict.ensures.verdict c.in-Clean.is)
-          (ap (λ (joint : Joined g.row.D.Denot). image joint.device) c.new-device.ensures ∙ c.check_by.ensures.reads.same);
-      status = search rules;
-      workers = search rules;
-      refused = λ may. tt;
-    }
+    let held = g.D.Device.held in
+    let reads = c.check_by-checked.ensures.reads in
+    both_refused c.repair_checked.result _ _ _ (λ refused is mended.
+    still_refused (AllHonest g.D.Device.honest) (of_device image) (of_device held) (of_device g.D.Device.failures) c.new-device.result (record { device = c.args.device; readers = c.args.others.items })
+    (ap (λ (joint : Joined g.row.D.Denot). image joint.device) c.new-device.ensures ∙ reads.same) (ap (λ (joint : Joined g.row.D.Denot). held joint.device) c.new-device.ensures ∙ reads.held)
+    refused mended is) c.repair_checked.ensures.refused c.repair_checked.ensures.left
+
+pub returns-in-Err-checked-clause-went : goal.returns-in-Err-checked-clause-went
+returns-in-Err-checked-clause-went g c =
+    let reads = c.check_by-checked.ensures.reads in
+    (ap (λ (joint : Joined g.row.D.Denot). g.D.Device.image joint.device) c.new-device.ensures ∙ reads.same, ap (λ (joint : Joined g.row.D.Denot). g.D.Device.held joint.device) c.new-device.ensures ∙ reads.held)
+
+pub returns-in-Err-checked-clause-refused : goal.returns-in-Err-checked-clause-refused
+returns-in-Err-checked-clause-refused g c = λ may.
+    let given : Joined g.row.D.Denot = record { device = c.args.device; readers = c.args.others.items } in
+    subst (λ (joint : Joined g.row.D.Denot). IsNotRepaired (AllHonest g.D.Device.honest) (of_device g.D.Device.image) (of_device g.D.Device.held) (of_device g.D.Device.failures) given (record { cause = c.in-Err-checked.cause; outcome = Left joint }))
+    (sym c.new-device.ensures) (record { refuses = λ h. c.in-Err-checked.ensures.refused may; cause = λ e. c.in-Err-checked.ensures.cause (ap Err e) })

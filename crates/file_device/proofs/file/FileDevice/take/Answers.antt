@@ -22,7 +22,7 @@ invariant_of-self g c =
           (write_to g.S.Start.first device.count c.args.address c.args.from.now (subst (λ (v : Calls). c.args.address < v.count) (sym c.self.view_is) c.requires) (is_block c.args.from.now c.told-from c.fits-from))
           c.self.invariant.keeping (waiting device.waits c.push.new.self) (writes_of_run c.push.new.self) (writes_of_earlier c.replace.new.self)
           (all_wait device.waits c.push.new.self c.if-self.true ∙ pushed ∙ ap (λ ws. ws ++ w ∷ []) (sym (all_wait device.waits run c.if-self.true)))
-          (replaced_outside c.args.address c.args.from.now run.span.first (blocks_of_run run) (λ from to. omega (arith, behind, to, length-take run.span.count run.blocks)))
+          (replaced_outside c.args.address c.args.from.now run.span.first (blocks_of_run run) (λ from to. omega (arith, behind, to, length-take run.span.count run.blocks.value.all)))
           pushed c.replace.ensures;
       heard = c.self.invariant.heard;
     }
