@@ -1,4 +1,4 @@
-use Rattle.std.proofs.Common.{◌≡◌, ◌∙◌, Err, ap, length, sym, subst}
+use Rattle.std.proofs.Common.{◌∙◌, Err, ap, length, sym, subst}
 use Rattle.std.proofs.lemmas.Result.{IfOk-weaker}
 use Rattle.frozen.specs.Kept.{IsKeptOf}
 use Rattle.joint_devices.specs.Joined.{AllHonest, Joined, of_device}

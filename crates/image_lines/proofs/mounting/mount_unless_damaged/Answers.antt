@@ -1,4 +1,4 @@
-use Rattle.std.proofs.Common.{inl, inr, refl, ◌≡◌, ◌⊎◌, sym, subst}
+use Rattle.std.proofs.Common.{inl, inr, refl, ◌≡◌, ◌⊎◌, subst}
 use Rattle.std.proofs.lemmas.Result.{IfErr-weaker}
 use Rattle.findings.specs.declared.verdicts.Verdict.{Verdict}
 use Rattle.findings.specs.declared.verdicts.Verdict.TheVariants.{Clean, Damaged, Soft}

@@ -1,4 +1,4 @@
-use Rattle.std.proofs.Common.{◌≡◌, ◌∙◌, Err, IfOk, ap, ap₂, length, subst, sym}
+use Rattle.std.proofs.Common.{◌∙◌, Err, IfOk, ap, ap₂, length, subst, sym}
 use Rattle.frozen.specs.Kept.{IsKeptOf}
 use Rattle.layout.specs.declared.refusal.Refusal.{Refusal}
 use Rattle.joint_devices.specs.Joined.{AllHonest, Joined, of_device}
