@@ -13,18 +13,18 @@ use Rattle.snapshot.specs.Asked.{asked}
 use Rattle.snapshot.specs.declared.command.Command.{Command}
 use Rattle.fuse_reader.specs.Pieces.{piece_end}
 use Rattle.fuse_reader.specs.Said as said
-use Rattle.fuse_reader.specs.Said.{Said, Refused}
+use Rattle.fuse_reader.specs.Said.{Refused}
 use Rattle.fuse_writer.specs.declared.session.Session.{Session}
-use Rattle.fuse_writer.specs.Doings.{Does, Doing, IsBytes, LeadsOn, Says, WasAsked, if_bytes, items_of, refuses}
+use Rattle.fuse_writer.specs.Doings.{Does, Doing, IsBytes, LeadsOn, Says, WasAsked, if_bytes, items_of, refuses, with_memory}
 use Rattle.fuse_writer.specs.Replied.{bytes_in}
 use Rattle.fuse_writer.specs.Requests.{at_handle, at_node, on_handle, part_of, reads, reads_between, reads_blocks, reads_piece}
 use Rattle.fuse_writer.specs.Turns.{Turn}
-use Rattle.fuse_writer.proofs.DoingLemmas.{does_ask, does_say}
+use Rattle.fuse_writer.proofs.DoingLemmas.{does_ask, does_memory, does_no_memory, does_say}
 
 module _ {D V : Type 0} (old mid : Turn D) (s t : Session) (handle from to k : ℕ) (bytes : List ℕ) (items : V → List ℕ) (command : Command) (outcome : Result V Errno)
     (was : WasAsked old.calls mid.calls command (IsBytes items outcome)) (asks : (geo : Geometry) → asked geo command ≡ Read handle k) (same : t ≡ s) where
   abbrev goes : ℕ → List ℕ → Doing
-  goes n block = reads_blocks handle from to (k + 1) n (bytes ++ part_of k from to block)
+  goes n block = with_memory (reads_blocks handle from to (k + 1) n (bytes ++ part_of k from to block))
 
   pub read_on : (v : V) → outcome ≡ Ok v → (more : List ℕ) → more ≡ bytes ++ part_of k from to (items v) → (n : ℕ)
       → LeadsOn (reads_blocks handle from to k (suc n) bytes) old s (reads_blocks handle from to (k + 1) n more) mid t
@@ -32,8 +32,17 @@ module _ {D V : Type 0} (old mid : Turn D) (s t : Session) (handle from to k : �
   read_on v ok more is n said new last does =
       does_ask old new s last said mid (Read handle k) (λ reply. if_bytes (bytes_in reply) (goes n)) command was.reply was.grew (asks new.volume.kept.geometry)
       (subst (λ (o : Result (List ℕ) Errno). Does (if_bytes o (goes n)) mid s said new last) (sym (ap (items_of items) ok) ∙ was.is)
+      (does_memory mid new s last said (reads_blocks handle from to (k + 1) n (bytes ++ part_of k from to (items v))) (refuses errors.NoMemory)
       (subst (λ (xs : List ℕ). Does (reads_blocks handle from to (k + 1) n xs) mid s said new last) is
-      (subst (λ (u : Session). Does (reads_blocks handle from to (k + 1) n more) mid u said new last) same does)))
+      (subst (λ (u : Session). Does (reads_blocks handle from to (k + 1) n more) mid u said new last) same does))))
+
+  -- there was no memory for what was read
+  pub read_cut : (v : V) → outcome ≡ Ok v → (n : ℕ) → Does (reads_blocks handle from to k (suc n) bytes) old s (Refused errors.NoMemory) mid t
+  unfolding reads_blocks
+  read_cut v ok n =
+      does_ask old mid s t (Refused errors.NoMemory) mid (Read handle k) (λ reply. if_bytes (bytes_in reply) (goes n)) command was.reply was.grew (asks mid.volume.kept.geometry)
+      (subst (λ (o : Result (List ℕ) Errno). Does (if_bytes o (goes n)) mid s (Refused errors.NoMemory) mid t) (sym (ap (items_of items) ok) ∙ was.is)
+      (does_no_memory mid mid s t (Refused errors.NoMemory) (reads_blocks handle from to (k + 1) n (bytes ++ part_of k from to (items v))) refl refl same))
 
   pub read_refused : (e : Errno) → outcome ≡ Err e → (n : ℕ) → Does (reads_blocks handle from to k (suc n) bytes) old s (Refused e) mid t
   unfolding reads_blocks

@@ -1,5 +1,5 @@
 -- What a request leads to, step by step.
-use Rattle.std.proofs.Common.{◌≡◌, ◌⊎◌, inl, inr, ℕ, List, [], ◌∷◌, ◌++◌, Ok, Err, Result, refl, sym, ap, ap₂, subst, ◌∙◌, append_assoc}
+use Rattle.std.proofs.Common.{◌≡◌, inl, inr, ℕ, List, [], ◌∷◌, ◌++◌, Ok, Err, Result, refl, sym, ap, ap₂, subst, ◌∙◌, append_assoc}
 use Rattle.layout.specs.declared.refusal.Refusal.{Refusal}
 use Rattle.frozen.specs.Kept.{Kept}
 use Rattle.fuse_wire.specs.declared.bodies.Body.{Body}
@@ -16,7 +16,7 @@ use Rattle.snapshot.specs.declared.command.Command.{Command}
 use Rattle.fuse_reader.specs.Said.{Said, Refused, told}
 use Rattle.fuse_writer.specs.declared.attributes.Set.{Set}
 use Rattle.fuse_writer.specs.declared.session.Session.{Session}
-use Rattle.fuse_writer.specs.Doings.{Begins, Came, Change, Does, Doing, IfMemory, IsDone, IsNumber, Leads, LeadsOn, NoMemory, Notes, Asks, Says, ToEnd, WasAsked, asks_done, asks_number, go_on, go_on_or, if_done, if_done_or, if_number, noted, refuses, said_by, says_done, set_all}
+use Rattle.fuse_writer.specs.Doings.{Change, Does, Doing, IfMemory, IsDone, IsNumber, Leads, LeadsOn, MayGoOn, Notes, Asks, Says, WasAsked, asks_done, asks_number, go_on, go_on_or, if_done, if_done_or, if_number, noted, refuses, said_by, says_done, set_all, with_memory}
 use Rattle.fuse_writer.specs.Replied.{number_in}
 use Rattle.fuse_writer.specs.Requests.{if_opened, opens_new}
 use Rattle.fuse_writer.specs.Saying.{said_bytes, said_done}
@@ -36,61 +36,62 @@ pub noted_more : (es more : List Event) (cs others : List Change) (s : Session) 
 noted_more es more cs others s =
     ap₂ (λ (t : Table) (sets : List Set). record s { nodes = t; attributes = sets }) (sym (after_more es more s.nodes)) (sym (set_more cs others s.attributes))
 
+-- ---- what one doing leads to the other may lead to
+
+pub goes_same : {a b : Doing} → a ≡ b → MayGoOn a b
+goes_same e = record { goes = λ kept s calls said s' leads. subst (λ (d : Doing). Leads d kept s calls said s') (sym e) leads }
+
+pub goes_then : {a b c : Doing} → MayGoOn a b → MayGoOn b c → MayGoOn a c
+goes_then one two = record { goes = λ kept s calls said s' leads. one.goes kept s calls said s' (two.goes kept s calls said s' leads) }
+
+pub goes_memory : {next none : Doing} → MayGoOn (IfMemory next none) next
+unfolding Leads
+goes_memory = record { goes = λ kept s calls said s' leads. inl leads }
+
+pub goes_no_memory : {next none : Doing} → MayGoOn (IfMemory next none) none
+unfolding Leads
+goes_no_memory = record { goes = λ kept s calls said s' leads. inr leads }
+
 -- ---- steps
 
-begun_none : (doing : Doing) (kept : Kept) → Begins doing kept []
-unfolding Begins
-begun_none (Says f) kept = tt
-begun_none (Asks request f) kept = tt
-begun_none (Notes es cs next) kept = begun_none next kept
-begun_none (IfMemory next none) kept = inl (begun_none next kept)
+append_none : (calls : List Call) → calls ++ [] ≡ calls
+append_none [] = refl
+append_none (c ∷ cs) = ap (λ (xs : List Call). c ∷ xs) (append_none cs)
 
 module _ {D : Type 0} (old new : Turn D) (s s' : Session) (said : Said) where
   -- nothing more was asked, and this is said
   pub does_say : (f : Kept → Said) → new.calls ≡ old.calls → said ≡ f new.volume.kept → s' ≡ s → Does (Says f) old s said new s'
   unfolding Leads
-  does_say f none is same = record { calls = []; grew = none ∙ sym (append_none old.calls); came = ToEnd (is, same) }
-    where
-      append_none : (calls : List Call) → calls ++ [] ≡ calls
-      append_none [] = refl
-      append_none (c ∷ cs) = ap (λ (xs : List Call). c ∷ xs) (append_none cs)
+  does_say f none is same = record { calls = []; grew = none ∙ sym (append_none old.calls); came = (is, same) }
 
   pub does_same : (doing other : Doing) → doing ≡ other → Does other old s said new s' → Does doing old s said new s'
   does_same doing other e does = subst (λ (d : Doing). Does d old s said new s') (sym e) does
 
   pub does_note : (es : List Event) (cs : List Change) (next : Doing) → Does next old (noted es cs s) said new s' → Does (Notes es cs next) old s said new s'
-  unfolding Leads Begins
-  does_note es cs next does = record { calls = does.calls; grew = does.grew; came = by does.came }
-    where
-      by : Came next new.volume.kept (noted es cs s) does.calls said s' → Came (Notes es cs next) new.volume.kept s does.calls said s'
-      by (ToEnd leads) = ToEnd leads
-      by (NoMemory more others begins is same) = NoMemory (es ++ more) (cs ++ others) begins is (same ∙ noted_more es more cs others s)
+  unfolding Leads
+  does_note es cs next does = record { calls = does.calls; grew = does.grew; came = does.came }
 
-  -- there was no memory to go on
-  pub does_cut : (doing : Doing) (es : List Event) (cs : List Change) → new.calls ≡ old.calls → said ≡ Refused errors.NoMemory → s' ≡ noted es cs s → Does doing old s said new s'
-  does_cut doing es cs none is same = record { calls = []; grew = none ∙ sym (append_none old.calls); came = NoMemory es cs (begun_none doing new.volume.kept) is same }
-    where
-      append_none : (calls : List Call) → calls ++ [] ≡ calls
-      append_none [] = refl
-      append_none (c ∷ cs) = ap (λ (xs : List Call). c ∷ xs) (append_none cs)
+  pub does_on : (doing other : Doing) → MayGoOn doing other → Does other old s said new s' → Does doing old s said new s'
+  does_on doing other on does = record { calls = does.calls; grew = does.grew; came = on.goes new.volume.kept s does.calls said s' does.came }
 
-  pub does_no_memory : (doing : Doing) → new.calls ≡ old.calls → said ≡ Refused errors.NoMemory → s' ≡ s → Does doing old s said new s'
-  does_no_memory doing none is same = does_cut doing [] [] none is same
+  -- memory is needed, and was there
+  pub does_memory : (next none : Doing) → Does next old s said new s' → Does (IfMemory next none) old s said new s'
+  does_memory next none does = does_on (IfMemory next none) next goes_memory does
+
+  -- or there was none, and this is said
+  pub does_no_memory : (next : Doing) → new.calls ≡ old.calls → said ≡ Refused errors.NoMemory → s' ≡ s → Does (with_memory next) old s said new s'
+  does_no_memory next none is same = does_on (with_memory next) (refuses errors.NoMemory) goes_no_memory (does_say (λ kept. Refused errors.NoMemory) none is same)
 
   -- a command was asked before
   pub does_ask : (mid : Turn D) (request : Request) (f : Result Answer Refusal → Doing) (command : Command) (reply : Result Answer Refusal)
       → mid.calls ≡ old.calls ++ (command, reply) ∷ [] → asked new.volume.kept.geometry command ≡ request → Does (f reply) mid s said new s'
       → Does (Asks request f) old s said new s'
-  unfolding Leads Begins
+  unfolding Leads
   does_ask mid request f command reply grew asks does = record {
     calls = (command, reply) ∷ does.calls;
     grew = does.grew ∙ ap (λ (xs : List Call). xs ++ does.calls) grew ∙ append_assoc old.calls ((command, reply) ∷ []) does.calls;
-    came = by does.came;
+    came = (asks, does.came);
   }
-    where
-      by : Came (f reply) new.volume.kept s does.calls said s' → Came (Asks request f) new.volume.kept s ((command, reply) ∷ does.calls) said s'
-      by (ToEnd leads) = ToEnd (asks, leads)
-      by (NoMemory more others begins is same) = NoMemory more others (asks, begins) is same
 
   -- the same of one that was done
   module _ {T : Type 0} (mid : Turn D) (request : Request) (command : Command) (outcome : Result T Errno) (was : WasAsked old.calls mid.calls command (IsDone outcome))
@@ -108,12 +109,6 @@ module _ {D : Type 0} (old new : Turn D) (s s' : Session) (said : Said) where
         does_ask mid request (λ reply. if_number (number_in reply) next) command was.reply was.grew asks
         (subst (λ (o : Result ℕ Errno). Does (if_number o next) mid s said new s') was.is does)
 
-  -- a path was not given
-  pub does_no_path : (error : Errno) (doing : (List ℕ → Doing) → Doing) (next : List ℕ → Doing)
-      → (error ≡ errors.NoMemory) ⊎ ((next : List ℕ → Doing) → doing next ≡ refuses error) → new.calls ≡ old.calls → said ≡ Refused error → s' ≡ s → Does (doing next) old s said new s'
-  does_no_path error doing next (inl none) same is kept = does_no_memory (doing next) same (is ∙ ap Refused none) kept
-  does_no_path error doing next (inr refused) same is kept = does_same (doing next) (refuses error) (refused next) (does_say (λ k. Refused error) same is kept)
-
 -- ---- exits
 
 -- a refusal that is handed on
@@ -125,29 +120,26 @@ said_left body r error left = ap (λ (o : Result _ Errno). said_by body o) left.
 
 module _ {D U : Type 0} (old new : Turn D) (s s' : Session) (body : U → Body) (r : Result U Errno) (error : Errno) (left : Left r error) (same : s' ≡ s) where
   -- before anything was asked
-  pub exit_early : (doing : Doing) → new.calls ≡ old.calls → doing ≡ refuses error → Does doing old s (said_by body r) new s'
-  exit_early doing none e =
-      does_same old new s s' (said_by body r) doing (refuses error) e (does_say old new s s' (said_by body r) (λ k. Refused error) none (said_left body r error left) same)
+  pub exit_path : (doing : Doing) → new.calls ≡ old.calls → MayGoOn doing (refuses error) → Does doing old s (said_by body r) new s'
+  exit_path doing none on =
+      does_on old new s s' (said_by body r) doing (refuses error) on (does_say old new s s' (said_by body r) (λ k. Refused error) none (said_left body r error left) same)
 
-  pub exit_path : (doing : Doing) (part : (List ℕ → Doing) → Doing) (next : List ℕ → Doing) → new.calls ≡ old.calls → doing ≡ part next
-      → (error ≡ errors.NoMemory) ⊎ ((next : List ℕ → Doing) → part next ≡ refuses error) → Does doing old s (said_by body r) new s'
-  exit_path doing part next none e gives =
-      does_same old new s s' (said_by body r) doing (part next) e
-      (does_no_path old new s s' (said_by body r) error part next gives none (said_left body r error left) same)
+  pub exit_early : (doing : Doing) → new.calls ≡ old.calls → doing ≡ refuses error → Does doing old s (said_by body r) new s'
+  exit_early doing none e = exit_path doing none (goes_same e)
 
   -- after a command
   pub exit_done : {T : Type 0} (request : Request) (command : Command) (outcome : Result T Errno) (doing next : Doing) → WasAsked old.calls new.calls command (IsDone outcome)
-      → asked new.volume.kept.geometry command ≡ request → outcome ≡ Err error → doing ≡ asks_done request next → Does doing old s (said_by body r) new s'
-  exit_done request command outcome doing next was asks refused e =
-      does_same old new s s' (said_by body r) doing (asks_done request next) e
+      → asked new.volume.kept.geometry command ≡ request → outcome ≡ Err error → MayGoOn doing (asks_done request next) → Does doing old s (said_by body r) new s'
+  exit_done request command outcome doing next was asks refused on =
+      does_on old new s s' (said_by body r) doing (asks_done request next) on
       (does_done old new s s' (said_by body r) new request command outcome was asks next
       (subst (λ (o : Result _ Errno). Does (go_on o next) new s (said_by body r) new s') (sym refused)
       (does_say new new s s' (said_by body r) (λ k. Refused error) refl (said_left body r error left) same)))
 
   pub exit_number : (request : Request) (command : Command) (outcome : Result ℕ Errno) (doing : Doing) (next : ℕ → Doing) → WasAsked old.calls new.calls command (IsNumber outcome)
-      → asked new.volume.kept.geometry command ≡ request → outcome ≡ Err error → doing ≡ asks_number request next → Does doing old s (said_by body r) new s'
-  exit_number request command outcome doing next was asks refused e =
-      does_same old new s s' (said_by body r) doing (asks_number request next) e
+      → asked new.volume.kept.geometry command ≡ request → outcome ≡ Err error → MayGoOn doing (asks_number request next) → Does doing old s (said_by body r) new s'
+  exit_number request command outcome doing next was asks refused on =
+      does_on old new s s' (said_by body r) doing (asks_number request next) on
       (does_number old new s s' (said_by body r) new request command outcome was asks next
       (subst (λ (o : Result ℕ Errno). Does (if_number o next) new s (said_by body r) new s') (sym refused)
       (does_say new new s s' (said_by body r) (λ k. Refused error) refl (said_left body r error left) same)))
@@ -156,18 +148,18 @@ module _ {D U : Type 0} (old new : Turn D) (s s' : Session) (body : U → Body) 
 
 module _ {D : Type 0} (old mid new : Turn D) (s s' : Session) (said : Said) where
   pub after_number : (request : Request) (command : Command) (outcome : Result ℕ Errno) (n : ℕ) (doing : Doing) (next : ℕ → Doing)
-      → WasAsked old.calls mid.calls command (IsNumber outcome) → asked new.volume.kept.geometry command ≡ request → outcome ≡ Ok n → doing ≡ asks_number request next
+      → WasAsked old.calls mid.calls command (IsNumber outcome) → asked new.volume.kept.geometry command ≡ request → outcome ≡ Ok n → MayGoOn doing (asks_number request next)
       → Does (next n) mid s said new s' → Does doing old s said new s'
-  after_number request command outcome n doing next was asks ok e does =
-      does_same old new s s' said doing (asks_number request next) e
+  after_number request command outcome n doing next was asks ok on does =
+      does_on old new s s' said doing (asks_number request next) on
       (does_number old new s s' said mid request command outcome was asks next
       (subst (λ (o : Result ℕ Errno). Does (if_number o next) mid s said new s') (sym ok) does))
 
   pub after_done : {T : Type 0} (request : Request) (command : Command) (outcome : Result T Errno) (x : T) (doing next : Doing)
-      → WasAsked old.calls mid.calls command (IsDone outcome) → asked new.volume.kept.geometry command ≡ request → outcome ≡ Ok x → doing ≡ asks_done request next
+      → WasAsked old.calls mid.calls command (IsDone outcome) → asked new.volume.kept.geometry command ≡ request → outcome ≡ Ok x → MayGoOn doing (asks_done request next)
       → Does next mid s said new s' → Does doing old s said new s'
-  after_done request command outcome x doing next was asks ok e does =
-      does_same old new s s' said doing (asks_done request next) e
+  after_done request command outcome x doing next was asks ok on does =
+      does_on old new s s' said doing (asks_done request next) on
       (does_done old new s s' said mid request command outcome was asks next
       (subst (λ (o : Result _ Errno). Does (go_on o next) mid s said new s') (sym ok) does))
 
@@ -217,39 +209,15 @@ module _ {D : Type 0} where
   pub on_note : (events : List Event) (changes : List Change) (next : Doing) (turn : Turn D) (s : Session) → LeadsOn (Notes events changes next) turn s next turn (noted events changes s)
   on_note events changes next turn s said new last does = does_note turn new s last said events changes next does
 
+  pub on_may : (a b : Doing) (turn : Turn D) (s : Session) → MayGoOn a b → LeadsOn a turn s b turn s
+  on_may a b turn s may said new last does = does_on turn new s last said a b may does
+
   -- with memory, and without
   pub on_memory : (next none : Doing) (turn : Turn D) (s : Session) → LeadsOn (IfMemory next none) turn s next turn s
-  unfolding Leads Begins
-  on_memory next none turn s said new last does = record { calls = does.calls; grew = does.grew; came = by does.came }
-    where
-      by : Came next new.volume.kept s does.calls said last → Came (IfMemory next none) new.volume.kept s does.calls said last
-      by (ToEnd leads) = ToEnd (inl leads)
-      by (NoMemory es cs begins is same) = NoMemory es cs (inl begins) is same
+  on_memory next none turn s = on_may (IfMemory next none) next turn s goes_memory
 
   pub on_no_memory : (next none : Doing) (turn : Turn D) (s : Session) → LeadsOn (IfMemory next none) turn s none turn s
-  unfolding Leads Begins
-  on_no_memory next none turn s said new last does = record { calls = does.calls; grew = does.grew; came = by does.came }
-    where
-      by : Came none new.volume.kept s does.calls said last → Came (IfMemory next none) new.volume.kept s does.calls said last
-      by (ToEnd leads) = ToEnd (inr leads)
-      by (NoMemory es cs begins is same) = NoMemory es cs (inr begins) is same
-
-  -- there was no memory to go on
-  pub on_cut : (doing : Doing) (turn : Turn D) (s : Session) → LeadsOn doing turn s (refuses errors.NoMemory) turn s
-  unfolding Leads Begins
-  on_cut doing turn s said new last does = by does.calls does.grew does.came
-    where
-      by : (calls : List Call) → new.calls ≡ turn.calls ++ calls → Came (refuses errors.NoMemory) new.volume.kept s calls said last → Does doing turn s said new last
-      by [] grew (ToEnd leads) = record { calls = []; grew = grew; came = NoMemory [] [] (begun_none doing new.volume.kept) leads.0 leads.1 }
-      by (call ∷ calls) grew (ToEnd leads) = absurd leads
-      by [] grew (NoMemory es cs begins is same) = record { calls = []; grew = grew; came = NoMemory es cs (begun_none doing new.volume.kept) is same }
-      by (call ∷ calls) grew (NoMemory es cs begins is same) = absurd begins
-
-  -- a path was not given
-  pub on_no_path : (error : Errno) (part : (List ℕ → Doing) → Doing) (next : List ℕ → Doing) (turn : Turn D) (s : Session)
-      → (error ≡ errors.NoMemory) ⊎ ((next : List ℕ → Doing) → part next ≡ refuses error) → LeadsOn (part next) turn s (refuses error) turn s
-  on_no_path error part next turn s (inl none) = subst (λ (e : Errno). LeadsOn (part next) turn s (refuses e) turn s) (sym none) (on_cut (part next) turn s)
-  on_no_path error part next turn s (inr refused) = on_equal (part next) (refuses error) turn s (refused next)
+  on_no_memory next none turn s = on_may (IfMemory next none) none turn s goes_no_memory
 
   -- a command was asked
   pub on_ask : (old mid : Turn D) (s t : Session) (request : Request) (f : Result Answer Refusal → Doing) (command : Command) (reply : Result Answer Refusal)

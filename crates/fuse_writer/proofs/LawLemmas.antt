@@ -7,7 +7,7 @@ use Rattle.fuse_nodes.specs.Table.{found, id_of, known}
 use Rattle.fuse_reader.specs.Said.{Said}
 use Rattle.fuse_writer.specs.declared.session.Session.{Session}
 use Rattle.fuse_writer.specs.Answers.{ByTurns, IsNoted, Same, Turned}
-use Rattle.fuse_writer.specs.Doings.{Asks, Came, Does, Doing, IfMemory, Leads, NoMemory, Notes, Says, ToEnd, noted, refuses}
+use Rattle.fuse_writer.specs.Doings.{Asks, Does, Doing, IfMemory, Leads, Notes, Says, noted, refuses}
 use Rattle.fuse_writer.specs.Requests.{at_node, on_inode}
 use Rattle.fuse_writer.specs.Turns.{Call, Turn}
 use Rattle.fuse_writer.proofs.DoingLemmas.{noted_more}
@@ -35,12 +35,8 @@ leads_noted (Notes events changes next) kept s calls said s' leads =
 leads_noted (IfMemory next none) kept s calls said s' (inl leads) = leads_noted next kept s calls said s' leads
 leads_noted (IfMemory next none) kept s calls said s' (inr leads) = leads_noted none kept s calls said s' leads
 
-came_noted : (doing : Doing) (kept : Kept) (s : Session) (calls : List Call) (said : Said) (s' : Session) → Came doing kept s calls said s' → IsNoted s s'
-came_noted doing kept s calls said s' (ToEnd leads) = leads_noted doing kept s calls said s' leads
-came_noted doing kept s calls said s' (NoMemory events changes begins is same) = record { events = events; changes = changes; session = same }
-
 pub does_noted : {D : Type 0} (doing : Doing) (old : Turn D) (s : Session) (said : Said) (new : Turn D) (s' : Session) → Does doing old s said new s' → IsNoted s s'
-does_noted doing old s said new s' does = came_noted doing new.volume.kept s does.calls said s' does.came
+does_noted doing old s said new s' does = leads_noted doing new.volume.kept s does.calls said s' does.came
 
 -- ---- and so do many
 

@@ -17,7 +17,8 @@ use Rattle.fuse_reader.specs.Listings.{listing_from}
 use Rattle.fuse_reader.specs.Said as said
 use Rattle.fuse_reader.specs.Said.{told}
 use Rattle.fuse_writer.specs.declared.session.Session.{Session}
-use Rattle.fuse_writer.specs.Doings.{Doing, Notes, Says, asks_done, go_on, noted, refuses, says_done}
+use Rattle.fuse_writer.specs.Doings.{Doing, MayGoOn, Notes, Says, asks_done, go_on, noted, refuses, says_done, with_memory}
+use Rattle.fuse_writer.proofs.DoingLemmas.{goes_memory, goes_no_memory, goes_same, goes_then}
 use Rattle.fuse_writer.specs.Requests.{at_directory, at_name, at_node, at_path, closes, crosses, entry_of, if_fits, if_there, is_below_root, is_directory, leading, links, links_at, lists, loses, makes, makes_node, moves, on_inode, on_path, opens, opens_known, path_in, releases, removes_as, renames, renames_at, renames_to, replaces, tells, where_leads}
 
 module _ (s : Session) (node : NodeId) where
@@ -78,60 +79,79 @@ on_none : (o : Option (List ℕ)) → o ≡ None → (next : List ℕ → Doing)
 on_none o e next = ap (λ (o : Option (List ℕ)). on_path o next) e
 
 module _ (s : Session) (i : ℕ) where
-  pub path_known : (path : List ℕ) → path_of 2048 s.nodes i ≡ Some path → length path ≤ 4096 → (next : List ℕ → Doing) → at_path s i next ≡ next path
+  whole_path : (next : List ℕ → Doing) → at_path s i next ≡ with_memory (on_path (path_of 2048 s.nodes i) next)
   unfolding at_path
-  path_known path e short next = on_short (path_of 2048 s.nodes i) path e short next
+  whole_path next = refl
 
-  pub path_long : (path : List ℕ) → path_of 2048 s.nodes i ≡ Some path → 4096 < length path → (next : List ℕ → Doing) → at_path s i next ≡ refuses errors.NameTooLong
-  unfolding at_path
-  path_long path e long next = on_long (path_of 2048 s.nodes i) path e long next
+  pub path_known : (path : List ℕ) → path_of 2048 s.nodes i ≡ Some path → length path ≤ 4096 → (next : List ℕ → Doing) → MayGoOn (at_path s i next) (next path)
+  path_known path e short next = goes_then (goes_same (whole_path next)) (goes_then goes_memory (goes_same (on_short (path_of 2048 s.nodes i) path e short next)))
 
-  pub path_none : path_of 2048 s.nodes i ≡ None → (next : List ℕ → Doing) → at_path s i next ≡ refuses errors.Stale
-  unfolding at_path
-  path_none e next = on_none (path_of 2048 s.nodes i) e next
+  pub path_long : (path : List ℕ) → path_of 2048 s.nodes i ≡ Some path → 4096 < length path → (next : List ℕ → Doing)
+      → MayGoOn (at_path s i next) (refuses errors.NameTooLong)
+  path_long path e long next = goes_then (goes_same (whole_path next)) (goes_then goes_memory (goes_same (on_long (path_of 2048 s.nodes i) path e long next)))
+
+  pub path_none : path_of 2048 s.nodes i ≡ None → (next : List ℕ → Doing) → MayGoOn (at_path s i next) (refuses errors.Stale)
+  path_none e next = goes_then (goes_same (whole_path next)) (goes_then goes_memory (goes_same (on_none (path_of 2048 s.nodes i) e next)))
+
+  pub path_no_memory : (next : List ℕ → Doing) → MayGoOn (at_path s i next) (refuses errors.NoMemory)
+  path_no_memory next = goes_then (goes_same (whole_path next)) goes_no_memory
 
 module _ (s : Session) (d : ℕ) (name : List ℕ) where
-  inner : (next : List ℕ → Doing) → length name ≤ 56 → path_in s d name next ≡ on_path (option_map (λ (path : List ℕ). path ++ 47 ∷ name) (path_of 2048 s.nodes d)) next
+  abbrev inside : (List ℕ → Doing) → Doing
+  inside next = on_path (option_map (λ (path : List ℕ). path ++ 47 ∷ name) (path_of 2048 s.nodes d)) next
+
+  inner : (next : List ℕ → Doing) → length name ≤ 56 → path_in s d name next ≡ with_memory (inside next)
   unfolding path_in
-  inner next short =
-      ap (λ b. cond b (on_path (option_map (λ (path : List ℕ). path ++ 47 ∷ name) (path_of 2048 s.nodes d)) next) (refuses errors.NameTooLong)) (le-leb (length name) 56 short)
+  inner next short = ap (λ b. cond b (with_memory (inside next)) (refuses errors.NameTooLong)) (le-leb (length name) 56 short)
+
+  within : (next : List ℕ → Doing) (doing : Doing) → length name ≤ 56 → inside next ≡ doing → MayGoOn (path_in s d name next) doing
+  within next doing short e = goes_then (goes_same (inner next short)) (goes_then goes_memory (goes_same e))
 
   with_name : (path : List ℕ) → path_of 2048 s.nodes d ≡ Some path → option_map (λ (path : List ℕ). path ++ 47 ∷ name) (path_of 2048 s.nodes d) ≡ Some (path ++ 47 ∷ name)
   with_name path e = ap (option_map (λ (path : List ℕ). path ++ 47 ∷ name)) e
 
   pub in_known : (path all : List ℕ) → length name ≤ 56 → path_of 2048 s.nodes d ≡ Some path → all ≡ path ++ 47 ∷ name → length all ≤ 4096
-      → (next : List ℕ → Doing) → path_in s d name next ≡ next all
-  in_known path all name_short e is short next = inner next name_short ∙ on_short _ all (with_name path e ∙ ap (λ (xs : List ℕ). Some xs) (sym is)) short next
+      → (next : List ℕ → Doing) → MayGoOn (path_in s d name next) (next all)
+  in_known path all name_short e is short next = within next (next all) name_short (on_short _ all (with_name path e ∙ ap (λ (xs : List ℕ). Some xs) (sym is)) short next)
 
   pub in_long : (path all : List ℕ) → length name ≤ 56 → path_of 2048 s.nodes d ≡ Some path → all ≡ path ++ 47 ∷ name → 4096 < length all
-      → (next : List ℕ → Doing) → path_in s d name next ≡ refuses errors.NameTooLong
-  in_long path all name_short e is long next = inner next name_short ∙ on_long _ all (with_name path e ∙ ap (λ (xs : List ℕ). Some xs) (sym is)) long next
+      → (next : List ℕ → Doing) → MayGoOn (path_in s d name next) (refuses errors.NameTooLong)
+  in_long path all name_short e is long next =
+      within next (refuses errors.NameTooLong) name_short (on_long _ all (with_name path e ∙ ap (λ (xs : List ℕ). Some xs) (sym is)) long next)
 
-  pub in_none : length name ≤ 56 → path_of 2048 s.nodes d ≡ None → (next : List ℕ → Doing) → path_in s d name next ≡ refuses errors.Stale
-  in_none name_short e next = inner next name_short ∙ on_none _ (ap (option_map (λ (path : List ℕ). path ++ 47 ∷ name)) e) next
+  pub in_none : length name ≤ 56 → path_of 2048 s.nodes d ≡ None → (next : List ℕ → Doing) → MayGoOn (path_in s d name next) (refuses errors.Stale)
+  in_none name_short e next = within next (refuses errors.Stale) name_short (on_none _ (ap (option_map (λ (path : List ℕ). path ++ 47 ∷ name)) e) next)
 
-  pub in_long_name : 56 < length name → (next : List ℕ → Doing) → path_in s d name next ≡ refuses errors.NameTooLong
+  pub in_no_memory : length name ≤ 56 → (next : List ℕ → Doing) → MayGoOn (path_in s d name next) (refuses errors.NoMemory)
+  in_no_memory name_short next = goes_then (goes_same (inner next name_short)) goes_no_memory
+
+  too_long : 56 < length name → (next : List ℕ → Doing) → path_in s d name next ≡ refuses errors.NameTooLong
   unfolding path_in
-  in_long_name long next =
-      ap (λ b. cond b (on_path (option_map (λ (path : List ℕ). path ++ 47 ∷ name) (path_of 2048 s.nodes d)) next) (refuses errors.NameTooLong)) (lt-leb (length name) 56 long)
+  too_long long next = ap (λ b. cond b (with_memory (inside next)) (refuses errors.NameTooLong)) (lt-leb (length name) 56 long)
+
+  pub in_long_name : 56 < length name → (next : List ℕ → Doing) → MayGoOn (path_in s d name next) (refuses errors.NameTooLong)
+  in_long_name long next = goes_same (too_long long next)
 
 -- ---- the kernel is told
 
 module _ (s : Session) (d : ℕ) (name : List ℕ) (i : ℕ) (body : Entry → Body) where
-  pub tells_below : is_below_root s i ≡ true → tells s d name i body ≡ Notes (WasTold i (named d name) ∷ []) [] (Says (λ kept. told (body (entry_of kept s i))))
+  abbrev telling : Doing
+  telling = Notes (WasTold i (named d name) ∷ []) [] (Says (λ kept. told (body (entry_of kept s i))))
+
+  pub tells_below : is_below_root s i ≡ true → tells s d name i body ≡ with_memory telling
   unfolding tells
-  tells_below e = ap (λ b. cond b (Notes (WasTold i (named d name) ∷ []) [] (Says (λ kept. told (body (entry_of kept s i))))) (refuses errors.Device)) e
+  tells_below e = ap (λ b. cond b (with_memory telling) (refuses errors.Device)) e
 
   pub tells_none : is_below_root s i ≡ false → tells s d name i body ≡ refuses errors.Device
   unfolding tells
-  tells_none e = ap (λ b. cond b (Notes (WasTold i (named d name) ∷ []) [] (Says (λ kept. told (body (entry_of kept s i))))) (refuses errors.Device)) e
+  tells_none e = ap (λ b. cond b (with_memory telling) (refuses errors.Device)) e
 
 -- ---- names that become others
 
 module _ (s : Session) (directory : Bool) (i d : ℕ) (old : List ℕ) (e : ℕ) (new : List ℕ) where
   abbrev moving : Doing
   moving =
-      path_in s d old (λ from. path_in s e new (λ to. asks_done (command.Rename from to) (Notes (Lost i (named d old) ∷ Got i (named e new) ∷ []) [] says_done)))
+      path_in s d old (λ from. path_in s e new (λ to. asks_done (command.Rename from to) (Notes (Lost i (named d old) ∷ []) [] (with_memory (Notes (Got i (named e new) ∷ []) [] says_done)))))
 
   pub moves_on : crosses directory d e ≡ false → moves s directory i d old e new ≡ moving
   unfolding moves
@@ -242,7 +262,7 @@ module _ (kept : Kept) (s : Session) (node file : NodeId) (name : List ℕ) (d i
 
 module _ (kept : Kept) (s : Session) (node : NodeId) (from size d : ℕ) (at_d : (next : ℕ → Doing) → at_directory kept s node next ≡ next d) where
   abbrev listing : Doing
-  listing = Says (λ kept. said.Told (listing_from kept.geometry (frozen_view kept) d from size))
+  listing = with_memory (Says (λ kept. said.Told (listing_from kept.geometry (frozen_view kept) d from size)))
 
   pub lists_short : size ≤ 1048576 → lists kept s node from size ≡ listing
   lists_short small = at_d _ ∙ ap (λ b. cond b listing (refuses errors.Invalid)) (le-leb size 1048576 small)

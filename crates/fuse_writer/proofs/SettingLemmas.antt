@@ -1,5 +1,5 @@
 -- The steps of attributes that are set.
-use Rattle.std.proofs.Common.{◌≡◌, ◌<◌, ◌≤◌, ◌⊎◌, ℕ, true, false, cond, [], ◌∷◌, List, Option, Some, None, Result, ◌&&◌, not, sym, ap, subst, ◌∙◌}
+use Rattle.std.proofs.Common.{◌≡◌, ◌<◌, ◌≤◌, ℕ, true, false, cond, [], ◌∷◌, List, Option, Some, None, Result, ◌&&◌, not, sym, ap, subst, ◌∙◌}
 use Rattle.std.proofs.lemmas.Bool.{le-ltb, lt-ltb}
 use Rattle.std.specs.Prelude.{nat_lt, if◌then◌else◌}
 use Rattle.frozen.specs.Kept.{Kept, frozen_view}
@@ -15,10 +15,10 @@ use Rattle.snapshot.specs.Asked.{asked}
 use Rattle.snapshot.specs.declared.command.Command.{Command}
 use Rattle.fuse_writer.specs.declared.granted.Rules.{Rules}
 use Rattle.fuse_writer.specs.declared.session.Session.{Session}
-use Rattle.fuse_writer.specs.Doings.{Asks, Does, Doing, IsNumber, LeadsOn, Notes, WasAsked, asks_done, asks_number, go_on_or, if_done_or, if_number, noted, refuses}
+use Rattle.fuse_writer.specs.Doings.{Asks, Does, Doing, IsNumber, LeadsOn, MayGoOn, Notes, WasAsked, asks_done, asks_number, go_on_or, if_done_or, if_number, noted, refuses}
 use Rattle.fuse_writer.specs.Requests.{at_node, at_path, change_of, fills_to, is_directory, is_kept_elsewhere, keeps, resizes, resizes_by_path, resizes_known, says_shown, sets_attributes, sets_size}
 use Rattle.fuse_writer.specs.Turns.{Turn}
-use Rattle.fuse_writer.proofs.DoingLemmas.{does_note, does_same, on_no_path, on_number, on_same}
+use Rattle.fuse_writer.proofs.DoingLemmas.{does_note, does_same, on_may, on_number, on_then}
 
 -- ---- an open file
 
@@ -42,18 +42,19 @@ closing s own size next handle =
     resizes s.rules handle own size (asks_done (Close handle) next) (λ error. Asks (Close handle) (λ reply. refuses error))
 
 module _ {D : Type 0} (s : Session) (i own size : ℕ) (next : Doing) where
-  pub by_no_path : (turn : Turn D) (error : Errno) → (error ≡ errors.NoMemory) ⊎ ((next : List ℕ → Doing) → at_path s i next ≡ refuses error)
+  pub by_no_path : (turn : Turn D) (error : Errno) → ((next : List ℕ → Doing) → MayGoOn (at_path s i next) (refuses error))
       → LeadsOn (resizes_by_path s i own size next) turn s (refuses error) turn s
   unfolding resizes_by_path
-  by_no_path turn error gives = on_no_path error (at_path s i) (λ path. asks_number (Open path) (closing s own size next)) turn s gives
+  by_no_path turn error gives = on_may (resizes_by_path s i own size next) (refuses error) turn s (gives (λ path. asks_number (Open path) (closing s own size next)))
 
-  pub by_path : (old mid : Turn D) (t : Session) (path : List ℕ) (command : Command) (outcome : Result ℕ Errno) → ((next : List ℕ → Doing) → at_path s i next ≡ next path)
+  pub by_path : (old mid : Turn D) (t : Session) (path : List ℕ) (command : Command) (outcome : Result ℕ Errno) → ((next : List ℕ → Doing) → MayGoOn (at_path s i next) (next path))
       → WasAsked old.calls mid.calls command (IsNumber outcome) → ((geo : Geometry) → asked geo command ≡ Open path) → t ≡ s
       → LeadsOn (resizes_by_path s i own size next) old s (if_number outcome (closing s own size next)) mid t
   unfolding resizes_by_path
   by_path old mid t path command outcome gives was asks same =
-      on_same (resizes_by_path s i own size next) (asks_number (Open path) (closing s own size next)) old s (if_number outcome (closing s own size next)) mid t
-      (gives (λ path. asks_number (Open path) (closing s own size next))) (on_number old mid s t (Open path) command outcome was asks same (closing s own size next))
+      on_then (resizes_by_path s i own size next) (asks_number (Open path) (closing s own size next)) (if_number outcome (closing s own size next)) old old mid s s t
+      (on_may (resizes_by_path s i own size next) (asks_number (Open path) (closing s own size next)) old s (gives (λ path. asks_number (Open path) (closing s own size next))))
+      (on_number old mid s t (Open path) command outcome was asks same (closing s own size next))
 
   pub closing_on : {T : Type 0} (old mid : Turn D) (t u : Session) (handle : ℕ) (resized : Result T Errno) → t ≡ s
       → ((done : Doing) (refused : Errno → Doing) → LeadsOn (resizes t.rules handle own size done refused) old t (go_on_or resized done refused) mid u)

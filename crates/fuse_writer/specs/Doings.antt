@@ -37,6 +37,10 @@ pub data Doing : Type 0 where
 abbrev pub refuses : Errno → Doing
 refuses error = Says (λ kept. Refused error)
 
+-- memory is needed: it goes on so if there is some, and is refused if there is none
+abbrev pub with_memory : Doing → Doing
+with_memory next = IfMemory next (refuses errors.NoMemory)
+
 -- a call was done of which there is nothing to tell
 abbrev pub says_done : Doing
 says_done = Says (λ kept. told Empty)
@@ -86,25 +90,12 @@ Leads (Asks request f) kept s (call ∷ calls) said s' = (asked kept.geometry ca
 Leads (Notes events changes next) kept s calls said s' = Leads next kept (noted events changes s) calls said s'
 Leads (IfMemory next none) kept s calls said s' = Leads next kept s calls said s' ⊎ Leads none kept s calls said s'
 
--- Its first calls are these.
-unfoldable pub Begins : Doing → Kept → List Call → Type 0
-Begins (Says f) kept [] = Unit {0}
-Begins (Says f) kept (call ∷ calls) = ⊥
-Begins (Asks request f) kept [] = Unit {0}
-Begins (Asks request f) kept (call ∷ calls) = (asked kept.geometry call.0 ≡ request) × Begins (f call.1) kept calls
-Begins (Notes events changes next) kept calls = Begins next kept calls
-Begins (IfMemory next none) kept calls = Begins next kept calls ⊎ Begins none kept calls
-
--- It came to its end; or there was no memory to go on, and this is said.
-pub data Came (doing : Doing) (kept : Kept) (s : Session) (calls : List Call) (said : Said) (s' : Session) : Type 0 where
-  ToEnd : Leads doing kept s calls said s' → Came doing kept s calls said s'
-  NoMemory : (events : List Event) (changes : List Change) → Begins doing kept calls → said ≡ Refused errors.NoMemory → s' ≡ noted events changes s → Came doing kept s calls said s'
-
--- From one time of a turn to a later one, this is what it led to, and what is said.
+-- From one time of a turn to a later one, this is what it led to at its end, and what is said. So want of memory is said only where the doing needs memory,
+-- or where a command was refused for it, and what was noted by then is the session.
 pub record Does {D : Type 0} (doing : Doing) (old : Turn D) (s : Session) (said : Said) (new : Turn D) (s' : Session) : Type 0 where
   pub calls : List Call
   pub grew : new.calls ≡ old.calls ++ calls
-  pub came : Came doing new.volume.kept s calls said s'
+  pub came : Leads doing new.volume.kept s calls said s'
 
 -- ---- parts of it
 
@@ -113,10 +104,14 @@ abbrev pub Gives : {T : Type 0} → Result T Errno → ((T → Doing) → Doing)
 Gives {T} (Ok x) doing = (next : T → Doing) → doing next ≡ next x
 Gives {T} (Err error) doing = (next : T → Doing) → doing next ≡ refuses error
 
+-- whatever the second doing leads to, the first may lead to
+pub record MayGoOn (doing next : Doing) : Type 0 where
+  pub goes : (kept : Kept) (s : Session) (calls : List Call) (said : Said) (s' : Session) → Leads next kept s calls said s' → Leads doing kept s calls said s'
+
 -- the same of a path, for which there may be no memory
 abbrev pub GivesPath : {V : Type 0} → (V → List ℕ) → Result V Errno → ((List ℕ → Doing) → Doing) → Type 0
-GivesPath items (Ok path) doing = (next : List ℕ → Doing) → doing next ≡ next (items path)
-GivesPath items (Err error) doing = (error ≡ errors.NoMemory) ⊎ ((next : List ℕ → Doing) → doing next ≡ refuses error)
+GivesPath items (Ok path) doing = (next : List ℕ → Doing) → MayGoOn (doing next) (next (items path))
+GivesPath items (Err error) doing = (next : List ℕ → Doing) → MayGoOn (doing next) (refuses error)
 
 -- One command was asked, and this holds of its reply.
 pub record WasAsked (old new : List Call) (command : Command) (P : Result Answer Refusal → Type 0) : Type 0 where

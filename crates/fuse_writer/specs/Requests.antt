@@ -24,12 +24,12 @@ use Rattle.fuse_nodes.specs.declared.known.Open.{Open}
 use Rattle.fuse_reader.specs.Listings.{listing_from}
 use Rattle.fuse_reader.specs.Pieces.{piece_end}
 use Rattle.fuse_reader.specs.Said as said
-use Rattle.fuse_reader.specs.Said.{Said, Refused, told}
+use Rattle.fuse_reader.specs.Said.{told}
 use Rattle.fuse_reader.specs.Shown.{attributes_of as own_attributes, room_of}
 use Rattle.fuse_writer.specs.declared.attributes.Set.{Set}
 use Rattle.fuse_writer.specs.declared.granted.Rules.{Rules}
 use Rattle.fuse_writer.specs.declared.session.Session.{Session}
-use Rattle.fuse_writer.specs.Doings.{Change, Doing, Says, Asks, IfMemory, Notes, asks_bytes, asks_done, asks_number, noted, refuses, says_done, if_done_or}
+use Rattle.fuse_writer.specs.Doings.{Change, Doing, Says, Asks, IfMemory, Notes, asks_bytes, asks_done, asks_number, noted, refuses, says_done, if_done_or, with_memory}
 use Rattle.fuse_writer.specs.Replied.{bytes_in, number_in}
 use Rattle.fuse_writer.specs.Set.{none_set}
 
@@ -95,27 +95,27 @@ if_there next (Some i) = next i
 unfoldable pub at_name : Kept → ℕ → List ℕ → (ℕ → Doing) → Doing
 at_name kept d name next = where_leads kept d name (if_there next)
 
--- A path has 4,096 bytes at most; without one, by the names that the kernel was told, the node is stale.
+-- A path has 4,096 bytes at most, and needs memory; without one, by the names that the kernel was told, the node is stale.
 abbrev pub on_path : Option (List ℕ) → (List ℕ → Doing) → Doing
 on_path None next = refuses errors.Stale
 on_path (Some path) next = if nat_le (length path) 4096 then next path else refuses errors.NameTooLong
 
 unfoldable pub at_path : Session → ℕ → (List ℕ → Doing) → Doing
-at_path s i next = on_path (path_of 2048 s.nodes i) next
+at_path s i next = with_memory (on_path (path_of 2048 s.nodes i) next)
 
 -- the path of a name in directory d
 unfoldable pub path_in : Session → ℕ → List ℕ → (List ℕ → Doing) → Doing
 path_in s d name next =
-    if nat_le (length name) 56 then on_path (option_map (λ path. path ++ 47 ∷ name) (path_of 2048 s.nodes d)) next else refuses errors.NameTooLong
+    if nat_le (length name) 56 then with_memory (on_path (option_map (λ path. path ++ 47 ∷ name) (path_of 2048 s.nodes d)) next) else refuses errors.NameTooLong
 
 -- a number that a name may lead to: one of the volume, and not the root's
 abbrev pub is_below_root : Session → ℕ → Bool
 is_below_root s i = nat_lt 2 i && nat_lt i (length s.nodes)
 
--- The kernel is told of the inode to which a name in directory d leads.
+-- The kernel is told of the inode to which a name in directory d leads. The name is kept, so memory is needed for it.
 unfoldable pub tells : Session → ℕ → List ℕ → ℕ → (Entry → Body) → Doing
 tells s d name i body =
-    if is_below_root s i then Notes (WasTold i (named d name) ∷ []) [] (Says (λ kept. told (body (entry_of kept s i)))) else refuses errors.Device
+    if is_below_root s i then with_memory (Notes (WasTold i (named d name) ∷ []) [] (Says (λ kept. told (body (entry_of kept s i))))) else refuses errors.Device
 
 -- ---- what is looked at
 
@@ -135,7 +135,8 @@ shows_attributes s node = at_node s node (λ i. says_shown i s)
 -- a listing has as many bytes as a request may have pages, at most
 abbrev pub lists : Kept → Session → NodeId → ℕ → ℕ → Doing
 lists kept s node from size =
-    at_directory kept s node (λ d. if nat_le size 1048576 then Says (λ kept. said.Told (listing_from kept.geometry (frozen_view kept) d from size)) else refuses errors.Invalid)
+    at_directory kept s node (λ d.
+    if nat_le size 1048576 then with_memory (Says (λ kept. said.Told (listing_from kept.geometry (frozen_view kept) d from size))) else refuses errors.Invalid)
 
 abbrev pub shows_room : Doing
 shows_room = Says (λ kept. told (bodies.Statistics (room_of kept.geometry (frozen_view kept))))
@@ -180,10 +181,11 @@ if_opened s d name i (Err error) = path_in s d name (λ path. asks_done (command
 unfoldable pub opens_new : Session → ℕ → List ℕ → ℕ → List ℕ → Doing
 opens_new s d name i path = Asks (command.Open path) (λ reply. if_opened s d name i (number_in reply))
 
+-- The path is needed twice.
 abbrev pub creates : Kept → Session → NodeId → List ℕ → ℕ → Doing
 creates kept s node name mode =
-    at_directory kept s node (λ d. path_in s d name (λ path.
-    asks_number (command.Create path) (λ i. bears i s.rules mode (opens_new (born s i mode) d name i path))))
+    at_directory kept s node (λ d. path_in s d name (λ path. with_memory (
+    asks_number (command.Create path) (λ i. bears i s.rules mode (opens_new (born s i mode) d name i path)))))
 
 -- a name goes
 abbrev pub loses : ℕ → ℕ → List ℕ → Doing → Doing
@@ -207,12 +209,12 @@ links kept s node file name =
 abbrev pub crosses : Bool → ℕ → ℕ → Bool
 crosses directory d e = directory && not (d == e)
 
--- a name moves to where none stands
+-- A name moves to where none stands. The new one is kept, so memory is needed for it.
 unfoldable pub moves : Session → Bool → ℕ → ℕ → List ℕ → ℕ → List ℕ → Doing
 moves s directory i d old e new =
     if crosses directory d e then refuses errors.CrossDevice
     else path_in s d old (λ from. path_in s e new (λ to.
-    asks_done (command.Rename from to) (Notes (Lost i (named d old) ∷ Got i (named e new) ∷ []) [] says_done)))
+    asks_done (command.Rename from to) (Notes (Lost i (named d old) ∷ []) [] (with_memory (Notes (Got i (named e new) ∷ []) [] says_done)))))
 
 abbrev pub removes_as : Bool → List ℕ → command.Command
 removes_as directory path = if directory then command.Rmdir path else command.Unlink path
@@ -301,7 +303,7 @@ part_of k from to block = take (place_in k to - place_in k from) (drop (place_in
 unfoldable pub reads_blocks : ℕ → ℕ → ℕ → ℕ → ℕ → List ℕ → Doing
 reads_blocks handle from to k zero bytes = Says (λ kept. said.Told bytes)
 reads_blocks handle from to k (suc n) bytes =
-    asks_bytes (command.Read handle k) (λ block. reads_blocks handle from to (k + 1) n (bytes ++ part_of k from to block))
+    asks_bytes (command.Read handle k) (λ block. with_memory (reads_blocks handle from to (k + 1) n (bytes ++ part_of k from to block)))
 
 -- the bytes between two places, by the blocks that they stand in
 abbrev pub reads_between : ℕ → ℕ → ℕ → Doing

@@ -74,6 +74,8 @@ impl<D: Device + Drop> Desk<D> {
         ensures turn { (head : Front) (asked : Asked) → decode message.now ≡ Some (head, asked)
             → IsTurn head asked (begun self.old) self.old.session result reply.new.items (ended self.new) self.new.session }
         ensures idle { decode message.now ≡ None → self.new.session ≡ self.old.session }
+        // Of what cannot be read nothing is asked.
+        ensures unasked { decode message.now ≡ None → (self.new.calls ≡ []) × (self.new.volume ≡ self.old.volume) }
         ensures noted { IsNoted self.old.session self.new.session }
     {
         self.mounted.asking.begin();
@@ -128,7 +130,7 @@ fn take_turn<D: Device>(
     ensures start { mounted.new.asking.start ≡ mounted.old.asking.start }
     ensures turn { (head : Front) (asked : Asked) → decode message.now ≡ Some (head, asked)
         → IsTurn head asked mounted.old.asking mounted.old.session result reply.new.items mounted.new.asking mounted.new.session }
-    ensures idle { decode message.now ≡ None → (mounted.new.session ≡ mounted.old.session) × (mounted.new.asking.calls ≡ mounted.old.asking.calls) }
+    ensures idle { decode message.now ≡ None → (mounted.new.session ≡ mounted.old.session) × (mounted.new.asking ≡ mounted.old.asking) }
     ensures noted { IsNoted mounted.old.session mounted.new.session }
 {
     let Some((head, request)) = fuse_wire::read(message) else {

@@ -10,8 +10,8 @@
 //! ```
 //!
 //! A request is a *doing* (`specs/Doings`): it asks the volume a command, goes on by the reply, and says something at its end. `specs/Requests`
-//! has the doing of each request, and `Desk::turn` is proved to do it: so a reply is nothing but what the replies of commands make of it. If
-//! memory runs out, the calls so far stay done, and that is said.
+//! has the doing of each request, and `Desk::turn` is proved to do it: so a reply is nothing but what the replies of commands make of it. The
+//! doing says where memory is needed. If there is none there, the calls so far stay done, and that is said; it is said nowhere else.
 #![tactic(auto)]
 
 mod answering;

@@ -1,10 +1,7 @@
 use Rattle.std.proofs.Common.{◌≡◌, ◌++◌, ap, refl, ◌∙◌}
 use Rattle.std.proofs.lemmas.Result.{err_from_is_err_and}
-use Rattle.fuse_wire.specs.declared.errors.Errno.TheVariants.{NoMemory}
-use Rattle.fuse_reader.specs.Said.{Refused}
 use Rattle.fuse_writer.specs.Requests.{part_of}
-use Rattle.fuse_writer.proofs.BytesLemmas.{read_on, read_refused}
-use Rattle.fuse_writer.proofs.DoingLemmas.{does_no_memory}
+use Rattle.fuse_writer.proofs.BytesLemmas.{read_cut, read_on, read_refused}
 use Rattle.fuse_writer.proofs.bytes.read_part.Goals as goal
 
 pub returns-in_err-block-clause-refused : goal.returns-in_err-block-clause-refused
@@ -20,7 +17,4 @@ returns-in-Ok-clause-read g c =
     read_on _ _ _ _ _ _ _ _ _ _ _ _ c.ask_bytes.ensures.asked (λ geo. refl) c.ask_bytes.ensures.session _ c.in_ok-block.was _ more
 
 pub returns-clause-refused : goal.returns-clause-refused
-returns-clause-refused g c = λ n.
-    let mid = c.ask_bytes.new.self in
-    read_on c.args.mounted.now.asking mid.asking c.args.mounted.now.session mid.session _ _ _ _ _ _ _ _ c.ask_bytes.ensures.asked (λ geo. refl) c.ask_bytes.ensures.session _
-    c.in_ok-block.was _ refl n (Refused NoMemory) mid.asking mid.session (does_no_memory mid.asking mid.asking mid.session mid.session (Refused NoMemory) _ refl refl refl)
+returns-clause-refused g c = read_cut _ _ _ _ _ _ _ _ _ _ _ _ c.ask_bytes.ensures.asked (λ geo. refl) c.ask_bytes.ensures.session _ c.in_ok-block.was

@@ -1,4 +1,4 @@
-use Rattle.std.proofs.Common.{refl, subst}
+use Rattle.std.proofs.Common.{refl}
 use Rattle.snapshot.specs.Stages.{Stage}
 use Rattle.fuse_writer.proofs.laws.what_fsync_answered_outlives_power_cuts.Goals as goal
 

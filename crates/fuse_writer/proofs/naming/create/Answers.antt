@@ -1,7 +1,7 @@
-use Rattle.std.proofs.Common.{◌≡◌, ◌∙◌, refl, rules}
+use Rattle.std.proofs.Common.{◌≡◌, refl, rules}
 use Rattle.std.proofs.lemmas.Result.{err_from_is_err_and}
 use Rattle.fuse_wire.specs.declared.bodies.Body.TheVariants as bodies
-use Rattle.fuse_writer.proofs.DoingLemmas.{after_number, does_no_memory, does_note, exit_early, exit_number, exit_path}
+use Rattle.fuse_writer.proofs.DoingLemmas.{after_number, does_no_memory, does_note, does_on, exit_early, exit_number, exit_path, goes_memory, goes_same, goes_then}
 use Rattle.fuse_writer.proofs.naming.create.Goals as goal
 
 pub returns-in_err-directory-clause-does : goal.returns-in_err-directory-clause-does
@@ -10,20 +10,20 @@ returns-in_err-directory-clause-does g c =
 
 pub returns-in_err-path-clause-does : goal.returns-in_err-path-clause-does
 returns-in_err-path-clause-does g c =
-    exit_path _ _ _ _ (λ made. bodies.Created made.0 made.1) _ _ (err_from_is_err_and c.from_residual-in_err-path.result c.from_residual-in_err-path.ensures.1) refl _ _ _ refl (c.in_ok-directory.ensures _) c.in_err-path.ensures
+    exit_path _ _ _ _ (λ made. bodies.Created made.0 made.1) _ _ (err_from_is_err_and c.from_residual-in_err-path.result c.from_residual-in_err-path.ensures.1) refl _ refl (goes_then (goes_same (c.in_ok-directory.ensures _)) (c.in_err-path.ensures _))
 
 pub returns-in_default-clause-does : goal.returns-in_default-clause-does
 returns-in_default-clause-does g c =
-    does_no_memory _ _ _ _ _ _ refl refl refl
+    does_on _ _ _ _ _ _ _ (goes_then (goes_same (c.in_ok-directory.ensures _)) (c.in_ok-path.ensures _)) (does_no_memory _ _ _ _ _ _ refl refl refl)
 
 pub returns-in_err-number-clause-does : goal.returns-in_err-number-clause-does
 returns-in_err-number-clause-does g c =
-    exit_number _ _ _ _ (λ made. bodies.Created made.0 made.1) _ _ (err_from_is_err_and c.from_residual-in_err-number.result c.from_residual-in_err-number.ensures.1) c.ask_number.ensures.session _ _ _ _ _ c.ask_number.ensures.asked refl c.in_err-number.was (c.in_ok-directory.ensures _ ∙ c.in_ok-path.ensures _)
+    exit_number _ _ _ _ (λ made. bodies.Created made.0 made.1) _ _ (err_from_is_err_and c.from_residual-in_err-number.result c.from_residual-in_err-number.ensures.1) c.ask_number.ensures.session _ _ _ _ _ c.ask_number.ensures.asked refl c.in_err-number.was (goes_then (goes_same (c.in_ok-directory.ensures _)) (goes_then (c.in_ok-path.ensures _) goes_memory))
 
 pub returns-clause-does : goal.returns-clause-does
 returns-clause-does g c =
     let mid = c.ask_number.new.self in
     let same : c.in-Ok.again.items ≡ c.in_ok-path.path.items = search rules in
     let h = rw (c.bear.ensures.session, c.ask_number.ensures.session, c.bear.ensures.asking, same) at c.open_new.ensures.does in
-    after_number _ mid.asking _ _ _ _ _ _ _ _ _ _ c.ask_number.ensures.asked refl c.in_ok-number.was (c.in_ok-directory.ensures _ ∙ c.in_ok-path.ensures _)
+    after_number _ mid.asking _ _ _ _ _ _ _ _ _ _ c.ask_number.ensures.asked refl c.in_ok-number.was (goes_then (goes_same (c.in_ok-directory.ensures _)) (goes_then (c.in_ok-path.ensures _) goes_memory))
     (does_note _ _ _ _ _ _ _ _ h)

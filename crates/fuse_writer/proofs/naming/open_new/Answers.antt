@@ -2,7 +2,7 @@ use Rattle.std.proofs.Common.{◌∙◌, refl}
 use Rattle.std.proofs.lemmas.Result.{err_from_is_err_and}
 use Rattle.fuse_wire.specs.declared.bodies.Body.TheVariants as bodies
 use Rattle.fuse_writer.proofs.DoingLemmas.{after_done, does_note, does_say, exit_done, exit_path, opens_new_by}
-use Rattle.fuse_writer.specs.Requests.{open_file, path_in}
+use Rattle.fuse_writer.specs.Requests.{open_file}
 use Rattle.fuse_writer.proofs.naming.open_new.Goals as goal
 
 pub returns-in_ok-entry-in-Ok-clause-does : goal.returns-in_ok-entry-in-Ok-clause-does
@@ -23,7 +23,7 @@ returns-in_err-path-in-Err-clause-does g c =
     let mid = c.ask_number.new.self in
     let gives = rw c.ask_number.ensures.session at c.in_err-path-in-Err.ensures in
     opens_new_by _ mid.asking _ _ _ _ c.args.directory c.args.name.now c.args.number c.args.path.items _ c.ask_number.result _ c.ask_number.ensures.asked refl c.in-Err.is
-    (exit_path _ _ _ _ (λ made. bodies.Created made.0 made.1) _ _ (err_from_is_err_and c.from_residual-in_err-path-in-Err.result c.from_residual-in_err-path-in-Err.ensures.1) c.ask_number.ensures.session _ (path_in c.args.mounted.now.session c.args.directory c.args.name.now) _ refl refl gives)
+    (exit_path _ _ _ _ (λ made. bodies.Created made.0 made.1) _ _ (err_from_is_err_and c.from_residual-in_err-path-in-Err.result c.from_residual-in_err-path-in-Err.ensures.1) c.ask_number.ensures.session _ refl (gives _))
 
 pub returns-in_err-ask_done-in-Err-clause-does : goal.returns-in_err-ask_done-in-Err-clause-does
 returns-in_err-ask_done-in-Err-clause-does g c =

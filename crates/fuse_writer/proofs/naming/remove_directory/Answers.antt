@@ -1,7 +1,7 @@
 use Rattle.std.proofs.Common.{◌∙◌, refl}
 use Rattle.std.proofs.lemmas.Result.{err_from_is_err_and}
 use Rattle.fuse_wire.specs.declared.bodies.Body.TheVariants as bodies
-use Rattle.fuse_writer.proofs.DoingLemmas.{after_done, does_note, does_say, exit_done, exit_early, exit_path}
+use Rattle.fuse_writer.proofs.DoingLemmas.{after_done, does_note, does_say, exit_done, exit_early, exit_path, goes_same, goes_then}
 use Rattle.fuse_writer.proofs.naming.remove_directory.Goals as goal
 
 pub returns-in_err-directory-clause-does : goal.returns-in_err-directory-clause-does
@@ -14,14 +14,14 @@ returns-in_err-number-clause-does g c =
 
 pub returns-in_err-path-clause-does : goal.returns-in_err-path-clause-does
 returns-in_err-path-clause-does g c =
-    exit_path _ _ _ _ (λ _. bodies.Empty) _ _ (err_from_is_err_and c.from_residual-in_err-path.result c.from_residual-in_err-path.ensures.1) refl _ _ _ refl (c.in_ok-directory.ensures _ ∙ c.in_ok-number.ensures _) c.in_err-path.ensures
+    exit_path _ _ _ _ (λ _. bodies.Empty) _ _ (err_from_is_err_and c.from_residual-in_err-path.result c.from_residual-in_err-path.ensures.1) refl _ refl (goes_then (goes_same (c.in_ok-directory.ensures _ ∙ c.in_ok-number.ensures _)) (c.in_err-path.ensures _))
 
 pub returns-in_err-ask_done-clause-does : goal.returns-in_err-ask_done-clause-does
 returns-in_err-ask_done-clause-does g c =
-    exit_done _ _ _ _ (λ _. bodies.Empty) _ _ (err_from_is_err_and c.from_residual-in_err-ask_done.result c.from_residual-in_err-ask_done.ensures.1) c.ask_done.ensures.session _ _ _ _ _ c.ask_done.ensures.asked refl c.in_err-ask_done.was (c.in_ok-directory.ensures _ ∙ c.in_ok-number.ensures _ ∙ c.in_ok-path.ensures _)
+    exit_done _ _ _ _ (λ _. bodies.Empty) _ _ (err_from_is_err_and c.from_residual-in_err-ask_done.result c.from_residual-in_err-ask_done.ensures.1) c.ask_done.ensures.session _ _ _ _ _ c.ask_done.ensures.asked refl c.in_err-ask_done.was (goes_then (goes_same (c.in_ok-directory.ensures _ ∙ c.in_ok-number.ensures _)) (c.in_ok-path.ensures _))
 
 pub returns-clause-does : goal.returns-clause-does
 returns-clause-does g c =
     let mid = c.ask_done.new.self in
-    after_done _ mid.asking _ _ _ _ _ _ _ _ _ _ c.ask_done.ensures.asked refl c.in_ok-ask_done.was (c.in_ok-directory.ensures _ ∙ c.in_ok-number.ensures _ ∙ c.in_ok-path.ensures _)
+    after_done _ mid.asking _ _ _ _ _ _ _ _ _ _ c.ask_done.ensures.asked refl c.in_ok-ask_done.was (goes_then (goes_same (c.in_ok-directory.ensures _ ∙ c.in_ok-number.ensures _)) (c.in_ok-path.ensures _))
     (does_note _ _ _ _ _ _ _ _ (does_say _ _ _ _ _ _ refl refl (rw (c.remove_name.ensures, c.ask_done.ensures.session) refl)))
