@@ -1,7 +1,7 @@
 //! The updates of the commands, in the order in which soft updates issue them.
 use crate::command::Command;
 use crate::files::File;
-use inode::{DIRECT_POINTERS, FILE, FREE, Record};
+use inode::{ATTRIBUTES, DIRECT_POINTERS, FILE, FREE, Record};
 use layout::{BLOCK_BYTES, Geometry, Refusal};
 use softdep::{Cell, Cells, Change, Update};
 use std::alloc::{AllocError, Global};
@@ -151,5 +151,6 @@ fn empty_record(mode: u16, size: u32) -> Record {
         direct: [0; DIRECT_POINTERS],
         indirect: 0,
         double: 0,
+        attributes: [0; ATTRIBUTES],
     }
 }

@@ -68,7 +68,7 @@ fn use_file<L: Rotating, M: Ledger, R: Wait + Clock>(
     used: &mut Used,
 ) -> Result<(), Refusal> {
     let create = path.to_vec(alloc)?;
-    timed(rt, alloc, shared, seat, Command::Create(create), used)?;
+    timed(rt, alloc, shared, seat, Command::create(create), used)?;
     let open = path.to_vec(alloc)?;
     let opened = timed(rt, alloc, shared, seat, Command::Open(open), used)?;
     use_handle(rt, alloc, shared, seat, handle_of(&opened)?, used)?;

@@ -51,8 +51,8 @@ fn of_no_word(name: &[u8]) -> Option<Command> {
 /// The command of this name that has one word, if there is one and this is a word for it.
 fn of_a_word(alloc: Global, name: &[u8], word: &[u8]) -> Result<Option<Command>, AllocError> {
     Ok(match name {
-        b"create" => Some(Command::Create(word.to_vec(alloc)?)),
-        b"mkdir" => Some(Command::Mkdir(word.to_vec(alloc)?)),
+        b"create" => Some(Command::create(word.to_vec(alloc)?)),
+        b"mkdir" => Some(Command::mkdir(word.to_vec(alloc)?)),
         b"unlink" => Some(Command::Unlink(word.to_vec(alloc)?)),
         b"rmdir" => Some(Command::Rmdir(word.to_vec(alloc)?)),
         b"list" => Some(Command::List(word.to_vec(alloc)?)),

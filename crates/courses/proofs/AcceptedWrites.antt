@@ -6,7 +6,7 @@ use Rattle.model.specs.Uses.{blocks_of}
 use Rattle.findings.specs.declared.repair.Repair.{Repair}
 use Rattle.ordering.specs.Cuts.{Pending, users_view}
 use Rattle.machine.specs.State.{State, is_open, is_kept}
-use Rattle.machine.specs.Command.{Write, Truncate, Close}
+use Rattle.machine.specs.Command.{Write, Truncate, Close, SetAttributes}
 use Rattle.machine.specs.Room.{IsFreeBlock}
 use Rattle.machine.specs.Cells.{block_of, seen}
 use Rattle.machine.specs.Causes.{Accepts, file_of}
@@ -22,8 +22,10 @@ use Rattle.plans_data.specs.Lists.{given_up_with}
 use Rattle.plans_data.specs.Plans.{IsChoice, holder_of, named_by}
 use Rattle.findings.specs.declared.repair.Repair.TheVariants.{DropInode, LowerCount, FreeBlock, FreeNumber}
 use Rattle.plans_data.proofs.Plans.{plan_in_place, plan_appended, plan_moved, plan_truncate, plan_close, plan_drop, plan_lower, plan_block, plan_number}
-use Rattle.courses.specs.Plans.{IsPlan, WritesInPlace, WritesAppended, WritesMoved, Truncates, Closes, Repairs}
+use Rattle.courses.specs.Plans.{IsPlan, WritesInPlace, WritesAppended, WritesMoved, Truncates, Closes, Repairs, SetsAttributes}
 use Rattle.courses.proofs.LifeBytes.{IsWriteOf, LeavesBehind}
+use Rattle.plans_data.specs.Attributes.{attributing}
+use Rattle.plans_data.proofs.Accepted.{accepted_attributes}
 
 abbrev pub writes_in_place_have_plans : (geo : Geometry) (disk : View) (q : List Pending) (old : State) (safe : ℕ → Bool) → Balance geo (now disk q old) → IsGeometry geo → (h k : ℕ) (piece : List ℕ) → Accepts geo (now disk q old) (Write h k piece) → (bytes : List ℕ) → IsOverwritten piece (seen geo (users_view disk q) (file_of old h) k) bytes → k < blocks_of ((users_view disk q).inode (file_of old h)).size → IsFalse (is_kept old (block_of geo (users_view disk q) (file_of old h) k)) → IsPlan geo disk q old safe (file_of old h) (written (file_of old h) ((users_view disk q).inode (file_of old h)) (block_of geo (users_view disk q) (file_of old h) k) bytes (size_after (users_view disk q) (file_of old h) k piece) q) old.held (safe)
 writes_in_place_have_plans geo disk q old safe balance geometry h k piece ok bytes over inside not = WritesInPlace (file_of old h) k piece bytes (plan_in_place geo geometry (now disk q old) balance h k piece ok bytes over inside not)
@@ -36,6 +38,9 @@ moving_writes_have_plans geo disk q old safe balance geometry h k piece ok bytes
 
 abbrev pub truncations_have_plans : (geo : Geometry) (disk : View) (q : List Pending) (old : State) (safe : ℕ → Bool) → Balance geo (now disk q old) → IsGeometry geo → (h size : ℕ) → Accepts geo (now disk q old) (Truncate h size) → IsPlan geo disk q old safe (file_of old h) (truncation (file_of old h) ((users_view disk q).inode (file_of old h)) size (given_up_with geo (now disk q old) (file_of old h) (sized ((users_view disk q).inode (file_of old h)) size)) q) (held_with geo (now disk q old) (file_of old h) (sized ((users_view disk q).inode (file_of old h)) size)) (safe)
 truncations_have_plans geo disk q old safe balance geometry h size ok = Truncates (file_of old h) size (given_up_with geo (now disk q old) (file_of old h) (sized ((users_view disk q).inode (file_of old h)) size)) (plan_truncate geo geometry (now disk q old) balance h size ok)
+
+abbrev pub attributes_have_plans : (geo : Geometry) (disk : View) (q : List Pending) (old : State) (safe : ℕ → Bool) (n : ℕ) (words : List ℕ) → Accepts geo (now disk q old) (SetAttributes n words) → IsPlan geo disk q old safe n (attributing n ((users_view disk q).inode n) words q) old.held safe
+attributes_have_plans geo disk q old safe n words ok = SetsAttributes n words (accepted_attributes geo (now disk q old) n words ok)
 
 abbrev pub closes_have_plans : (geo : Geometry) (disk : View) (q : List Pending) (old : State) (safe : ℕ → Bool) → Balance geo (now disk q old) → IsGeometry geo → (h : ℕ) → Accepts geo (now disk q old) (Close h) → IsPlan geo disk q old safe (file_of old h) (closing (file_of old h) ((users_view disk q).inode (file_of old h)) (is_open (without_handle h old) (file_of old h)) (given_up_with geo (now disk q old) (file_of old h) free_inode) q) (held_if (goes_away ((users_view disk q).inode (file_of old h)).links (is_open (without_handle h old) (file_of old h))) geo (now disk q old) (file_of old h)) (safe)
 closes_have_plans geo disk q old safe balance geometry h ok = Closes h (file_of old h) (given_up_with geo (now disk q old) (file_of old h) free_inode) (plan_close geo geometry (now disk q old) balance h ok)

@@ -3,7 +3,7 @@ use Rattle.std.proofs.Common.{◌≡◌, ◌<◌, ℕ, ◌-◌, ◌==◌, Bool, 
 use Rattle.std.specs.Prelude.{if◌then◌else◌}
 use Rattle.std.proofs.lemmas.Bool.{leb-true}
 use Rattle.model.specs.Layout.{Geometry}
-use Rattle.model.specs.View.{View, Inode}
+use Rattle.model.specs.View.{View, Inode, with_attributes}
 use Rattle.model.specs.Cells.{SetInode, SetBlock, SetBytes}
 use Rattle.model.specs.Shape.{most_blocks, place_in_table, pointer_in, IsAbove}
 use Rattle.model.specs.Uses.{IsClaim, IsClaimed}
@@ -35,6 +35,7 @@ use Rattle.queue_model.proofs.NewClaims.{number_of_block}
 use Rattle.courses.proofs.Fits.{AreOf}
 use Rattle.courses.proofs.Walks.{Own, Fits, Start, On}
 use Rattle.courses.proofs.Pieces.{unmarked_no_files, files_own, no_cells, one_block, one_more, both_of, Still, Fitting, fitting, nothing_yet, cleared_fits, record_still, record_fits, bytes_fits, bit_fits, filled_fits, freeing_still, bit_still, number_still}
+use Rattle.plans_data.specs.Attributes.{attributing}
 
 module _ (geo : Geometry) (disk : View) (q : List Pending) (rules : ObeysRules geo (users_view disk q)) where
   abbrev start : View
@@ -166,6 +167,9 @@ module _ (geo : Geometry) (disk : View) (q : List Pending) (rules : ObeysRules g
   pub truncation_fits : (file n : ℕ) (inode : Inode) (size : ℕ) (blocks : List ℕ) → Fitting geo disk file q (truncation n inode size blocks q)
   truncation_fits file n inode size blocks =
       cleared_fits geo disk file q n blocks (record { change = SetInode n (sized inode size); after = [] } ∷ q) (fitting geo disk file q _ (record_still geo disk file q n (sized inode size) q (nothing_yet geo disk file q)))
+
+  pub attributing_fits : (file n : ℕ) (inode : Inode) (words : List ℕ) → Still geo disk file q (attributing n inode words q)
+  attributing_fits file n inode words = record_still geo disk file q n (with_attributes inode words) q (nothing_yet geo disk file q)
 
   relinked_by : (file n : ℕ) (inode : Inode) (links : ℕ) (blocks : List ℕ) (goes : Bool) → Still geo disk file q (if goes then freeing n blocks [] q else record { change = SetInode n (with_links inode links); after = [] } ∷ q)
   relinked_by file n inode links blocks true = freeing_still geo disk file q n blocks [] q (nothing_yet geo disk file q)

@@ -21,10 +21,11 @@ use Rattle.plans_naming.proofs.CarriedRenames.{carries_rename, carries_move, car
 use Rattle.plans_naming.proofs.CarriedRemovals.{carries_unlink, carries_unlink_last, carries_remove, carries_remove_last}
 use Rattle.courses.specs.Bytes.{AsksWrite}
 use Rattle.courses.specs.Plans.{IsPlan}
-use Rattle.courses.specs.Done.{IsDoneBy, LeavesTheRest, CreatesInSlot, CreatesInNewBlock, MakesInSlot, MakesInNewBlock, LinksInSlot, LinksInNewBlock, RenamesInSlot, MovesToSlot, MovesToNewBlock, UnlinksName, UnlinksFile, RemovesName, RemovesDirectory, WritesInPlace, WritesBehind, WritesElsewhere, TruncatesFile, ClosesHandle, CarriesOutRepair}
+use Rattle.courses.specs.Done.{IsDoneBy, LeavesTheRest, CreatesInSlot, CreatesInNewBlock, MakesInSlot, MakesInNewBlock, LinksInSlot, LinksInNewBlock, RenamesInSlot, MovesToSlot, MovesToNewBlock, UnlinksName, UnlinksFile, RemovesName, RemovesDirectory, WritesInPlace, WritesBehind, WritesElsewhere, TruncatesFile, ClosesHandle, CarriesOutRepair, SetsItsAttributes}
 use Rattle.courses.proofs.AcceptedPlans.{creations_have_plans, creations_in_new_blocks_have_plans, new_directories_have_plans, new_directories_in_new_blocks_have_plans, links_have_plans, links_in_new_blocks_have_plans, renames_have_plans, moves_have_plans, moves_to_new_blocks_have_plans, unlinks_have_plans, last_unlinks_have_plans, removals_have_plans, last_removals_have_plans}
-use Rattle.courses.proofs.AcceptedWrites.{writes_in_place_have_plans, extending_writes_have_plans, moving_writes_have_plans, truncations_have_plans, closes_have_plans, repairs_have_plans, repairs_leave, repairs_ask}
+use Rattle.courses.proofs.AcceptedWrites.{writes_in_place_have_plans, extending_writes_have_plans, moving_writes_have_plans, truncations_have_plans, closes_have_plans, repairs_have_plans, repairs_leave, repairs_ask, attributes_have_plans}
 use Rattle.courses.proofs.LifeBytes.{IsWriteOf, LeavesBehind}
+use Rattle.plans_data.proofs.Attributing.{carries_attributes}
 
 -- the machine makes a step to the new state, by a plan with which users see that state
 pub record Steps (geo : Geometry) (disk : View) (q : List Pending) (old : State) (safe : ℕ → Bool) (command : Command) (answer : Answer) (file : ℕ) (plan : List Pending) (new : State) (safe' : ℕ → Bool) (Rest : Type 0) : Type 0 where
@@ -44,30 +45,30 @@ module _ (geo : Geometry) (disk : View) (q : List Pending) (old : State) (safe :
 
   pub steps : (command : Command) (answer : Answer) (file : ℕ) (plan : List Pending) (new : State) (safe' : ℕ → Bool) → Accepts geo (now disk q old) command → (done : IsDoneBy geo disk q old safe command answer file plan new safe')
       → Steps geo disk q old safe command answer file plan new safe' (LeavesTheRest done)
-  steps command answer file plan new safe' ok (CreatesInSlot p n s entry after free place) = record {
-    step = (carries_create geo disk q (now disk q old) safe stands p ok n s entry after free place.empty place.says place.record_first place.others_first).step;
-    is_plan = creations_have_plans geo disk q (now disk q old) safe stands.balance stands.geometry p ok n s entry after free place.empty place.says place.record_first place.others_first;
+  steps command answer file plan new safe' ok (CreatesInSlot p words n s entry after free place) = record {
+    step = (carries_create geo disk q (now disk q old) safe stands p words ok n s entry after free place.empty place.says place.record_first place.others_first).step;
+    is_plan = creations_have_plans geo disk q (now disk q old) safe stands.balance stands.geometry p words ok n s entry after free place.empty place.says place.record_first place.others_first;
     same = refl;
     leaves = λ r. tt;
     asks = λ n j other w. absurd w;
   }
-  steps command answer file plan new safe' ok (CreatesInNewBlock p n b kept s entry after free place) = record {
-    step = (carries_create_grown geo disk q (now disk q old) safe stands p ok n b kept s entry after free place.full place.free place.keeps place.apart place.stands place.says place.record_first place.blocks_first).step;
-    is_plan = creations_in_new_blocks_have_plans geo disk q (now disk q old) safe stands.balance stands.geometry p ok n b kept s entry after free place.full place.free place.keeps place.apart place.stands place.says place.record_first place.blocks_first;
+  steps command answer file plan new safe' ok (CreatesInNewBlock p words n b kept s entry after free place) = record {
+    step = (carries_create_grown geo disk q (now disk q old) safe stands p words ok n b kept s entry after free place.full place.free place.keeps place.apart place.stands place.says place.record_first place.blocks_first).step;
+    is_plan = creations_in_new_blocks_have_plans geo disk q (now disk q old) safe stands.balance stands.geometry p words ok n b kept s entry after free place.full place.free place.keeps place.apart place.stands place.says place.record_first place.blocks_first;
     same = refl;
     leaves = λ r. tt;
     asks = λ n j other w. absurd w;
   }
-  steps command answer file plan new safe' ok (MakesInSlot p i a dots s entry after free own are place) = record {
-    step = (carries_make geo disk q (now disk q old) safe stands p ok i a dots s entry after free own are place.empty place.says place.record_first place.others_first).step;
-    is_plan = new_directories_have_plans geo disk q (now disk q old) safe stands.balance stands.geometry p ok i a dots s entry after free own are place.empty place.says place.record_first place.others_first;
+  steps command answer file plan new safe' ok (MakesInSlot p words i a dots s entry after free own are place) = record {
+    step = (carries_make geo disk q (now disk q old) safe stands p words ok i a dots s entry after free own are place.empty place.says place.record_first place.others_first).step;
+    is_plan = new_directories_have_plans geo disk q (now disk q old) safe stands.balance stands.geometry p words ok i a dots s entry after free own are place.empty place.says place.record_first place.others_first;
     same = refl;
     leaves = λ r. tt;
     asks = λ n j other w. absurd w;
   }
-  steps command answer file plan new safe' ok (MakesInNewBlock p i a dots b kept s entry after free own are other place) = record {
-    step = (carries_make_grown geo disk q (now disk q old) safe stands p ok i a dots b kept s entry after free own are place.full place.free other place.keeps place.apart place.stands place.says place.record_first place.blocks_first).step;
-    is_plan = new_directories_in_new_blocks_have_plans geo disk q (now disk q old) safe stands.balance stands.geometry p ok i a dots b kept s entry after free own are place.full place.free other place.keeps place.apart place.stands place.says place.record_first place.blocks_first;
+  steps command answer file plan new safe' ok (MakesInNewBlock p words i a dots b kept s entry after free own are other place) = record {
+    step = (carries_make_grown geo disk q (now disk q old) safe stands p words ok i a dots b kept s entry after free own are place.full place.free other place.keeps place.apart place.stands place.says place.record_first place.blocks_first).step;
+    is_plan = new_directories_in_new_blocks_have_plans geo disk q (now disk q old) safe stands.balance stands.geometry p words ok i a dots b kept s entry after free own are place.full place.free other place.keeps place.apart place.stands place.says place.record_first place.blocks_first;
     same = refl;
     leaves = λ r. tt;
     asks = λ n j other w. absurd w;
@@ -147,6 +148,9 @@ module _ (geo : Geometry) (disk : View) (q : List Pending) (old : State) (safe :
   steps command answer file plan new safe' ok (TruncatesFile h size) =
       let done = carries_truncation geo disk q (now disk q old) safe stands h size ok in
       record { step = done.step; is_plan = truncations_have_plans geo disk q (now disk q old) safe stands.balance stands.geometry h size ok; same = refl; leaves = λ r. tt; asks = λ n j other w. absurd w }
+  steps command answer file plan new safe' ok (SetsItsAttributes n words) =
+      let done = carries_attributes geo disk q (now disk q old) safe stands n words ok in
+      record { step = done.step; is_plan = attributes_have_plans geo disk q (now disk q old) safe n words ok; same = refl; leaves = λ r. tt; asks = λ n j other w. absurd w }
   steps command answer file plan new safe' ok (ClosesHandle h) =
       let done = carries_close geo disk q (now disk q old) safe stands h ok in
       record { step = done.step; is_plan = closes_have_plans geo disk q (now disk q old) safe stands.balance stands.geometry h ok; same = refl; leaves = λ r. tt; asks = λ n j other w. absurd w }

@@ -1,7 +1,7 @@
 -- The plans of the commands that change names, update by update.
 use Rattle.std.proofs.Common.{◌≡◌, ℕ, ◌+◌, ◌-◌, true, List, [], ◌∷◌, refl, ap, ◌∙◌, arith}
 use Rattle.model.specs.Layout.{Geometry}
-use Rattle.model.specs.View.{View, Inode, new_file}
+use Rattle.model.specs.View.{View, Inode}
 use Rattle.model.specs.Rules.{ObeysRules}
 use Rattle.model.specs.Uses.{blocks_of}
 use Rattle.model.specs.Slots.{Slot, Empty, Good}
@@ -9,7 +9,7 @@ use Rattle.ordering.specs.Cuts.{Cell, Block, Pending, users_view}
 use Rattle.ordering.proofs.Records.{put_here, put_there}
 use Rattle.ordering.proofs.Data.{directory_mode}
 use Rattle.machine.specs.Cells.{with_slot}
-use Rattle.machine.specs.Effects.{with_links}
+use Rattle.machine.specs.Effects.{file_with, with_links}
 use Rattle.plans_data.specs.Append.{Holder, filled, linked}
 use Rattle.plans_data.proofs.Holders.{first_of, linked_inodes}
 use Rattle.plans_data.specs.Freeing.{freeing}
@@ -47,13 +47,13 @@ module _ (geo : Geometry) (disk : View) (q : List Pending) (rules : ObeysRules g
 
   -- ---- commands
 
-  pub creating_fits : (file n d s block : ℕ) (name entry : List ℕ) (after : List Cell) → CanCreate geo start n d s block name entry after → Still geo disk file q (creating n block (start.bytes block) s entry after q)
-  creating_fits file n d s block name entry after can = slot_still file d s block Empty (start.bytes block) s entry after (born n new_file [] q) can.place (born_still geo disk file q n new_file q (nothing_yet geo disk file q))
+  pub creating_fits : (file n : ℕ) (words : List ℕ) (d s block : ℕ) (name entry : List ℕ) (after : List Cell) → CanCreate geo start n d s block name entry after → Still geo disk file q (creating n words block (start.bytes block) s entry after q)
+  creating_fits file n words d s block name entry after can = slot_still file d s block Empty (start.bytes block) s entry after (born n (file_with words) [] q) can.place (born_still geo disk file q n (file_with words) q (nothing_yet geo disk file q))
 
-  pub creating_grown_fits : (file n d b : ℕ) (kept : Holder) (s : ℕ) (name entry : List ℕ) (after : List Cell) → CanCreateGrown geo start n d b kept s name entry after → Still geo disk file q (creating_grown geo n d (start.inode d) b kept s entry after q)
-  creating_grown_fits file n d b kept s name entry after can =
-      new_slot_still file d b kept s name entry after (grown geo d (start.inode d) b kept (born n new_file [] q)) can.enter
-      (entered_still file d (start.inode d) b kept s name after (born n new_file [] q) refl can.enter (born_still geo disk file q n new_file q (nothing_yet geo disk file q)))
+  pub creating_grown_fits : (file n : ℕ) (words : List ℕ) (d b : ℕ) (kept : Holder) (s : ℕ) (name entry : List ℕ) (after : List Cell) → CanCreateGrown geo start n d b kept s name entry after → Still geo disk file q (creating_grown geo n words d (start.inode d) b kept s entry after q)
+  creating_grown_fits file n words d b kept s name entry after can =
+      new_slot_still file d b kept s name entry after (grown geo d (start.inode d) b kept (born n (file_with words) [] q)) can.enter
+      (entered_still file d (start.inode d) b kept s name after (born n (file_with words) [] q) refl can.enter (born_still geo disk file q n (file_with words) q (nothing_yet geo disk file q)))
 
   pub linking_fits : (file i d s block : ℕ) (name entry : List ℕ) (after : List Cell) → CanLink geo start i d s block name entry after → Still geo disk file q (linking i (start.inode i) block (start.bytes block) s entry after q)
   linking_fits file i d s block name entry after can = slot_still file d s block Empty (start.bytes block) s entry after (raised i (start.inode i) q) can.place (raised_still file i)
@@ -74,19 +74,19 @@ module _ (geo : Geometry) (disk : View) (q : List Pending) (rules : ObeysRules g
   unlinking_last_fits file i d s block name blocks can =
       freeing_still geo disk file q i blocks (Block block ∷ []) (slot_written block (start.bytes block) s no_entry [] ∷ q) (slot_still file d s block (Good i name) (start.bytes block) s no_entry [] q can.place (nothing_yet geo disk file q))
 
-  pub making_fits : (file i b : ℕ) (dots : List ℕ) (d s block : ℕ) (name entry : List ℕ) (after : List Cell) → CanMakeIn geo start i b dots d s block name entry after
-      → Still geo disk file q (making i b dots d (start.inode d) block (start.bytes block) s entry after q)
-  making_fits file i b dots d s block name entry after can =
-      slot_still file d s block Empty (start.bytes block) s entry after (made i b dots d (start.inode d) q) can.place
-      (made_still geo disk file q i b dots d (start.inode d) q (unmarked_no_files geo start rules b can.make.block_unmarked) (nothing_yet geo disk file q))
+  pub making_fits : (file i b : ℕ) (words dots : List ℕ) (d s block : ℕ) (name entry : List ℕ) (after : List Cell) → CanMakeIn geo start i b dots d s block name entry after
+      → Still geo disk file q (making i b words dots d (start.inode d) block (start.bytes block) s entry after q)
+  making_fits file i b words dots d s block name entry after can =
+      slot_still file d s block Empty (start.bytes block) s entry after (made i b words dots d (start.inode d) q) can.place
+      (made_still geo disk file q i b words dots d (start.inode d) q (unmarked_no_files geo start rules b can.make.block_unmarked) (nothing_yet geo disk file q))
 
-  pub making_grown_fits : (file i a : ℕ) (dots : List ℕ) (d b : ℕ) (kept : Holder) (s : ℕ) (name entry : List ℕ) (after : List Cell) → CanMakeGrown geo start i a dots d b kept s name entry after
-      → Still geo disk file q (making_grown geo i a dots d (start.inode d) b kept s entry after q)
-  making_grown_fits file i a dots d b kept s name entry after can =
+  pub making_grown_fits : (file i a : ℕ) (words dots : List ℕ) (d b : ℕ) (kept : Holder) (s : ℕ) (name entry : List ℕ) (after : List Cell) → CanMakeGrown geo start i a dots d b kept s name entry after
+      → Still geo disk file q (making_grown geo i a words dots d (start.inode d) b kept s entry after q)
+  making_grown_fits file i a words dots d b kept s name entry after can =
       let parent = with_links (start.inode d) ((start.inode d).links + 1) in
-      new_slot_still file d b kept s name entry after (grown geo d parent b kept (made i a dots d (start.inode d) q)) can.enter
-      (entered_still file d parent b kept s name after (made i a dots d (start.inode d) q) refl can.enter
-      (made_still geo disk file q i a dots d (start.inode d) q (unmarked_no_files geo start rules a can.make.block_unmarked) (nothing_yet geo disk file q)))
+      new_slot_still file d b kept s name entry after (grown geo d parent b kept (made i a words dots d (start.inode d) q)) can.enter
+      (entered_still file d parent b kept s name after (made i a words dots d (start.inode d) q) refl can.enter
+      (made_still geo disk file q i a words dots d (start.inode d) q (unmarked_no_files geo start rules a can.make.block_unmarked) (nothing_yet geo disk file q)))
 
   -- a directory gets fewer links
   lowered_still : (file d : ℕ) (fewer block : ℕ) (p : List Pending) → (start.inode d).mode ≡ 2 → Still geo disk file q p → Still geo disk file q (lowered d (start.inode d) fewer block p)

@@ -29,10 +29,10 @@ use Rattle.plans_naming.specs.Link.{linking, linking_grown, raised}
 use Rattle.queue_model.specs.Files.{Written, updates, generation, IsFileBlock}
 use Rattle.queue_model.proofs.HoldLemmas.{HeldSince, UsersHold}
 use Rattle.courses.specs.Leads.{Named}
-use Rattle.courses.specs.Plans.{IsPlan, WritesInPlace, WritesAppended, WritesMoved, Truncates, Relinks, Closes, Repairs, Creates, CreatesGrown, Links, LinksGrown, Unlinks, UnlinksLast, Makes, MakesGrown, Removes, RemovesName, Renames, Moves, MovesGrown}
+use Rattle.courses.specs.Plans.{IsPlan, WritesInPlace, WritesAppended, WritesMoved, Truncates, Relinks, Closes, Repairs, Creates, CreatesGrown, Links, LinksGrown, Unlinks, UnlinksLast, Makes, MakesGrown, Removes, RemovesName, Renames, Moves, MovesGrown, SetsAttributes}
 use Rattle.courses.proofs.Walks.{fits_adds}
 use Rattle.courses.proofs.Pieces.{reachable_mode, unmarked_no_files, Still, nothing_yet, cleared_still, record_still}
-use Rattle.courses.proofs.DataPlans.{relinking_fits, closing_fits, repairing_fits}
+use Rattle.courses.proofs.DataPlans.{relinking_fits, closing_fits, repairing_fits, attributing_fits}
 use Rattle.courses.proofs.NamingPlans.{slot_still, other_record, creating_fits, creating_grown_fits, linking_fits, linking_grown_fits, unlinking_last_fits, making_fits, making_grown_fits, removing_fits, removing_name_fits, renaming_fits}
 use Rattle.courses.proofs.PlansLead.{plan_chain}
 use Rattle.courses.proofs.Firm.{Firm, Further, Nowhere, firm_holds, still_firm, but_last, links_keep}
@@ -141,16 +141,17 @@ module _ (geo : Geometry) (mounted : View) (P : ℕ → ℕ → ℕ → List ℕ
       puts file p named n k bytes (moved_firm geo disk q rules old safe all n k b piece bytes holder may)
       (subst (P n (generation mounted before n) k) (sym rest) (closed n k piece _ (refl, refl, refl) (inr (own_block n k may.write.sound may.write.file may.inside))))
   plan_holds file p held' safe' (Truncates n size blocks may) rest closed named = quietly file p held' safe' (Truncates n size blocks may) (cleared_still geo disk file q n blocks (record { change = SetInode n (sized ((users_view disk q).inode n) size); after = [] } ∷ q) (record_still geo disk file q n (sized ((users_view disk q).inode n) size) q (nothing_yet geo disk file q))) named
+  plan_holds file p held' safe' (SetsAttributes n words at) rest closed named = quietly file p held' safe' (SetsAttributes n words at) (attributing_fits geo disk q rules file n ((users_view disk q).inode n) words) named
   plan_holds file p held' safe' (Relinks n links blocks may) rest closed named = quietly file p held' safe' (Relinks n links blocks may) (relinking_fits geo disk q rules file n ((users_view disk q).inode n) links (is_open old n) blocks) named
   plan_holds file p held' safe' (Closes k n blocks may) rest closed named = quietly file p held' safe' (Closes k n blocks may) (closing_fits geo disk q rules file n ((users_view disk q).inode n) (is_open (without_handle k old) n) blocks) named
   plan_holds file p held' safe' (Repairs repair any blocks may) rest closed named = quietly file p held' safe' (Repairs repair any blocks may) (repairing_fits geo disk q rules file repair (inode_of (users_view disk q) repair) (open_of old repair) blocks) named
-  plan_holds file p held' safe' (Creates n d s block name entry after can) rest closed named = quietly file p held' safe' (Creates n d s block name entry after can) (creating_fits geo disk q rules file n d s block name entry after can) named
-  plan_holds file p held' safe' (CreatesGrown n d b kept s name entry after spare can) rest closed named = quietly file p held' safe' (CreatesGrown n d b kept s name entry after spare can) (creating_grown_fits geo disk q rules file n d b kept s name entry after can) named
+  plan_holds file p held' safe' (Creates n words d s block name entry after can) rest closed named = quietly file p held' safe' (Creates n words d s block name entry after can) (creating_fits geo disk q rules file n words d s block name entry after can) named
+  plan_holds file p held' safe' (CreatesGrown n words d b kept s name entry after spare can) rest closed named = quietly file p held' safe' (CreatesGrown n words d b kept s name entry after spare can) (creating_grown_fits geo disk q rules file n words d b kept s name entry after can) named
   plan_holds file p held' safe' (Links i d s block name entry after can) rest closed named = quietly file p held' safe' (Links i d s block name entry after can) (linking_fits geo disk q rules file i d s block name entry after can) named
   plan_holds file p held' safe' (LinksGrown i d b kept s name entry after spare can) rest closed named = quietly file p held' safe' (LinksGrown i d b kept s name entry after spare can) (linking_grown_fits geo disk q rules file i d b kept s name entry after can) named
   plan_holds file p held' safe' (UnlinksLast i d s block name blocks can free one) rest closed named = quietly file p held' safe' (UnlinksLast i d s block name blocks can free one) (unlinking_last_fits geo disk q rules file i d s block name blocks can) named
-  plan_holds file p held' safe' (Makes i b dots d s block name entry after can spare) rest closed named = quietly file p held' safe' (Makes i b dots d s block name entry after can spare) (making_fits geo disk q rules file i b dots d s block name entry after can) named
-  plan_holds file p held' safe' (MakesGrown i a dots d b kept s name entry after spare can) rest closed named = quietly file p held' safe' (MakesGrown i a dots d b kept s name entry after spare can) (making_grown_fits geo disk q rules file i a dots d b kept s name entry after can) named
+  plan_holds file p held' safe' (Makes i b words dots d s block name entry after can spare) rest closed named = quietly file p held' safe' (Makes i b words dots d s block name entry after can spare) (making_fits geo disk q rules file i b words dots d s block name entry after can) named
+  plan_holds file p held' safe' (MakesGrown i a words dots d b kept s name entry after spare can) rest closed named = quietly file p held' safe' (MakesGrown i a words dots d b kept s name entry after spare can) (making_grown_fits geo disk q rules file i a words dots d b kept s name entry after can) named
   plan_holds file p held' safe' (Removes i b d s block name after blocks can free two not) rest closed named = quietly file p held' safe' (Removes i b d s block name after blocks can free two not) (removing_fits geo disk q rules file i b d s block name after blocks can) named
   plan_holds file p held' safe' (RemovesName i b d s block name after can not) rest closed named = quietly file p held' safe' (RemovesName i b d s block name after can not) (removing_name_fits geo disk q rules file i b d s block name after can) named
   plan_holds file p held' safe' (Renames i d s block name other entry after can) rest closed named = quietly file p held' safe' (Renames i d s block name other entry after can) (renaming_fits geo disk q rules file i d s block name other entry after can) named

@@ -16,7 +16,7 @@ use Rattle.machine.specs.Paths.{number_at}
 use Rattle.machine.proofs.WholeBlocks.{image_whole, image_records}
 use Rattle.courses.specs.Leads.{IsMoment}
 use Rattle.courses.specs.Session.{Session, Opened, Answers, Stores, IsServed}
-use Rattle.courses.specs.Done.{IsDoneBy, CreatesInSlot, CreatesInNewBlock, MakesInSlot, MakesInNewBlock, LinksInSlot, LinksInNewBlock, RenamesInSlot, MovesToSlot, MovesToNewBlock, UnlinksName, UnlinksFile, RemovesName, RemovesDirectory, WritesInPlace, WritesBehind, WritesElsewhere, TruncatesFile, ClosesHandle, CarriesOutRepair}
+use Rattle.courses.specs.Done.{IsDoneBy, CreatesInSlot, CreatesInNewBlock, MakesInSlot, MakesInNewBlock, LinksInSlot, LinksInNewBlock, RenamesInSlot, MovesToSlot, MovesToNewBlock, UnlinksName, UnlinksFile, RemovesName, RemovesDirectory, WritesInPlace, WritesBehind, WritesElsewhere, TruncatesFile, ClosesHandle, CarriesOutRepair, SetsItsAttributes}
 use Rattle.courses.specs.Serves.{Serves, ByPlan, Quietly, FlushesNone, FlushesSome, SyncsAll, Freezes, Releases, IsBeginning, Service, Starts, CarriesOut, Refuses, Flushed, TakesNameOf, IsSpared, IsSafeService}
 use Rattle.courses.proofs.Images.{each_safe}
 use Rattle.courses.proofs.LifeCourses.{life_lived, mount_moment, anew_moment}
@@ -53,10 +53,10 @@ module _ (geo : Geometry) (mounted : View) (h : List Written) (cut : List Bool) 
       → IsDoneBy geo disk q old safe command answer file plan new safe' → (f : ℕ) → (TakesNameOf geo old command f → ⊥) → IsTrue (safe f) → IsTrue (safe' f)
   done_spares disk q old safe command answer file plan new safe' same (UnlinksName p stays) f spares t = but_other (number_at geo (users_view disk q) p) f safe (λ e. spares (ap (λ v. number_at geo v p) (sym same) ∙ sym e)) t
   done_spares disk q old safe command answer file plan new safe' same (UnlinksFile p blocks one goes) f spares t = but_other (number_at geo (users_view disk q) p) f safe (λ e. spares (ap (λ v. number_at geo v p) (sym same) ∙ sym e)) t
-  done_spares disk q old safe command answer file plan new safe' same (CreatesInSlot p n s entry after free place) f spares t = t
-  done_spares disk q old safe command answer file plan new safe' same (CreatesInNewBlock p n b kept s entry after free place) f spares t = t
-  done_spares disk q old safe command answer file plan new safe' same (MakesInSlot p i a dots s entry after free own are place) f spares t = t
-  done_spares disk q old safe command answer file plan new safe' same (MakesInNewBlock p i a dots b kept s entry after free own are other place) f spares t = t
+  done_spares disk q old safe command answer file plan new safe' same (CreatesInSlot p words n s entry after free place) f spares t = t
+  done_spares disk q old safe command answer file plan new safe' same (CreatesInNewBlock p words n b kept s entry after free place) f spares t = t
+  done_spares disk q old safe command answer file plan new safe' same (MakesInSlot p words i a dots s entry after free own are place) f spares t = t
+  done_spares disk q old safe command answer file plan new safe' same (MakesInNewBlock p words i a dots b kept s entry after free own are other place) f spares t = t
   done_spares disk q old safe command answer file plan new safe' same (LinksInSlot p r s entry after place) f spares t = t
   done_spares disk q old safe command answer file plan new safe' same (LinksInNewBlock p r b kept s entry after place) f spares t = t
   done_spares disk q old safe command answer file plan new safe' same (RenamesInSlot p r entry after one says others) f spares t = t
@@ -68,6 +68,7 @@ module _ (geo : Geometry) (mounted : View) (h : List Written) (cut : List Bool) 
   done_spares disk q old safe command answer file plan new safe' same (WritesBehind h k piece bytes b news over choice past) f spares t = t
   done_spares disk q old safe command answer file plan new safe' same (WritesElsewhere h k piece bytes b over free inside kept) f spares t = t
   done_spares disk q old safe command answer file plan new safe' same (TruncatesFile h size) f spares t = t
+  done_spares disk q old safe command answer file plan new safe' same (SetsItsAttributes n words) f spares t = t
   done_spares disk q old safe command answer file plan new safe' same (ClosesHandle h) f spares t = t
   done_spares disk q old safe command answer file plan new safe' same (CarriesOutRepair k list r planned at) f spares t = t
 

@@ -7,13 +7,13 @@ use Rattle.model.specs.Layout.{Geometry, is_number}
 use Rattle.model.specs.Reach.{IsReachableDirectory}
 use Rattle.model.specs.Rules.{ObeysRules}
 use Rattle.model.specs.Slots.{Names}
-use Rattle.model.specs.View.{View, Inode, free_inode, new_file}
+use Rattle.model.specs.View.{View, Inode, free_inode, with_attributes}
 use Rattle.model.specs.Cells.{Update, SetInode, SetNumber, SetBlock, SetBytes, put_at}
 use Rattle.model.specs.Uses.{blocks_of}
 use Rattle.ordering.specs.Cuts.{Cell, Block, Pending, Record, BlockBit, NumberBit, users_view}
 use Rattle.ordering.proofs.Records.{put_here, put_there}
 use Rattle.machine.specs.Cells.{block_of}
-use Rattle.machine.specs.Effects.{new_directory, size_after, with_links}
+use Rattle.machine.specs.Effects.{file_with, new_directory, size_after, with_links}
 use Rattle.machine.specs.State.{State, is_open}
 use Rattle.plans_data.specs.Append.{Holder, KeptInNew, KeptInRecord, KeptInTable, appended, filled, known, linked, pointed, sized}
 use Rattle.plans_data.specs.Freeing.{cleared, freeing}
@@ -26,7 +26,7 @@ use Rattle.plans_naming.specs.Entries.{no_entry, slot_written}
 use Rattle.plans_naming.specs.Grow.{empty_block, grown}
 use Rattle.plans_naming.specs.Link.{linking_grown, raised}
 use Rattle.plans_naming.specs.Make.{made, making_grown}
-use Rattle.courses.specs.Plans.{IsPlan, WritesInPlace, WritesAppended, WritesMoved, Truncates, Relinks, Closes, Repairs, Creates, CreatesGrown, Links, LinksGrown, Unlinks, UnlinksLast, Makes, MakesGrown, Removes, RemovesName, Renames, Moves, MovesGrown}
+use Rattle.courses.specs.Plans.{IsPlan, WritesInPlace, WritesAppended, WritesMoved, Truncates, Relinks, Closes, Repairs, Creates, CreatesGrown, Links, LinksGrown, Unlinks, UnlinksLast, Makes, MakesGrown, Removes, RemovesName, Renames, Moves, MovesGrown, SetsAttributes}
 use Rattle.courses.proofs.NamingPlans.{other_record}
 use Rattle.courses.proofs.Pieces.{reachable_mode}
 
@@ -195,10 +195,10 @@ unmarked_apart geo v o n d number unmarked reachable e =
     both_ways (v.number_marked n) unmarked (o.rule4 n number (λ z. omega (arith, z, two, same)))
 
 -- a directory is made
-made_sized : (disk : View) (q : List Pending) (w : View) (i b : ℕ) (dots : List ℕ) (d : ℕ) → 1024 ≡ (w.inode i).size → Sized (users_view disk q) w q (made i b dots d ((users_view disk q).inode d) q)
-made_sized disk q w i b dots d e =
+made_sized : (disk : View) (q : List Pending) (w : View) (i b : ℕ) (words dots : List ℕ) (d : ℕ) → 1024 ≡ (w.inode i).size → Sized (users_view disk q) w q (made i b words dots d ((users_view disk q).inode d) q)
+made_sized disk q w i b words dots d e =
     let v = users_view disk q in
-    will v w q i (new_directory b) (NumberBit i ∷ Block b ∷ []) _ e
+    will v w q i (new_directory b words) (NumberBit i ∷ Block b ∷ []) _ e
     (On (record { change = SetBytes b dots; after = BlockBit b ∷ Record d ∷ [] })
     (was v w q d (with_links (v.inode d) ((v.inode d).links + 1)) [] _ refl (On (record { change = SetBlock b true; after = [] }) (On (record { change = SetNumber i true; after = [] }) Start tt) tt)) tt)
 
@@ -215,20 +215,22 @@ plan_sized geo disk q old safe o file p held' safe' (WritesAppended n k b piece 
 plan_sized geo disk q old safe o file p held' safe' (WritesMoved n k b piece bytes holder may) =
     let v = users_view disk q in moved_sized geo disk q v n (v.inode n) k b bytes (size_after v n k piece) holder
 plan_sized geo disk q old safe o file p held' safe' (Truncates n size blocks may) = truncated disk q n size blocks
+plan_sized geo disk q old safe o file p held' safe' (SetsAttributes n words at) =
+    let v = users_view disk q in was v _ q n (with_attributes (v.inode n) words) [] q refl Start
 plan_sized geo disk q old safe o file p held' safe' (Relinks n links blocks may) = relinked disk q n links (is_open old n) blocks
 plan_sized geo disk q old safe o file p held' safe' (Closes h n blocks may) = closed disk q n (is_open (without_handle h old) n) blocks
 plan_sized geo disk q old safe o file p held' safe' (Repairs r f blocks may) = repaired disk q r (open_of old r) blocks
-plan_sized geo disk q old safe o file p held' safe' (Creates n d s block name entry after can) =
+plan_sized geo disk q old safe o file p held' safe' (Creates n words d s block name entry after can) =
     let v = users_view disk q in
-    slot_sized v _ q block (v.bytes block) s entry after (born n new_file [] q)
-    (will v _ q n new_file (NumberBit n ∷ []) _ (sym (ap (λ (x : Inode). x.size) (put_here v.inode n new_file))) (On (record { change = SetNumber n true; after = [] }) Start tt))
-plan_sized geo disk q old safe o file p held' safe' (CreatesGrown n d b kept s name entry after marked can) =
+    slot_sized v _ q block (v.bytes block) s entry after (born n (file_with words) [] q)
+    (will v _ q n (file_with words) (NumberBit n ∷ []) _ (sym (ap (λ (x : Inode). x.size) (put_here v.inode n (file_with words)))) (On (record { change = SetNumber n true; after = [] }) Start tt))
+plan_sized geo disk q old safe o file p held' safe' (CreatesGrown n words d b kept s name entry after marked can) =
     let v = users_view disk q in
-    let under = born n new_file [] q in
+    let under = born n (file_with words) [] q in
     let apart : n ≡ d → ⊥ = λ e. unmarked_apart geo v o n d can.number can.unmarked can.enter.reachable e in
     slot_sized v _ q b empty_block s entry after (grown geo d (v.inode d) b kept under)
-    (grown_on disk q geo o d (v.inode d) b kept under (creating_grown geo n d (v.inode d) b kept s entry after q) refl
-    (will v _ q n new_file (NumberBit n ∷ []) _ (sym (beside disk q geo o d (v.inode d) b kept under (creating_grown geo n d (v.inode d) b kept s entry after q) refl n apart ∙ ap (λ (x : Inode). x.size) (put_here v.inode n new_file)))
+    (grown_on disk q geo o d (v.inode d) b kept under (creating_grown geo n words d (v.inode d) b kept s entry after q) refl
+    (will v _ q n (file_with words) (NumberBit n ∷ []) _ (sym (beside disk q geo o d (v.inode d) b kept under (creating_grown geo n words d (v.inode d) b kept s entry after q) refl n apart ∙ ap (λ (x : Inode). x.size) (put_here v.inode n (file_with words))))
     (On (record { change = SetNumber n true; after = [] }) Start tt)))
 plan_sized geo disk q old safe o file p held' safe' (Links i d s block name entry after can) =
     let v = users_view disk q in
@@ -244,18 +246,18 @@ plan_sized geo disk q old safe o file p held' safe' (UnlinksLast i d s block nam
     let v = users_view disk q in
     let under : List Pending = slot_written block (v.bytes block) s no_entry [] ∷ q in
     freeing_sized v _ q i blocks (Block block ∷ []) under (freed_size disk i blocks (Block block ∷ []) under) (slot_sized v _ q block (v.bytes block) s no_entry [] q Start)
-plan_sized geo disk q old safe o file p held' safe' (Makes i b dots d s block name entry after can marked) =
+plan_sized geo disk q old safe o file p held' safe' (Makes i b words dots d s block name entry after can marked) =
     let v = users_view disk q in
-    slot_sized v _ q block (v.bytes block) s entry after (made i b dots d (v.inode d) q) (made_sized disk q _ i b dots d (sym (ap (λ (x : Inode). x.size) (put_here (put_at v.inode d (with_links (v.inode d) ((v.inode d).links + 1))) i (new_directory b)))))
-plan_sized geo disk q old safe o file p held' safe' (MakesGrown i a dots d b kept s name entry after marked can) =
+    slot_sized v _ q block (v.bytes block) s entry after (made i b words dots d (v.inode d) q) (made_sized disk q _ i b words dots d (sym (ap (λ (x : Inode). x.size) (put_here (put_at v.inode d (with_links (v.inode d) ((v.inode d).links + 1))) i (new_directory b words)))))
+plan_sized geo disk q old safe o file p held' safe' (MakesGrown i a words dots d b kept s name entry after marked can) =
     let v = users_view disk q in
     let parent = with_links (v.inode d) ((v.inode d).links + 1) in
-    let under = made i a dots d (v.inode d) q in
-    let top = making_grown geo i a dots d (v.inode d) b kept s entry after q in
+    let under = made i a words dots d (v.inode d) q in
+    let top = making_grown geo i a words dots d (v.inode d) b kept s entry after q in
     let apart : i ≡ d → ⊥ = λ e. unmarked_apart geo v o i d can.make.number can.make.unmarked can.enter.reachable e in
     slot_sized v _ q b empty_block s entry after (grown geo d parent b kept under)
     (grown_on disk q geo o d parent b kept under top refl
-    (made_sized disk q _ i a dots d (sym (beside disk q geo o d parent b kept under top refl i apart ∙ ap (λ (x : Inode). x.size) (put_here (put_at v.inode d (with_links (v.inode d) ((v.inode d).links + 1))) i (new_directory a))))))
+    (made_sized disk q _ i a words dots d (sym (beside disk q geo o d parent b kept under top refl i apart ∙ ap (λ (x : Inode). x.size) (put_here (put_at v.inode d (with_links (v.inode d) ((v.inode d).links + 1))) i (new_directory a words))))))
 plan_sized geo disk q old safe o file p held' safe' (Removes i b d s block name after blocks can free two unsafe) =
     let v = users_view disk q in
     let under : List Pending = slot_written block (v.bytes block) s no_entry after ∷ q in

@@ -5,7 +5,7 @@ use Rattle.model.specs.Layout.{Geometry}
 use Rattle.model.specs.View.{View}
 use Rattle.ordering.specs.Cuts.{Pending}
 use Rattle.machine.specs.State.{State}
-use Rattle.courses.specs.Plans.{IsPlan, WritesInPlace, WritesAppended, WritesMoved, Truncates, Relinks, Closes, Repairs, Creates, CreatesGrown, Links, LinksGrown, Unlinks, UnlinksLast, Makes, MakesGrown, Removes, RemovesName, Renames, Moves, MovesGrown}
+use Rattle.courses.specs.Plans.{IsPlan, WritesInPlace, WritesAppended, WritesMoved, Truncates, Relinks, Closes, Repairs, Creates, CreatesGrown, Links, LinksGrown, Unlinks, UnlinksLast, Makes, MakesGrown, Removes, RemovesName, Renames, Moves, MovesGrown, SetsAttributes}
 use Rattle.courses.specs.Life.{Life, Begins, Carries, Puts as Writes, Releases, SparesIn, Spares}
 
 pub but_other : (i f : ℕ) (safe : ℕ → Bool) → (f ≡ i → ⊥) → IsTrue (safe f) → IsTrue (safe f && not (eqb f i))
@@ -16,17 +16,18 @@ spared_in geo disk q old safe file p held' safe' (WritesInPlace n k piece bytes 
 spared_in geo disk q old safe file p held' safe' (WritesAppended n k b piece bytes holder may) f spares t = t
 spared_in geo disk q old safe file p held' safe' (WritesMoved n k b piece bytes holder may) f spares t = t
 spared_in geo disk q old safe file p held' safe' (Truncates n size blocks may) f spares t = t
+spared_in geo disk q old safe file p held' safe' (SetsAttributes n words at) f spares t = t
 spared_in geo disk q old safe file p held' safe' (Relinks n links blocks may) f spares t = t
 spared_in geo disk q old safe file p held' safe' (Closes h n blocks may) f spares t = t
 spared_in geo disk q old safe file p held' safe' (Repairs r any blocks may) f spares t = t
-spared_in geo disk q old safe file p held' safe' (Creates n d s block name entry after can) f spares t = t
-spared_in geo disk q old safe file p held' safe' (CreatesGrown n d b kept s name entry after spare can) f spares t = t
+spared_in geo disk q old safe file p held' safe' (Creates n words d s block name entry after can) f spares t = t
+spared_in geo disk q old safe file p held' safe' (CreatesGrown n words d b kept s name entry after spare can) f spares t = t
 spared_in geo disk q old safe file p held' safe' (Links i d s block name entry after can) f spares t = t
 spared_in geo disk q old safe file p held' safe' (LinksGrown i d b kept s name entry after spare can) f spares t = t
 spared_in geo disk q old safe file p held' safe' (Unlinks i d s block name can) f spares t = but_other i f safe spares t
 spared_in geo disk q old safe file p held' safe' (UnlinksLast i d s block name blocks can free one) f spares t = but_other i f safe spares t
-spared_in geo disk q old safe file p held' safe' (Makes i b dots d s block name entry after can spare) f spares t = t
-spared_in geo disk q old safe file p held' safe' (MakesGrown i a dots d b kept s name entry after spare can) f spares t = t
+spared_in geo disk q old safe file p held' safe' (Makes i b words dots d s block name entry after can spare) f spares t = t
+spared_in geo disk q old safe file p held' safe' (MakesGrown i a words dots d b kept s name entry after spare can) f spares t = t
 spared_in geo disk q old safe file p held' safe' (Removes i b d s block name after blocks can free two not) f spares t = t
 spared_in geo disk q old safe file p held' safe' (RemovesName i b d s block name after can not) f spares t = t
 spared_in geo disk q old safe file p held' safe' (Renames i d s block name other entry after can) f spares t = t

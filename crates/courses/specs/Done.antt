@@ -10,7 +10,7 @@ use Rattle.findings.specs.declared.repair.Repair.{Repair}
 use Rattle.ordering.specs.Cuts.{Cell, Record, Block, Pending, users_view}
 use Rattle.ordering.specs.OneSlot.{IsKnown}
 use Rattle.machine.specs.State.{State, Plan, is_open, is_kept}
-use Rattle.machine.specs.Command.{Command, Create, Mkdir, Link, Unlink, Rmdir, Rename, Write, Truncate, Close, RepairAt, Answer, Done, Number}
+use Rattle.machine.specs.Command.{Command, Create, Mkdir, Link, Unlink, Rmdir, Rename, Write, Truncate, Close, RepairAt, Answer, Done, Number, SetAttributes}
 use Rattle.machine.specs.Paths.{holder, name_in, number_at}
 use Rattle.machine.specs.Room.{IsFreeNumber, IsFreeBlock, has_room}
 use Rattle.machine.specs.Cells.{IsEntryFor, block_of, seen}
@@ -29,6 +29,7 @@ use Rattle.plans_naming.specs.Grow.{AreOther}
 use Rattle.plans_naming.specs.Unlink.{StaysWith, safe_but}
 use Rattle.plans_naming.specs.Plans.{slot_block, entry_block, create_plan, create_plan_grown, make_plan, make_plan_grown, link_plan, link_plan_grown, rename_plan, move_plan, move_plan_grown, unlink_plan, unlink_plan_last, remove_plan, remove_plan_last}
 use Rattle.courses.specs.After.{AreBlocks, AreGroundsWith, AreOtherBlocks, IsBeforeEntry, IsNewCell}
+use Rattle.plans_data.specs.Attributes.{attributing}
 
 -- In slot s, which is empty, of the directory that holds the last part of a path, this entry gives a number that part as its name.
 pub record InSlot (geo : Geometry) (view : View) (path : List ℕ) (number s : ℕ) (entry : List ℕ) (after : List Cell) : Type 0 where
@@ -61,17 +62,17 @@ pub record GoesWith (geo : Geometry) (old : State) (number : ℕ) (blocks : List
 -- Over a device with this pending, in this state and with these safe files, a command is answered so by updates in the name of one file: what is pending with them, the state then, and the files that are safe then.
 pub data IsDoneBy (geo : Geometry) (disk : View) (q : List Pending) (old : State) (safe : ℕ → Bool) : Command → Answer → ℕ → List Pending → State → (ℕ → Bool) → Type 0 where
   -- a file is created, with its entry in an empty slot, or in a new block of the directory
-  CreatesInSlot : (p : List ℕ) (n s : ℕ) (entry : List ℕ) (after : List Cell) → IsFreeNumber geo (users_view disk q) n → InSlot geo (users_view disk q) p n s entry after
-      → IsDoneBy geo disk q old safe (Create p) (Number n) n (create_plan geo (users_view disk q) p n s entry after q) (now disk (create_plan geo (users_view disk q) p n s entry after q) old) safe
-  CreatesInNewBlock : (p : List ℕ) (n b : ℕ) (kept : Holder) (s : ℕ) (entry : List ℕ) (after : List Cell) → IsFreeNumber geo (users_view disk q) n → InNewBlock geo (users_view disk q) p n b kept s entry after
-      → IsDoneBy geo disk q old safe (Create p) (Number n) n (create_plan_grown geo (users_view disk q) p n b kept s entry after q) (now disk (create_plan_grown geo (users_view disk q) p n b kept s entry after q) old) safe
+  CreatesInSlot : (p words : List ℕ) (n s : ℕ) (entry : List ℕ) (after : List Cell) → IsFreeNumber geo (users_view disk q) n → InSlot geo (users_view disk q) p n s entry after
+      → IsDoneBy geo disk q old safe (Create p words) (Number n) n (create_plan geo (users_view disk q) p words n s entry after q) (now disk (create_plan geo (users_view disk q) p words n s entry after q) old) safe
+  CreatesInNewBlock : (p words : List ℕ) (n b : ℕ) (kept : Holder) (s : ℕ) (entry : List ℕ) (after : List Cell) → IsFreeNumber geo (users_view disk q) n → InNewBlock geo (users_view disk q) p n b kept s entry after
+      → IsDoneBy geo disk q old safe (Create p words) (Number n) n (create_plan_grown geo (users_view disk q) p words n b kept s entry after q) (now disk (create_plan_grown geo (users_view disk q) p words n b kept s entry after q) old) safe
   -- a directory is made, with its dots in block a
-  MakesInSlot : (p : List ℕ) (i a : ℕ) (dots : List ℕ) (s : ℕ) (entry : List ℕ) (after : List Cell)
+  MakesInSlot : (p words : List ℕ) (i a : ℕ) (dots : List ℕ) (s : ℕ) (entry : List ℕ) (after : List Cell)
       → IsFreeNumber geo (users_view disk q) i → IsFreeBlock geo (users_view disk q) a → AreDots i (holder geo (users_view disk q) p) dots → InSlot geo (users_view disk q) p i s entry after
-      → IsDoneBy geo disk q old safe (Mkdir p) (Number i) i (make_plan geo (users_view disk q) p i a dots s entry after q) (now disk (make_plan geo (users_view disk q) p i a dots s entry after q) old) safe
-  MakesInNewBlock : (p : List ℕ) (i a : ℕ) (dots : List ℕ) (b : ℕ) (kept : Holder) (s : ℕ) (entry : List ℕ) (after : List Cell)
+      → IsDoneBy geo disk q old safe (Mkdir p words) (Number i) i (make_plan geo (users_view disk q) p words i a dots s entry after q) (now disk (make_plan geo (users_view disk q) p words i a dots s entry after q) old) safe
+  MakesInNewBlock : (p words : List ℕ) (i a : ℕ) (dots : List ℕ) (b : ℕ) (kept : Holder) (s : ℕ) (entry : List ℕ) (after : List Cell)
       → IsFreeNumber geo (users_view disk q) i → IsFreeBlock geo (users_view disk q) a → AreDots i (holder geo (users_view disk q) p) dots → AreOther a b kept → InNewBlock geo (users_view disk q) p i b kept s entry after
-      → IsDoneBy geo disk q old safe (Mkdir p) (Number i) i (make_plan_grown geo (users_view disk q) p i a dots b kept s entry after q) (now disk (make_plan_grown geo (users_view disk q) p i a dots b kept s entry after q) old) safe
+      → IsDoneBy geo disk q old safe (Mkdir p words) (Number i) i (make_plan_grown geo (users_view disk q) p words i a dots b kept s entry after q) (now disk (make_plan_grown geo (users_view disk q) p words i a dots b kept s entry after q) old) safe
   -- the file of a path gets one more name
   LinksInSlot : (p r : List ℕ) (s : ℕ) (entry : List ℕ) (after : List Cell) → InSlot geo (users_view disk q) r (number_at geo (users_view disk q) p) s entry after
       → IsDoneBy geo disk q old safe (Link p r) Done (number_at geo (users_view disk q) p) (link_plan geo (users_view disk q) p r s entry after q) (now disk (link_plan geo (users_view disk q) p r s entry after q) old) safe
@@ -127,6 +128,10 @@ pub data IsDoneBy (geo : Geometry) (disk : View) (q : List Pending) (old : State
       (truncation (file_of old h) ((users_view disk q).inode (file_of old h)) size (given_up_with geo (now disk q old) (file_of old h) (sized ((users_view disk q).inode (file_of old h)) size)) q)
       (becomes disk (truncation (file_of old h) ((users_view disk q).inode (file_of old h)) size (given_up_with geo (now disk q old) (file_of old h) (sized ((users_view disk q).inode (file_of old h)) size)) q)
       (held_with geo (now disk q old) (file_of old h) (sized ((users_view disk q).inode (file_of old h)) size)) old) safe
+  -- an inode gets other attributes
+  SetsItsAttributes : (n : ℕ) (words : List ℕ)
+      → IsDoneBy geo disk q old safe (SetAttributes n words) Done n
+      (attributing n ((users_view disk q).inode n) words q) (becomes disk (attributing n ((users_view disk q).inode n) words q) old.held old) safe
   -- a handle is closed, and a file that was removed goes with its last one
   ClosesHandle : (h : ℕ)
       → IsDoneBy geo disk q old safe (Close h) Done (file_of old h)

@@ -1,7 +1,8 @@
 -- The plans of the commands, each with what it asks for, what is held after it, and the files that no stop loses then.
-use Rattle.std.specs.Prelude.{◌≡◌, ℕ, Bool, List, IsFalse}
+use Rattle.std.specs.Prelude.{◌≡◌, ℕ, Bool, List, IsFalse, IsTrue}
 use Rattle.model.specs.Layout.{Geometry}
 use Rattle.model.specs.View.{View, free_inode}
+use Rattle.model.specs.Uses.{is_sound_at}
 use Rattle.findings.specs.declared.repair.Repair.{Repair}
 use Rattle.ordering.specs.Cuts.{Cell, Pending, users_view}
 use Rattle.machine.specs.State.{State, is_open}
@@ -12,6 +13,7 @@ use Rattle.plans_data.specs.Append.{Holder, appended, sized}
 use Rattle.plans_data.specs.Freeing.{held_with}
 use Rattle.plans_data.specs.Write.{MayWriteInPlace, MayWriteAppended, MayWriteMoved, written, relocated, held_besides}
 use Rattle.plans_data.specs.Truncate.{MayTruncate, truncation}
+use Rattle.plans_data.specs.Attributes.{attributing}
 use Rattle.plans_data.specs.Relink.{MayRelink, MayClose, MayRepair, relinking, closing, repairing, goes_away, held_if, held_after, inode_of, open_of, without_handle}
 use Rattle.plans_naming.specs.Entries.{UnmarkedAreNotHeld}
 use Rattle.plans_naming.specs.Create.{CanCreate, CanCreateGrown, creating, creating_grown}
@@ -34,6 +36,9 @@ pub data IsPlan (geo : Geometry) (disk : View) (q : List Pending) (old : State) 
   -- a file gets a smaller size
   Truncates : (n size : ℕ) (blocks : List ℕ) → MayTruncate geo (now disk q old) n size blocks
       → IsPlan geo disk q old safe n (truncation n ((users_view disk q).inode n) size blocks q) (held_with geo (now disk q old) n (sized ((users_view disk q).inode n) size)) safe
+  -- an inode gets other attributes
+  SetsAttributes : (n : ℕ) (words : List ℕ) → IsTrue (is_sound_at geo (users_view disk q) n)
+      → IsPlan geo disk q old safe n (attributing n ((users_view disk q).inode n) words q) old.held safe
   -- an inode gets another number of links, or goes
   Relinks : (n links : ℕ) (blocks : List ℕ) → MayRelink geo (now disk q old) n links blocks
       → IsPlan geo disk q old safe n (relinking n ((users_view disk q).inode n) links (is_open old n) blocks q) (held_if (goes_away links (is_open old n)) geo (now disk q old) n) safe
@@ -44,10 +49,10 @@ pub data IsPlan (geo : Geometry) (disk : View) (q : List Pending) (old : State) 
   Repairs : (r : Repair) (file : ℕ) (blocks : List ℕ) → MayRepair geo (now disk q old) r blocks
       → IsPlan geo disk q old safe file (repairing r (inode_of (users_view disk q) r) (open_of old r) blocks q) (held_after geo (now disk q old) r) safe
   -- a file is created
-  Creates : (n d s block : ℕ) (name entry : List ℕ) (after : List Cell) → CanCreate geo (users_view disk q) n d s block name entry after
-      → IsPlan geo disk q old safe n (creating n block ((users_view disk q).bytes block) s entry after q) old.held safe
-  CreatesGrown : (n d b : ℕ) (kept : Holder) (s : ℕ) (name entry : List ℕ) (after : List Cell) → UnmarkedAreNotHeld (users_view disk q) old.held → CanCreateGrown geo (users_view disk q) n d b kept s name entry after
-      → IsPlan geo disk q old safe n (creating_grown geo n d ((users_view disk q).inode d) b kept s entry after q) old.held safe
+  Creates : (n : ℕ) (words : List ℕ) (d s block : ℕ) (name entry : List ℕ) (after : List Cell) → CanCreate geo (users_view disk q) n d s block name entry after
+      → IsPlan geo disk q old safe n (creating n words block ((users_view disk q).bytes block) s entry after q) old.held safe
+  CreatesGrown : (n : ℕ) (words : List ℕ) (d b : ℕ) (kept : Holder) (s : ℕ) (name entry : List ℕ) (after : List Cell) → UnmarkedAreNotHeld (users_view disk q) old.held → CanCreateGrown geo (users_view disk q) n d b kept s name entry after
+      → IsPlan geo disk q old safe n (creating_grown geo n words d ((users_view disk q).inode d) b kept s entry after q) old.held safe
   -- a file gets one more name
   Links : (i d s block : ℕ) (name entry : List ℕ) (after : List Cell) → CanLink geo (users_view disk q) i d s block name entry after
       → IsPlan geo disk q old safe i (linking i ((users_view disk q).inode i) block ((users_view disk q).bytes block) s entry after q) old.held safe
@@ -59,10 +64,10 @@ pub data IsPlan (geo : Geometry) (disk : View) (q : List Pending) (old : State) 
   UnlinksLast : (i d s block : ℕ) (name : List ℕ) (blocks : List ℕ) → CanUnlink geo (users_view disk q) i d s block name → CanFree geo (now disk q old) i blocks → ((users_view disk q).inode i).links ≡ 1
       → IsPlan geo disk q old safe i (unlinking_last i blocks block ((users_view disk q).bytes block) s q) (held_with geo (now disk q old) i free_inode) (safe_but i safe)
   -- a directory is made
-  Makes : (i b : ℕ) (dots : List ℕ) (d s block : ℕ) (name entry : List ℕ) (after : List Cell) → CanMakeIn geo (users_view disk q) i b dots d s block name entry after → UnmarkedAreNotHeld (users_view disk q) old.held
-      → IsPlan geo disk q old safe i (making i b dots d ((users_view disk q).inode d) block ((users_view disk q).bytes block) s entry after q) old.held safe
-  MakesGrown : (i a : ℕ) (dots : List ℕ) (d b : ℕ) (kept : Holder) (s : ℕ) (name entry : List ℕ) (after : List Cell) → UnmarkedAreNotHeld (users_view disk q) old.held → CanMakeGrown geo (users_view disk q) i a dots d b kept s name entry after
-      → IsPlan geo disk q old safe i (making_grown geo i a dots d ((users_view disk q).inode d) b kept s entry after q) old.held safe
+  Makes : (i b : ℕ) (words dots : List ℕ) (d s block : ℕ) (name entry : List ℕ) (after : List Cell) → CanMakeIn geo (users_view disk q) i b dots d s block name entry after → UnmarkedAreNotHeld (users_view disk q) old.held
+      → IsPlan geo disk q old safe i (making i b words dots d ((users_view disk q).inode d) block ((users_view disk q).bytes block) s entry after q) old.held safe
+  MakesGrown : (i a : ℕ) (words dots : List ℕ) (d b : ℕ) (kept : Holder) (s : ℕ) (name entry : List ℕ) (after : List Cell) → UnmarkedAreNotHeld (users_view disk q) old.held → CanMakeGrown geo (users_view disk q) i a dots d b kept s name entry after
+      → IsPlan geo disk q old safe i (making_grown geo i a words dots d ((users_view disk q).inode d) b kept s entry after q) old.held safe
   -- a directory is removed, and its inode goes or stays
   Removes : (i b d s block : ℕ) (name : List ℕ) (after : List Cell) (blocks : List ℕ) → CanRemove geo (users_view disk q) i b d s block name after → CanFree geo (now disk q old) i blocks → ((users_view disk q).inode i).links ≡ 2 → IsFalse (safe i)
       → IsPlan geo disk q old safe i (removing i blocks d ((users_view disk q).inode d) block ((users_view disk q).bytes block) s after q) (held_with geo (now disk q old) i free_inode) safe

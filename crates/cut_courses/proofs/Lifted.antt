@@ -1,5 +1,5 @@
 -- Each plan, over another device with other updates pending over which users see the same.
-use Rattle.std.proofs.Common.{◌≡◌, ℕ, Bool, List, ◌++◌, sym, subst}
+use Rattle.std.proofs.Common.{◌≡◌, ℕ, Bool, List, ◌++◌, sym, subst, IsTrue}
 use Rattle.model.specs.Layout.{Geometry}
 use Rattle.model.specs.View.{View, free_inode}
 use Rattle.ordering.specs.Cuts.{Pending, users_view}
@@ -19,8 +19,10 @@ use Rattle.plans_naming.specs.Make.{CanMakeIn, CanMakeGrown, making, making_grow
 use Rattle.plans_naming.specs.Rename.{CanRename, renaming}
 use Rattle.plans_naming.specs.Move.{CanMove, CanMoveGrown, moving, moving_grown}
 use Rattle.plans_naming.specs.RemoveDirectory.{CanRemove, removing, removing_name}
-use Rattle.courses.specs.Plans.{IsPlan, WritesInPlace, WritesAppended, WritesMoved, Truncates, Relinks, Closes, Repairs, Creates, CreatesGrown, Links, LinksGrown, Unlinks, UnlinksLast, Makes, MakesGrown, Removes, RemovesName, Renames, Moves, MovesGrown}
-use Rattle.cut_courses.proofs.OnTop.{IsOnTop, appended_top, closing_top, creating_grown_top, creating_top, linking_grown_top, linking_top, making_grown_top, making_top, moving_grown_top, moving_top, relinking_top, relocated_top, removing_name_top, removing_top, renaming_top, repairing_top, truncation_top, unlinking_last_top, unlinking_top, written_top}
+use Rattle.courses.specs.Plans.{IsPlan, WritesInPlace, WritesAppended, WritesMoved, Truncates, Relinks, Closes, Repairs, Creates, CreatesGrown, Links, LinksGrown, Unlinks, UnlinksLast, Makes, MakesGrown, Removes, RemovesName, Renames, Moves, MovesGrown, SetsAttributes}
+use Rattle.cut_courses.proofs.OnTop.{IsOnTop, appended_top, closing_top, creating_grown_top, creating_top, linking_grown_top, linking_top, making_grown_top, making_top, moving_grown_top, moving_top, relinking_top, relocated_top, removing_name_top, removing_top, renaming_top, repairing_top, truncation_top, unlinking_last_top, unlinking_top, written_top, attributing_top}
+use Rattle.plans_data.specs.Attributes.{attributing}
+use Rattle.model.specs.Uses.{is_sound_at}
 
 module _ (geo : Geometry) (disk : View) (q : List Pending) (old : State) (safe : ℕ → Bool) (durable : View) (unsynced : List Pending) (e : users_view durable unsynced ≡ users_view disk q) where
   abbrev Lifted : ℕ → List Pending → (ℕ → Bool) → (ℕ → Bool) → Type 0
@@ -56,6 +58,10 @@ module _ (geo : Geometry) (disk : View) (q : List Pending) (old : State) (safe :
       lift (λ v p. truncation n (v.inode n) size blocks p) (λ v. (held_with geo (record old { view = v }) n (sized (v.inode n) size))) safe n
       (truncation_top n ((users_view disk q).inode n) size blocks)
       (Truncates n size blocks (back (λ v. MayTruncate geo (record old { view = v }) n size blocks) m0))
+  lifted _ _ _ _ (SetsAttributes n words m0) =
+      lift (λ v p. attributing n (v.inode n) words p) (λ v. old.held) safe n
+      (attributing_top n ((users_view disk q).inode n) words)
+      (SetsAttributes n words (back (λ v. IsTrue (is_sound_at geo v n)) m0))
   lifted _ _ _ _ (Relinks n links blocks m0) =
       lift (λ v p. relinking n (v.inode n) links (is_open old n) blocks p) (λ v. (held_if (goes_away links (is_open old n)) geo (record old { view = v }) n)) safe n
       (relinking_top n ((users_view disk q).inode n) links (is_open old n) blocks)
@@ -68,14 +74,14 @@ module _ (geo : Geometry) (disk : View) (q : List Pending) (old : State) (safe :
       lift (λ v p. repairing r (inode_of v r) (open_of old r) blocks p) (λ v. (held_after geo (record old { view = v }) r)) safe file
       (repairing_top r (inode_of (users_view disk q) r) (open_of old r) blocks)
       (Repairs r file blocks (back (λ v. MayRepair geo (record old { view = v }) r blocks) m0))
-  lifted _ _ _ _ (Creates n d s block name entry after m0) =
-      lift (λ v p. creating n block (v.bytes block) s entry after p) (λ v. old.held) safe n
-      (creating_top n block ((users_view disk q).bytes block) s entry after)
-      (Creates n d s block name entry after (back (λ v. CanCreate geo v n d s block name entry after) m0))
-  lifted _ _ _ _ (CreatesGrown n d b kept s name entry after m0 m1) =
-      lift (λ v p. creating_grown geo n d (v.inode d) b kept s entry after p) (λ v. old.held) safe n
-      (creating_grown_top geo n d ((users_view disk q).inode d) b kept s entry after)
-      (CreatesGrown n d b kept s name entry after (back (λ v. UnmarkedAreNotHeld v old.held) m0) (back (λ v. CanCreateGrown geo v n d b kept s name entry after) m1))
+  lifted _ _ _ _ (Creates n words d s block name entry after m0) =
+      lift (λ v p. creating n words block (v.bytes block) s entry after p) (λ v. old.held) safe n
+      (creating_top n words block ((users_view disk q).bytes block) s entry after)
+      (Creates n words d s block name entry after (back (λ v. CanCreate geo v n d s block name entry after) m0))
+  lifted _ _ _ _ (CreatesGrown n words d b kept s name entry after m0 m1) =
+      lift (λ v p. creating_grown geo n words d (v.inode d) b kept s entry after p) (λ v. old.held) safe n
+      (creating_grown_top geo n words d ((users_view disk q).inode d) b kept s entry after)
+      (CreatesGrown n words d b kept s name entry after (back (λ v. UnmarkedAreNotHeld v old.held) m0) (back (λ v. CanCreateGrown geo v n d b kept s name entry after) m1))
   lifted _ _ _ _ (Links i d s block name entry after m0) =
       lift (λ v p. linking i (v.inode i) block (v.bytes block) s entry after p) (λ v. old.held) safe i
       (linking_top i ((users_view disk q).inode i) block ((users_view disk q).bytes block) s entry after)
@@ -92,14 +98,14 @@ module _ (geo : Geometry) (disk : View) (q : List Pending) (old : State) (safe :
       lift (λ v p. unlinking_last i blocks block (v.bytes block) s p) (λ v. (held_with geo (record old { view = v }) i free_inode)) (safe_but i safe) i
       (unlinking_last_top i blocks block ((users_view disk q).bytes block) s)
       (UnlinksLast i d s block name blocks (back (λ v. CanUnlink geo v i d s block name) m0) (back (λ v. CanFree geo (record old { view = v }) i blocks) m1) (back (λ v. (v.inode i).links ≡ 1) m2))
-  lifted _ _ _ _ (Makes i b dots d s block name entry after m0 m1) =
-      lift (λ v p. making i b dots d (v.inode d) block (v.bytes block) s entry after p) (λ v. old.held) safe i
-      (making_top i b dots d ((users_view disk q).inode d) block ((users_view disk q).bytes block) s entry after)
-      (Makes i b dots d s block name entry after (back (λ v. CanMakeIn geo v i b dots d s block name entry after) m0) (back (λ v. UnmarkedAreNotHeld v old.held) m1))
-  lifted _ _ _ _ (MakesGrown i a dots d b kept s name entry after m0 m1) =
-      lift (λ v p. making_grown geo i a dots d (v.inode d) b kept s entry after p) (λ v. old.held) safe i
-      (making_grown_top geo i a dots d ((users_view disk q).inode d) b kept s entry after)
-      (MakesGrown i a dots d b kept s name entry after (back (λ v. UnmarkedAreNotHeld v old.held) m0) (back (λ v. CanMakeGrown geo v i a dots d b kept s name entry after) m1))
+  lifted _ _ _ _ (Makes i b words dots d s block name entry after m0 m1) =
+      lift (λ v p. making i b words dots d (v.inode d) block (v.bytes block) s entry after p) (λ v. old.held) safe i
+      (making_top i b words dots d ((users_view disk q).inode d) block ((users_view disk q).bytes block) s entry after)
+      (Makes i b words dots d s block name entry after (back (λ v. CanMakeIn geo v i b dots d s block name entry after) m0) (back (λ v. UnmarkedAreNotHeld v old.held) m1))
+  lifted _ _ _ _ (MakesGrown i a words dots d b kept s name entry after m0 m1) =
+      lift (λ v p. making_grown geo i a words dots d (v.inode d) b kept s entry after p) (λ v. old.held) safe i
+      (making_grown_top geo i a words dots d ((users_view disk q).inode d) b kept s entry after)
+      (MakesGrown i a words dots d b kept s name entry after (back (λ v. UnmarkedAreNotHeld v old.held) m0) (back (λ v. CanMakeGrown geo v i a dots d b kept s name entry after) m1))
   lifted _ _ _ _ (Removes i b d s block name after blocks m0 m1 m2 m3) =
       lift (λ v p. removing i blocks d (v.inode d) block (v.bytes block) s after p) (λ v. (held_with geo (record old { view = v }) i free_inode)) safe i
       (removing_top i blocks d ((users_view disk q).inode d) block ((users_view disk q).bytes block) s after)

@@ -3,7 +3,7 @@ use Rattle.std.proofs.Common.{◌≡◌, ℕ, ◌+◌, ◌-◌, Bool, true, fals
 use Rattle.std.proofs.lemmas.List.{append_assoc}
 use Rattle.model.specs.Layout.{Geometry}
 use Rattle.std.specs.Prelude.{nat_lt}
-use Rattle.model.specs.View.{Inode, free_inode, new_file}
+use Rattle.model.specs.View.{Inode, free_inode, with_attributes}
 use Rattle.model.specs.Uses.{blocks_of}
 use Rattle.model.specs.Cells.{SetInode, SetNumber, SetBlock, SetBytes}
 use Rattle.model.specs.Shape.{place_in_table}
@@ -11,7 +11,7 @@ use Rattle.findings.specs.declared.repair.Repair.{Repair}
 use Rattle.findings.specs.declared.repair.Repair.TheVariants.{DropInode, LowerCount, FreeBlock, FreeNumber}
 use Rattle.ordering.specs.Cuts.{Cell, Record, NumberBit, BlockBit, Block, Pending}
 use Rattle.machine.specs.Cells.{with_pointer}
-use Rattle.machine.specs.Effects.{new_directory, with_links}
+use Rattle.machine.specs.Effects.{file_with, new_directory, with_links}
 use Rattle.plans_data.specs.Append.{Holder, KeptInRecord, KeptInTable, KeptInNew, appended, filled, known, linked, pointed, pointer_after, sized}
 use Rattle.plans_data.specs.Freeing.{cleared, freeing}
 use Rattle.plans_data.specs.Write.{enlarged, written, relocated}
@@ -26,6 +26,7 @@ use Rattle.plans_naming.specs.Make.{made, making, making_grown}
 use Rattle.plans_naming.specs.Rename.{renaming}
 use Rattle.plans_naming.specs.Move.{left, moving, moving_grown}
 use Rattle.plans_naming.specs.RemoveDirectory.{removing, removing_name}
+use Rattle.plans_data.specs.Attributes.{attributing}
 
 abbrev pub IsOnTop : (List Pending → List Pending) → Type 0
 IsOnTop f = (us : List Pending) × ((q : List Pending) → f q ≡ us ++ q)
@@ -91,6 +92,9 @@ pub truncation_top : (n : ℕ) (inode : Inode) (size : ℕ) (blocks : List ℕ) 
 truncation_top n inode size blocks =
     after (cleared n blocks) (λ q. record { change = SetInode n (sized inode size); after = [] } ∷ q) (cleared_top n blocks) (one (record { change = SetInode n (sized inode size); after = [] }))
 
+pub attributing_top : (n : ℕ) (inode : Inode) (words : List ℕ) → IsOnTop (attributing n inode words)
+attributing_top n inode words = one (record { change = SetInode n (with_attributes inode words); after = [] })
+
 pub relinking_top : (n : ℕ) (inode : Inode) (links : ℕ) (opened : Bool) (blocks : List ℕ) → IsOnTop (relinking n inode links opened blocks)
 relinking_top n inode links opened blocks =
     either (goes_away links opened) (freeing n blocks []) (λ q. record { change = SetInode n (with_links inode links); after = [] } ∷ q) (freeing_top n blocks []) (one (record { change = SetInode n (with_links inode links); after = [] }))
@@ -121,12 +125,12 @@ lowered_top i inode fewer block = one (record { change = SetInode i (with_links 
 slot_top : (block : ℕ) (bytes : List ℕ) (s : ℕ) (entry : List ℕ) (cells : List Cell) → IsOnTop (λ q. slot_written block bytes s entry cells ∷ q)
 slot_top block bytes s entry cells = one (slot_written block bytes s entry cells)
 
-pub creating_top : (n block : ℕ) (bytes : List ℕ) (s : ℕ) (entry : List ℕ) (cells : List Cell) → IsOnTop (creating n block bytes s entry cells)
-creating_top n block bytes s entry cells = more (slot_written block bytes s entry cells) (born n new_file []) (born_top n new_file [])
+pub creating_top : (n : ℕ) (words : List ℕ) (block : ℕ) (bytes : List ℕ) (s : ℕ) (entry : List ℕ) (cells : List Cell) → IsOnTop (creating n words block bytes s entry cells)
+creating_top n words block bytes s entry cells = more (slot_written block bytes s entry cells) (born n (file_with words) []) (born_top n (file_with words) [])
 
-pub creating_grown_top : (geo : Geometry) (n d : ℕ) (parent : Inode) (b : ℕ) (holder : Holder) (s : ℕ) (entry : List ℕ) (cells : List Cell) → IsOnTop (creating_grown geo n d parent b holder s entry cells)
-creating_grown_top geo n d parent b holder s entry cells =
-    more (slot_written b empty_block s entry cells) (λ q. grown geo d parent b holder (born n new_file [] q)) (after (grown geo d parent b holder) (born n new_file []) (grown_top geo d parent b holder) (born_top n new_file []))
+pub creating_grown_top : (geo : Geometry) (n : ℕ) (words : List ℕ) (d : ℕ) (parent : Inode) (b : ℕ) (holder : Holder) (s : ℕ) (entry : List ℕ) (cells : List Cell) → IsOnTop (creating_grown geo n words d parent b holder s entry cells)
+creating_grown_top geo n words d parent b holder s entry cells =
+    more (slot_written b empty_block s entry cells) (λ q. grown geo d parent b holder (born n (file_with words) [] q)) (after (grown geo d parent b holder) (born n (file_with words) []) (grown_top geo d parent b holder) (born_top n (file_with words) []))
 
 pub linking_top : (i : ℕ) (inode : Inode) (block : ℕ) (bytes : List ℕ) (s : ℕ) (entry : List ℕ) (cells : List Cell) → IsOnTop (linking i inode block bytes s entry cells)
 linking_top i inode block bytes s entry cells = more (slot_written block bytes s entry cells) (raised i inode) (raised_top i inode)
@@ -141,21 +145,21 @@ unlinking_top i inode block bytes s = after (lowered i inode 1 block) (λ q. slo
 pub unlinking_last_top : (i : ℕ) (blocks : List ℕ) (block : ℕ) (bytes : List ℕ) (s : ℕ) → IsOnTop (unlinking_last i blocks block bytes s)
 unlinking_last_top i blocks block bytes s = after (freeing i blocks (Block block ∷ [])) (λ q. slot_written block bytes s no_entry [] ∷ q) (freeing_top i blocks (Block block ∷ [])) (slot_top block bytes s no_entry [])
 
-made_top : (i b : ℕ) (dots : List ℕ) (d : ℕ) (inode : Inode) → IsOnTop (made i b dots d inode)
-made_top i b dots d inode =
-    more (record { change = SetInode i (new_directory b); after = NumberBit i ∷ Block b ∷ [] })
+made_top : (i b : ℕ) (words dots : List ℕ) (d : ℕ) (inode : Inode) → IsOnTop (made i b words dots d inode)
+made_top i b words dots d inode =
+    more (record { change = SetInode i (new_directory b words); after = NumberBit i ∷ Block b ∷ [] })
     (λ q. record { change = SetBytes b dots; after = BlockBit b ∷ Record d ∷ [] } ∷ raised d inode (record { change = SetBlock b true; after = [] } ∷ record { change = SetNumber i true; after = [] } ∷ q))
     (more (record { change = SetBytes b dots; after = BlockBit b ∷ Record d ∷ [] }) (λ q. raised d inode (record { change = SetBlock b true; after = [] } ∷ record { change = SetNumber i true; after = [] } ∷ q))
     (after (raised d inode) (λ q. record { change = SetBlock b true; after = [] } ∷ record { change = SetNumber i true; after = [] } ∷ q) (raised_top d inode)
     (more (record { change = SetBlock b true; after = [] }) (λ q. record { change = SetNumber i true; after = [] } ∷ q) (one (record { change = SetNumber i true; after = [] })))))
 
-pub making_top : (i b : ℕ) (dots : List ℕ) (d : ℕ) (inode : Inode) (block : ℕ) (bytes : List ℕ) (s : ℕ) (entry : List ℕ) (cells : List Cell) → IsOnTop (making i b dots d inode block bytes s entry cells)
-making_top i b dots d inode block bytes s entry cells = more (slot_written block bytes s entry cells) (made i b dots d inode) (made_top i b dots d inode)
+pub making_top : (i b : ℕ) (words dots : List ℕ) (d : ℕ) (inode : Inode) (block : ℕ) (bytes : List ℕ) (s : ℕ) (entry : List ℕ) (cells : List Cell) → IsOnTop (making i b words dots d inode block bytes s entry cells)
+making_top i b words dots d inode block bytes s entry cells = more (slot_written block bytes s entry cells) (made i b words dots d inode) (made_top i b words dots d inode)
 
-pub making_grown_top : (geo : Geometry) (i a : ℕ) (dots : List ℕ) (d : ℕ) (inode : Inode) (b : ℕ) (holder : Holder) (s : ℕ) (entry : List ℕ) (cells : List Cell) → IsOnTop (making_grown geo i a dots d inode b holder s entry cells)
-making_grown_top geo i a dots d inode b holder s entry cells =
-    more (slot_written b empty_block s entry cells) (λ q. grown geo d (with_links inode (inode.links + 1)) b holder (made i a dots d inode q))
-    (after (grown geo d (with_links inode (inode.links + 1)) b holder) (made i a dots d inode) (grown_top geo d (with_links inode (inode.links + 1)) b holder) (made_top i a dots d inode))
+pub making_grown_top : (geo : Geometry) (i a : ℕ) (words dots : List ℕ) (d : ℕ) (inode : Inode) (b : ℕ) (holder : Holder) (s : ℕ) (entry : List ℕ) (cells : List Cell) → IsOnTop (making_grown geo i a words dots d inode b holder s entry cells)
+making_grown_top geo i a words dots d inode b holder s entry cells =
+    more (slot_written b empty_block s entry cells) (λ q. grown geo d (with_links inode (inode.links + 1)) b holder (made i a words dots d inode q))
+    (after (grown geo d (with_links inode (inode.links + 1)) b holder) (made i a words dots d inode) (grown_top geo d (with_links inode (inode.links + 1)) b holder) (made_top i a words dots d inode))
 
 pub removing_top : (i : ℕ) (blocks : List ℕ) (d : ℕ) (parent : Inode) (block : ℕ) (bytes : List ℕ) (s : ℕ) (cells : List Cell) → IsOnTop (removing i blocks d parent block bytes s cells)
 removing_top i blocks d parent block bytes s cells =

@@ -386,8 +386,8 @@ fn call_at(is_write: bool, address: u32) -> Call
 }
 
 impl<F: OpenFile + Drop, S: Start> FileDevice<F, S> {
-    /// Opens a file for reading alone. It is refused where it cannot be opened or measured, where it is a directory, and where
-    /// its length is no whole number of blocks, or none.
+    /// Opens a file for reading alone. It is refused where it cannot be opened or measured, where it is a directory, where its
+    /// length is no whole number of blocks, or none, and for want of memory.
     pub fn open<R: Files<File = F> + AllocGlobal>(
         rt: &R,
         path: &str,
@@ -405,7 +405,7 @@ impl<F: OpenFile + Drop, S: Start> FileDevice<F, S> {
     }
 
     /// Another device over the same open file, with no call made yet. Nothing may have been written through this one, so both show
-    /// the same. It is refused where the host gives no further handle of the file.
+    /// the same. It is refused where the host gives no further handle of the file, and for want of memory.
     pub fn again(&self, alloc: Global) -> Result<FileDevice<F, S>, OpenError>
         requires { all_writes self.now ≡ [] }
         ensures new { IfOk result (λ device. (device.answered ≡ []) × (device.waiting ≡ []) × (device.failures ≡ 0)) }
@@ -418,7 +418,8 @@ impl<F: OpenFile + Drop, S: Start> FileDevice<F, S> {
         }
     }
 
-    /// Makes a file of this many blocks, all zero, for reading and writing. A file that was there is replaced.
+    /// Makes a file of this many blocks, all zero, for reading and writing. A file that was there is replaced. It is refused where
+    /// the host does not make it, and for want of memory.
     pub fn create<R: Files<File = F> + AllocGlobal>(
         rt: &R,
         path: &str,

@@ -1,6 +1,6 @@
 //! Why a file is not opened or made as a device.
 ghost use Rattle.std.specs.Prelude.{◌≡◌, None};
-ghost use Rattle.layout.specs.declared.refusal.Refusal.TheVariants.{BadLength};
+ghost use Rattle.layout.specs.declared.refusal.Refusal.TheVariants.{BadLength, NoMemory};
 ghost use Rattle.file_device.specs.Opening.{IsOfCall};
 
 use layout::Refusal;
@@ -42,10 +42,13 @@ impl OpenError {
 }
 
 impl From<AllocError> for OpenError {
-    ghost from_gives = { λ error refused. IsOfCall refused };
+    ghost from_gives = { λ error refused. (refused.cause ≡ NoMemory) × IsOfCall refused };
 
     fn from(_error: AllocError) -> OpenError {
-        OpenError::of_call(io::Error::from(io::ErrorKind::OutOfMemory))
+        OpenError {
+            cause: Refusal::NoMemory,
+            why: Some(io::Error::from(io::ErrorKind::OutOfMemory)),
+        }
     }
 }
 

@@ -20,7 +20,7 @@ use Rattle.machine.specs.Command.{Write, Truncate, RepairAt}
 use Rattle.machine.specs.Causes.{causes, refusal_of, file_of, not_open}
 use Rattle.machine.specs.Below.{when}
 use Rattle.machine.specs.Cells.{block_of, Places}
-use Rattle.machine.specs.Effects.{Writes, Stores, InPlace, Moved, Appended, size_after, truncated, closed}
+use Rattle.machine.specs.Effects.{Writes, Stores, InPlace, Moved, Appended, size_after, truncated, closed, attributed}
 use Rattle.machine.specs.Repairs.{CarriesOut, repaired}
 use Rattle.machine.specs.Balance.{Balance, Owes, OwesBy}
 use Rattle.machine.proofs.Decisions.{sound_parts}
@@ -29,7 +29,7 @@ use Rattle.machine.proofs.FileRecords.{file_mode, file_sound}
 use Rattle.frozen_files.proofs.Metadata.{marks_within}
 use Rattle.frozen_files.proofs.Good.{Good, bytes_good, record_good}
 use Rattle.frozen_files.proofs.Placed.{placed}
-use Rattle.frozen_files.proofs.Holds.{Holds, file_claims, good_holds, lets_go_holds, swept_holds, relinked_holds, truncated_holds}
+use Rattle.frozen_files.proofs.Holds.{Holds, file_claims, good_holds, lets_go_holds, swept_holds, relinked_holds, truncated_holds, attributed_holds}
 
 -- the inode of an open handle
 opened_file : (s : State) (h : ℕ) → not_open s h ≡ None → open_at s h ≡ Some (file_of s h)
@@ -92,6 +92,9 @@ module _ (geo : Geometry) (g : IsGeometry geo) (old new : State) (b : Balance ge
       let p = b.open_file i (h, opened_file old h q.0) in
       let less = ltb-false (v.inode i).size n (when_none (ltb (v.inode i).size n) BadIndex q.1.0) in
       is_here (truncated geo old i n) e (truncated_holds geo a content old begin i n p.0 p.1 (omega (arith, less)))
+
+  pub attributes_hold : (i : ℕ) (words : List ℕ) → new ≡ attributed old i words → Holding new
+  attributes_hold i words e = is_here (attributed old i words) e (attributed_holds geo a content old begin i words)
 
   -- ---- writes
 

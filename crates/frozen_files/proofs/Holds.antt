@@ -10,10 +10,10 @@ use Rattle.model.proofs.Steps.{use_sound}
 use Rattle.model.proofs.Uses.{use_has, same_field}
 use Rattle.machine.specs.State.{State, is_open, is_kept}
 use Rattle.machine.specs.Cells.{claims}
-use Rattle.machine.specs.Effects.{lets_go, swept, with_links, relinked, truncated}
+use Rattle.machine.specs.Effects.{lets_go, swept, with_links, relinked, truncated, attributed}
 use Rattle.machine.proofs.Decisions.{sound_parts}
 use Rattle.machine.proofs.Tests.{and_true, and_false}
-use Rattle.frozen_files.proofs.Metadata.{IsMetadata, MetadataOf, metadata_from, marks_within, links_within, record_within}
+use Rattle.frozen_files.proofs.Metadata.{IsMetadata, MetadataOf, metadata_from, marks_within, links_within, record_within, attributes_within}
 use Rattle.frozen_files.proofs.Good.{Good}
 
 pub record Holds (geo : Geometry) (a : ℕ) (content : List ℕ) (s : State) : Type 0 where
@@ -80,6 +80,10 @@ module _ (geo : Geometry) (a : ℕ) (content : List ℕ) where
   pub relinked_holds : (s : State) → Holds geo a content s → (i n : ℕ) → Holds geo a content (relinked geo s i n)
   relinked_holds s h i n = swept_holds (record s { view = updated s.view (SetInode i (with_links (s.view.inode i) n)) })
       (record { kept = h.kept; bytes = h.bytes; mark = h.mark; other = λ j k m. h.other j k (links_within geo s.view i n j k a m) }) i
+
+  -- an inode gets other attributes
+  pub attributed_holds : (s : State) → Holds geo a content s → (i : ℕ) (words : List ℕ) → Holds geo a content (attributed s i words)
+  attributed_holds s h i words = record { kept = h.kept; bytes = h.bytes; mark = h.mark; other = λ j k m. h.other j k (attributes_within geo s.view i words j k a m) }
 
   -- a file is truncated
   pub truncated_holds : (s : State) → Holds geo a content s → (i n : ℕ) → IsTrue (is_sound_at geo s.view i) → IsFalse (is_directory_at geo s.view i) → blocks_of n ≤ blocks_of (s.view.inode i).size

@@ -10,7 +10,7 @@ use Rattle.model.proofs.UseLemmas.{claim_from}
 use Rattle.findings.specs.declared.repair.Repair.TheVariants.{FreeBlock}
 use Rattle.machine.specs.Standing.{Standing, Snapshots, image_at, others}
 use Rattle.machine.specs.State.{State, is_kept, snapshot_at, keeps}
-use Rattle.machine.specs.Command.{Command, Create, Mkdir, Link, Unlink, Rmdir, Rename, Open, Close, Read, Write, Truncate, ListNames, Stat, Freeze, SnapRead, Release, Install, RepairAt, Flush, Sync, Answer, Done, Number, Bytes, Listed, Reply}
+use Rattle.machine.specs.Command.{Command, Create, Mkdir, Link, Unlink, Rmdir, Rename, Open, Close, Read, Write, Truncate, ListNames, Stat, Freeze, SnapRead, Release, Install, RepairAt, Flush, Sync, Answer, Done, Number, Bytes, Listed, Reply, SetAttributes}
 use Rattle.machine.specs.Causes.{Accepts, file_of}
 use Rattle.machine.specs.Cells.{seen}
 use Rattle.machine.specs.Snapshot.{settled, frozen, released, is_orphan}
@@ -28,7 +28,7 @@ use Rattle.frozen_files.proofs.Good.{Good, obeyed}
 use Rattle.frozen_files.proofs.Frozen.{same_snapshots, unlinked_snapshots, removed_snapshots, renamed_snapshots, closed_snapshots, stores_snapshots, repair_snapshots}
 use Rattle.frozen_files.proofs.Holds.{Holds}
 use Rattle.frozen_files.proofs.Naming.{create_holds, make_holds, link_holds, unlink_holds, remove_holds, rename_holds}
-use Rattle.frozen_files.proofs.Data.{open_holds, install_holds, close_holds, write_holds, truncate_holds, repair_holds}
+use Rattle.frozen_files.proofs.Data.{open_holds, install_holds, close_holds, write_holds, truncate_holds, repair_holds, attributes_hold}
 
 no_image : {P : Type 0} (image : View) → None ≡ Some image → P
 no_image image e = absurd cc
@@ -148,8 +148,8 @@ module _ (geo : Geometry) (old new : State) (b : Balance geo old) (b' : Balance 
 
 effect_keeps_files : (geo : Geometry) → IsGeometry geo → (old new : State) (command : Command) (answer : Answer) → Balance geo old → Balance geo new → MakesNoDebt geo old new → KeepsFiles geo old → Accepts geo old command
     → Effect geo old command answer new → KeepsFiles geo new
-effect_keeps_files geo g old new (Create p) (Number i) b b' d k a e = by_blocks geo old new b b' d k (same_snapshots geo old new _ e.whole refl) (λ x s. create_holds geo g old new b x _ s.kept s.good p i e)
-effect_keeps_files geo g old new (Mkdir p) (Number i) b b' d k a e = by_blocks geo old new b b' d k (same_snapshots geo old new _ e.whole refl) (λ x s. make_holds geo g old new b x _ s.kept s.good p i e)
+effect_keeps_files geo g old new (Create p words) (Number i) b b' d k a e = by_blocks geo old new b b' d k (same_snapshots geo old new _ e.whole refl) (λ x s. create_holds geo g old new b x _ s.kept s.good p words i e)
+effect_keeps_files geo g old new (Mkdir p words) (Number i) b b' d k a e = by_blocks geo old new b b' d k (same_snapshots geo old new _ e.whole refl) (λ x s. make_holds geo g old new b x _ s.kept s.good p words i e)
 effect_keeps_files geo g old new (Link p q) Done b b' d k a e = by_blocks geo old new b b' d k (same_snapshots geo old new _ e.whole refl) (λ x s. link_holds geo g old new b x _ s.kept s.good p q e)
 effect_keeps_files geo g old new (Unlink p) Done b b' d k a e = by_blocks geo old new b b' d k (unlinked_snapshots geo old new p e) (λ x s. unlink_holds geo g old new b x _ s.kept s.good p a.0 e)
 effect_keeps_files geo g old new (Rmdir p) Done b b' d k a e = by_blocks geo old new b b' d k (removed_snapshots geo old new p e) (λ x s. remove_holds geo g old new b x _ s.kept s.good p a.0 e)
@@ -159,6 +159,7 @@ effect_keeps_files geo g old new (Close h) Done b b' d k a e = by_blocks geo old
 effect_keeps_files geo g old new (Read h i) (Bytes bytes) b b' d k a e = unchanged geo old new b b' d k e.1
 effect_keeps_files geo g old new (Write h i piece) Done b b' d k a e = by_blocks geo old new b b' d k (stores_snapshots geo old new _ _ _ _ e.stores) (λ x s. write_holds geo g old new b x _ s.kept s.good h i piece a.0 e)
 effect_keeps_files geo g old new (Truncate h n) Done b b' d k a e = by_blocks geo old new b b' d k (same_snapshots geo old new _ e refl) (λ x s. truncate_holds geo g old new b x _ s.kept s.good h n a.0 e)
+effect_keeps_files geo g old new (SetAttributes i words) Done b b' d k a e = by_blocks geo old new b b' d k (same_snapshots geo old new _ e refl) (λ x s. attributes_hold geo g old new b x _ s.kept s.good i words e)
 effect_keeps_files geo g old new (ListNames p) (Listed names) b b' d k a e = unchanged geo old new b b' d k e.1
 effect_keeps_files geo g old new (Stat p) answer b b' d k a e = unchanged geo old new b b' d k e.1
 effect_keeps_files geo g old new Freeze answer b b' d k a e = freeze_files geo old new b b' d k e.1

@@ -2,7 +2,7 @@
 use Rattle.std.proofs.Common.{◌≡◌, ℕ, List, ◌⊎◌, inl, inr, refl, sym, ap, ◌∙◌, subst, Some, IsTrue}
 use Rattle.std.proofs.lemmas.Bool.{cases_eq, and_parts, and_from}
 use Rattle.model.specs.Layout.{Geometry, is_number, is_data_address}
-use Rattle.model.specs.View.{View, Inode}
+use Rattle.model.specs.View.{View, Inode, with_attributes}
 use Rattle.model.specs.Cells.{SetInode, SetBytes, put_at, updated}
 use Rattle.model.specs.Shape.{is_table}
 use Rattle.model.specs.Uses.{is_sound, is_sound_at, is_directory, is_directory_at, record_use, IsClaim}
@@ -10,7 +10,7 @@ use Rattle.model.proofs.Places.{put_here, put_there}
 use Rattle.model.proofs.Steps.{use_sound}
 use Rattle.model.proofs.Uses.{use_number, number_use, record_uses_agree, bytes_leave_uses}
 use Rattle.machine.specs.Effects.{with_links}
-use Rattle.machine.proofs.Records.{links_uses}
+use Rattle.machine.proofs.Records.{links_uses, attributes_uses}
 
 -- inode i claims block a as one of its tables, or as a block of the directory that it is
 abbrev pub IsMetadata : Geometry → View → ℕ → ℕ → ℕ → Type 0
@@ -78,6 +78,11 @@ record_within geo v n x mine i k c m = elim (record_metadata geo v i k c n x m) 
 pub links_within : (geo : Geometry) (v : View) (n l : ℕ) → Within geo v (updated v (SetInode n (with_links (v.inode n) l)))
 links_within geo v n l = record_within geo v n (with_links (v.inode n) l) (λ k c m.
     metadata_from geo v n k c (record { number = m.number; uses = sym (links_uses geo v (v.inode n) l k) ∙ m.uses; address = m.address; kind = m.kind }))
+
+-- other attributes
+pub attributes_within : (geo : Geometry) (v : View) (n : ℕ) (words : List ℕ) → Within geo v (updated v (SetInode n (with_attributes (v.inode n) words)))
+attributes_within geo v n words = record_within geo v n (with_attributes (v.inode n) words) (λ k c m.
+    metadata_from geo v n k c (record { number = m.number; uses = sym (attributes_uses geo v (v.inode n) words k) ∙ m.uses; address = m.address; kind = m.kind }))
 
 module _ (geo : Geometry) (v : View) (b : ℕ) (bytes : List ℕ) where
   abbrev w : View

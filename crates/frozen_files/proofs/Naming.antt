@@ -3,7 +3,7 @@ use Rattle.std.proofs.Common.{◌≡◌, ◌<◌, ◌+◌, ◌/◌, ℕ, true, �
 use Rattle.std.specs.Prelude.{replicate}
 use Rattle.std.proofs.lemmas.Bool.{leb-true}
 use Rattle.model.specs.Layout.{Geometry, IsGeometry, is_number}
-use Rattle.model.specs.View.{View, new_file}
+use Rattle.model.specs.View.{View}
 use Rattle.model.specs.Cells.{SetInode, SetNumber, SetBlock, SetBytes, updated, updated_all}
 use Rattle.model.specs.Image.{IsBlock}
 use Rattle.model.specs.Slots.{Good as Named}
@@ -17,7 +17,7 @@ use Rattle.machine.specs.Command.{Unlink, Rmdir, Rename}
 use Rattle.machine.specs.Causes.{causes, refusal_of}
 use Rattle.machine.specs.Paths.{holder, name_in, slot_at, number_at}
 use Rattle.machine.specs.Cells.{MakesRoom, Enters, with_entry}
-use Rattle.machine.specs.Effects.{Creates, MakesDirectory, Links, Renames, Within as InDirectory, Across, unlinked, removed, emptied, with_links, new_directory}
+use Rattle.machine.specs.Effects.{file_with, Creates, MakesDirectory, Links, Renames, Within as InDirectory, Across, unlinked, removed, emptied, with_links, new_directory}
 use Rattle.machine.specs.Balance.{Balance}
 use Rattle.machine.proofs.Renaming.{IsPlace, place_at}
 use Rattle.machine.proofs.Walks.{quiet}
@@ -46,14 +46,14 @@ module _ (geo : Geometry) (g : IsGeometry geo) (old new : State) (b : Balance ge
 
   -- ---- new names
 
-  pub create_holds : (p : List ℕ) (i : ℕ) → Creates geo old p i new → Holding new
-  create_holds p i c =
+  pub create_holds : (p words : List ℕ) (i : ℕ) → Creates geo old p words i new → Holding new
+  create_holds p words i c =
       let v1 : View = updated v (SetNumber i true) in
       let g1 = number_good geo a content v start i in
-      let g2 = record_good geo a content v1 g1 i new_file (λ k q m. absurd (nothing_claimed geo v1 i k q new_file refl m)) in
+      let g2 = record_good geo a content v1 g1 i (file_with words) (λ k q m. absurd (nothing_claimed geo v1 i k q (file_with words) refl m)) in
       is_here (record old { view = c.view }) c.whole
-      (with_view c.view (enters_good geo a content g (updated_all v (SetNumber i true ∷ SetInode i new_file ∷ [])) g2 (holder geo v p) (λ m q table t. b.whole q (t.0).1)
-      (put_records v1 i new_file b.records refl (holder geo v p)) (name_in p) i c.view c.enters))
+      (with_view c.view (enters_good geo a content g (updated_all v (SetNumber i true ∷ SetInode i (file_with words) ∷ [])) g2 (holder geo v p) (λ m q table t. b.whole q (t.0).1)
+      (put_records v1 i (file_with words) b.records refl (holder geo v p)) (name_in p) i c.view c.enters))
 
   pub link_holds : (p q : List ℕ) → Links geo old p q new → Holding new
   link_holds p q c =
@@ -63,7 +63,7 @@ module _ (geo : Geometry) (g : IsGeometry geo) (old new : State) (b : Balance ge
       (λ m r table t. b.whole r (t.0).1) (put_records v i (with_links (v.inode i) ((v.inode i).links + 1)) b.records (b.records i) (holder geo v q)) (name_in q) i c.view c.enters))
 
   -- a new directory
-  module _ (p : List ℕ) (i : ℕ) (c : MakesDirectory geo old p i new) where
+  module _ (p words : List ℕ) (i : ℕ) (c : MakesDirectory geo old p words i new) where
     abbrev d : ℕ
     d = holder geo v p
 
@@ -77,7 +77,7 @@ module _ (geo : Geometry) (g : IsGeometry geo) (old new : State) (b : Balance ge
     v4 = updated v3 (SetBytes c.block c.bytes)
 
     abbrev v5 : View
-    v5 = updated v4 (SetInode i (new_directory c.block))
+    v5 = updated v4 (SetInode i (new_directory c.block words))
 
     within3 : Within geo v v3
     within3 j q r m = marks_within geo v v2 refl refl j q r (links_within geo v2 d ((v.inode d).links + 1) j q r m)
@@ -101,11 +101,11 @@ module _ (geo : Geometry) (g : IsGeometry geo) (old new : State) (b : Balance ge
     abbrev New : ℕ → ℕ → ℕ → Type 0
     New j q r = (j ≡ i) × (q ≡ 0) × (r ≡ c.block)
 
-    own : (q r : ℕ) → MetadataOf geo v4 i (new_directory c.block) q r → New i q r
-    own q r m = let only = new_directory_uses geo v4 c.block q r m.uses in (refl, only.0, only.1)
+    own : (q r : ℕ) → MetadataOf geo v4 i (new_directory c.block words) q r → New i q r
+    own q r m = let only = new_directory_uses geo v4 c.block words q r m.uses in (refl, only.0, only.1)
 
     claims5 : (j q r : ℕ) → IsMetadata geo v5 j q r → IsMetadata geo v j q r ⊎ New j q r
-    claims5 j q r m = elim (record_metadata geo v4 j q r i (new_directory c.block) m) [
+    claims5 j q r m = elim (record_metadata geo v4 j q r i (new_directory c.block words) m) [
       | inl there ↦ inl (within4 j q r there.1)
       | inr here ↦ let n = own q r here.1 in inr (here.0, n.1, n.2)
     ]
@@ -124,7 +124,7 @@ module _ (geo : Geometry) (g : IsGeometry geo) (old new : State) (b : Balance ge
     ]
 
     records5 : length (v5.inode d).direct ≡ direct_positions
-    records5 = put_records v4 i (new_directory c.block) (put_records v2 d (with_links (v.inode d) ((v.inode d).links + 1)) b.records (b.records d)) refl d
+    records5 = put_records v4 i (new_directory c.block words) (put_records v2 d (with_links (v.inode d) ((v.inode d).links + 1)) b.records (b.records d)) refl d
 
     pub make_holds : Holding new
     make_holds = is_here (record old { view = c.view }) c.whole (with_view c.view (enters_good geo a content g v5 good5 d whole5 records5 (name_in p) i c.view c.enters))

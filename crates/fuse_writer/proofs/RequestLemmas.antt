@@ -19,7 +19,7 @@ use Rattle.fuse_reader.specs.Said.{told}
 use Rattle.fuse_writer.specs.declared.session.Session.{Session}
 use Rattle.fuse_writer.specs.Doings.{Doing, MayGoOn, Notes, Says, asks_done, go_on, noted, refuses, says_done, with_memory}
 use Rattle.fuse_writer.proofs.DoingLemmas.{goes_memory, goes_no_memory, goes_same, goes_then}
-use Rattle.fuse_writer.specs.Requests.{at_directory, at_name, at_node, at_path, closes, crosses, entry_of, if_fits, if_there, is_below_root, is_directory, leading, links, links_at, lists, loses, makes, makes_node, moves, on_inode, on_path, opens, opens_known, path_in, releases, removes_as, renames, renames_at, renames_to, replaces, tells, where_leads}
+use Rattle.fuse_writer.specs.Requests.{file_at, at_directory, at_name, at_node, at_path, closes, crosses, entry_of, if_fits, if_there, is_below_root, is_directory, leading, links, links_at, lists, loses, makes, makes_node, moves, on_inode, on_path, opens, opens_known, path_in, releases, removes_as, renames, renames_at, renames_to, replaces, tells, where_leads}
 
 module _ (s : Session) (node : NodeId) where
   pub node_known : (i : ℕ) → Some i ≡ found s.nodes node.0 → (next : ℕ → Doing) → at_node s node next ≡ next i
@@ -234,13 +234,13 @@ with_nodes s t = record s { nodes = t }
 -- ---- kinds
 
 pub node_made : (kept : Kept) (s : Session) (node : NodeId) (name : List ℕ) (mode : ℕ) → bit_and mode 61440 ≡ 32768
-    → makes_node kept s node name mode ≡ makes kept s node name mode command.Create
+    → makes_node kept s node name mode ≡ makes kept s node name mode file_at
 node_made kept s node name mode e =
-    ap (λ b. cond b (makes kept s node name mode command.Create) (refuses errors.NotPermitted)) (eq-eqb (bit_and mode 61440) 32768 e)
+    ap (λ b. cond b (makes kept s node name mode file_at) (refuses errors.NotPermitted)) (eq-eqb (bit_and mode 61440) 32768 e)
 
 pub node_of_kind : (kept : Kept) (s : Session) (node : NodeId) (name : List ℕ) (mode : ℕ) → (bit_and mode 61440 ≡ 32768 → ⊥) → makes_node kept s node name mode ≡ refuses errors.NotPermitted
 node_of_kind kept s node name mode apart =
-    ap (λ b. cond b (makes kept s node name mode command.Create) (refuses errors.NotPermitted)) (ne_eqb (bit_and mode 61440) 32768 apart)
+    ap (λ b. cond b (makes kept s node name mode file_at) (refuses errors.NotPermitted)) (ne_eqb (bit_and mode 61440) 32768 apart)
 
 -- ---- looks at an inode
 

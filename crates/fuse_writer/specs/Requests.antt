@@ -112,7 +112,8 @@ path_in s d name next =
 abbrev pub is_below_root : Session → ℕ → Bool
 is_below_root s i = nat_lt 2 i && nat_lt i (length s.nodes)
 
--- The kernel is told of the inode to which a name in directory d leads. The name is kept, so memory is needed for it.
+-- The kernel is told of the inode to which a name in directory d leads. The name is kept, so memory is needed for it; that there is none is said too where
+-- no number of a node is left.
 unfoldable pub tells : Session → ℕ → List ℕ → ℕ → (Entry → Body) → Doing
 tells s d name i body =
     if is_below_root s i then with_memory (Notes (WasTold i (named d name) ∷ []) [] (Says (λ kept. told (body (entry_of kept s i))))) else refuses errors.Device
@@ -154,17 +155,24 @@ bears i rules mode next = Notes (Born i ∷ []) (record { number = i; set = new_
 abbrev pub born : Session → ℕ → ℕ → Session
 born s i mode = noted (Born i ∷ []) (record { number = i; set = new_set s.rules mode } ∷ []) s
 
+-- the commands by which a file and a directory are made, without attributes
+abbrev pub file_at : List ℕ → command.Command
+file_at path = command.Create path command.no_attributes
+
+abbrev pub directory_at : List ℕ → command.Command
+directory_at path = command.Mkdir path command.no_attributes
+
 abbrev pub makes : Kept → Session → NodeId → List ℕ → ℕ → (List ℕ → command.Command) → Doing
 makes kept s node name mode request =
     at_directory kept s node (λ d. path_in s d name (λ path.
     asks_number (request path) (λ i. bears i s.rules mode (tells (born s i mode) d name i bodies.Entry))))
 
 abbrev pub makes_directory : Kept → Session → NodeId → List ℕ → ℕ → Doing
-makes_directory kept s node name mode = makes kept s node name mode command.Mkdir
+makes_directory kept s node name mode = makes kept s node name mode directory_at
 
 -- Of nodes the volume has files alone, the kind of which is 8 in the upper four bits of 16.
 abbrev pub makes_node : Kept → Session → NodeId → List ℕ → ℕ → Doing
-makes_node kept s node name mode = if bit_and mode 61440 == 32768 then makes kept s node name mode command.Create else refuses errors.NotPermitted
+makes_node kept s node name mode = if bit_and mode 61440 == 32768 then makes kept s node name mode file_at else refuses errors.NotPermitted
 
 -- a file is open by the handle that is its number, and the kernel keeps what it has of its contents
 abbrev pub open_file : ℕ → Opened
@@ -185,7 +193,7 @@ opens_new s d name i path = Asks (command.Open path) (λ reply. if_opened s d na
 abbrev pub creates : Kept → Session → NodeId → List ℕ → ℕ → Doing
 creates kept s node name mode =
     at_directory kept s node (λ d. path_in s d name (λ path. with_memory (
-    asks_number (command.Create path) (λ i. bears i s.rules mode (opens_new (born s i mode) d name i path)))))
+    asks_number (file_at path) (λ i. bears i s.rules mode (opens_new (born s i mode) d name i path)))))
 
 -- a name goes
 abbrev pub loses : ℕ → ℕ → List ℕ → Doing → Doing

@@ -14,7 +14,7 @@ use crate::showing::{FILE_KIND, KIND, tell_of};
 use device::Device;
 use dirent::NAME_BYTES;
 use fuse_wire::{Entry, Errno, NodeId, Opened};
-use snapshot::Command;
+use snapshot::{Command, NO_ATTRIBUTES};
 
 /// The number that a name in a directory leads to.
 pub(crate) fn leads_to<D: Device>(
@@ -74,7 +74,8 @@ pub(crate) fn make_directory<D: Device>(
 {
     let directory = mounted.directory(parent)?;
     let path = path_in(mounted, directory, name)?;
-    let number = mounted.ask_number(Command::Mkdir(path))?;
+    let attributes = NO_ATTRIBUTES;
+    let number = mounted.ask_number(Command::Mkdir { path, attributes })?;
     bear(mounted, number, mode);
     tell_of(mounted, directory, name, number)
 }
@@ -95,7 +96,8 @@ pub(crate) fn make_node<D: Device>(
     }
     let directory = mounted.directory(parent)?;
     let path = path_in(mounted, directory, name)?;
-    let number = mounted.ask_number(Command::Create(path))?;
+    let attributes = NO_ATTRIBUTES;
+    let number = mounted.ask_number(Command::Create { path, attributes })?;
     bear(mounted, number, mode);
     tell_of(mounted, directory, name, number)
 }
@@ -116,7 +118,8 @@ pub(crate) fn create<D: Device>(
     let Ok(again) = Vec::from_slice(mounted.alloc, path.as_slice()) else {
         return Err(Errno::NoMemory);
     };
-    let number = mounted.ask_number(Command::Create(path))?;
+    let attributes = NO_ATTRIBUTES;
+    let number = mounted.ask_number(Command::Create { path, attributes })?;
     bear(mounted, number, mode);
     open_new(mounted, directory, name, number, again)
 }

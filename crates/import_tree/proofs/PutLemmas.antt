@@ -5,7 +5,7 @@ use Rattle.std.proofs.lemmas.List.Elements.{All-nil, All-push}
 use Rattle.std.proofs.lemmas.List.{append-nil, length-append, map-append, take_more}
 use Rattle.archives.specs.declared.entries.Kind.TheVariants as kind
 use Rattle.snapshot.specs.Alive.{Alive}
-use Rattle.machine.specs.Command.{Command as Request, Create, Mkdir, Open, Write, Close, Flush, Sync}
+use Rattle.machine.specs.Command.{Command as Request, Create, Mkdir, no_attributes, Open, Write, Close, Flush, Sync}
 use Rattle.model.specs.Uses.{blocks_of}
 use Rattle.device.specs.Media.{Held}
 use Rattle.image_changes.specs.Asking.{Adds, AddsFlushes}
@@ -15,9 +15,9 @@ use Rattle.import_tree.specs.declared.items.Item.{Item}
 use Rattle.import_tree.proofs.CutLemmas.{chunk_before, chunk_behind}
 
 module _ {D : Type 0} (held held' : Held) (image image' : List (List ℕ)) (old new : Alive D) where
-  folder_at : (item : Item) (read : List ℕ) → item.kind ≡ kind.Folder → Adds held image old (Mkdir item.path.items ∷ []) held' image' new → AddsItems ((item, read) ∷ []) held image old held' image' new
+  folder_at : (item : Item) (read : List ℕ) → item.kind ≡ kind.Folder → Adds held image old (Mkdir item.path.items no_attributes ∷ []) held' image' new → AddsItems ((item, read) ∷ []) held image old held' image' new
   folder_at item read is adds before held₀ image₀ start put = record {
-    requests = put.requests ++ Mkdir item.path.items ∷ [];
+    requests = put.requests ++ Mkdir item.path.items no_attributes ∷ [];
     put = Folder before put.requests item read put.put is;
     went = adds held₀ image₀ start put.requests put.went;
   }
@@ -30,9 +30,9 @@ module _ {D : Type 0} (held held' : Held) (image image' : List (List ℕ)) (old 
     went = made.2 held₀ image₀ start put.requests put.went;
   }
 
-  pub adds_folder : (item : Item) (read : List ℕ) (path : List ℕ) → path ≡ item.path.items → item.kind ≡ kind.Folder → Adds held image old (Mkdir path ∷ []) held' image' new
+  pub adds_folder : (item : Item) (read : List ℕ) (path : List ℕ) → path ≡ item.path.items → item.kind ≡ kind.Folder → Adds held image old (Mkdir path no_attributes ∷ []) held' image' new
       → AddsItems ((item, read) ∷ []) held image old held' image' new
-  adds_folder item read path at is adds = folder_at item read is (subst (λ p. Adds held image old (Mkdir p ∷ []) held' image' new) at adds)
+  adds_folder item read path at is adds = folder_at item read is (subst (λ p. Adds held image old (Mkdir p no_attributes ∷ []) held' image' new) at adds)
 
   pub adds_file : (item : Item) (read path : List ℕ) → path ≡ item.path.items → item.kind ≡ kind.File
       → (more : List Request) × MakesFile path read more × Adds held image old more held' image' new → AddsItems ((item, read) ∷ []) held image old held' image' new
@@ -90,7 +90,7 @@ module _ {D : Type 0} (held : Held) (image : List (List ℕ)) (live : Alive D) w
         adds = wrote.adds;
       })
 
-  pub fills_nothing : (path bytes : List ℕ) → bytes ≡ [] → (more : List Request) × MakesFile path bytes (Create path ∷ more) × Adds held image live more held image live
+  pub fills_nothing : (path bytes : List ℕ) → bytes ≡ [] → (more : List Request) × MakesFile path bytes (Create path no_attributes ∷ more) × Adds held image live more held image live
   fills_nothing path bytes none = ([], Empty none refl, adds_none held image live)
 
 module _ {D : Type 0} (held held' : Held) (image image' : List (List ℕ)) (old new : Alive D) where
@@ -138,14 +138,14 @@ module _ {D : Type 0} (held held' held'' : Held) (image image' image'' : List (L
         adds = adds_then held₀ held' held'' image₀ image' image'' start mid new then.requests (map Flush flushes.addresses) then.adds flushes.adds;
       }
 
-  pub creates : (path bytes : List ℕ) → Adds held image old (Create path ∷ []) held' image' mid
-      → (more : List Request) × MakesFile path bytes (Create path ∷ more) × Adds held' image' mid more held'' image'' new
+  pub creates : (path bytes : List ℕ) → Adds held image old (Create path no_attributes ∷ []) held' image' mid
+      → (more : List Request) × MakesFile path bytes (Create path no_attributes ∷ more) × Adds held' image' mid more held'' image'' new
       → (more : List Request) × MakesFile path bytes more × Adds held image old more held'' image'' new
-  creates path bytes adds filled = (Create path ∷ filled.0, filled.1, adds_then held held' held'' image image' image'' old mid new (Create path ∷ []) filled.0 adds filled.2)
+  creates path bytes adds filled = (Create path no_attributes ∷ filled.0, filled.1, adds_then held held' held'' image image' image'' old mid new (Create path no_attributes ∷ []) filled.0 adds filled.2)
 
 module _ {D : Type 0} (held₀ held₁ held₂ held₃ : Held) (image₀ image₁ image₂ image₃ : List (List ℕ)) (v₀ v₁ v₂ v₃ : Alive D) where
   pub fills : (path bytes : List ℕ) (handle : ℕ) → Adds held₀ image₀ v₀ (Open path ∷ []) held₁ image₁ v₁ → AddsBlocks handle bytes (blocks_of (length bytes)) held₁ image₁ v₁ held₂ image₂ v₂
-      → Adds held₂ image₂ v₂ (Close handle ∷ []) held₃ image₃ v₃ → (more : List Request) × MakesFile path bytes (Create path ∷ more) × Adds held₀ image₀ v₀ more held₃ image₃ v₃
+      → Adds held₂ image₂ v₂ (Close handle ∷ []) held₃ image₃ v₃ → (more : List Request) × MakesFile path bytes (Create path no_attributes ∷ more) × Adds held₀ image₀ v₀ more held₃ image₃ v₃
   fills path bytes handle opens wrote closes = (
     Open path ∷ (wrote.requests ++ Close handle ∷ []),
     Full handle wrote.requests wrote.write refl,

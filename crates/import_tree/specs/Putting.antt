@@ -6,7 +6,7 @@ use Rattle.device.specs.Media.{Held as Media}
 use Rattle.snapshot.specs.Alive.{Alive}
 use Rattle.snapshot.specs.Mounting.{IsMountable}
 use Rattle.live_states.specs.Holdings.{IsIdle}
-use Rattle.machine.specs.Command.{Command as Request, Create, Mkdir, Open, Write, Close, Flush, Sync}
+use Rattle.machine.specs.Command.{Command as Request, Create, Mkdir, no_attributes, Open, Write, Close, Flush, Sync}
 use Rattle.model.specs.Uses.{blocks_of}
 use Rattle.softdep.specs.Queued.{fresh_queue, pending_of}
 use Rattle.image_changes.specs.Asking.{Adds, Went}
@@ -22,8 +22,8 @@ pub data WriteBlocks (handle : ℕ) (bytes : List ℕ) : ℕ → List Request �
 
 -- what makes a file of these bytes: it is created, and if it has any it is opened, each block is written, and it is closed
 pub data MakesFile (path bytes : List ℕ) (requests : List Request) : Type 0 where
-  Empty : bytes ≡ [] → requests ≡ Create path ∷ [] → MakesFile path bytes requests
-  Full : (handle : ℕ) (writes : List Request) → WriteBlocks handle bytes (blocks_of (length bytes)) writes → requests ≡ Create path ∷ Open path ∷ (writes ++ Close handle ∷ []) → MakesFile path bytes requests
+  Empty : bytes ≡ [] → requests ≡ Create path no_attributes ∷ [] → MakesFile path bytes requests
+  Full : (handle : ℕ) (writes : List Request) → WriteBlocks handle bytes (blocks_of (length bytes)) writes → requests ≡ Create path no_attributes ∷ Open path ∷ (writes ++ Close handle ∷ []) → MakesFile path bytes requests
 
 -- The first n blocks of a file of these bytes are written next, by a handle.
 pub record AddsBlocks {D : Type 0} (handle : ℕ) (bytes : List ℕ) (n : ℕ) (held : Media) (image : List (List ℕ)) (old : Alive D) (held' : Media) (image' : List (List ℕ)) (new : Alive D) : Type 0 where
@@ -54,7 +54,7 @@ IsTrueReading reading = IsTrueTo reading.0.source reading.1
 -- These requests put these items, one after another; between them blocks may be flushed, and all that waits may be written.
 pub data ArePut : List Reading → List Request → Type 0 where
   Nothing : ArePut [] []
-  Folder : (readings : List Reading) (requests : List Request) (item : Item) (read : List ℕ) → ArePut readings requests → item.kind ≡ kind.Folder → ArePut (readings ++ (item, read) ∷ []) (requests ++ Mkdir item.path.items ∷ [])
+  Folder : (readings : List Reading) (requests : List Request) (item : Item) (read : List ℕ) → ArePut readings requests → item.kind ≡ kind.Folder → ArePut (readings ++ (item, read) ∷ []) (requests ++ Mkdir item.path.items no_attributes ∷ [])
   File : (readings : List Reading) (requests more : List Request) (item : Item) (read : List ℕ) → ArePut readings requests → item.kind ≡ kind.File → MakesFile item.path.items read more → ArePut (readings ++ (item, read) ∷ []) (requests ++ more)
   Flushed : (readings : List Reading) (requests : List Request) (addresses : List ℕ) → ArePut readings requests → ArePut readings (requests ++ map Flush addresses)
   Written : (readings : List Reading) (requests : List Request) → ArePut readings requests → ArePut readings (requests ++ Sync ∷ [])

@@ -3,7 +3,7 @@ ghost use Rattle.std.specs.Prelude.{◌≡◌, ◌≢◌, ◌++◌, ◌≤◌, �
 ghost use Rattle.std.specs.Io.KnownBytes.{Consumes, IsAtEnd};
 ghost use Rattle.std.specs.IoError.{error_kind};
 ghost use Rattle.std.specs.declared.io.ErrorKind.TheVariants.{Interrupted};
-ghost use Rattle.machine.specs.Command.{Command as Request, Create as AsksCreate};
+ghost use Rattle.machine.specs.Command.{Command as Request, Create as AsksCreate, no_attributes};
 ghost use Rattle.model.specs.Uses.{blocks_of};
 ghost use Rattle.image_changes.specs.Asking.{Adds};
 ghost use Rattle.import_tree.specs.Putting.{AddsBlocks, MakesFile};
@@ -128,7 +128,7 @@ fn fill_from<F: Read, D: Device>(
     ensures all { IfOk result (λ given. (left : Option (List ℕ)) → Consumes left (F.remaining reader.old) (take count room.old.items)
         → Consumes left (F.remaining reader.new) given) }
     ensures end { OnOk result (IsAtEnd (F.remaining reader.new)) }
-    ensures filled { IfOk result (λ given. D.honest volume.new.device → (more : List Request) × MakesFile path.now given (AsksCreate path.now ∷ more)
+    ensures filled { IfOk result (λ given. D.honest volume.new.device → (more : List Request) × MakesFile path.now given (AsksCreate path.now no_attributes ∷ more)
         × Adds (D.held volume.old.device) (D.image volume.old.device) volume.old more (D.held volume.new.device) (D.image volume.new.device) volume.new) }
     ensures honest { D.honest volume.new.device → D.honest volume.old.device }
     ensures room { length room.new.items ≡ 131072 }

@@ -1,6 +1,6 @@
 //! How a file is made in a mounted volume.
 ghost use Rattle.std.specs.Prelude.{◌≡◌, ◌+◌, ◌++◌, List, [], ◌∷◌, IfOk, OnOk, length};
-ghost use Rattle.machine.specs.Command.{Command as Request, Close as AsksClose, Create as AsksCreate, Mkdir as AsksMkdir, Open as AsksOpen, Write as AsksWrite};
+ghost use Rattle.machine.specs.Command.{Command as Request, Close as AsksClose, Create as AsksCreate, no_attributes, Mkdir as AsksMkdir, Open as AsksOpen, Write as AsksWrite};
 ghost use Rattle.model.specs.Uses.{blocks_of};
 ghost use Rattle.image_changes.specs.Asking.{Adds};
 ghost use Rattle.import_tree.specs.Putting.{AddsPart, MakesFile};
@@ -19,10 +19,10 @@ pub(crate) fn make_folder<D: Device>(
     path: &[u8],
 ) -> Result<(), Refusal>
     ensures made { OnOk result (D.honest volume.new.device
-        → Adds (D.held volume.old.device) (D.image volume.old.device) volume.old (AsksMkdir path.now ∷ []) (D.held volume.new.device) (D.image volume.new.device) volume.new) }
+        → Adds (D.held volume.old.device) (D.image volume.old.device) volume.old (AsksMkdir path.now no_attributes ∷ []) (D.held volume.new.device) (D.image volume.new.device) volume.new) }
     ensures honest { D.honest volume.new.device → D.honest volume.old.device }
 {
-    ask(alloc, volume, &Command::Mkdir(path.to_vec(alloc)?))
+    ask(alloc, volume, &Command::mkdir(path.to_vec(alloc)?))
 }
 
 /// Makes a file with these bytes. It is taken away again where they are refused.
@@ -54,10 +54,10 @@ pub(crate) fn create<D: Device>(
     path: &[u8],
 ) -> Result<(), Refusal>
     ensures made { OnOk result (D.honest volume.new.device
-        → Adds (D.held volume.old.device) (D.image volume.old.device) volume.old (AsksCreate path.now ∷ []) (D.held volume.new.device) (D.image volume.new.device) volume.new) }
+        → Adds (D.held volume.old.device) (D.image volume.old.device) volume.old (AsksCreate path.now no_attributes ∷ []) (D.held volume.new.device) (D.image volume.new.device) volume.new) }
     ensures honest { D.honest volume.new.device → D.honest volume.old.device }
 {
-    ask(alloc, volume, &Command::Create(path.to_vec(alloc)?))
+    ask(alloc, volume, &Command::create(path.to_vec(alloc)?))
 }
 
 /// Gives an empty file its bytes.
@@ -68,7 +68,7 @@ fn fill<D: Device>(
     bytes: &[u8],
     turns: &mut Turns<'_>,
 ) -> Result<(), Refusal>
-    ensures filled { OnOk result (D.honest volume.new.device → (more : List Request) × MakesFile path.now bytes.now (AsksCreate path.now ∷ more)
+    ensures filled { OnOk result (D.honest volume.new.device → (more : List Request) × MakesFile path.now bytes.now (AsksCreate path.now no_attributes ∷ more)
         × Adds (D.held volume.old.device) (D.image volume.old.device) volume.old more (D.held volume.new.device) (D.image volume.new.device) volume.new) }
     ensures honest { D.honest volume.new.device → D.honest volume.old.device }
 {

@@ -35,15 +35,16 @@ numbers_moved (suc n) i j xs ys h =
     ap₂ (λ a b. a ∷ b) (number_moved 4 i j xs ys (front_moved 4 (4 * suc n) i j xs ys (omega arith) h))
     (numbers_moved n (i + 4) (j + 4) xs ys (part_moved 4 (4 * n) (4 * suc n) i j xs ys (omega arith) h))
 
-pub inode_moved : (version i j : ℕ) (xs ys : List ℕ) → IsMoved 64 i j xs ys → inode_at version xs i ≡ inode_at version ys j
+pub inode_moved : (version i j : ℕ) (xs ys : List ℕ) → IsMoved 128 i j xs ys → inode_at version xs i ≡ inode_at version ys j
 inode_moved version i j xs ys h =
     same_inode
-    (number_moved 2 i j xs ys (front_moved 2 64 i j xs ys (omega arith) h))
-    (number_moved 2 (i + 2) (j + 2) xs ys (part_moved 2 2 64 i j xs ys (omega arith) h))
-    (number_moved 4 (i + 4) (j + 4) xs ys (part_moved 4 4 64 i j xs ys (omega arith) h))
-    (numbers_moved 12 (i + 8) (j + 8) xs ys (part_moved 8 48 64 i j xs ys (omega arith) h))
-    (number_moved 4 (i + 56) (j + 56) xs ys (part_moved 56 4 64 i j xs ys (omega arith) h))
-    (ap (λ n. cond (eqb version 2) n 0) (number_moved 4 (i + 60) (j + 60) xs ys (part_moved 60 4 64 i j xs ys (omega arith) h)))
+    (number_moved 2 i j xs ys (front_moved 2 128 i j xs ys (omega arith) h))
+    (number_moved 2 (i + 2) (j + 2) xs ys (part_moved 2 2 128 i j xs ys (omega arith) h))
+    (number_moved 4 (i + 4) (j + 4) xs ys (part_moved 4 4 128 i j xs ys (omega arith) h))
+    (numbers_moved 12 (i + 8) (j + 8) xs ys (part_moved 8 48 128 i j xs ys (omega arith) h))
+    (number_moved 4 (i + 56) (j + 56) xs ys (part_moved 56 4 128 i j xs ys (omega arith) h))
+    (ap (λ n. cond (eqb version 2) n 0) (number_moved 4 (i + 60) (j + 60) xs ys (part_moved 60 4 128 i j xs ys (omega arith) h)))
+    (numbers_moved 16 (i + 64) (j + 64) xs ys (part_moved 64 64 128 i j xs ys (omega arith) h))
 
 -- ---- a record's bytes in their block
 
@@ -96,7 +97,7 @@ record_there version block bytes j k long fits differ = inode_moved version (128
   at = λ m b. put_apart (128 * j) bytes block (omega (arith, long)) (128 * k + m) (side m b);
 })
   where
-    side : (m : ℕ) → m < 64 → (128 * k + m < 128 * j) ⊎ (128 * j + length bytes ≤ 128 * k + m)
+    side : (m : ℕ) → m < 128 → (128 * k + m < 128 * j) ⊎ (128 * j + length bytes ≤ 128 * k + m)
     side m b = elim (cases_lt k j) [
       | inl low ↦ inl (omega arith)
       | inr high ↦ inr (omega (arith, long, differ))
@@ -149,6 +150,33 @@ pointers_put pointers bytes part long twelve small e =
     ap (λ ys. u32s_at (put_mid 8 48 bytes ys) 8 12) e
     ∙ ap (u32s_at (put_mid 8 48 bytes (flat_map (little_bytes 4) pointers)) 8) (sym twelve)
     ∙ pointers_here pointers (take 8 bytes) (drop 48 (drop 8 bytes)) 8 (length-take-le 8 bytes (omega (arith, long))) small
+
+-- after a write of sixteen words
+pub words_put : (words bytes part : List ℕ) → length bytes ≡ 128 → length words ≡ 16 → ((k : ℕ) → slice_index words k < 2 ^ 32)
+    → part ≡ flat_map (little_bytes 4) words → u32s_at (put_mid 64 64 bytes part) 64 16 ≡ words
+words_put words bytes part long sixteen small e =
+    ap (λ ys. u32s_at (put_mid 64 64 bytes ys) 64 16) e
+    ∙ ap (λ n. u32s_at (put_mid 64 64 bytes (flat_map (little_bytes 4) words)) 64 n) (sym sixteen)
+    ∙ pointers_here words (take 64 bytes) (drop 64 (drop 64 bytes)) 64 (length-take-le 64 bytes (omega (arith, long))) small
+
+-- other attributes behind the rest of a record
+pub attributes_put : (version : ℕ) (r : Inode) (words bytes new : List ℕ) → ((k : ℕ) → k < 64 → slice_index new k ≡ slice_index bytes k) → u32s_at new 64 16 ≡ words
+    → inode_at version bytes 0 ≡ r → inode_at version new 0 ≡ record r { attributes = words }
+attributes_put version r words bytes new front are e =
+    same_inode
+    (same_number 2 0 new bytes (λ k low high. front k (omega arith)) ∙ ap (λ (x : Inode). x.mode) e)
+    (same_number 2 2 new bytes (λ k low high. front k (omega arith)) ∙ ap (λ (x : Inode). x.links) e)
+    (same_number 4 4 new bytes (λ k low high. front k (omega arith)) ∙ ap (λ (x : Inode). x.size) e)
+    (numbers_moved 12 8 8 new bytes (record { at = λ k b. front (8 + k) (omega arith) }) ∙ ap (λ (x : Inode). x.direct) e)
+    (same_number 4 56 new bytes (λ k low high. front k (omega arith)) ∙ ap (λ (x : Inode). x.indirect) e)
+    (ap (λ n. cond (eqb version 2) n 0) (same_number 4 60 new bytes (λ k low high. front k (omega arith))) ∙ ap (λ (x : Inode). x.double) e)
+    are
+
+-- a byte behind the place from which lists are the same
+pub byte_behind : (n k : ℕ) (xs ys : List ℕ) → n ≤ k → drop n xs ≡ drop n ys → slice_index xs k ≡ slice_index ys k
+byte_behind n k xs ys far e =
+    let place : k ≡ n + (k - n) = omega (arith, far) in
+    ap (slice_index xs) place ∙ sym (get_or-drop n xs (k - n) 0) ∙ ap (λ zs. slice_index zs (k - n)) e ∙ get_or-drop n ys (k - n) 0 ∙ ap (slice_index ys) (sym place)
 
 same_rest : (n : ℕ) (xs ys : List ℕ) → length xs ≡ length ys → ((k : ℕ) → n ≤ k → slice_index xs k ≡ slice_index ys k) → drop n xs ≡ drop n ys
 same_rest n xs ys e h =
@@ -229,9 +257,9 @@ module _ (mode links size : ℕ) (bytes : List ℕ) (long : length bytes ≡ 128
       at = λ k b. put_apart 56 (little_bytes 4 indirect) with_direct (omega (arith, direct_long)) (8 + k) (inl (omega arith));
     }) ∙ pointers
 
-    pub written_record : mode < 2 ^ 16 → links < 2 ^ 16 → size < 2 ^ 32 → indirect < 2 ^ 32
-        → inode_at 1 (put_u32 56 indirect with_direct) 0 ≡ record { mode = mode; links = links; size = size; direct = direct; indirect = indirect; double = 0 }
-    written_record m l s i =
+    pub written_record : (words : List ℕ) → u32s_at bytes 64 16 ≡ words → mode < 2 ^ 16 → links < 2 ^ 16 → size < 2 ^ 32 → indirect < 2 ^ 32
+        → inode_at 1 (put_u32 56 indirect with_direct) 0 ≡ record { mode = mode; links = links; size = size; direct = direct; indirect = indirect; double = 0; attributes = words }
+    written_record words same m l s i =
         same_inode
         (written_front 2 0 (omega arith) ∙ mode_is m)
         (written_front 2 2 (omega arith) ∙ links_is l)
@@ -239,6 +267,11 @@ module _ (mode links size : ℕ) (bytes : List ℕ) (long : length bytes ≡ 128
         written_direct
         (number_here 4 indirect 56 with_direct (omega (arith, direct_long)) i)
         refl
+        (numbers_moved 16 64 64 (put_u32 56 indirect with_direct) bytes (record {
+          at = λ k b.
+              put_apart 56 (little_bytes 4 indirect) with_direct (omega (arith, direct_long)) (64 + k) (inr (omega arith))
+              ∙ apart (64 + k) (inr (omega arith)) ∙ rest_before (64 + k) (omega arith);
+        }) ∙ same)
 
     pub written_rest : drop 60 (put_u32 56 indirect with_direct) ≡ drop 60 bytes
     written_rest =
@@ -262,13 +295,4 @@ module _ (bytes : List ℕ) (long : length bytes ≡ 128) where
       (numbers_moved 12 8 8 (put_u32 60 double bytes) bytes (record { at = λ k b. put_apart 60 (little_bytes 4 double) bytes (omega (arith, long)) (8 + k) (inl (omega arith)) }) ∙ ap (λ (x : Inode). x.direct) e)
       (before_double double 4 56 (omega arith) ∙ ap (λ (x : Inode). x.indirect) e)
       (number_here 4 double 60 bytes (omega (arith, long)) small)
-
-  pub behind_double : (double : ℕ) → drop 64 (put_u32 60 double bytes) ≡ drop 64 bytes
-  behind_double double =
-      same_rest 64 (put_u32 60 double bytes) bytes (length-put 60 (little_bytes 4 double) bytes (omega (arith, long)))
-      (λ k high. put_apart 60 (little_bytes 4 double) bytes (omega (arith, long)) k (inr (omega arith)))
-
--- what is the same from a byte on is so from a later one on
-pub later_rest : (m n : ℕ) (xs ys : List ℕ) → m ≤ n → drop m xs ≡ drop m ys → drop n xs ≡ drop n ys
-later_rest m n xs ys fits e =
-    ap (λ k. drop k xs) (omega arith) ∙ sym (drop-drop (n - m) m xs) ∙ ap (drop (n - m)) e ∙ drop-drop (n - m) m ys ∙ ap (λ k. drop k ys) (omega arith)
+      (numbers_moved 16 64 64 (put_u32 60 double bytes) bytes (record { at = λ k b. put_apart 60 (little_bytes 4 double) bytes (omega (arith, long)) (64 + k) (inr (omega arith)) }) ∙ ap (λ (x : Inode). x.attributes) e)

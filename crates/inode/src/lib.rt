@@ -1,14 +1,14 @@
 //! The record of an inode: its mode, links, size and block pointers, as they stand in its 128 bytes of a block of
 //! inodes. Numbers stand the least byte first: the mode in bytes 0 and 1, the links in 2 and 3, the size in 4 to 7, the
 //! twelve direct pointers in 8 to 55, the indirect pointer in 56 to 59 and, in version 2 of the layout, the double
-//! indirect pointer in 60 to 63. The bytes behind are neither looked at nor changed. No call takes memory.
+//! indirect pointer in 60 to 63; in bytes 64 to 127 the attributes, sixteen numbers that are kept for users. No call takes memory.
 #![tactic(auto)]
 
 ghost use Rattle.std.specs.Prelude.{◌≡◌, ◌≢◌, ℕ, ◌+◌, ◌*◌, ◌≤◌, ◌<◌, ◌⊎◌, List, None, length, take, drop, slice_index, slice_index_or};
 ghost use Rattle.std.specs.Simd.{first_chunks};
 ghost use Rattle.layout.specs.Fresh.{put};
 ghost use Rattle.model.specs.Shape.{field_at, position_count, table_of, with_field};
-ghost use Rattle.model.specs.View.{Fits, Inode, free_inode, inode_at, looked_at, u32s_at};
+ghost use Rattle.model.specs.View.{Fits, Inode, IsSpare, free_inode, inode_at, u32s_at};
 ghost use Rattle.model.specs.Uses as uses;
 
 use byteorder::{ByteOrder, LittleEndian};
@@ -20,6 +20,9 @@ pub const RECORD_BYTES: usize = 128;
 
 /// How many pointers to blocks stand in the record itself.
 pub const DIRECT_POINTERS: usize = layout::DIRECT_POINTERS;
+
+/// How many numbers the attributes are.
+pub const ATTRIBUTES: usize = 16;
 
 /// The mode of a free record.
 pub const FREE: u16 = 0;
@@ -48,6 +51,8 @@ pub struct Record {
     pub indirect: u32,
     /// The address of the block that holds those of further such blocks; 0 in version 1 of the layout.
     pub double: u32,
+    /// What is kept of the inode for users.
+    pub attributes: [u32; ATTRIBUTES],
 }
 
 impl Model for Record {
@@ -55,9 +60,9 @@ impl Model for Record {
 
     ghost Value = { Inode };
 
-    ghost view = { λ r. record { mode = r.mode; links = r.links; size = r.size; direct = r.direct; indirect = r.indirect; double = r.double } };
+    ghost view = { λ r. record { mode = r.mode; links = r.links; size = r.size; direct = r.direct; indirect = r.indirect; double = r.double; attributes = r.attributes } };
 
-    ghost inverse = { λ n. record { mode = n.mode; links = n.links; size = n.size; direct = n.direct; indirect = n.indirect; double = n.double } };
+    ghost inverse = { λ n. record { mode = n.mode; links = n.links; size = n.size; direct = n.direct; indirect = n.indirect; double = n.double; attributes = n.attributes } };
 }
 
 impl Record {
@@ -67,6 +72,8 @@ impl Record {
     {
         let mut direct = [0; DIRECT_POINTERS];
         LittleEndian::read_u32_into(&bytes[8..56], &mut direct);
+        let mut attributes = [0; ATTRIBUTES];
+        LittleEndian::read_u32_into(&bytes[64..128], &mut attributes);
         Record {
             mode: mode_of(bytes),
             links: LittleEndian::read_u16(&bytes[2..]),
@@ -74,10 +81,11 @@ impl Record {
             direct,
             indirect: LittleEndian::read_u32(&bytes[56..]),
             double: double_of(version, bytes),
+            attributes,
         }
     }
 
-    /// Reads what stands before the pointers of a record, from its bytes, and leaves the pointers at 0. That is enough to tell
+    /// Reads what stands before the pointers of a record, from its bytes, and leaves all else at 0. That is enough to tell
     /// whether the record is sound, and much quicker.
     pub fn read_head(bytes: &[u8; RECORD_BYTES]) -> Record
         ensures { (version : ℕ) → let inode = inode_at version bytes.now 0 in
@@ -90,14 +98,14 @@ impl Record {
             direct: [0; DIRECT_POINTERS],
             indirect: 0,
             double: 0,
+            attributes: [0; ATTRIBUTES],
         }
     }
 
-    /// Writes the record over its bytes, as this version of the layout has it: over bytes 0 to 59 in version 1, and 0 to
-    /// 63 in version 2. The others stay as they were.
+    /// Writes the record over its bytes, as this version of the layout has it: in version 1 bytes 60 to 63 stay as they were.
     pub fn write(&self, version: u32, bytes: &mut [u8; RECORD_BYTES])
         ensures read { Fits version self.now → inode_at version bytes.new 0 ≡ self.now }
-        ensures rest { drop (looked_at version) bytes.new ≡ drop (looked_at version) bytes.old }
+        ensures rest { (k : ℕ) → IsSpare version k → slice_index bytes.new k ≡ slice_index bytes.old k }
     {
         self.write_single(bytes);
         if version == DOUBLE {
@@ -105,9 +113,18 @@ impl Record {
         }
     }
 
-    /// Writes the record over bytes 0 to 59, but for its double indirect pointer.
+    /// Writes the record over its bytes, but for its double indirect pointer.
     fn write_single(&self, bytes: &mut [u8; RECORD_BYTES])
         ensures read { inode_at 1 bytes.new 0 ≡ record self.now { double = 0 } }
+        ensures rest { (k : ℕ) → 60 ≤ k → k < 64 → slice_index bytes.new k ≡ slice_index bytes.old k }
+    {
+        self.write_front(bytes);
+        write_attributes(&self.attributes, bytes);
+    }
+
+    /// Writes the record over bytes 0 to 59.
+    fn write_front(&self, bytes: &mut [u8; RECORD_BYTES])
+        ensures read { (words : List ℕ) → u32s_at bytes.old 64 16 ≡ words → inode_at 1 bytes.new 0 ≡ record self.now { double = 0; attributes = words } }
         ensures rest { drop 60 bytes.new ≡ drop 60 bytes.old }
     {
         let Record {
@@ -214,10 +231,17 @@ fn write_direct(pointers: &[u32; DIRECT_POINTERS], bytes: &mut [u8; RECORD_BYTES
     LittleEndian::write_u32_into(pointers, &mut bytes[8..56]);
 }
 
+/// Writes the attributes over bytes 64 to 127.
+fn write_attributes(words: &[u32; ATTRIBUTES], bytes: &mut [u8; RECORD_BYTES])
+    ensures read { (version : ℕ) (inode : Inode) → inode_at version bytes.old 0 ≡ inode → inode_at version bytes.new 0 ≡ record inode { attributes = words.now } }
+    ensures rest { (k : ℕ) → k < 64 → slice_index bytes.new k ≡ slice_index bytes.old k }
+{
+    LittleEndian::write_u32_into(words, &mut bytes[64..128]);
+}
+
 /// Writes the double indirect pointer over bytes 60 to 63, where the rest of the record is written.
 fn write_double(pointer: u32, bytes: &mut [u8; RECORD_BYTES])
-    ensures read { (inode : Inode) → inode_at 1 bytes.old 0 ≡ record inode { double = 0 } → inode_at 2 bytes.new 0 ≡ record inode { double = pointer } }
-    ensures rest { drop 64 bytes.new ≡ drop 64 bytes.old }
+    ensures { (inode : Inode) → inode_at 1 bytes.old 0 ≡ record inode { double = 0 } → inode_at 2 bytes.new 0 ≡ record inode { double = pointer } }
 {
     LittleEndian::write_u32(&mut bytes[60..64], pointer);
 }

@@ -20,11 +20,11 @@ use Rattle.plans_naming.specs.Plans.{slot_block, entry_block}
 use Rattle.machine.specs.Cells.{block_of}
 use Rattle.plans_naming.proofs.AcceptedCommands.{accepted_create, accepted_create_grown, accepted_make, accepted_make_grown, accepted_link, accepted_link_grown, accepted_rename, accepted_move, accepted_move_grown, accepted_unlink, accepted_remove}
 use Rattle.plans_naming.proofs.UnlinkLast.{now_is}
-use Rattle.courses.specs.Done.{IsDoneBy, CreatesInSlot, CreatesInNewBlock, MakesInSlot, MakesInNewBlock, LinksInSlot, LinksInNewBlock, RenamesInSlot, MovesToSlot, MovesToNewBlock, UnlinksName, UnlinksFile, RemovesName, RemovesDirectory, WritesInPlace, WritesBehind, WritesElsewhere, TruncatesFile, ClosesHandle, CarriesOutRepair}
+use Rattle.courses.specs.Done.{IsDoneBy, CreatesInSlot, CreatesInNewBlock, MakesInSlot, MakesInNewBlock, LinksInSlot, LinksInNewBlock, RenamesInSlot, MovesToSlot, MovesToNewBlock, UnlinksName, UnlinksFile, RemovesName, RemovesDirectory, WritesInPlace, WritesBehind, WritesElsewhere, TruncatesFile, ClosesHandle, CarriesOutRepair, SetsItsAttributes}
 use Rattle.kept_claims.specs.Claims.{IsMetadataClaim, GivesBytes}
 use Rattle.kept_claims.proofs.Since.{Since}
 use Rattle.kept_claims.proofs.Naming.{creating_since, creating_grown_since, linking_since, linking_grown_since, unlinking_since, unlinking_last_since, making_since, making_grown_since, removing_since, removing_name_since, renaming_since, moving_since, moving_grown_since}
-use Rattle.kept_claims.proofs.Data.{closing_since, repairing_since, truncation_since, written_since, appended_since, relocated_since}
+use Rattle.kept_claims.proofs.Data.{closing_since, repairing_since, truncation_since, written_since, appended_since, relocated_since, attributing_since}
 
 -- p is q with more updates, which give each block its bytes that is metadata from then on
 record Gives (geo : Geometry) (disk : View) (q p : List Pending) : Type 0 where
@@ -47,18 +47,18 @@ module _ (geo : Geometry) (disk : View) (q : List Pending) where
     st = now disk q old
 
     plans : (command : Command) (answer : Answer) (file : ℕ) (plan : List Pending) (new : State) (safe' : ℕ → Bool) → Accepts geo st command → IsDoneBy geo disk q old safe command answer file plan new safe' → Gives geo disk q plan
-    plans command answer file plan new safe' ok (CreatesInSlot p n s entry after free place) = gives _ _
-        (creating_since geo disk q rules n (holder geo start p) s (slot_block geo start p s) (name_in p) entry after
-        (accepted_create geo st stands.balance stands.geometry p ok n s entry after free place.empty place.says place.record_first place.others_first))
-    plans command answer file plan new safe' ok (CreatesInNewBlock p n b kept s entry after free place) = gives _ _
-        (creating_grown_since geo disk q rules n (holder geo start p) b kept s (name_in p) entry after
-        (accepted_create_grown geo st stands.balance stands.geometry p ok n b kept s entry after free place.full place.free place.keeps place.apart place.stands place.says place.record_first place.blocks_first))
-    plans command answer file plan new safe' ok (MakesInSlot p i a dots s entry after free own are place) = gives _ _
-        (making_since geo disk q rules i a dots (holder geo start p) s (slot_block geo start p s) (name_in p) entry after
-        (accepted_make geo st stands.balance stands.geometry p ok i a dots s entry after free own are place.empty place.says place.record_first place.others_first))
-    plans command answer file plan new safe' ok (MakesInNewBlock p i a dots b kept s entry after free own are other place) = gives _ _
-        (making_grown_since geo disk q rules i a dots (holder geo start p) b kept s (name_in p) entry after
-        (accepted_make_grown geo st stands.balance stands.geometry p ok i a dots b kept s entry after free own are place.full place.free other place.keeps place.apart place.stands place.says place.record_first place.blocks_first))
+    plans command answer file plan new safe' ok (CreatesInSlot p words n s entry after free place) = gives _ _
+        (creating_since geo disk q rules n words (holder geo start p) s (slot_block geo start p s) (name_in p) entry after
+        (accepted_create geo st stands.balance stands.geometry p words ok n s entry after free place.empty place.says place.record_first place.others_first))
+    plans command answer file plan new safe' ok (CreatesInNewBlock p words n b kept s entry after free place) = gives _ _
+        (creating_grown_since geo disk q rules n words (holder geo start p) b kept s (name_in p) entry after
+        (accepted_create_grown geo st stands.balance stands.geometry p words ok n b kept s entry after free place.full place.free place.keeps place.apart place.stands place.says place.record_first place.blocks_first))
+    plans command answer file plan new safe' ok (MakesInSlot p words i a dots s entry after free own are place) = gives _ _
+        (making_since geo disk q rules i a words dots (holder geo start p) s (slot_block geo start p s) (name_in p) entry after
+        (accepted_make geo st stands.balance stands.geometry p words ok i a dots s entry after free own are place.empty place.says place.record_first place.others_first))
+    plans command answer file plan new safe' ok (MakesInNewBlock p words i a dots b kept s entry after free own are other place) = gives _ _
+        (making_grown_since geo disk q rules i a words dots (holder geo start p) b kept s (name_in p) entry after
+        (accepted_make_grown geo st stands.balance stands.geometry p words ok i a dots b kept s entry after free own are place.full place.free other place.keeps place.apart place.stands place.says place.record_first place.blocks_first))
     plans command answer file plan new safe' ok (LinksInSlot p r s entry after place) = gives _ _
         (linking_since geo disk q rules (number_at geo start p) (holder geo start r) s (slot_block geo start r s) (name_in r) entry after
         (accepted_link geo st stands.balance stands.geometry p r ok s entry after place.empty place.says place.record_first place.others_first))
@@ -94,6 +94,7 @@ module _ (geo : Geometry) (disk : View) (q : List Pending) where
         (plan_moved geo stands.geometry st stands.balance h k piece ok bytes over b free inside kept))
     plans command answer file plan new safe' ok (TruncatesFile h size) = gives _ _
         (truncation_since geo disk q old (file_of old h) size (given_up_with geo st (file_of old h) (sized (start.inode (file_of old h)) size)) (plan_truncate geo stands.geometry st stands.balance h size ok))
+    plans command answer file plan new safe' ok (SetsItsAttributes n words) = gives _ _ (attributing_since geo disk q n words)
     plans command answer file plan new safe' ok (ClosesHandle h) = gives _ _
         (closing_since geo disk q (file_of old h) (is_open (without_handle h old) (file_of old h)) (given_up_with geo st (file_of old h) free_inode))
     plans command answer file plan new safe' ok (CarriesOutRepair k list r planned at) = gives _ _

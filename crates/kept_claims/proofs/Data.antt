@@ -2,7 +2,7 @@
 use Rattle.std.proofs.Common.{◌≡◌, ◌<◌, ◌≤◌, ◌+◌, ◌-◌, ℕ, Bool, true, false, cond, ltb, List, [], ◌∷◌, length, inl, inr, refl, sym, ◌∙◌, subst, IsTrue, arith, eqb-true}
 use Rattle.std.proofs.lemmas.Bool.{cases_lt, and_parts}
 use Rattle.model.specs.Layout.{Geometry, is_number}
-use Rattle.model.specs.View.{View, Inode}
+use Rattle.model.specs.View.{View, Inode, with_attributes}
 use Rattle.model.specs.Cells.{SetInode, SetBytes}
 use Rattle.model.specs.Shape.{most_blocks, top, field_at}
 use Rattle.model.specs.Uses.{blocks_of, has_position, is_sound, is_sound_at, is_directory}
@@ -25,8 +25,9 @@ use Rattle.plans_data.specs.Write.{MayWriteInPlace, MayWriteAppended, MayWriteMo
 use Rattle.plans_data.proofs.Blocks.{block_claimed, few_blocks, same_blocks, one_more}
 use Rattle.plans_data.proofs.Holders.{none_new}
 use Rattle.kept_claims.proofs.Views.{MetadataOf, metadata_from}
-use Rattle.kept_claims.proofs.Since.{Since, nothing, start as nothing_yet, number_on, block_on, bytes_on, record_on, links_on, cleared_on, freeing_on, data_no_table}
+use Rattle.kept_claims.proofs.Since.{Since, nothing, start as nothing_yet, number_on, block_on, bytes_on, record_on, links_on, cleared_on, freeing_on, data_no_table, attributes_on}
 use Rattle.kept_claims.proofs.Grows.{Gets, Grown, linked_once, tables_on}
+use Rattle.plans_data.specs.Attributes.{attributing}
 
 module _ (geo : Geometry) (disk : View) (q : List Pending) where
   abbrev start : View
@@ -59,6 +60,9 @@ module _ (geo : Geometry) (disk : View) (q : List Pending) where
   relinking_since n links opened blocks =
       either_on (goes_away links opened) (freeing n blocks [] q) (record { change = SetInode n (with_links (start.inode n) links); after = [] } ∷ q) nothing
       (freeing_on geo disk q n blocks [] q nothing (nothing_yet geo disk q)) (links_on geo disk q q nothing (nothing_yet geo disk q) n (with_links (start.inode n) links) [] links refl)
+
+  pub attributing_since : (n : ℕ) (words : List ℕ) → Since geo disk q (attributing n (start.inode n) words q) nothing
+  attributing_since n words = attributes_on geo disk q q nothing (nothing_yet geo disk q) n (with_attributes (start.inode n) words) [] words refl
 
   pub closing_since : (n : ℕ) (opened : Bool) (blocks : List ℕ) → Since geo disk q (closing n (start.inode n) opened blocks q) nothing
   closing_since n opened blocks = either_on (goes_away (start.inode n).links opened) (freeing n blocks [] q) q nothing (freeing_on geo disk q n blocks [] q nothing (nothing_yet geo disk q)) (nothing_yet geo disk q)

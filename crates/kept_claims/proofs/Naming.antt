@@ -2,7 +2,7 @@
 use Rattle.std.proofs.Common.{◌≡◌, ◌+◌, ◌-◌, ◌/◌, ℕ, true, false, List, [], ◌∷◌, inl, inr, refl, sym, ap, ◌∙◌, subst, IsTrue, IsFalse, arith}
 use Rattle.std.proofs.lemmas.Bool.{cases_lt, and_parts, both_ways, leb-true}
 use Rattle.model.specs.Layout.{Geometry}
-use Rattle.model.specs.View.{View, Inode, free_inode, new_file}
+use Rattle.model.specs.View.{View, Inode, free_inode}
 use Rattle.model.specs.Cells.{SetInode, SetNumber, SetBlock, SetBytes}
 use Rattle.model.specs.Shape.{most_blocks, is_table}
 use Rattle.model.specs.Uses.{blocks_of, is_sound_at, is_directory, IsClaim}
@@ -14,7 +14,7 @@ use Rattle.ordering.specs.Cuts.{Cell, Record, NumberBit, BlockBit, Block, Pendin
 use Rattle.ordering.proofs.Data.{directory_mode}
 use Rattle.ordering.proofs.Records.{put_here, put_there, put_same}
 use Rattle.machine.specs.Cells.{with_slot}
-use Rattle.machine.specs.Effects.{with_links, new_directory}
+use Rattle.machine.specs.Effects.{file_with, with_links, new_directory}
 use Rattle.plans_data.specs.Append.{Holder, KeptInRecord, KeptInTable, KeptInNew, IsKeptIn, IsNoneOf, new_blocks, linked, pointed, sized, filled}
 use Rattle.plans_data.specs.Freeing.{cleared, freeing}
 use Rattle.plans_naming.specs.Entries.{StandsAt, slot_written, no_entry}
@@ -113,24 +113,24 @@ module _ (geo : Geometry) (disk : View) (q : List Pending) (rules : ObeysRules g
     entered_on entry after' = bytes_on geo disk q (grown geo d (with_links (start.inode d) l) b holder p) (Grown new (blocks_of size) b holder) grown_on b (with_slot empty_block t entry) after'
         (no_table geo disk q (grown geo d (with_links (start.inode d) l) b holder p) (Grown new (blocks_of size) b holder) grown_on b (unmarked_no_table geo start rules b can.grow.free.unmarked) (not_new b can.grow.apart.0))
 
-  born_on : (n : ℕ) → Since geo disk q (born n new_file [] q) nothing
-  born_on n =
+  born_on : (n : ℕ) (words : List ℕ) → Since geo disk q (born n (file_with words) [] q) nothing
+  born_on n words =
       let s = number_on geo disk q q nothing (nothing_yet geo disk q) n true [] in
-      empty_on geo disk q (record { change = SetNumber n true; after = [] } ∷ q) nothing s n new_file (NumberBit n ∷ []) refl
+      empty_on geo disk q (record { change = SetNumber n true; after = [] } ∷ q) nothing s n (file_with words) (NumberBit n ∷ []) refl
 
   raised_on : (i : ℕ) → Since geo disk q (raised i (start.inode i) q) nothing
   raised_on i = links_on geo disk q q nothing (nothing_yet geo disk q) i (with_links (start.inode i) ((start.inode i).links + 1)) [] ((start.inode i).links + 1) refl
 
   -- ---- commands
 
-  pub creating_since : (n d s block : ℕ) (name entry : List ℕ) (after : List Cell) → CanCreate geo start n d s block name entry after → Since geo disk q (creating n block (start.bytes block) s entry after q) nothing
-  creating_since n d s block name entry after can = slot_on (born n new_file [] q) nothing (born_on n) d s block Empty can.place (λ j table m. m) (start.bytes block) s entry after
+  pub creating_since : (n : ℕ) (words : List ℕ) (d s block : ℕ) (name entry : List ℕ) (after : List Cell) → CanCreate geo start n d s block name entry after → Since geo disk q (creating n words block (start.bytes block) s entry after q) nothing
+  creating_since n words d s block name entry after can = slot_on (born n (file_with words) [] q) nothing (born_on n words) d s block Empty can.place (λ j table m. m) (start.bytes block) s entry after
 
-  pub creating_grown_since : (n d b : ℕ) (kept : Holder) (s : ℕ) (name entry : List ℕ) (after : List Cell) → CanCreateGrown geo start n d b kept s name entry after
-      → Since geo disk q (creating_grown geo n d (start.inode d) b kept s entry after q) (Grown nothing (blocks_of (start.inode d).size) b kept)
-  creating_grown_since n d b kept s name entry after can =
-      entered_on (born n new_file [] q) nothing (born_on n) (λ j c table m. m) d (start.inode d).links b kept s name after can.enter
-      (put_there start.inode n d new_file (not_free n d can.unmarked can.enter.reachable)) (λ m x table c. refl) entry after
+  pub creating_grown_since : (n : ℕ) (words : List ℕ) (d b : ℕ) (kept : Holder) (s : ℕ) (name entry : List ℕ) (after : List Cell) → CanCreateGrown geo start n d b kept s name entry after
+      → Since geo disk q (creating_grown geo n words d (start.inode d) b kept s entry after q) (Grown nothing (blocks_of (start.inode d).size) b kept)
+  creating_grown_since n words d b kept s name entry after can =
+      entered_on (born n (file_with words) [] q) nothing (born_on n words) (λ j c table m. m) d (start.inode d).links b kept s name after can.enter
+      (put_there start.inode n d (file_with words) (not_free n d can.unmarked can.enter.reachable)) (λ m x table c. refl) entry after
 
   pub linking_since : (i d s block : ℕ) (name entry : List ℕ) (after : List Cell) → CanLink geo start i d s block name entry after → Since geo disk q (linking i (start.inode i) block (start.bytes block) s entry after q) nothing
   linking_since i d s block name entry after can = slot_on (raised i (start.inode i) q) nothing (raised_on i) d s block Empty can.place (λ j table m. m) (start.bytes block) s entry after
@@ -152,8 +152,8 @@ module _ (geo : Geometry) (disk : View) (q : List Pending) (rules : ObeysRules g
       (slot_on q nothing (nothing_yet geo disk q) d s block (Good i name) can.place (λ j table m. m) (start.bytes block) s no_entry [])
 
   -- a new directory, whose block is a
-  made_on : (i a : ℕ) (dots : List ℕ) (d : ℕ) → CanMake geo start i a d dots → Since geo disk q (made i a dots d (start.inode d) q) (Or nothing (At 0 a))
-  made_on i a dots d can =
+  made_on : (i a : ℕ) (words dots : List ℕ) (d : ℕ) → CanMake geo start i a d dots → Since geo disk q (made i a words dots d (start.inode d) q) (Or nothing (At 0 a))
+  made_on i a words dots d can =
       let s1 = number_on geo disk q q nothing (nothing_yet geo disk q) i true [] in
       let s2 = block_on geo disk q (record { change = SetNumber i true; after = [] } ∷ q) nothing s1 a true [] in
       let p2 : List Pending = record { change = SetBlock a true; after = [] } ∷ record { change = SetNumber i true; after = [] } ∷ q in
@@ -161,25 +161,25 @@ module _ (geo : Geometry) (disk : View) (q : List Pending) (rules : ObeysRules g
       let p3 = raised d (start.inode d) p2 in
       let s4 = given_on geo disk q p3 nothing s3 a dots (BlockBit a ∷ Record d ∷ []) (At 0 a) (λ k c m. m.1) (no_table geo disk q p3 nothing s3 a (unmarked_no_table geo start rules a can.block_unmarked) (λ j table m. m)) in
       let p4 : List Pending = record { change = SetBytes a dots; after = BlockBit a ∷ Record d ∷ [] } ∷ p3 in
-      record_since geo disk q p4 (Or nothing (At 0 a)) s4 i (new_directory a) (NumberBit i ∷ Block a ∷ []) (λ k c m. inr (inr (new_directory_uses geo (users_view disk p4) a k c m.uses)))
+      record_since geo disk q p4 (Or nothing (At 0 a)) s4 i (new_directory a words) (NumberBit i ∷ Block a ∷ []) (λ k c m. inr (inr (new_directory_uses geo (users_view disk p4) a words k c m.uses)))
 
   -- which is no table
   made_not_new : (a l c : ℕ) → IsTrue (is_table geo l) → Or nothing (At 0 a) l c → ⊥
   made_not_new a l c table (inl o) = o
   made_not_new a l c table (inr at) = let high = leb-true (most_blocks geo) l table in let many = many_blocks geo in omega (arith, at.0, high, many)
 
-  pub making_since : (i a : ℕ) (dots : List ℕ) (d s block : ℕ) (name entry : List ℕ) (after : List Cell) → CanMakeIn geo start i a dots d s block name entry after
-      → Since geo disk q (making i a dots d (start.inode d) block (start.bytes block) s entry after q) (Or nothing (At 0 a))
-  making_since i a dots d s block name entry after can =
-      slot_on (made i a dots d (start.inode d) q) (Or nothing (At 0 a)) (made_on i a dots d can.make) d s block Empty can.place
+  pub making_since : (i a : ℕ) (words dots : List ℕ) (d s block : ℕ) (name entry : List ℕ) (after : List Cell) → CanMakeIn geo start i a dots d s block name entry after
+      → Since geo disk q (making i a words dots d (start.inode d) block (start.bytes block) s entry after q) (Or nothing (At 0 a))
+  making_since i a words dots d s block name entry after can =
+      slot_on (made i a words dots d (start.inode d) q) (Or nothing (At 0 a)) (made_on i a words dots d can.make) d s block Empty can.place
       (λ j table m. made_not_new a j block table m) (start.bytes block) s entry after
 
-  pub making_grown_since : (i a : ℕ) (dots : List ℕ) (d b : ℕ) (kept : Holder) (s : ℕ) (name entry : List ℕ) (after : List Cell) → CanMakeGrown geo start i a dots d b kept s name entry after
-      → Since geo disk q (making_grown geo i a dots d (start.inode d) b kept s entry after q) (Grown (Or nothing (At 0 a)) (blocks_of (start.inode d).size) b kept)
-  making_grown_since i a dots d b kept s name entry after can =
-      entered_on (made i a dots d (start.inode d) q) (Or nothing (At 0 a)) (made_on i a dots d can.make) (made_not_new a)
+  pub making_grown_since : (i a : ℕ) (words dots : List ℕ) (d b : ℕ) (kept : Holder) (s : ℕ) (name entry : List ℕ) (after : List Cell) → CanMakeGrown geo start i a dots d b kept s name entry after
+      → Since geo disk q (making_grown geo i a words dots d (start.inode d) b kept s entry after q) (Grown (Or nothing (At 0 a)) (blocks_of (start.inode d).size) b kept)
+  making_grown_since i a words dots d b kept s name entry after can =
+      entered_on (made i a words dots d (start.inode d) q) (Or nothing (At 0 a)) (made_on i a words dots d can.make) (made_not_new a)
       d ((start.inode d).links + 1) b kept s name after can.enter
-      (put_there (users_view disk (raised d (start.inode d) q)).inode i d (new_directory a) (not_free i d can.make.unmarked can.enter.reachable) ∙ put_here start.inode d (with_links (start.inode d) ((start.inode d).links + 1)))
+      (put_there (users_view disk (raised d (start.inode d) q)).inode i d (new_directory a words) (not_free i d can.make.unmarked can.enter.reachable) ∙ put_here start.inode d (with_links (start.inode d) ((start.inode d).links + 1)))
       (λ m x table c. put_there start.bytes a x dots (λ e. both_ways (start.block_marked a) can.make.block_unmarked (rules.rule3.marked d m a (subst (λ y. IsClaim geo start d m y) e c)))) entry after
 
   -- the slot of a directory that is removed is emptied

@@ -2,7 +2,7 @@
 use Rattle.std.proofs.Common.{◌≡◌, ◌<◌, ℕ, suc, Bool, false, List, [], ◌∷◌, ◌++◌, ◌⊎◌, inl, inr, refl, sym, ap, ◌∙◌, subst, IsTrue, IsFalse, arith}
 use Rattle.std.proofs.lemmas.Bool.{both_ways, leb-true}
 use Rattle.model.specs.Layout.{Geometry}
-use Rattle.model.specs.View.{View, Inode, free_inode}
+use Rattle.model.specs.View.{View, Inode, free_inode, with_attributes}
 use Rattle.model.specs.Cells.{SetInode, SetNumber, SetBlock, SetBytes}
 use Rattle.model.specs.Shape.{most_blocks, is_table}
 use Rattle.model.specs.Uses.{blocks_of, IsClaim}
@@ -11,7 +11,7 @@ use Rattle.model.proofs.Shape.{reach_parts}
 use Rattle.model.proofs.Uses.{use_has}
 use Rattle.ordering.specs.Cuts.{Cell, Record, Pending, users_view}
 use Rattle.machine.specs.Effects.{with_links}
-use Rattle.machine.proofs.Records.{links_uses}
+use Rattle.machine.proofs.Records.{links_uses, attributes_uses}
 use Rattle.plans_data.specs.Freeing.{cleared, freeing}
 use Rattle.kept_claims.specs.Claims.{IsMetadataClaim, GivesBytes}
 use Rattle.kept_claims.proofs.Views.{MetadataOf, SamePointers, metadata_from, number_metadata, block_metadata, record_metadata, bytes_metadata, other_bytes_metadata}
@@ -113,6 +113,12 @@ module _ (geo : Geometry) (disk : View) (q : List Pending) where
     links_on n x after l e = record_on n x after (λ k a m.
         let here : MetadataOf geo v n (with_links (v.inode n) l) k a = subst (λ y. MetadataOf geo v n y k a) e m in
         metadata_from geo v n k a (record { number = here.number; uses = sym (links_uses geo v (v.inode n) l k) ∙ here.uses; address = here.address; kind = here.kind }))
+
+    -- with other attributes alone
+    pub attributes_on : (n : ℕ) (x : Inode) (after : List Cell) (words : List ℕ) → x ≡ with_attributes (v.inode n) words → Since geo disk q (record { change = SetInode n x; after = after } ∷ p) new
+    attributes_on n x after words e = record_on n x after (λ k a m.
+        let here : MetadataOf geo v n (with_attributes (v.inode n) words) k a = subst (λ y. MetadataOf geo v n y k a) e m in
+        metadata_from geo v n k a (record { number = here.number; uses = sym (attributes_uses geo v (v.inode n) words k) ∙ here.uses; address = here.address; kind = here.kind }))
 
     -- without blocks
     pub empty_on : (n : ℕ) (x : Inode) (after : List Cell) → blocks_of x.size ≡ 0 → Since geo disk q (record { change = SetInode n x; after = after } ∷ p) new

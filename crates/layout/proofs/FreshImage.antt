@@ -159,7 +159,7 @@ module _ (geo : Geometry) (ok : IsGeometry geo) where
   other_record : (n : ℕ) → 2 ≤ n → (n ≡ 2 → ⊥) → n < 8 → inode_at geo.version (root_record_bytes geo) (inode_byte n) ≡ free_inode
   other_record n low differs high =
       zero_inode geo.version (inode_byte n) (root_record_bytes geo)
-      (zero_within (root_record_bytes geo) 268 1024 (inode_byte n) (inode_byte n + 64) (omega arith) (omega arith) (root_record_rest geo ok))
+      (zero_within (root_record_bytes geo) 268 1024 (inode_byte n) (inode_byte n + 128) (omega arith) (omega arith) (root_record_rest geo ok))
 
   record_is : (n : ℕ) → IsTrue (is_number geo n)
       → inode_at geo.version (cond (eqb (inode_block geo n) (inode_block geo root)) (root_record_bytes geo) zero_block) (inode_byte n) ≡ cond (eqb n 2) (root_inode geo) free_inode
@@ -173,7 +173,7 @@ module _ (geo : Geometry) (ok : IsGeometry geo) where
         ∙ here n (number_from_root n t) (omega arith)
     | inr differs ↦
         ap (λ b. inode_at geo.version b (inode_byte n)) (cond-false (eqb (inode_block geo n) (inode_block geo root)) (root_record_bytes geo) zero_block (ne_eqb (inode_block geo n) (inode_block geo root) differs))
-        ∙ zero_inode geo.version (inode_byte n) zero_block (zeroes_zero 1024 (inode_byte n) (inode_byte n + 64))
+        ∙ zero_inode geo.version (inode_byte n) zero_block (zeroes_zero 1024 (inode_byte n) (inode_byte n + 128))
         ∙ sym (cond-false (eqb n 2) (root_inode geo) free_inode (ne_eqb n 2 (λ e. differs (ap (inode_block geo) e))))
   ]
     where

@@ -110,8 +110,8 @@ zero_within block low high from until a b z = record { at = λ k c d. z.at k (om
 
 -- ---- records of zeroes
 
-pub same_inode : {v w : Inode} → v.mode ≡ w.mode → v.links ≡ w.links → v.size ≡ w.size → v.direct ≡ w.direct → v.indirect ≡ w.indirect → v.double ≡ w.double → v ≡ w
-same_inode p q r s t u = λ i. record { mode = p i; links = q i; size = r i; direct = s i; indirect = t i; double = u i }
+pub same_inode : {v w : Inode} → v.mode ≡ w.mode → v.links ≡ w.links → v.size ≡ w.size → v.direct ≡ w.direct → v.indirect ≡ w.indirect → v.double ≡ w.double → v.attributes ≡ w.attributes → v ≡ w
+same_inode p q r s t u w = λ i. record { mode = p i; links = q i; size = r i; direct = s i; indirect = t i; double = u i; attributes = w i }
 
 pub zero_numbers : (n byte : ℕ) (block : List ℕ) → IsZero block byte (byte + 4 * n) → u32s_at block byte n ≡ replicate n 0
 zero_numbers zero byte block z = refl
@@ -119,16 +119,17 @@ zero_numbers (suc n) byte block z =
     ap₂ (λ a b. a ∷ b) (zero_number 4 byte block (zero_within block byte (byte + 4 * suc n) byte (byte + 4) (omega arith) (omega arith) z))
     (zero_numbers n (byte + 4) block (zero_within block byte (byte + 4 * suc n) (byte + 4) (byte + 4 + 4 * n) (omega arith) (omega arith) z))
 
-pub zero_inode : (version byte : ℕ) (block : List ℕ) → IsZero block byte (byte + 64) → inode_at version block byte ≡ free_inode
+pub zero_inode : (version byte : ℕ) (block : List ℕ) → IsZero block byte (byte + 128) → inode_at version block byte ≡ free_inode
 zero_inode version byte block z =
     same_inode
-    (zero_number 2 byte block (zero_within block byte (byte + 64) byte (byte + 2) (omega arith) (omega arith) z))
-    (zero_number 2 (byte + 2) block (zero_within block byte (byte + 64) (byte + 2) (byte + 2 + 2) (omega arith) (omega arith) z))
-    (zero_number 4 (byte + 4) block (zero_within block byte (byte + 64) (byte + 4) (byte + 4 + 4) (omega arith) (omega arith) z))
-    (zero_numbers 12 (byte + 8) block (zero_within block byte (byte + 64) (byte + 8) (byte + 8 + 4 * 12) (omega arith) (omega arith) z))
-    (zero_number 4 (byte + 56) block (zero_within block byte (byte + 64) (byte + 56) (byte + 56 + 4) (omega arith) (omega arith) z))
+    (zero_number 2 byte block (zero_within block byte (byte + 128) byte (byte + 2) (omega arith) (omega arith) z))
+    (zero_number 2 (byte + 2) block (zero_within block byte (byte + 128) (byte + 2) (byte + 2 + 2) (omega arith) (omega arith) z))
+    (zero_number 4 (byte + 4) block (zero_within block byte (byte + 128) (byte + 4) (byte + 4 + 4) (omega arith) (omega arith) z))
+    (zero_numbers 12 (byte + 8) block (zero_within block byte (byte + 128) (byte + 8) (byte + 8 + 4 * 12) (omega arith) (omega arith) z))
+    (zero_number 4 (byte + 56) block (zero_within block byte (byte + 128) (byte + 56) (byte + 56 + 4) (omega arith) (omega arith) z))
     (cond_both (eqb version 2) (u32_at block (byte + 60)) 0 (λ n. n ≡ 0)
-    (λ two. zero_number 4 (byte + 60) block (zero_within block byte (byte + 64) (byte + 60) (byte + 60 + 4) (omega arith) (omega arith) z)) (λ one. refl))
+    (λ two. zero_number 4 (byte + 60) block (zero_within block byte (byte + 128) (byte + 60) (byte + 60 + 4) (omega arith) (omega arith) z)) (λ one. refl))
+    (zero_numbers 16 (byte + 64) block (zero_within block byte (byte + 128) (byte + 64) (byte + 64 + 4 * 16) (omega arith) (omega arith) z))
 
 -- ---- blocks
 

@@ -78,13 +78,14 @@ module _ (a : ℕ) (small : a < 2 ^ 32) (block : List ℕ) (whole : IsWhole bloc
   unfolding with_first
   first_is = number_here 4 a 264 with_size (omega (arith, size_whole.size)) small
 
-  record_over : (version : ℕ) → inode_at version with_first 256 ≡ record { mode = 2; links = 2; size = 1024; direct = a ∷ replicate 11 0; indirect = 0; double = 0 }
+  record_over : (version : ℕ) → inode_at version with_first 256 ≡ record { mode = 2; links = 2; size = 1024; direct = a ∷ replicate 11 0; indirect = 0; double = 0; attributes = replicate 16 0 }
   record_over version =
       same_inode mode_is links_is size_is
       (ap₂ (λ x xs. x ∷ xs) first_is (zero_numbers 11 268 with_first (zero_within with_first 268 1024 268 (268 + 4 * 11) (omega arith) (omega arith) record_rest)))
       (zero_number 4 312 with_first (zero_within with_first 268 1024 312 (312 + 4) (omega arith) (omega arith) record_rest))
       (cond_both (eqb version 2) (u32_at with_first 316) 0 (λ n. n ≡ 0)
       (λ two. zero_number 4 316 with_first (zero_within with_first 268 1024 316 (316 + 4) (omega arith) (omega arith) record_rest)) (λ one. refl))
+      (zero_numbers 16 320 with_first (zero_within with_first 268 1024 320 (320 + 4 * 16) (omega arith) (omega arith) record_rest))
 
 first_small : (geo : Geometry) → IsGeometry geo → first_data geo < 2 ^ 32
 first_small geo ok = omega (arith, ok.few_inodes)

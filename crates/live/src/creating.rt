@@ -8,39 +8,50 @@ ghost use Rattle.live.specs.Seen.{Answered};
 use crate::Live;
 use crate::ending::Ending;
 use device::Device;
+use inode::ATTRIBUTES;
 use layout::Refusal;
 use std::alloc::Global;
 
 impl<D: Device> Live<D> {
-    /// Creates a file without bytes, and gives its number. Refused with `BadName` where this is no path, with `IsRoot`, with
-    /// `NotFound` or `NotDirectory` where the walk to the last part ends before, with `Exists`, with `NoInode` where each
-    /// number is marked, with `TooBig` where the directory is full, and with `NoBlock` where it needs more blocks than are
-    /// unmarked.
-    pub fn create(&mut self, alloc: Global, path: &[u8]) -> Result<u32, Refusal>
-        ensures done { IfOk result (λ number. D.honest self.old.device → Answered D.image self.old (Create path.now) (Number number) self.new) }
-        ensures sound { OnOk result (D.honest self.old.device → StaysSoundAfter D.held D.image self.old (Create path.now) self.new) }
-        ensures refused { IfErr result (λ r. D.honest self.old.device → MayRefuse (D.image self.old.device) self.old (Create path.now) r) }
-        ensures cause { IfErr result (IsRefused self.old.kept (Create path.now)) }
+    /// Creates a file with these attributes and without bytes, and gives its number. Refused with `BadName` where this is no
+    /// path, with `IsRoot`, with `NotFound` or `NotDirectory` where the walk to the last part ends before, with `Exists`,
+    /// with `NoInode` where each number is marked, with `TooBig` where the directory is full, and with `NoBlock` where it
+    /// needs more blocks than are unmarked.
+    pub fn create(
+        &mut self,
+        alloc: Global,
+        path: &[u8],
+        attributes: &[u32; ATTRIBUTES],
+    ) -> Result<u32, Refusal>
+        ensures done { IfOk result (λ number. D.honest self.old.device → Answered D.image self.old (Create path.now attributes.now) (Number number) self.new) }
+        ensures sound { OnOk result (D.honest self.old.device → StaysSoundAfter D.held D.image self.old (Create path.now attributes.now) self.new) }
+        ensures refused { IfErr result (λ r. D.honest self.old.device → MayRefuse (D.image self.old.device) self.old (Create path.now attributes.now) r) }
+        ensures cause { IfErr result (IsRefused self.old.kept (Create path.now attributes.now)) }
         ensures untouched { OnErr result (self.new ≡ self.old) }
         ensures device { self.new.device ≡ self.old.device }
     {
-        let plan = live_creations::create(alloc, &self.metadata, path)?;
+        let plan = live_creations::create(alloc, &self.metadata, path, attributes)?;
         let number = plan.file();
         self.carry_out(alloc, plan.without_holds(alloc), Ending::Nothing)?;
         Ok(number)
     }
 
-    /// Makes an empty directory, and gives its number. Refused as `create`, and, after `Exists`, with `TooManyLinks` where
+    /// Makes an empty directory with these attributes, and gives its number. Refused as `create`, and, after `Exists`, with `TooManyLinks` where
     /// its parent has 32,767 links; it needs a block for its dots too.
-    pub fn mkdir(&mut self, alloc: Global, path: &[u8]) -> Result<u32, Refusal>
-        ensures done { IfOk result (λ number. D.honest self.old.device → Answered D.image self.old (Mkdir path.now) (Number number) self.new) }
-        ensures sound { OnOk result (D.honest self.old.device → StaysSoundAfter D.held D.image self.old (Mkdir path.now) self.new) }
-        ensures refused { IfErr result (λ r. D.honest self.old.device → MayRefuse (D.image self.old.device) self.old (Mkdir path.now) r) }
-        ensures cause { IfErr result (IsRefused self.old.kept (Mkdir path.now)) }
+    pub fn mkdir(
+        &mut self,
+        alloc: Global,
+        path: &[u8],
+        attributes: &[u32; ATTRIBUTES],
+    ) -> Result<u32, Refusal>
+        ensures done { IfOk result (λ number. D.honest self.old.device → Answered D.image self.old (Mkdir path.now attributes.now) (Number number) self.new) }
+        ensures sound { OnOk result (D.honest self.old.device → StaysSoundAfter D.held D.image self.old (Mkdir path.now attributes.now) self.new) }
+        ensures refused { IfErr result (λ r. D.honest self.old.device → MayRefuse (D.image self.old.device) self.old (Mkdir path.now attributes.now) r) }
+        ensures cause { IfErr result (IsRefused self.old.kept (Mkdir path.now attributes.now)) }
         ensures untouched { OnErr result (self.new ≡ self.old) }
         ensures device { self.new.device ≡ self.old.device }
     {
-        let plan = live_creations::mkdir(alloc, &self.metadata, path)?;
+        let plan = live_creations::mkdir(alloc, &self.metadata, path, attributes)?;
         let number = plan.file();
         self.carry_out(alloc, plan.without_holds(alloc), Ending::Nothing)?;
         Ok(number)

@@ -17,6 +17,7 @@ mod mending;
 mod removing;
 mod renaming;
 mod runs;
+mod setting;
 mod snapshots;
 
 pub use bytes::first_bytes;

@@ -3,7 +3,7 @@ use Rattle.std.proofs.Common.{◌≡◌, ◌+◌, ◌/◌, ℕ, Bool, true, List
 use Rattle.std.specs.Prelude.{IfSome, unwrap_or}
 use Rattle.std.specs.Result.{result_unwrap_or}
 use Rattle.model.specs.Layout.{Geometry, is_number, root}
-use Rattle.model.specs.View.{View, Inode, new_file}
+use Rattle.model.specs.View.{View, Inode}
 use Rattle.model.specs.Uses.{blocks_of}
 use Rattle.model.specs.Slots.{Empty, slot}
 use Rattle.ordering.specs.Cuts.{Pending, users_view}
@@ -11,7 +11,7 @@ use Rattle.frozen.specs.Kept.{Kept, KeepsMetadata, frozen_view}
 use Rattle.machine.specs.Causes.{Accepts}
 use Rattle.machine.specs.Cells.{IsEntryFor, block_of}
 use Rattle.machine.specs.Command.{Answer, Command, Create, Done, Link, Mkdir, Number}
-use Rattle.machine.specs.Effects.{AreDots, with_links}
+use Rattle.machine.specs.Effects.{file_with, AreDots, with_links}
 use Rattle.machine.specs.Paths.{holder, last_part, name_in, number_at, parts_of, target, walk}
 use Rattle.machine.specs.Room.{IsFreeBlock, IsFreeNumber, has_room}
 use Rattle.machine.specs.State.{State}
@@ -93,21 +93,21 @@ pub free_number : (kept : Kept) (view : View) → Shows kept view → (n : ℕ) 
 free_number kept view shows n free = record { number = free.number; unmarked = sym (shows.number_marked n) ∙ free.unmarked }
 
 -- ---- a new file
-module _ (geo : Geometry) (disk : View) (q : List Pending) (old : State) (safe : ℕ → Bool) (path : List ℕ) (ps : List (List ℕ)) (e : parts_of path ≡ Some ps) (d : ℕ) (way : walk geo (users_view disk q) root ps ≡ Ok d)
-    (n : ℕ) (free : IsFreeNumber geo (users_view disk q) n) (draft named : Draft) (file : draft.file ≡ n) (names : over q named.updates ≡ born n new_file [] q) where
+module _ (geo : Geometry) (disk : View) (q : List Pending) (old : State) (safe : ℕ → Bool) (path words : List ℕ) (ps : List (List ℕ)) (e : parts_of path ≡ Some ps) (d : ℕ) (way : walk geo (users_view disk q) root ps ≡ Ok d)
+    (n : ℕ) (free : IsFreeNumber geo (users_view disk q) n) (draft named : Draft) (file : draft.file ≡ n) (names : over q named.updates ≡ born n (file_with words) [] q) where
   abbrev view : View
   view = users_view disk q
 
   pub create_done : (place : Place) → IsPlace geo view d place → EntersAt geo view d (view.inode d) n (last_part ps) place named draft
-      → IsDoneBy geo disk q old safe (Create path) (Number draft.file) draft.file (over q draft.updates) (now disk (over q draft.updates) old) safe
+      → IsDoneBy geo disk q old safe (Create path words) (Number draft.file) draft.file (over q draft.updates) (now disk (over q draft.updates) old) safe
   create_done (Slot s block) is x =
-      done_as geo disk q old safe (Create path) Number n draft.file (create_plan geo view path n s x.entry x.after q) (over q draft.updates) file
+      done_as geo disk q old safe (Create path words) Number n draft.file (create_plan geo view path words n s x.entry x.after q) (over q draft.updates) file
       (x.goes_on.pending q ∙ ap₂ (λ b l. slot_written b (view.bytes b) s x.entry x.after ∷ l) (at geo view path ps e d way n named draft s block is) names)
-      (CreatesInSlot path n s x.entry x.after free (in_slot geo view path ps e d way n named draft s block is x))
+      (CreatesInSlot path words n s x.entry x.after free (in_slot geo view path ps e d way n named draft s block is x))
   create_done (NewBlock block tables) is x =
-      done_as geo disk q old safe (Create path) Number n draft.file (create_plan_grown geo view path n block x.kept x.slot x.entry x.after q) (over q draft.updates) file
+      done_as geo disk q old safe (Create path words) Number n draft.file (create_plan_grown geo view path words n block x.kept x.slot x.entry x.after q) (over q draft.updates) file
       (x.goes_on.pending q ∙ ap₂ (λ h l. slot_written block empty_block x.slot x.entry x.after ∷ grown geo h (view.inode h) block x.kept l) (sym (to geo view path ps e d way n named draft)) names)
-      (CreatesInNewBlock path n block x.kept x.slot x.entry x.after free (in_new_block geo view path ps e d way n named draft (view.inode d) block tables is x))
+      (CreatesInNewBlock path words n block x.kept x.slot x.entry x.after free (in_new_block geo view path ps e d way n named draft (view.inode d) block tables is x))
 
 pub entered_geometry : (geo : Geometry) (v : View) (d : ℕ) (inode : Inode) (n : ℕ) (name : List ℕ) (place : Place) (old new : Draft) → EntersAt geo v d inode n name place old new → new.geometry ≡ old.geometry
 entered_geometry geo v d inode n name (Slot s block) old new enters = enters.goes_on.geometry
@@ -131,23 +131,23 @@ entered_as geo view new name parent named draft is record_is enters =
     subst (λ ns. EntersAt geo view new.directory parent new.number ns new.place named draft) is
     (subst (λ (i : Inode). EntersAt geo view new.directory i new.number new.name.now new.place named draft) record_is enters)
 
-pub create_planned : (kept : Kept) (path : List ℕ) (ps : List (List ℕ)) (new : NewEntry) (draft : Draft) → KeepsMetadata kept → IsOfVolume kept → parts_of path ≡ Some ps
+pub create_planned : (kept : Kept) (path words : List ℕ) (ps : List (List ℕ)) (new : NewEntry) (draft : Draft) → KeepsMetadata kept → IsOfVolume kept → parts_of path ≡ Some ps
     → new.name.now ≡ last_part ps → new.parent ≡ (frozen_view kept).inode new.directory → IsFreeNumber kept.geometry (frozen_view kept) new.number
     → ((view : View) → IsShownBy kept view → IsNewIn kept.geometry view ps new.directory) → ((view : View) → IsShownBy kept view → IsPlace kept.geometry view new.directory new.place)
-    → ((old : State) → Shows kept old.view → Accepts kept.geometry old (Create path))
-    → ((view : View) → Shows kept view → Created kept.geometry view new draft) → IsPlanned kept (Create path) (Number draft.file) draft
-create_planned kept path ps new draft keeps volume e name parent free is fits accepts created =
+    → ((old : State) → Shows kept old.view → Accepts kept.geometry old (Create path words))
+    → ((view : View) → Shows kept view → Created kept.geometry view new words draft) → IsPlanned kept (Create path words) (Number draft.file) draft
+create_planned kept path words ps new draft keeps volume e name parent free is fits accepts created =
     let here = created volume.old.view volume.shows in
     record {
-      geometry = made_geometry kept.geometry volume.old.view new (born new.number new_file []) draft here;
+      geometry = made_geometry kept.geometry volume.old.view new (born new.number (file_with words) []) draft here;
       accepted = accepts;
       done = λ disk q old safe stands shows.
           let view = users_view disk q in
           let sees = seen kept disk q old safe stands shows in
           let shown = shows_metadata kept view keeps sees in
           let makes = created view sees in
-          create_done kept.geometry disk q old safe path ps e new.directory (is view shown).directory new.number (free_number kept view sees new.number free) draft makes.named
-          (made_file kept.geometry view new (born new.number new_file []) draft makes) (makes.names.pending q) new.place (fits view shown)
+          create_done kept.geometry disk q old safe path words ps e new.directory (is view shown).directory new.number (free_number kept view sees new.number free) draft makes.named
+          (made_file kept.geometry view new (born new.number (file_with words) []) draft makes) (makes.names.pending q) new.place (fits view shown)
           (entered_as kept.geometry view new (last_part ps) (view.inode new.directory) makes.named draft name (parent ∙ sees.inode new.directory) makes.enters);
     }
 
@@ -218,9 +218,9 @@ has_places geo view d own places is chosen = record {
   apart = subst (λ o. IfSome o (IsOther places.place)) is chosen.apart;
 }
 
-module _ (geo : Geometry) (disk : View) (q : List Pending) (old : State) (safe : ℕ → Bool) (path : List ℕ) (ps : List (List ℕ)) (e : parts_of path ≡ Some ps) (d : ℕ) (way : walk geo (users_view disk q) root ps ≡ Ok d)
+module _ (geo : Geometry) (disk : View) (q : List Pending) (old : State) (safe : ℕ → Bool) (path words : List ℕ) (ps : List (List ℕ)) (e : parts_of path ≡ Some ps) (d : ℕ) (way : walk geo (users_view disk q) root ps ≡ Ok d)
     (n : ℕ) (free : IsFreeNumber geo (users_view disk q) n) (own : ℕ) (dots : List ℕ) (are : AreDots n d dots) (draft named : Draft) (file : draft.file ≡ n)
-    (names : over q named.updates ≡ made n own dots d ((users_view disk q).inode d) q) where
+    (names : over q named.updates ≡ made n own words dots d ((users_view disk q).inode d) q) where
   abbrev seen_by : View
   seen_by = users_view disk q
 
@@ -230,41 +230,41 @@ module _ (geo : Geometry) (disk : View) (q : List Pending) (old : State) (safe :
   dots_there : AreDots n (holder geo seen_by path) dots
   dots_there = subst (λ h. AreDots n h dots) (sym is_to) are
 
-  names_there : over q named.updates ≡ made n own dots (holder geo seen_by path) (seen_by.inode (holder geo seen_by path)) q
-  names_there = names ∙ ap (λ h. made n own dots h (seen_by.inode h) q) (sym is_to)
+  names_there : over q named.updates ≡ made n own words dots (holder geo seen_by path) (seen_by.inode (holder geo seen_by path)) q
+  names_there = names ∙ ap (λ h. made n own words dots h (seen_by.inode h) q) (sym is_to)
 
   pub mkdir_done : (place : Place) → HasPlaces geo seen_by d own place
       → EntersAt geo seen_by d (with_links (seen_by.inode d) ((seen_by.inode d).links + 1)) n (last_part ps) place named draft
-      → IsDoneBy geo disk q old safe (Mkdir path) (Number draft.file) draft.file (over q draft.updates) (now disk (over q draft.updates) old) safe
+      → IsDoneBy geo disk q old safe (Mkdir path words) (Number draft.file) draft.file (over q draft.updates) (now disk (over q draft.updates) old) safe
   mkdir_done (Slot s block) has x =
-      done_as geo disk q old safe (Mkdir path) Number n draft.file (make_plan geo seen_by path n own dots s x.entry x.after q) (over q draft.updates) file
+      done_as geo disk q old safe (Mkdir path words) Number n draft.file (make_plan geo seen_by path words n own dots s x.entry x.after q) (over q draft.updates) file
       (x.goes_on.pending q ∙ ap₂ (λ b l. slot_written b (seen_by.bytes b) s x.entry x.after ∷ l) (at geo seen_by path ps e d way n named draft s block has.fits) names_there)
-      (MakesInSlot path n own dots s x.entry x.after free has.free dots_there (in_slot geo seen_by path ps e d way n named draft s block has.fits x))
+      (MakesInSlot path words n own dots s x.entry x.after free has.free dots_there (in_slot geo seen_by path ps e d way n named draft s block has.fits x))
   mkdir_done (NewBlock block tables) has x =
-      done_as geo disk q old safe (Mkdir path) Number n draft.file (make_plan_grown geo seen_by path n own dots block x.kept x.slot x.entry x.after q) (over q draft.updates) file
+      done_as geo disk q old safe (Mkdir path words) Number n draft.file (make_plan_grown geo seen_by path words n own dots block x.kept x.slot x.entry x.after q) (over q draft.updates) file
       (x.goes_on.pending q
       ∙ ap₂ (λ h l. slot_written block empty_block x.slot x.entry x.after ∷ grown geo h (with_links (seen_by.inode h) ((seen_by.inode h).links + 1)) block x.kept l) (sym is_to) names_there)
-      (MakesInNewBlock path n own dots block x.kept x.slot x.entry x.after free has.free dots_there (others own block tables x.kept x.tables has.apart)
+      (MakesInNewBlock path words n own dots block x.kept x.slot x.entry x.after free has.free dots_there (others own block tables x.kept x.tables has.apart)
       (in_new_block geo seen_by path ps e d way n named draft (with_links (seen_by.inode d) ((seen_by.inode d).links + 1)) block tables has.fits x))
 
-pub mkdir_planned : (kept : Kept) (path : List ℕ) (ps : List (List ℕ)) (new : NewEntry) (own : ℕ) (draft : Draft) → KeepsMetadata kept → IsOfVolume kept → parts_of path ≡ Some ps
+pub mkdir_planned : (kept : Kept) (path words : List ℕ) (ps : List (List ℕ)) (new : NewEntry) (own : ℕ) (draft : Draft) → KeepsMetadata kept → IsOfVolume kept → parts_of path ≡ Some ps
     → new.name.now ≡ last_part ps → new.parent ≡ with_links ((frozen_view kept).inode new.directory) (((frozen_view kept).inode new.directory).links + 1)
     → IsFreeNumber kept.geometry (frozen_view kept) new.number
     → ((view : View) → IsShownBy kept view → IsNewIn kept.geometry view ps new.directory) → ((view : View) → IsShownBy kept view → HasPlaces kept.geometry view new.directory own new.place)
-    → ((old : State) → Shows kept old.view → Accepts kept.geometry old (Mkdir path))
-    → ((view : View) → Shows kept view → DirectoryMade kept.geometry view new own draft) → IsPlanned kept (Mkdir path) (Number draft.file) draft
-mkdir_planned kept path ps new own draft keeps volume e name parent free is fits accepts makes_it =
+    → ((old : State) → Shows kept old.view → Accepts kept.geometry old (Mkdir path words))
+    → ((view : View) → Shows kept view → DirectoryMade kept.geometry view new own words draft) → IsPlanned kept (Mkdir path words) (Number draft.file) draft
+mkdir_planned kept path words ps new own draft keeps volume e name parent free is fits accepts makes_it =
     let here = makes_it volume.old.view volume.shows in
     record {
-      geometry = made_geometry kept.geometry volume.old.view new (made new.number own here.dots new.directory (volume.old.view.inode new.directory)) draft here.makes;
+      geometry = made_geometry kept.geometry volume.old.view new (made new.number own words here.dots new.directory (volume.old.view.inode new.directory)) draft here.makes;
       accepted = accepts;
       done = λ disk q old safe stands shows.
           let view = users_view disk q in
           let sees = seen kept disk q old safe stands shows in
           let shown = shows_metadata kept view keeps sees in
           let there = makes_it view sees in
-          mkdir_done kept.geometry disk q old safe path ps e new.directory (is view shown).directory new.number (free_number kept view sees new.number free) own there.dots there.are_dots draft there.makes.named
-          (made_file kept.geometry view new (made new.number own there.dots new.directory (view.inode new.directory)) draft there.makes) (there.makes.names.pending q) new.place (fits view shown)
+          mkdir_done kept.geometry disk q old safe path words ps e new.directory (is view shown).directory new.number (free_number kept view sees new.number free) own there.dots there.are_dots draft there.makes.named
+          (made_file kept.geometry view new (made new.number own words there.dots new.directory (view.inode new.directory)) draft there.makes) (there.makes.names.pending q) new.place (fits view shown)
           (entered_as kept.geometry view new (last_part ps) (with_links (view.inode new.directory) ((view.inode new.directory).links + 1)) there.makes.named draft name
           (parent ∙ ap (λ (i : Inode). with_links i (i.links + 1)) (sees.inode new.directory)) there.makes.enters);
     }

@@ -100,19 +100,19 @@ module _ (geo : Geometry) (v : View) where
   pub with_number : (d : ℕ) → IsTrue (has_number geo v) → file_rest d ≡ placing d (blocks_to_enter geo v d)
   with_number d some = ap (λ b. option_or (when (not b) NoInode) (placing d (blocks_to_enter geo v d))) some
 
-module _ (geo : Geometry) (old : State) (path : List ℕ) where
-  create_is : refusal_of geo old (Create path) ≡ listed geo old.view (file_rest geo old.view) (parts_of path)
+module _ (geo : Geometry) (old : State) (path words : List ℕ) where
+  create_is : refusal_of geo old (Create path words) ≡ listed geo old.view (file_rest geo old.view) (parts_of path)
   unfolding causes
   create_is = refl
 
-  pub create_bad : parts_of path ≡ None → refusal_of geo old (Create path) ≡ Some BadName
+  pub create_bad : parts_of path ≡ None → refusal_of geo old (Create path words) ≡ Some BadName
   create_bad none = create_is ∙ ap (listed geo old.view (file_rest geo old.view)) none
 
   module _ (ps : List (List ℕ)) (is : parts_of path ≡ Some ps) where
-    pub create_unnamed : (r : Refusal) → first_of (naming geo old.view ps) ≡ Some r → refusal_of geo old (Create path) ≡ Some r
+    pub create_unnamed : (r : Refusal) → first_of (naming geo old.view ps) ≡ Some r → refusal_of geo old (Create path words) ≡ Some r
     create_unnamed r e = create_is ∙ ap (listed geo old.view (file_rest geo old.view)) is ∙ not_named geo old.view (file_rest geo old.view) ps r e
 
-    pub create_named : (d : ℕ) → IsNewIn geo old.view ps d → refusal_of geo old (Create path) ≡ file_rest geo old.view d
+    pub create_named : (d : ℕ) → IsNewIn geo old.view ps d → refusal_of geo old (Create path words) ≡ file_rest geo old.view d
     create_named d new = create_is ∙ ap (listed geo old.view (file_rest geo old.view)) is ∙ named geo old.view (file_rest geo old.view) ps d new
 
 -- ---- the numbers that users see
@@ -227,17 +227,17 @@ module _ (geo : Geometry) (v : View) where
       pub parent_place : IsFalse (is_full geo v d) → blocks_needed geo v d true ≤ unmarked_blocks geo v → directory_rest d ≡ None
       parent_place left enough = parent_number ∙ ap (placing geo v d) (sym one_besides) ∙ finds_place geo v d (blocks_needed geo v d true) left enough
 
-module _ (geo : Geometry) (old : State) (path : List ℕ) where
-  mkdir_is : refusal_of geo old (Mkdir path) ≡ listed geo old.view (directory_rest geo old.view) (parts_of path)
+module _ (geo : Geometry) (old : State) (path words : List ℕ) where
+  mkdir_is : refusal_of geo old (Mkdir path words) ≡ listed geo old.view (directory_rest geo old.view) (parts_of path)
   unfolding causes
   mkdir_is = refl
 
-  pub mkdir_bad : parts_of path ≡ None → refusal_of geo old (Mkdir path) ≡ Some BadName
+  pub mkdir_bad : parts_of path ≡ None → refusal_of geo old (Mkdir path words) ≡ Some BadName
   mkdir_bad none = mkdir_is ∙ ap (listed geo old.view (directory_rest geo old.view)) none
 
   module _ (ps : List (List ℕ)) (is : parts_of path ≡ Some ps) where
-    pub mkdir_unnamed : (r : Refusal) → first_of (naming geo old.view ps) ≡ Some r → refusal_of geo old (Mkdir path) ≡ Some r
+    pub mkdir_unnamed : (r : Refusal) → first_of (naming geo old.view ps) ≡ Some r → refusal_of geo old (Mkdir path words) ≡ Some r
     mkdir_unnamed r e = mkdir_is ∙ ap (listed geo old.view (directory_rest geo old.view)) is ∙ not_named geo old.view (directory_rest geo old.view) ps r e
 
-    pub mkdir_named : (d : ℕ) → IsNewIn geo old.view ps d → refusal_of geo old (Mkdir path) ≡ directory_rest geo old.view d
+    pub mkdir_named : (d : ℕ) → IsNewIn geo old.view ps d → refusal_of geo old (Mkdir path words) ≡ directory_rest geo old.view d
     mkdir_named d new = mkdir_is ∙ ap (listed geo old.view (directory_rest geo old.view)) is ∙ named geo old.view (directory_rest geo old.view) ps d new

@@ -12,7 +12,7 @@ ghost use Rattle.live_creations.specs.Made.{DirectoryMade};
 
 use crate::placing::{MOST_LINKS, directory_for};
 use dirent::replace;
-use inode::{DIRECT_POINTERS, DIRECTORY, Record};
+use inode::{ATTRIBUTES, DIRECT_POINTERS, DIRECTORY, Record};
 use layout::{BLOCK_BYTES, Block, Refusal};
 use live_paths::Path;
 use live_places::choose;
@@ -23,17 +23,22 @@ use std::alloc::{AllocError, Global};
 use std::sync::Arc;
 use updates::{Cell, Cells, Change};
 
-/// The plan by which a directory is made; its number is the plan's file.
+/// The plan by which a directory is made with these attributes; its number is the plan's file.
 ///
 /// Refused in this order: with `BadName` where the bytes are no path; with `IsRoot` for `/`; with `NotDirectory` or
 /// `NotFound` where the walk to the directory above ends before; with `Exists` where the name is there; with
 /// `TooManyLinks` where the directory above has 32,767 links or more; with `NoInode` where each number is marked; with
 /// `TooBig` where the directory above is full; with `NoBlock` where fewer data blocks are unmarked than the new directory
 /// and its entry take. `NoMemory` comes at any time.
-pub fn mkdir(alloc: Global, metadata: &Metadata, path: &[u8]) -> Result<Plan, Refusal>
+pub fn mkdir(
+    alloc: Global,
+    metadata: &Metadata,
+    path: &[u8],
+    attributes: &[u32; ATTRIBUTES],
+) -> Result<Plan, Refusal>
     requires { IsOfVolume metadata.now }
-    ensures planned { IfOk result (λ plan. IsPlanned metadata.now (Mkdir path.now) (Number plan.file) plan) }
-    ensures refused { IfErr result (IsRefused metadata.now (Mkdir path.now)) }
+    ensures planned { IfOk result (λ plan. IsPlanned metadata.now (Mkdir path.now attributes.now) (Number plan.file) plan) }
+    ensures refused { IfErr result (IsRefused metadata.now (Mkdir path.now attributes.now)) }
 {
     let parsed = Path::parse(path)?;
     let directory = directory_for(metadata.frozen(), &parsed)?;
@@ -56,16 +61,23 @@ pub fn mkdir(alloc: Global, metadata: &Metadata, path: &[u8]) -> Result<Plan, Re
         name: parsed.name(),
         place: places.place,
     };
-    Ok(made(alloc, metadata, &new, own)?)
+    Ok(made(alloc, metadata, &new, own, attributes)?)
 }
 
-/// The updates by which the number of an entry becomes a directory with its dots in this block, and the entry is made.
-fn made(alloc: Global, metadata: &Metadata, new: &NewEntry, own: u32) -> Result<Plan, AllocError>
+/// The updates by which the number of an entry becomes a directory with these attributes and its dots in this block, and the
+/// entry is made.
+fn made(
+    alloc: Global,
+    metadata: &Metadata,
+    new: &NewEntry,
+    own: u32,
+    attributes: &[u32; ATTRIBUTES],
+) -> Result<Plan, AllocError>
     requires volume { IsOfVolume metadata.now }
     requires entry { MayEnter metadata.now new.now }
     requires parent { new.now.parent ≡ with_links ((frozen_view metadata.now).inode new.now.directory) (((frozen_view metadata.now).inode new.now.directory).links + 1) }
     requires own { IsTrue (is_data_address metadata.now.geometry own) }
-    ensures { IfOk result (λ plan. (view : View) → Shows metadata.now view → DirectoryMade metadata.now.geometry view new.now own plan) }
+    ensures { IfOk result (λ plan. (view : View) → Shows metadata.now view → DirectoryMade metadata.now.geometry view new.now own attributes.now plan) }
 {
     let mut plan = Plan::new(alloc, metadata.frozen().geometry(), new.number);
     plan.push(Change::SetNumber(new.number, true), Cells::new(alloc))?;
@@ -78,7 +90,7 @@ fn made(alloc: Global, metadata: &Metadata, new: &NewEntry, own: u32) -> Result<
     let after = smallvec![in alloc; Cell::BlockBit(own), Cell::Record(new.directory)]?;
     plan.push(Change::SetBytes(own, dots), after)?;
     let after = smallvec![in alloc; Cell::NumberBit(new.number), Cell::Block(own)]?;
-    plan.push(Change::SetInode(new.number, new_directory(own)), after)?;
+    plan.push(Change::SetInode(new.number, new_directory(own, attributes)), after)?;
     enter(alloc, metadata, &mut plan, new)?;
     Ok(plan)
 }
@@ -93,12 +105,13 @@ pub fn dots(number: u32, directory: u32) -> Block
     bytes
 }
 
-/// The record of a directory of this block, which is named by its entry and by itself.
-pub fn new_directory(block: u32) -> Record
-    ensures { result ≡ effects.new_directory block }
+/// The record of a directory of this block with these attributes, which is named by its entry and by itself.
+pub fn new_directory(block: u32, attributes: &[u32; ATTRIBUTES]) -> Record
+    ensures { result ≡ effects.new_directory block attributes.now }
 {
     let mut direct = [0; DIRECT_POINTERS];
     direct[0] = block;
+    let given = *attributes;
     Record {
         mode: DIRECTORY,
         links: 2,
@@ -106,5 +119,6 @@ pub fn new_directory(block: u32) -> Record
         direct,
         indirect: 0,
         double: 0,
+        attributes: given,
     }
 }

@@ -15,7 +15,7 @@ ghost use Rattle.live_removals.specs.Blocks.{claimed_at, freed, held_back, is_lo
 ghost use Rattle.live_removals.specs.Links.{LosesLinks};
 
 use frozen::Frozen;
-use inode::{DIRECT_POINTERS, FREE, Record};
+use inode::{ATTRIBUTES, DIRECT_POINTERS, FREE, Record};
 use live_holdings::Holdings;
 use live_plans::Plan;
 use metadata::Metadata;
@@ -95,6 +95,7 @@ pub fn free(
         direct: [0; DIRECT_POINTERS],
         indirect: 0,
         double: 0,
+        attributes: [0; ATTRIBUTES],
     };
     plan.push(Change::SetInode(number, free), after)?;
     plan.push(

@@ -7,7 +7,7 @@ ghost use Rattle.updates.specs.Values.{change as change_of};
 ghost use Rattle.live_snapshots.specs.Orphans.{Adds, Frees, FreesToo, LacksOrphans, is_claimed_at, is_of_orphan_below, is_open_below, is_orphan_of, orphan_by};
 
 use frozen::Frozen;
-use inode::{DIRECT_POINTERS, FREE, Record};
+use inode::{ATTRIBUTES, DIRECT_POINTERS, FREE, Record};
 use live_holdings::Holdings;
 use metadata::Metadata;
 use spares::Spares;
@@ -125,6 +125,7 @@ fn free_record() -> Record
         direct: [0; DIRECT_POINTERS],
         indirect: 0,
         double: 0,
+        attributes: [0; ATTRIBUTES],
     }
 }
 

@@ -4,7 +4,7 @@ use Rattle.model.specs.Layout.{Geometry}
 use Rattle.model.specs.View.{View}
 use Rattle.ordering.specs.Cuts.{Pending, users_view}
 use Rattle.machine.specs.Causes.{Accepts}
-use Rattle.machine.specs.Command.{Answer, Command, Create, Mkdir, Link, Unlink, Rmdir, Rename, Open, Close, Read, Write, Truncate, ListNames, Stat, Freeze, SnapRead, Release, Install, RepairAt, Flush, Sync}
+use Rattle.machine.specs.Command.{Answer, Command, Create, Mkdir, Link, Unlink, Rmdir, Rename, Open, Close, Read, Write, Truncate, ListNames, Stat, Freeze, SnapRead, Release, Install, RepairAt, Flush, Sync, SetAttributes}
 use Rattle.machine.specs.State.{State}
 use Rattle.machine.specs.Step.{Step}
 use Rattle.plans_data.specs.Carried.{Stands}
@@ -31,8 +31,8 @@ abbrev pub nothing_safe : ℕ → Bool
 nothing_safe f = false
 
 pub still_nothing : (geo : Geometry) (view : View) (command : Command) → safe_after geo view command nothing_safe ≡ nothing_safe
-still_nothing geo view (Create p) = refl
-still_nothing geo view (Mkdir p) = refl
+still_nothing geo view (Create p words) = refl
+still_nothing geo view (Mkdir p words) = refl
 still_nothing geo view (Link p r) = refl
 still_nothing geo view (Unlink p) = refl
 still_nothing geo view (Rmdir p) = refl
@@ -42,6 +42,7 @@ still_nothing geo view (Close h) = refl
 still_nothing geo view (Read h k) = refl
 still_nothing geo view (Write h k piece) = refl
 still_nothing geo view (Truncate h n) = refl
+still_nothing geo view (SetAttributes i words) = refl
 still_nothing geo view (ListNames p) = refl
 still_nothing geo view (Stat p) = refl
 still_nothing geo view Freeze = refl

@@ -4,7 +4,7 @@ use Rattle.model.specs.Layout.{Geometry}
 use Rattle.model.specs.View.{View}
 use Rattle.ordering.specs.Cuts.{Pending, users_view}
 use Rattle.machine.specs.Causes.{Accepts}
-use Rattle.machine.specs.Command.{Answer, Command, Create, Mkdir, Link, Unlink, Rmdir, Rename, Open, Close, Read, Write, Truncate, ListNames, Stat, Freeze, SnapRead, Release, Install, RepairAt, Flush, Sync}
+use Rattle.machine.specs.Command.{Answer, Command, Create, Mkdir, Link, Unlink, Rmdir, Rename, Open, Close, Read, Write, Truncate, ListNames, Stat, Freeze, SnapRead, Release, Install, RepairAt, Flush, Sync, SetAttributes}
 use Rattle.machine.specs.State.{State}
 use Rattle.machine.specs.Step.{Effect, Step}
 use Rattle.courses.specs.Serves.{IsBeginning, IsSafeService, Quietly, Serves, Starts, CarriesOut, is_quiet}
@@ -17,8 +17,8 @@ use Rattle.live_states.proofs.Standing.{has}
 
 -- such a command takes no name away
 same_safe : (geo : Geometry) (view : View) (command : Command) (safe : ℕ → Bool) → IsTrue (is_quiet command) → safe_after geo view command safe ≡ safe
-same_safe geo view (Create p) safe t = refl
-same_safe geo view (Mkdir p) safe t = refl
+same_safe geo view (Create p words) safe t = refl
+same_safe geo view (Mkdir p words) safe t = refl
 same_safe geo view (Link p r) safe t = refl
 same_safe geo view (Unlink p) safe t = let bad : false ≡ true = t in cc
 same_safe geo view (Rmdir p) safe t = refl
@@ -28,6 +28,7 @@ same_safe geo view (Close h) safe t = refl
 same_safe geo view (Read h k) safe t = refl
 same_safe geo view (Write h k piece) safe t = refl
 same_safe geo view (Truncate h n) safe t = refl
+same_safe geo view (SetAttributes i words) safe t = refl
 same_safe geo view (ListNames p) safe t = refl
 same_safe geo view (Stat p) safe t = refl
 same_safe geo view Freeze safe t = refl

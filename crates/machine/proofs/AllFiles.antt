@@ -5,7 +5,7 @@ use Rattle.model.specs.Cells.{put_at}
 use Rattle.findings.specs.declared.repair.Repair.{Repair}
 use Rattle.findings.specs.declared.repair.Repair.TheVariants.{DropInode, LowerCount, FreeBlock, FreeNumber}
 use Rattle.machine.specs.State.{State}
-use Rattle.machine.specs.Command.{Command, Create, Mkdir, Link, Unlink, Rmdir, Rename, Open, Close, Read, Write, Truncate, ListNames, Stat, Freeze, SnapRead, Release, Install, RepairAt, Flush, Sync, Answer, Done, Number, Bytes, Listed, Reply}
+use Rattle.machine.specs.Command.{Command, Create, Mkdir, Link, Unlink, Rmdir, Rename, Open, Close, Read, Write, Truncate, SetAttributes, ListNames, Stat, Freeze, SnapRead, Release, Install, RepairAt, Flush, Sync, Answer, Done, Number, Bytes, Listed, Reply}
 use Rattle.machine.specs.Causes.{Accepts, file_of}
 use Rattle.machine.specs.Effects.{closed, truncated}
 use Rattle.machine.specs.Snapshot.{released}
@@ -23,6 +23,7 @@ use Rattle.machine.proofs.Removing.{rmdir_files}
 use Rattle.machine.proofs.RenameCommand.{rename_files}
 use Rattle.machine.proofs.WritesSeen.{write_shows}
 use Rattle.machine.proofs.TruncatedSeen.{truncated_others}
+use Rattle.machine.proofs.SettingAttributes.{set_file, set_sound}
 
 module _ (geo : Geometry) (old new : State) (j : ℕ) where
   -- the image is the same
@@ -54,8 +55,8 @@ module _ (geo : Geometry) (old new : State) (j : ℕ) where
 -- each command that is carried out, but those that write the file
 effect_stays : (geo : Geometry) → IsGeometry geo → (old new : State) (command : Command) (answer : Answer) (j : ℕ) → Balance geo old → Accepts geo old command → Effect geo old command answer new → IsFile geo old.view j
     → (IsWriteTo old j command → ⊥) → Stays geo old.view new.view j
-effect_stays geo g old new (Create p) (Number i) j b a e is other = inl (create_files geo g old new b p i e a.0 j is)
-effect_stays geo g old new (Mkdir p) (Number i) j b a e is other = inl (mkdir_files geo g old new b p i e a.0 j is)
+effect_stays geo g old new (Create p words) (Number i) j b a e is other = inl (create_files geo g old new b p words i e a.0 j is)
+effect_stays geo g old new (Mkdir p words) (Number i) j b a e is other = inl (mkdir_files geo g old new b p words i e a.0 j is)
 effect_stays geo g old new (Link p q) Done j b a e is other = inl (link_files geo g old new b p q e a.0 j is)
 effect_stays geo g old new (Unlink p) Done j b a e is other = unlink_files geo old new b p a.0 e j is
 effect_stays geo g old new (Rmdir p) Done j b a e is other = inl (rmdir_files geo old new b p a.0 e j is)
@@ -65,6 +66,8 @@ effect_stays geo g old new (Close h) Done j b a e is other = close_stays geo old
 effect_stays geo g old new (Read h k) (Bytes bytes) j b a e is other = unchanged geo old new j e.1
 effect_stays geo g old new (Write h k piece) Done j b a e is other = write_stays geo old new j g b h k piece (a, e) other
 effect_stays geo g old new (Truncate h n) Done j b a e is other = truncate_stays geo old new j h n e other
+effect_stays geo g old new (SetAttributes i words) Done j b a e is other =
+    subst (λ (t : State). Stays geo old.view t.view j) (sym e) (inl (set_file geo old.view i words (set_sound geo old new b i words a.0) j))
 effect_stays geo g old new (ListNames p) (Listed names) j b a e is other = unchanged geo old new j e.1
 effect_stays geo g old new (Stat p) answer j b a e is other = unchanged geo old new j e.1
 effect_stays geo g old new Freeze answer j b a e is other = remarked geo old new j _ refl refl e.1

@@ -46,6 +46,8 @@ mod EmptyingDirectory
 mod Removing
 mod Rewriting
 mod FileTrees
+mod SettingAttributes
+mod AttributesLast
 mod Truncating
 mod PlanLists
 mod Installing

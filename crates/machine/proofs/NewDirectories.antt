@@ -42,7 +42,7 @@ use Rattle.machine.proofs.Graft.{IsLoose}
 use Rattle.machine.proofs.GraftCount.{came_of}
 use Rattle.machine.proofs.EnteringDirectory.{grafted_ledger}
 
-module _ (geo : Geometry) (g : IsGeometry geo) (old new : State) (b : Balance geo old) (p : List ℕ) (i : ℕ) (c : MakesDirectory geo old p i new) (at : IsNewPlace geo old.view p) where
+module _ (geo : Geometry) (g : IsGeometry geo) (old new : State) (b : Balance geo old) (p words : List ℕ) (i : ℕ) (c : MakesDirectory geo old p words i new) (at : IsNewPlace geo old.view p) where
   abbrev v : View
   v = old.view
 
@@ -56,10 +56,10 @@ module _ (geo : Geometry) (g : IsGeometry geo) (old new : State) (b : Balance ge
   v1 = other_links geo v d n
 
   abbrev y : Inode
-  y = new_directory c.block
+  y = new_directory c.block words
 
   abbrev pub w : View
-  w = updated_all v (SetNumber i true ∷ SetBlock c.block true ∷ SetInode d (with_links (v.inode d) n) ∷ SetBytes c.block c.bytes ∷ SetInode i (new_directory c.block) ∷ [])
+  w = updated_all v (SetNumber i true ∷ SetBlock c.block true ∷ SetInode d (with_links (v.inode d) n) ∷ SetBytes c.block c.bytes ∷ SetInode i (new_directory c.block words) ∷ [])
 
   pub dir : IsTrue (is_directory_at geo v d)
   dir = reachable_directory geo v d at.reachable
@@ -72,14 +72,14 @@ module _ (geo : Geometry) (g : IsGeometry geo) (old new : State) (b : Balance ge
 
   -- the new directory uses its one block alone
   only_use : (q a : ℕ) → IsUse geo w i q a → (q ≡ 0) × (a ≡ c.block)
-  only_use q a u = new_directory_uses geo w c.block q a (subst (λ (r : Inode). record_use geo w r q ≡ Some a) here (use_number geo w i q a u).1)
+  only_use q a u = new_directory_uses geo w c.block words q a (subst (λ (r : Inode). record_use geo w r q ≡ Some a) here (use_number geo w i q a u).1)
 
   new_sound : IsTrue (is_sound_at geo w i)
-  new_sound = and_from (is_number geo i) (is_sound geo (w.inode i)) c.free.number (ap (is_sound geo) here ∙ new_directory_sound geo c.block)
+  new_sound = and_from (is_number geo i) (is_sound geo (w.inode i)) c.free.number (ap (is_sound geo) here ∙ new_directory_sound geo c.block words)
 
   first_use : IsClaim geo w i 0 c.block
   first_use = (
-    number_use geo w i 0 c.block c.free.number (ap (λ (r : Inode). record_use geo w r 0) here ∙ new_directory_first geo w c.block),
+    number_use geo w i 0 c.block c.free.number (ap (λ (r : Inode). record_use geo w r 0) here ∙ new_directory_first geo w c.block words),
     c.free_block.address,
   )
 
@@ -87,7 +87,7 @@ module _ (geo : Geometry) (g : IsGeometry geo) (old new : State) (b : Balance ge
   founded = record {
     free = record { number = c.free.number; unmarked = c.free.unmarked };
     there = λ j x. put_there v1.inode i j y x;
-    sound = ap (is_sound geo) here ∙ new_directory_sound geo c.block;
+    sound = ap (is_sound geo) here ∙ new_directory_sound geo c.block words;
     linked = (let two = ap (λ (r : Inode). r.links) here in omega (arith, two));
     direct = ap (λ (r : Inode). length r.direct) here;
     mark_here = put_here v.number_marked i true;
@@ -196,13 +196,13 @@ module _ (geo : Geometry) (g : IsGeometry geo) (old new : State) (b : Balance ge
     making : Kept geo old (record old { view = c.view })
     making = kept_by geo old (record old { view = c.view }) after refl refl
 
-module _ (geo : Geometry) (g : IsGeometry geo) (old new : State) (b : Balance geo old) (p : List ℕ) (i : ℕ) (c : MakesDirectory geo old p i new) where
+module _ (geo : Geometry) (g : IsGeometry geo) (old new : State) (b : Balance geo old) (p words : List ℕ) (i : ℕ) (c : MakesDirectory geo old p words i new) where
   -- what it may rely on
-  pub mkdir_allows : {A : Type 0} → refusal_of geo old (Mkdir p) ≡ None → (IsNewPlace geo old.view p → is_full geo old.view (holder geo old.view p) ≡ false → A) → A
+  pub mkdir_allows : {A : Type 0} → refusal_of geo old (Mkdir p words) ≡ None → (IsNewPlace geo old.view p → is_full geo old.view (holder geo old.view p) ≡ false → A) → A
   unfolding causes
   mkdir_allows none then =
-      let q = quiet (causes geo old (Mkdir p)) none in
+      let q = quiet (causes geo old (Mkdir p words)) none in
       then (new_place geo old.view p q.0 q.1.1.0 q.1.1.1.0) (when_none (is_full geo old.view (holder geo old.view p)) TooBig q.1.1.1.1.1.1.0)
 
-  pub mkdir_keeps : refusal_of geo old (Mkdir p) ≡ None → Kept geo old new
-  mkdir_keeps none = subst (λ t. Kept geo old t) (sym c.whole) (mkdir_allows none (λ at not_full. making geo g old new b p i c at not_full))
+  pub mkdir_keeps : refusal_of geo old (Mkdir p words) ≡ None → Kept geo old new
+  mkdir_keeps none = subst (λ t. Kept geo old t) (sym c.whole) (mkdir_allows none (λ at not_full. making geo g old new b p words i c at not_full))

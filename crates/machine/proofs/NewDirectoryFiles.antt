@@ -23,7 +23,7 @@ use Rattle.machine.proofs.FileStays.{apart_from}
 use Rattle.machine.proofs.EntersFile.{entered_file}
 use Rattle.machine.proofs.NewDirectories.{w, dir, l2, d_second, not_full', mkdir_allows}
 
-module _ (geo : Geometry) (g : IsGeometry geo) (old new : State) (b : Balance geo old) (p : List ℕ) (i : ℕ) (c : MakesDirectory geo old p i new) where
+module _ (geo : Geometry) (g : IsGeometry geo) (old new : State) (b : Balance geo old) (p words : List ℕ) (i : ℕ) (c : MakesDirectory geo old p words i new) where
   abbrev v : View
   v = old.view
 
@@ -40,21 +40,21 @@ module _ (geo : Geometry) (g : IsGeometry geo) (old new : State) (b : Balance ge
     stored = updated v (SetBytes c.block c.bytes)
 
     abbrev made : View
-    made = w geo g old new b p i c at
+    made = w geo g old new b p words i c at
 
     -- the file before the directory has its entry, and with it
     nameless : SameFile geo v made j
     nameless = then_file geo v stored made j
         (block_file geo v c.block c.bytes j c.free_block.address (λ q e. both_ways (v.block_marked c.block) c.free_block.unmarked (b.rules.rule3.marked j q c.block e)))
         (record_file geo stored made j
-        (sym (put_there (other_links geo v d ((v.inode d).links + 1)).inode i j (new_directory c.block) no_number
-        ∙ put_there v.inode d j (with_links (v.inode d) ((v.inode d).links + 1)) (apart_from geo v j d is.1 (dir geo g old new b p i c at)))) refl)
+        (sym (put_there (other_links geo v d ((v.inode d).links + 1)).inode i j (new_directory c.block words) no_number
+        ∙ put_there v.inode d j (with_links (v.inode d) ((v.inode d).links + 1)) (apart_from geo v j d is.1 (dir geo g old new b p words i c at)))) refl)
 
     made_file : SameFile geo v c.view j
     made_file =
         then_file geo v made c.view j nameless
-        (entered_file geo g (Owes geo old) (came_of d i) (record old { view = made }) (l2 geo g old new b p i c at) d i (name_in p) c.view c.enters
-        (d_second geo g old new b p i c at) (not_full' geo g old new b p i c at not_full) j (sym (same_directory geo v made j nameless) ∙ is.1))
+        (entered_file geo g (Owes geo old) (came_of d i) (record old { view = made }) (l2 geo g old new b p words i c at) d i (name_in p) c.view c.enters
+        (d_second geo g old new b p words i c at) (not_full' geo g old new b p words i c at not_full) j (sym (same_directory geo v made j nameless) ∙ is.1))
 
-  pub mkdir_files : refusal_of geo old (Mkdir p) ≡ None → (j : ℕ) → IsFile geo v j → SameFile geo v new.view j
-  mkdir_files none j is = subst (λ (t : State). SameFile geo v t.view j) (sym c.whole) (mkdir_allows geo g old new b p i c none (λ at not_full. made_file at not_full j is))
+  pub mkdir_files : refusal_of geo old (Mkdir p words) ≡ None → (j : ℕ) → IsFile geo v j → SameFile geo v new.view j
+  mkdir_files none j is = subst (λ (t : State). SameFile geo v t.view j) (sym c.whole) (mkdir_allows geo g old new b p words i c none (λ at not_full. made_file at not_full j is))

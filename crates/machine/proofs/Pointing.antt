@@ -70,6 +70,7 @@ pub record IsLike (old pointed : Inode) : Type 0 where
   pub links : pointed.links ≡ old.links
   pub size : pointed.size ≡ old.size
   pub direct : length pointed.direct ≡ length old.direct
+  pub attributes : pointed.attributes ≡ old.attributes
 
 module _ (geo : Geometry) (v : View) (old : Inode) where
   pub pointed_like : {k a : ℕ} {cells : List Update} {pointed : Inode} → Points geo v old k a cells pointed → IsLike old pointed
@@ -78,8 +79,9 @@ module _ (geo : Geometry) (v : View) (old : Inode) where
     links = as_before geo old k a (λ x. x.links) (λ d. refl) refl refl;
     size = as_before geo old k a (λ x. x.size) (λ d. refl) refl refl;
     direct = same_length geo old k a;
+    attributes = as_before geo old k a (λ x. x.attributes) (λ d. refl) refl refl;
   })
-  pointed_like (InTable m x one uses address c p) = subst (IsLike old) (sym p) (record { mode = refl; links = refl; size = refl; direct = refl })
+  pointed_like (InTable m x one uses address c p) = subst (IsLike old) (sym p) (record { mode = refl; links = refl; size = refl; direct = refl; attributes = refl })
   pointed_like (InNewTable m x table more one none free apart whole first up c) = pointed_like up
 
   -- ---- the new tables

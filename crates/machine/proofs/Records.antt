@@ -1,9 +1,9 @@
 -- Records that use the same, and views with another record.
-use Rattle.std.proofs.Common.{◌≡◌, ◌<◌, ℕ, cond, inl, inr, refl, sym, ap, ◌∙◌, arith, Option, Some, None, IsTrue}
+use Rattle.std.proofs.Common.{◌≡◌, ◌<◌, ℕ, List, cond, inl, inr, refl, sym, ap, ◌∙◌, arith, Option, Some, None, IsTrue}
 use Rattle.std.proofs.lemmas.Bool.{le-leb}
 use Rattle.std.proofs.lemmas.Option.{none-some, same_Some}
 use Rattle.model.specs.Layout.{Geometry, is_number}
-use Rattle.model.specs.View.{View, Inode}
+use Rattle.model.specs.View.{View, Inode, with_attributes}
 use Rattle.model.specs.Cells.{SetInode, updated, put_at}
 use Rattle.model.specs.Shape.{most_blocks, first_block, reaches, top, field_at}
 use Rattle.model.specs.Uses.{blocks_of, is_sound, has_position, record_use, use_at}
@@ -52,6 +52,12 @@ links_uses geo v x n k = same_option (record_use geo v (with_links x n) k) (reco
     (λ a u. let sound = use_sound geo v (with_links x n) k a u in let has = use_has geo v (with_links x n) k a u in sym (same_field geo v (with_links x n) x sound sound k has has refl) ∙ u)
     (λ a u. let sound = use_sound geo v x k a u in let has = use_has geo v x k a u in same_field geo v (with_links x n) x sound sound k has has refl ∙ u)
 
+-- nor with other attributes
+pub attributes_uses : (geo : Geometry) (v : View) (x : Inode) (words : List ℕ) (k : ℕ) → record_use geo v (with_attributes x words) k ≡ record_use geo v x k
+attributes_uses geo v x words k = same_option (record_use geo v (with_attributes x words) k) (record_use geo v x k)
+    (λ a u. let sound = use_sound geo v (with_attributes x words) k a u in let has = use_has geo v (with_attributes x words) k a u in sym (same_field geo v (with_attributes x words) x sound sound k has has refl) ∙ u)
+    (λ a u. let sound = use_sound geo v x k a u in let has = use_has geo v x k a u in same_field geo v (with_attributes x words) x sound sound k has has refl ∙ u)
+
 -- in a view with another record each number uses what its record uses
 pub record_uses : (geo : Geometry) (v : View) (n : ℕ) (x : Inode) (m k : ℕ) → use_at geo (updated v (SetInode n x)) m k ≡ cond (is_number geo m) (record_use geo v (put_at v.inode n x m) k) None
 record_uses geo v n x m k =
@@ -59,11 +65,11 @@ record_uses geo v n x m k =
     ∙ ap (λ o. cond (is_number geo m) o None) (record_uses_agree geo (updated v (SetInode n x)) v (put_at v.inode n x m) k (λ q a above u d. refl))
 
 -- ---- the record of a new directory, which uses its one block alone
-pub new_directory_sound : (geo : Geometry) (block : ℕ) → IsTrue (is_sound geo (new_directory block))
-new_directory_sound geo block = le-leb 1 (most_blocks geo) (let many = many_blocks geo in omega arith)
+pub new_directory_sound : (geo : Geometry) (block : ℕ) (words : List ℕ) → IsTrue (is_sound geo (new_directory block words))
+new_directory_sound geo block words = le-leb 1 (most_blocks geo) (let many = many_blocks geo in omega arith)
 
-pub new_directory_first : (geo : Geometry) (v : View) (block : ℕ) → record_use geo v (new_directory block) 0 ≡ Some block
-new_directory_first geo v block = first_of_one geo v (new_directory block) block (new_directory_sound geo block) refl refl
+pub new_directory_first : (geo : Geometry) (v : View) (block : ℕ) (words : List ℕ) → record_use geo v (new_directory block words) 0 ≡ Some block
+new_directory_first geo v block words = first_of_one geo v (new_directory block words) block (new_directory_sound geo block words) refl refl
 
-pub new_directory_uses : (geo : Geometry) (v : View) (block k a : ℕ) → record_use geo v (new_directory block) k ≡ Some a → (k ≡ 0) × (a ≡ block)
-new_directory_uses geo v block = only_of_one geo v (new_directory block) block (new_directory_sound geo block) refl refl
+pub new_directory_uses : (geo : Geometry) (v : View) (block : ℕ) (words : List ℕ) (k a : ℕ) → record_use geo v (new_directory block words) k ≡ Some a → (k ≡ 0) × (a ≡ block)
+new_directory_uses geo v block words = only_of_one geo v (new_directory block words) block (new_directory_sound geo block words) refl refl

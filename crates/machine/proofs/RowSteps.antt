@@ -11,7 +11,7 @@ use Rattle.model.proofs.Shape.{direct_none}
 use Rattle.model.specs.Cells.{SetInode, SetNumber, SetBlock, SetBytes, updated_all, put_at}
 use Rattle.machine.specs.Below.{any_below, first_below}
 use Rattle.machine.specs.State.{State}
-use Rattle.machine.specs.Command.{Create, Open, Write, Read, ListNames, Stat, Unlink, Number, Done, Bytes, Listed, Status}
+use Rattle.machine.specs.Command.{Create, no_attributes, Open, Write, Read, ListNames, Stat, Unlink, Number, Done, Bytes, Listed, Status}
 use Rattle.machine.specs.Paths.{parts_of, walk, target, lookup, slot_of}
 use Rattle.machine.specs.Causes.{causes}
 use Rattle.machine.specs.Cells.{with_entry, IsEntryFor, InRecord, claims}
@@ -36,7 +36,7 @@ first_view = updated_all fresh.view (SetNumber 3 true ∷ SetInode 3 new_file �
 abbrev pub created : State
 created = record fresh { view = with_entry small first_view 2 2 entry }
 
-pub create_is_three : Step small fresh (Create (codes "/a")) (Ok (Number 3)) created
+pub create_is_three : Step small fresh (Create (codes "/a") no_attributes) (Ok (Number 3)) created
 unfolding causes parts_of walk target lookup slot_of first_below any_below sum_below slot use_at record_use most_blocks position_count table_of place_in_table first_block claim_at
 create_is_three = (
   (refl, tt),
@@ -68,7 +68,7 @@ abbrev content : List ℕ
 content = codes "abc" ++ replicate 1021 0
 
 abbrev file_of_three : Inode
-file_of_three = record { mode = 1; links = 1; size = 3; direct = 5 ∷ replicate 11 0; indirect = 0; double = 0 }
+file_of_three = record { mode = 1; links = 1; size = 3; direct = 5 ∷ replicate 11 0; indirect = 0; double = 0; attributes = replicate 16 0 }
 
 abbrev pub written : State
 written = record opened { view = updated_all opened.view (SetBlock 5 true ∷ SetBytes 5 content ∷ SetInode 3 file_of_three ∷ []) }

@@ -7,7 +7,7 @@ use Rattle.model.specs.Cells.{SetInode, SetNumber, updated_all, put_at}
 use Rattle.findings.specs.declared.repair.Repair.{Repair}
 use Rattle.findings.specs.declared.repair.Repair.TheVariants.{DropInode, LowerCount, FreeBlock, FreeNumber}
 use Rattle.machine.specs.State.{State, open_at, handle_count, is_open}
-use Rattle.machine.specs.Command.{Command, Create, Mkdir, Link, Unlink, Rmdir, Rename, Open, Close, Read, Write, Truncate, ListNames, Stat, Freeze, SnapRead, Release, Install, RepairAt, Flush, Sync, Answer, Done, Number, Bytes, Listed}
+use Rattle.machine.specs.Command.{Command, Create, Mkdir, Link, Unlink, Rmdir, Rename, Open, Close, Read, Write, Truncate, SetAttributes, ListNames, Stat, Freeze, SnapRead, Release, Install, RepairAt, Flush, Sync, Answer, Done, Number, Bytes, Listed}
 use Rattle.machine.specs.Causes.{file_of}
 use Rattle.machine.specs.Paths.{holder, slot_at, number_at}
 use Rattle.machine.specs.Effects.{lets_go, swept, relinked, emptied, removed, closed, size_after, Stores, InPlace, Moved, Appended, Renames, Within, Across, Opens}
@@ -71,8 +71,8 @@ module _ (geo : Geometry) (old : State) where
 
 -- each command, but the close of the handle
 pub effect_opened : (geo : Geometry) (old new : State) (command : Command) (answer : Answer) (h i : ℕ) → Effect geo old command answer new → open_at old h ≡ Some i → (command ≡ Close h → ⊥) → open_at new h ≡ Some i
-effect_opened geo old new (Create p) (Number j) h i e was other = by_table geo old new h i was (ap (λ (s : State). s.opened) e.whole)
-effect_opened geo old new (Mkdir p) (Number j) h i e was other = by_table geo old new h i was (ap (λ (s : State). s.opened) e.whole)
+effect_opened geo old new (Create p words) (Number j) h i e was other = by_table geo old new h i was (ap (λ (s : State). s.opened) e.whole)
+effect_opened geo old new (Mkdir p words) (Number j) h i e was other = by_table geo old new h i was (ap (λ (s : State). s.opened) e.whole)
 effect_opened geo old new (Link p q) Done h i e was other = by_table geo old new h i was (ap (λ (s : State). s.opened) e.whole)
 effect_opened geo old new (Unlink p) Done h i e was other =
     by_table geo old new h i was (ap (λ (s : State). s.opened) e ∙ relinked_opened geo (emptied geo old (holder geo old.view p) (slot_at geo old.view p)) (number_at geo old.view p) ((old.view.inode (number_at geo old.view p)).links - 1))
@@ -83,6 +83,7 @@ effect_opened geo old new (Close m) Done h i e was other = closing geo old new h
 effect_opened geo old new (Read m k) (Bytes bytes) h i e was other = by_table geo old new h i was (ap (λ (s : State). s.opened) e.1)
 effect_opened geo old new (Write m k piece) Done h i e was other = by_table geo old new h i was (stores_opened geo old new (file_of old m) k e.bytes (size_after old.view (file_of old m) k piece) e.stores)
 effect_opened geo old new (Truncate m n) Done h i e was other = by_table geo old new h i was (ap (λ (s : State). s.opened) e)
+effect_opened geo old new (SetAttributes j words) Done h i e was other = by_table geo old new h i was (ap (λ (s : State). s.opened) e)
 effect_opened geo old new (ListNames p) (Listed names) h i e was other = by_table geo old new h i was (ap (λ (s : State). s.opened) e.1)
 effect_opened geo old new (Stat p) answer h i e was other = by_table geo old new h i was (ap (λ (s : State). s.opened) e.1)
 effect_opened geo old new Freeze answer h i e was other = by_table geo old new h i was (ap (λ (s : State). s.opened) e.1)

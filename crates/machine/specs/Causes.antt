@@ -6,7 +6,7 @@ use Rattle.std.specs.Result.{result_err}
 use Rattle.model.specs.Layout.{Geometry, root, is_number, block_count}
 use Rattle.model.specs.View.{View}
 use Rattle.model.specs.Shape.{most_blocks}
-use Rattle.model.specs.Uses.{blocks_of, is_directory_at}
+use Rattle.model.specs.Uses.{blocks_of, is_directory_at, is_sound_at}
 use Rattle.model.specs.Slots.{slot, number_in}
 use Rattle.model.specs.Reach.{slot_count}
 use Rattle.model.specs.Metadata.{SameMetadata}
@@ -16,7 +16,7 @@ use Rattle.layout.specs.declared.refusal.Refusal.TheVariants.{NotFound, Exists, 
 use Rattle.machine.specs.Below.{any_below, when, first_of}
 use Rattle.machine.specs.Standing.{too_many}
 use Rattle.machine.specs.State.{State, Plan, open_at, handle_count, is_kept, snapshot_at, latest}
-use Rattle.machine.specs.Command.{Command, Create, Mkdir, Link, Unlink, Rmdir, Rename, Open, Close, Read, Write, Truncate, ListNames, Stat, Freeze, SnapRead, Release, Install, RepairAt, Flush, Sync}
+use Rattle.machine.specs.Command.{Command, Create, Mkdir, Link, Unlink, Rmdir, Rename, Open, Close, Read, Write, Truncate, SetAttributes, ListNames, Stat, Freeze, SnapRead, Release, Install, RepairAt, Flush, Sync}
 use Rattle.machine.specs.Paths.{parts_of, parts, walk, target, holder, number_at}
 use Rattle.machine.specs.Room.{has_number, unmarked_blocks, blocks_to_append, blocks_to_enter, is_full}
 use Rattle.machine.specs.Cells.{block_of}
@@ -103,11 +103,11 @@ blocks_to_write geo state i k =
 -- ---- the lists
 
 unfoldable pub causes : Geometry → State → Command → List (Option Refusal)
-causes geo old (Create p) =
+causes geo old (Create p words) =
     let v = old.view in
     let d = holder geo v p in
     bad_name p ∷ top p ∷ no_way geo v p ∷ taken geo v p ∷ no_number geo v ∷ full geo v d ∷ too_few geo v (blocks_to_enter geo v d) ∷ []
-causes geo old (Mkdir p) =
+causes geo old (Mkdir p words) =
     let v = old.view in
     let d = holder geo v p in
     bad_name p ∷ top p ∷ no_way geo v p ∷ taken geo v p ∷ too_many_links v d ∷ no_number geo v ∷ full geo v d ∷ too_few geo v (1 + blocks_to_enter geo v d) ∷ []
@@ -138,6 +138,7 @@ causes geo old (Write h k piece) =
     not_open old h ∷ when (length piece == 0 || nat_lt 1024 (length piece)) BadPiece ∷ when (nat_le (most_blocks geo) k) TooBig
     ∷ when (nat_lt ((old.view.inode (file_of old h)).size / 1024) k) BadIndex ∷ too_few geo old.view (blocks_to_write geo old (file_of old h) k) ∷ []
 causes geo old (Truncate h n) = not_open old h ∷ when (nat_lt (old.view.inode (file_of old h)).size n) BadIndex ∷ []
+causes geo old (SetAttributes i words) = when (not (is_sound_at geo old.view i)) NotFound ∷ []
 causes geo old (ListNames p) = bad_name p ∷ missing geo old.view p ∷ not_directory geo old.view (number_at geo old.view p) ∷ []
 causes geo old (Stat p) = bad_name p ∷ missing geo old.view p ∷ []
 causes geo old Freeze = when (too_many old.snapshots) TooManySnapshots ∷ []

@@ -1,5 +1,5 @@
 -- What can be asked of the volume, and what it answers.
-use Rattle.std.specs.Prelude.{ℕ, List, Result}
+use Rattle.std.specs.Prelude.{ℕ, List, Result, replicate}
 use Rattle.findings.specs.declared.finding.Finding.{Finding}
 use Rattle.model.specs.View.{View}
 use Rattle.layout.specs.declared.refusal.Refusal.{Refusal}
@@ -9,10 +9,15 @@ pub record Check : Type 0 where
   pub image : View
   pub findings : List Finding
 
--- Paths and pieces are lists of bytes; handles, indices and numbers are as the caller gives them. A read of a snapshot names it, an inode and a block; an end names the snapshot.
+-- the attributes of what is made without any
+abbrev pub no_attributes : List ℕ
+no_attributes = replicate 16 0
+
+-- Paths and pieces are lists of bytes; handles, indices and numbers are as the caller gives them. What is made gets the attributes that are given; of what is
+-- there they are set by the inode's number. A read of a snapshot names it, an inode and a block; an end names the snapshot.
 pub data Command : Type 0 where
-  Create : List ℕ → Command
-  Mkdir : List ℕ → Command
+  Create : List ℕ → List ℕ → Command
+  Mkdir : List ℕ → List ℕ → Command
   Link : List ℕ → List ℕ → Command
   Unlink : List ℕ → Command
   Rmdir : List ℕ → Command
@@ -22,6 +27,7 @@ pub data Command : Type 0 where
   Read : ℕ → ℕ → Command
   Write : ℕ → ℕ → List ℕ → Command
   Truncate : ℕ → ℕ → Command
+  SetAttributes : ℕ → List ℕ → Command
   ListNames : List ℕ → Command
   Stat : List ℕ → Command
   Freeze : Command

@@ -1,7 +1,7 @@
 -- What each user command changes, and what it answers.
 use Rattle.std.specs.Prelude.{◌≡◌, ◌≢◌, ℕ, zero, suc, ◌+◌, ◌-◌, ◌*◌, ◌<◌, max, true, false, not, ◌&&◌, ◌||◌, ◌==◌, nat_le, List, [], ◌∷◌, ◌++◌, length, take, drop, replicate, Some, None, IsTrue, IsFalse, if◌then◌else◌}
 use Rattle.model.specs.Layout.{Geometry}
-use Rattle.model.specs.View.{View, Inode, free_inode, new_file}
+use Rattle.model.specs.View.{View, Inode, free_inode, new_file, with_attributes}
 use Rattle.model.specs.Image.{IsBlock}
 use Rattle.model.specs.Uses.{blocks_of}
 use Rattle.model.specs.Slots.{Slot, Absent, Empty, Good, Bad, slot}
@@ -43,8 +43,12 @@ emptied geo old d s = record old { view = with_entry geo old.view d s (replicate
 
 -- ---- new records
 
-abbrev pub new_directory : ℕ → Inode
-new_directory block = record { mode = 2; links = 2; size = 1024; direct = block ∷ replicate 11 0; indirect = 0; double = 0 }
+-- a file, and a directory with this block, that are made with these attributes
+abbrev pub file_with : List ℕ → Inode
+file_with words = with_attributes new_file words
+
+abbrev pub new_directory : ℕ → List ℕ → Inode
+new_directory block words = record { mode = 2; links = 2; size = 1024; direct = block ∷ replicate 11 0; indirect = 0; double = 0; attributes = words }
 
 -- a block with the dots of directory i, which stands in directory d, and zeroes
 pub record AreDots (i d : ℕ) (bytes : List ℕ) : Type 0 where
@@ -56,15 +60,15 @@ pub record AreDots (i d : ℕ) (bytes : List ℕ) : Type 0 where
 
 -- ---- the commands
 
--- a file with one link and no bytes
-pub record Creates (geo : Geometry) (old : State) (path : List ℕ) (i : ℕ) (new : State) : Type 0 where
+-- a file with one link, these attributes and no bytes
+pub record Creates (geo : Geometry) (old : State) (path words : List ℕ) (i : ℕ) (new : State) : Type 0 where
   pub free : IsFreeNumber geo old.view i
   pub view : View
-  pub enters : Enters geo (updated_all old.view (SetNumber i true ∷ SetInode i new_file ∷ [])) (holder geo old.view path) (name_in path) i view
+  pub enters : Enters geo (updated_all old.view (SetNumber i true ∷ SetInode i (file_with words) ∷ [])) (holder geo old.view path) (name_in path) i view
   pub whole : new ≡ record old { view = view }
 
--- a directory with two links and one block with the dots, and a link more for its parent
-pub record MakesDirectory (geo : Geometry) (old : State) (path : List ℕ) (i : ℕ) (new : State) : Type 0 where
+-- a directory with two links, these attributes and one block with the dots, and a link more for its parent
+pub record MakesDirectory (geo : Geometry) (old : State) (path words : List ℕ) (i : ℕ) (new : State) : Type 0 where
   pub free : IsFreeNumber geo old.view i
   pub block : ℕ
   pub free_block : IsFreeBlock geo old.view block
@@ -74,7 +78,7 @@ pub record MakesDirectory (geo : Geometry) (old : State) (path : List ℕ) (i : 
   pub enters : Enters geo
       (updated_all old.view (SetNumber i true ∷ SetBlock block true
       ∷ SetInode (holder geo old.view path) (with_links (old.view.inode (holder geo old.view path)) ((old.view.inode (holder geo old.view path)).links + 1))
-      ∷ SetBytes block bytes ∷ SetInode i (new_directory block) ∷ []))
+      ∷ SetBytes block bytes ∷ SetInode i (new_directory block words) ∷ []))
       (holder geo old.view path) (name_in path) i view
   pub whole : new ≡ record old { view = view }
 
@@ -150,6 +154,10 @@ pub record Writes (geo : Geometry) (old : State) (i k : ℕ) (piece : List ℕ) 
 -- the file gets a size that is no larger, and lets go what it no longer claims
 abbrev pub truncated : Geometry → State → ℕ → ℕ → State
 truncated geo old i n = lets_go geo old i (updated old.view (SetInode i (record (old.view.inode i) { size = n })))
+
+-- an inode gets these attributes
+abbrev pub attributed : State → ℕ → List ℕ → State
+attributed old i words = record old { view = updated old.view (SetInode i (with_attributes (old.view.inode i) words)) }
 
 -- the names in the slots of directory d from 2 on and below n, in order
 abbrev pub named : Slot → List Name

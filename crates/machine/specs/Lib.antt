@@ -17,3 +17,4 @@ pub mod Whole
 pub mod Debts
 pub mod Runs
 pub mod Files
+pub mod Attributes

@@ -12,7 +12,7 @@ use Rattle.model.specs.Reach.{sum_below}
 use Rattle.layout.specs.declared.refusal.Refusal.TheVariants.{NotFound, BadName, BadHandle, TooManySnapshots, NoSnapshot, NoPlan, IsRoot}
 use Rattle.machine.specs.Below.{any_below, first_below}
 use Rattle.machine.specs.State.{State, mounted}
-use Rattle.machine.specs.Command.{Create, Rmdir, Close, Freeze, Release, RepairAt}
+use Rattle.machine.specs.Command.{Create, no_attributes, Rmdir, Close, Freeze, Release, RepairAt}
 use Rattle.machine.specs.Paths.{parts_of, walk, target, lookup, slot_of}
 use Rattle.machine.specs.Causes.{causes, refusal_of}
 use Rattle.machine.specs.Snapshot.{frozen}
@@ -31,19 +31,19 @@ fresh = mounted (fresh_view small)
 abbrev pub with_empty_file : State
 with_empty_file = record fresh { view = updated_all fresh.view (SetNumber 3 true ∷ SetInode 3 new_file ∷ []); opened = put_at fresh.opened 0 (Some 3) }
 
-pub create_root : refusal_of small fresh (Create (codes "/")) ≡ Some IsRoot
+pub create_root : refusal_of small fresh (Create (codes "/") no_attributes) ≡ Some IsRoot
 unfolding causes parts_of
 create_root = refl
 
-pub create_bare : refusal_of small fresh (Create (codes "a")) ≡ Some BadName
+pub create_bare : refusal_of small fresh (Create (codes "a") no_attributes) ≡ Some BadName
 unfolding causes parts_of
 create_bare = refl
 
-pub create_long : refusal_of small fresh (Create (47 ∷ replicate 57 120)) ≡ Some BadName
+pub create_long : refusal_of small fresh (Create (47 ∷ replicate 57 120) no_attributes) ≡ Some BadName
 unfolding causes parts_of
 create_long = refl
 
-pub create_dots : refusal_of small fresh (Create (codes "/a/..")) ≡ Some BadName
+pub create_dots : refusal_of small fresh (Create (codes "/a/..") no_attributes) ≡ Some BadName
 unfolding causes parts_of
 create_dots = refl
 
@@ -91,10 +91,10 @@ pub nothing_named : lookup small (fresh_view small) 2 (codes "a") ≡ None
 unfolding lookup slot_of first_below slot use_at record_use most_blocks position_count table_of place_in_table first_block claim_at
 nothing_named = refl
 
-pub create_deep : refusal_of small fresh (Create (codes "/a/b")) ≡ Some NotFound
+pub create_deep : refusal_of small fresh (Create (codes "/a/b") no_attributes) ≡ Some NotFound
 unfolding causes parts_of walk lookup slot_of first_below slot use_at record_use most_blocks position_count table_of place_in_table first_block claim_at
 create_deep = refl
 
-pub create_accepted : refusal_of small fresh (Create (codes "/a")) ≡ None
+pub create_accepted : refusal_of small fresh (Create (codes "/a") no_attributes) ≡ None
 unfolding causes parts_of walk target lookup slot_of first_below any_below sum_below slot use_at record_use most_blocks position_count table_of place_in_table first_block claim_at
 create_accepted = refl

@@ -4,19 +4,19 @@ use Rattle.model.specs.Layout.{Geometry}
 use Rattle.model.specs.View.{View}
 use Rattle.layout.specs.declared.refusal.Refusal.TheVariants.{NoMemory, Device}
 use Rattle.machine.specs.State.{State, snapshot_at}
-use Rattle.machine.specs.Command.{Command, Create, Mkdir, Link, Unlink, Rmdir, Rename, Open, Close, Read, Write, Truncate, ListNames, Stat, Freeze, SnapRead, Release, Install, RepairAt, Flush, Sync, Answer, Done, Number, Bytes, Listed, Image, Reply}
+use Rattle.machine.specs.Command.{Command, Create, Mkdir, Link, Unlink, Rmdir, Rename, Open, Close, Read, Write, Truncate, SetAttributes, ListNames, Stat, Freeze, SnapRead, Release, Install, RepairAt, Flush, Sync, Answer, Done, Number, Bytes, Listed, Image, Reply}
 use Rattle.machine.specs.Paths.{number_at}
 use Rattle.machine.specs.Causes.{FirstRefusal, Accepts, file_of}
 use Rattle.machine.specs.Cells.{seen}
-use Rattle.machine.specs.Effects.{Creates, MakesDirectory, Links, unlinked, removed, Renames, Opens, closed, Writes, truncated, names_below, status}
+use Rattle.machine.specs.Effects.{Creates, MakesDirectory, Links, unlinked, removed, Renames, Opens, closed, Writes, truncated, attributed, names_below, status}
 use Rattle.machine.specs.Snapshot.{settled, frozen, released, Installs}
 use Rattle.machine.specs.Repairs.{CarriesOut}
 use Rattle.model.specs.Reach.{slot_count}
 
 -- A command that no cause refuses may give this answer and lead from old to new.
 abbrev pub Effect : Geometry → State → Command → Answer → State → Type 0
-Effect geo old (Create p) (Number i) new = Creates geo old p i new
-Effect geo old (Mkdir p) (Number i) new = MakesDirectory geo old p i new
+Effect geo old (Create p words) (Number i) new = Creates geo old p words i new
+Effect geo old (Mkdir p words) (Number i) new = MakesDirectory geo old p words i new
 Effect geo old (Link p q) Done new = Links geo old p q new
 Effect geo old (Unlink p) Done new = new ≡ unlinked geo old p
 Effect geo old (Rmdir p) Done new = new ≡ removed geo old p
@@ -26,6 +26,7 @@ Effect geo old (Close h) Done new = new ≡ closed geo old h
 Effect geo old (Read h k) (Bytes bytes) new = (bytes ≡ seen geo old.view (file_of old h) k) × (new ≡ old)
 Effect geo old (Write h k piece) Done new = Writes geo old (file_of old h) k piece new
 Effect geo old (Truncate h n) Done new = new ≡ truncated geo old (file_of old h) n
+Effect geo old (SetAttributes i words) Done new = new ≡ attributed old i words
 Effect geo old (ListNames p) (Listed names) new = (names ≡ names_below geo old.view (number_at geo old.view p) (slot_count geo)) × (new ≡ old)
 Effect geo old (Stat p) answer new = (answer ≡ status old.view (number_at geo old.view p)) × (new ≡ old)
 Effect geo old Freeze answer new = (answer ≡ Image old.snapshots.freezes (settled geo old)) × (new ≡ frozen geo old)

@@ -4,16 +4,17 @@
 ghost use Rattle.std.specs.Prelude.{slice_get, length, take, drop, ◌++◌, min, ◌-◌, ◌*◌, ◌<◌, ◌≤◌, suc, ◌≡◌, ◌⊎◌, ◌↔◌, ℕ, List, [], ◌∷◌, Some, None, Ok, Err, codes, IsTrue, IsFalse};
 ghost use Rattle.machine.specs.Paths.{IsPath, parts_of};
 ghost use Rattle.machine.specs.Rows.{small_of, small, fresh, with_empty_file};
-ghost use Rattle.machine.specs.Command.{Freeze, Release, Install, Image, RepairAt, SnapRead, Create, Open, Write, Truncate, Read, Unlink, Number, Done, Bytes};
+ghost use Rattle.machine.specs.Command.{Freeze, Release, Install, Image, RepairAt, SnapRead, Create, no_attributes, Open, Write, Truncate, Read, Unlink, Number, Done, Bytes};
 ghost use Rattle.model.specs.Layout.{Geometry, IsGeometry};
-ghost use Rattle.model.specs.View.{View, new_file};
+ghost use Rattle.model.specs.View.{View, new_file, with_attributes};
 ghost use Rattle.model.specs.Image.{IsImage, image_view};
 ghost use Rattle.model.specs.Rules.{ObeysRules};
 ghost use Rattle.layout.specs.declared.refusal.Refusal.{Refusal};
 ghost use Rattle.layout.specs.declared.refusal.Refusal.TheVariants.{TooBig, BadIndex};
 ghost use Rattle.machine.specs.Standing.{AreNumbered};
 ghost use Rattle.machine.specs.State.{Plan, State, mounted, open_at, snapshot_at, latest};
-ghost use Rattle.machine.specs.Command.{Check, Command, Reply};
+ghost use Rattle.machine.specs.Command.{Check, Command, Mkdir, Reply, SetAttributes};
+ghost use Rattle.machine.specs.Attributes.{IsSettingOf};
 ghost use Rattle.machine.specs.Causes.{FirstRefusal, Accepts, Belongs, file_of, refusal_of};
 ghost use Rattle.machine.specs.Room.{blocks_to_append};
 ghost use Rattle.machine.specs.Step.{Step, Run};
@@ -198,6 +199,20 @@ pub fn writes_change_their_own_block()
         → seen geo new.view (file_of old h) k ≡ piece ++ drop (length piece) (seen geo old.view (file_of old h) k) }
 {}
 
+/// The attributes of an inode that is in use, and stays in use, are as they were, unless a command sets them; and then they are
+/// those that it sets, and of the record nothing else changes. What is made has those that it is made with.
+pub fn attributes_last()
+    ensures last { (geo : Geometry) → IsGeometry geo → (old new : State) (command : Command) (reply : Reply) (i : ℕ) → Balance geo old
+        → Step geo old command reply new → (IsSettingOf i command → ⊥) → ((old.view.inode i).mode ≡ 0 → ⊥) → ((new.view.inode i).mode ≡ 0 → ⊥)
+        → (new.view.inode i).attributes ≡ (old.view.inode i).attributes }
+    ensures set { (geo : Geometry) (old new : State) (i : ℕ) (words : List ℕ) → Step geo old (SetAttributes i words) (Ok Done) new
+        → new.view.inode i ≡ with_attributes (old.view.inode i) words }
+    ensures created { (geo : Geometry) (old new : State) (path words : List ℕ) (i : ℕ) → Step geo old (Create path words) (Ok (Number i)) new
+        → ((new.view.inode i).mode ≡ 1) × ((new.view.inode i).attributes ≡ words) }
+    ensures made { (geo : Geometry) (old new : State) (path words : List ℕ) (i : ℕ) → Step geo old (Mkdir path words) (Ok (Number i)) new
+        → ((new.view.inode i).mode ≡ 2) × ((new.view.inode i).attributes ≡ words) }
+{}
+
 /// A file's size and bytes are changed by writes and truncations through its own handles alone, whatever else is done:
 /// a step that is none of these leaves both as they were, where it does not free the file, and it frees none that is
 /// still reachable or open. So does a run in which the file stays reachable or open, as it does where one of its handles
@@ -234,7 +249,7 @@ pub fn paths_are_their_parts()
 /// On the small fresh image a file is created as number 3, opened, written, read and removed.
 pub fn first_commands_on_the_fresh_image()
     ensures { (new : State) × Run small fresh
-        (Create (codes "/a") ∷ Open (codes "/a") ∷ Write 0 0 (codes "abc") ∷ Read 0 0 ∷ Unlink (codes "/a") ∷ [])
+        (Create (codes "/a") no_attributes ∷ Open (codes "/a") ∷ Write 0 0 (codes "abc") ∷ Read 0 0 ∷ Unlink (codes "/a") ∷ [])
         (Ok (Number 3) ∷ Ok (Number 0) ∷ Ok Done ∷ Ok (Bytes (codes "abc")) ∷ Ok Done ∷ []) new }
 {}
 

@@ -5,7 +5,7 @@ use Rattle.model.specs.View.{View}
 use Rattle.ordering.specs.Cuts.{Pending, rest}
 use Rattle.machine.specs.Command.{Answer, Command, Reply, Sync}
 use Rattle.machine.specs.State.{State}
-use Rattle.courses.specs.Done.{IsDoneBy, CreatesInSlot, CreatesInNewBlock, MakesInSlot, MakesInNewBlock, LinksInSlot, LinksInNewBlock, RenamesInSlot, MovesToSlot, MovesToNewBlock, UnlinksName, UnlinksFile, RemovesName, RemovesDirectory, WritesInPlace, WritesBehind, WritesElsewhere, TruncatesFile, ClosesHandle, CarriesOutRepair}
+use Rattle.courses.specs.Done.{IsDoneBy, CreatesInSlot, CreatesInNewBlock, MakesInSlot, MakesInNewBlock, LinksInSlot, LinksInNewBlock, RenamesInSlot, MovesToSlot, MovesToNewBlock, UnlinksName, UnlinksFile, RemovesName, RemovesDirectory, WritesInPlace, WritesBehind, WritesElsewhere, TruncatesFile, SetsItsAttributes, ClosesHandle, CarriesOutRepair}
 use Rattle.courses.specs.Serves.{is_quiet, Serves, ByPlan, Quietly, FlushesNone, FlushesSome, SyncsAll, Freezes, Releases, Service, Starts, CarriesOut, Refuses, Flushed}
 
 is_sync : Command → Bool
@@ -33,10 +33,10 @@ module _ (geo : Geometry) where
   no_plan : (disk : View) (q : List Pending) (old : State) (safe : ℕ → Bool) (command : Command) (answer : Answer) (file : ℕ) (plan : List Pending) (new : State) (safe' : ℕ → Bool)
       → IsDoneBy geo disk q old safe command answer file plan new safe' → is_sync command ≡ true → ⊥
   unfolding is_sync
-  no_plan disk q old safe command answer file plan new safe' (CreatesInSlot p n s entry after f slot) t = let bad : false ≡ true = t in cc
-  no_plan disk q old safe command answer file plan new safe' (CreatesInNewBlock p n b kept s entry after f block) t = let bad : false ≡ true = t in cc
-  no_plan disk q old safe command answer file plan new safe' (MakesInSlot p i a dots s entry after f h d slot) t = let bad : false ≡ true = t in cc
-  no_plan disk q old safe command answer file plan new safe' (MakesInNewBlock p i a dots b kept s entry after f h d other block) t = let bad : false ≡ true = t in cc
+  no_plan disk q old safe command answer file plan new safe' (CreatesInSlot p words n s entry after f slot) t = let bad : false ≡ true = t in cc
+  no_plan disk q old safe command answer file plan new safe' (CreatesInNewBlock p words n b kept s entry after f block) t = let bad : false ≡ true = t in cc
+  no_plan disk q old safe command answer file plan new safe' (MakesInSlot p words i a dots s entry after f h d slot) t = let bad : false ≡ true = t in cc
+  no_plan disk q old safe command answer file plan new safe' (MakesInNewBlock p words i a dots b kept s entry after f h d other block) t = let bad : false ≡ true = t in cc
   no_plan disk q old safe command answer file plan new safe' (LinksInSlot p r s entry after slot) t = let bad : false ≡ true = t in cc
   no_plan disk q old safe command answer file plan new safe' (LinksInNewBlock p r b kept s entry after block) t = let bad : false ≡ true = t in cc
   no_plan disk q old safe command answer file plan new safe' (RenamesInSlot p r entry after same says blocks) t = let bad : false ≡ true = t in cc
@@ -50,6 +50,7 @@ module _ (geo : Geometry) where
   no_plan disk q old safe command answer file plan new safe' (WritesBehind h k piece bytes b news over choice behind) t = let bad : false ≡ true = t in cc
   no_plan disk q old safe command answer file plan new safe' (WritesElsewhere h k piece bytes b over f low kept) t = let bad : false ≡ true = t in cc
   no_plan disk q old safe command answer file plan new safe' (TruncatesFile h size) t = let bad : false ≡ true = t in cc
+  no_plan disk q old safe command answer file plan new safe' (SetsItsAttributes n words) t = let bad : false ≡ true = t in cc
   no_plan disk q old safe command answer file plan new safe' (ClosesHandle h) t = let bad : false ≡ true = t in cc
   no_plan disk q old safe command answer file plan new safe' (CarriesOutRepair k planned r plans there) t = let bad : false ≡ true = t in cc
 

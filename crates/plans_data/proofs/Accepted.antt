@@ -1,5 +1,5 @@
 -- The balance and the causes of refusals give what the commands ask for.
-use Rattle.std.proofs.Common.{◌≡◌, ℕ, ◌≤◌, ◌-◌, ◌/◌, true, false, ◌||◌, eqb, ltb, leb, List, length, inl, inr, refl, IsFalse, arith, Option, Some, None, is_none, ltb-false, lt-ltb, le-leb, eqb-true, eq-eqb}
+use Rattle.std.proofs.Common.{◌≡◌, ℕ, ◌≤◌, ◌-◌, ◌/◌, Bool, true, false, not, ◌||◌, eqb, ltb, leb, List, length, inl, inr, refl, IsTrue, IsFalse, arith, Option, Some, None, is_none, ltb-false, lt-ltb, le-leb, eqb-true, eq-eqb}
 use Rattle.std.specs.Prelude.{unwrap_or}
 use Rattle.std.proofs.lemmas.Bool.{both_ways, and_parts, and_from, or_cases, or_left, or_right, cases_lt, cases_eq, false_from_ne_true}
 use Rattle.model.specs.Layout.{Geometry, IsGeometry, is_number}
@@ -7,9 +7,9 @@ use Rattle.model.specs.Shape.{most_blocks}
 use Rattle.model.specs.Uses.{blocks_of, is_sound, is_sound_at, is_directory, is_directory_at, IsClaimed}
 use Rattle.model.proofs.SlotLemmas.{number_low}
 use Rattle.findings.specs.declared.repair.Repair.TheVariants.{DropInode, LowerCount, FreeBlock, FreeNumber}
-use Rattle.layout.specs.declared.refusal.Refusal.TheVariants.{BadHandle, BadPiece, TooBig, BadIndex}
+use Rattle.layout.specs.declared.refusal.Refusal.TheVariants.{NotFound, BadHandle, BadPiece, TooBig, BadIndex}
 use Rattle.machine.specs.State.{State, IsOpen, open_at}
-use Rattle.machine.specs.Command.{Write, Truncate, Close}
+use Rattle.machine.specs.Command.{Write, Truncate, SetAttributes, Close}
 use Rattle.machine.specs.Causes.{Accepts, causes, file_of}
 use Rattle.machine.specs.Balance.{Balance, Owes}
 use Rattle.machine.proofs.Counting.{uncounted}
@@ -38,6 +38,15 @@ open_is_file geo old b n opened = let p = b.open_file n opened in record {
 opened_by : (old : State) (h : ℕ) (f : Option ℕ) → open_at old h ≡ f → (is_none f ≡ false) → open_at old h ≡ Some (unwrap_or f 0)
 opened_by old h None e f = absurd (both_ways true f refl)
 opened_by old h (Some j) e f = e
+
+not_false : (t : Bool) → not t ≡ false → t ≡ true
+not_false true e = refl
+not_false false e = absurd (both_ways true e refl)
+
+pub accepted_attributes : (geo : Geometry) (old : State) (n : ℕ) (words : List ℕ) → Accepts geo old (SetAttributes n words) → IsTrue (is_sound_at geo old.view n)
+unfolding causes
+accepted_attributes geo old n words a =
+    not_false (is_sound_at geo old.view n) (when_none (not (is_sound_at geo old.view n)) NotFound (quiet (causes geo old (SetAttributes n words)) a.0).0)
 
 module _ (geo : Geometry) (old : State) (b : Balance geo old) where
   handle_is_file : (h : ℕ) → is_none (open_at old h) ≡ false → IsFile geo old.view (file_of old h)

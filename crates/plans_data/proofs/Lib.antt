@@ -18,6 +18,7 @@ mod Moving
 pub mod Moved
 pub mod WriteMoved
 pub mod Truncating
+pub mod Attributing
 pub mod Relinking
 pub mod Repairing
 pub mod Releasing

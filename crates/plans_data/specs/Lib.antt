@@ -4,6 +4,7 @@ pub mod Append
 pub mod Freeing
 pub mod Write
 pub mod Truncate
+pub mod Attributes
 pub mod Relink
 pub mod Release
 pub mod Grounds

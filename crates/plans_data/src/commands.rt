@@ -6,7 +6,7 @@ ghost use Rattle.model.specs.View.{View, free_inode};
 ghost use Rattle.model.specs.Cells.{put_at};
 ghost use Rattle.model.specs.Uses.{blocks_of};
 ghost use Rattle.findings.specs.declared.repair.Repair.{Repair};
-ghost use Rattle.machine.specs.Command.{Write, Truncate, Close, RepairAt, Release, Done};
+ghost use Rattle.machine.specs.Command.{Write, Truncate, SetAttributes, Close, RepairAt, Release, Done};
 ghost use Rattle.machine.specs.Step.{Step};
 ghost use Rattle.machine.specs.Standing.{ended};
 ghost use Rattle.machine.specs.State.{State, Plan, is_open, is_kept};
@@ -24,6 +24,7 @@ ghost use Rattle.plans_data.specs.Append.{sized, appended};
 ghost use Rattle.plans_data.specs.Freeing.{held_with};
 ghost use Rattle.plans_data.specs.Write.{written, relocated, held_besides};
 ghost use Rattle.plans_data.specs.Truncate.{truncation};
+ghost use Rattle.plans_data.specs.Attributes.{attributing};
 ghost use Rattle.plans_data.specs.Relink.{closing, repairing, goes_away, held_if, held_after, inode_of, open_of, without_handle};
 ghost use Rattle.plans_data.specs.Release.{releasing};
 ghost use Rattle.plans_data.specs.Plans.{IsChoice, holder_of, named_by};
@@ -55,6 +56,14 @@ pub fn truncations_are_carried_out()
         → (h size : ℕ) → Accepts geo old (Truncate h size)
         → let n = file_of old h in let new = sized (old.view.inode n) size in let p = truncation n (old.view.inode n) size (given_up_with geo old n new) q in
         IsCarriedOut geo disk q old (Truncate h size) Done p (becomes disk p (held_with geo old n new) old) safe safe }
+{}
+
+/// Attributes that no cause refuses to set are set by one update, which comes after no other.
+pub fn attributes_are_carried_out()
+    ensures { (geo : Geometry) (disk : View) (q : List Pending) (old : State) (safe : ℕ → Bool) → Stands geo disk q old safe
+        → (n : ℕ) (words : List ℕ) → Accepts geo old (SetAttributes n words)
+        → let p = attributing n (old.view.inode n) words q in
+        IsCarriedOut geo disk q old (SetAttributes n words) Done p (becomes disk p old.held old) safe safe }
 {}
 
 /// A close that no cause refuses is carried out.

@@ -7,13 +7,13 @@ ghost use Rattle.model.specs.Layout.{Geometry};
 ghost use Rattle.model.specs.View.{View, free_inode};
 ghost use Rattle.model.specs.Cells.{SetInode, SetNumber, updated_all};
 ghost use Rattle.model.specs.Rules.{ObeysRules};
-ghost use Rattle.model.specs.Uses.{IsClaim};
+ghost use Rattle.model.specs.Uses.{IsClaim, is_sound_at};
 ghost use Rattle.findings.specs.declared.repair.Repair.{Repair};
 ghost use Rattle.machine.specs.Standing.{ended};
 ghost use Rattle.machine.specs.State.{State, is_open};
 ghost use Rattle.machine.specs.Cells.{Places, block_of};
 ghost use Rattle.machine.specs.Causes.{file_of};
-ghost use Rattle.machine.specs.Effects.{Writes, lets_go, relinked, truncated, closed, size_after};
+ghost use Rattle.machine.specs.Effects.{Writes, lets_go, relinked, truncated, attributed, closed, size_after};
 ghost use Rattle.machine.specs.Repairs.{repaired};
 ghost use Rattle.machine.specs.Snapshot.{released, held_still};
 ghost use Rattle.ordering.specs.Cuts.{Cell, Record, Block, Pending, EachCut, users_view};
@@ -27,6 +27,7 @@ ghost use Rattle.plans_data.specs.Freeing.{AreGivenUp, MayFreeing, held_with, wi
 ghost use Rattle.plans_data.specs.Held.{HeldAreRight};
 ghost use Rattle.plans_data.specs.Write.{MayWriteInPlace, MayWriteAppended, MayWriteMoved, written, relocated, held_besides};
 ghost use Rattle.plans_data.specs.Truncate.{MayTruncate, truncation};
+ghost use Rattle.plans_data.specs.Attributes.{attributing};
 ghost use Rattle.plans_data.specs.Relink.{MayRelink, MayClose, MayRepair, relinking, closing, repairing, goes_away, held_if, held_after, inode_of, open_of, without_handle};
 ghost use Rattle.plans_data.specs.Release.{MayRelease, releasing};
 
@@ -35,8 +36,8 @@ mod grounds;
 mod standing;
 
 pub use commands::{
-    a_release_is_carried_out, closes_are_carried_out, repairs_are_carried_out,
-    truncations_are_carried_out, writes_are_carried_out,
+    a_release_is_carried_out, attributes_are_carried_out, closes_are_carried_out,
+    repairs_are_carried_out, truncations_are_carried_out, writes_are_carried_out,
 };
 pub use grounds::{
     accepted_commands_find_their_grounds, accepted_commands_have_plans, accepted_writes_have_room,
@@ -135,6 +136,15 @@ pub fn a_kept_block_moves()
         → AllAgree geo disk q (at_rest old.held safe)
         → (holder : Holder) → MayWriteMoved geo (now disk q old) n k b piece bytes holder
         → Issues geo disk q (at_rest old.held safe) (relocated geo n ((users_view disk q).inode n) k b bytes (size_after (users_view disk q) n k piece) holder q) (at_rest (held_besides geo (now disk q old) n k) safe) }
+{}
+
+/// An inode gets other attributes, as the machine says, by an update of its kind.
+pub fn attributes_are_set()
+    ensures sets { (geo : Geometry) (disk : View) (q : List Pending) (old : State) (safe : ℕ → Bool) (n : ℕ) (words : List ℕ)
+        → becomes disk (attributing n ((users_view disk q).inode n) words q) old.held old ≡ attributed (now disk q old) n words }
+    ensures issues { (geo : Geometry) (disk : View) (q : List Pending) (old : State) (safe : ℕ → Bool) (n : ℕ) (words : List ℕ)
+        → IsTrue (is_sound_at geo (users_view disk q) n) → AllAgree geo disk q (at_rest old.held safe)
+        → Issues geo disk q (at_rest old.held safe) (attributing n ((users_view disk q).inode n) words q) (at_rest old.held safe) }
 {}
 
 /// A file is truncated, as the machine says, by updates of their kinds; what a snapshot keeps is held.

@@ -43,30 +43,30 @@ module _ (geo : Geometry) (old : State) (b : Balance geo old) (ok : IsGeometry g
   whole : IsWhole geo v
   whole = record { geometry = ok; pointers = λ n number. b.records n; blocks = b.whole }
 
-  pub accepted_create : (p : List ℕ) → Accepts geo old (Create p) → (n s : ℕ) (entry : List ℕ) (after : List Cell) → IsFreeNumber geo v n → slot geo v (holder geo v p) s ≡ Empty → IsEntryFor n (name_in p) entry
+  pub accepted_create : (p words : List ℕ) → Accepts geo old (Create p words) → (n s : ℕ) (entry : List ℕ) (after : List Cell) → IsFreeNumber geo v n → slot geo v (holder geo v p) s ≡ Empty → IsEntryFor n (name_in p) entry
       → Contains after (Record n) → HasOtherBlocks geo v (holder geo v p) (block_of geo v (holder geo v p) (s / 16)) after
       → CanCreate geo v n (holder geo v p) s (block_of geo v (holder geo v p) (s / 16)) (name_in p) entry after
   unfolding causes
-  accepted_create p accepts n s entry after free empty says first others =
-      let q = quiet (causes geo old (Create p)) accepts.0 in
+  accepted_create p words accepts n s entry after free empty says first others =
+      let q = quiet (causes geo old (Create p words)) accepts.0 in
       let at = new_place geo v p q.0 q.1.1.0 q.1.1.1.0 in
       record { number = free.number; unmarked = free.unmarked; place = empty_at geo v whole.blocks b.rules (holder geo v p) s at.reachable empty; takes = takes geo v p at; says = says; record_first = first; others_first = others }
 
-  pub accepted_create_grown : (p : List ℕ) → Accepts geo old (Create p) → (n c : ℕ) (kept : Holder) (s : ℕ) (entry : List ℕ) (after : List Cell) → IsFreeNumber geo v n → IsFalse (has_room geo v (holder geo v p))
+  pub accepted_create_grown : (p words : List ℕ) → Accepts geo old (Create p words) → (n c : ℕ) (kept : Holder) (s : ℕ) (entry : List ℕ) (after : List Cell) → IsFreeNumber geo v n → IsFalse (has_room geo v (holder geo v p))
       → IsFreeBlock geo v c → IsKeptIn geo v (holder geo v p) (blocks_of (v.inode (holder geo v p)).size) c kept → AreApart (c ∷ new_blocks kept) → s / 16 ≡ blocks_of (v.inode (holder geo v p)).size → IsEntryFor n (name_in p) entry
       → Contains after (Record n) → HasBlocks geo v (holder geo v p) after → CanCreateGrown geo v n (holder geo v p) c kept s (name_in p) entry after
   unfolding causes
-  accepted_create_grown p accepts n c kept s entry after free no_room block keeps news stands says first blocks =
-      let q = quiet (causes geo old (Create p)) accepts.0 in
+  accepted_create_grown p words accepts n c kept s entry after free no_room block keeps news stands says first blocks =
+      let q = quiet (causes geo old (Create p words)) accepts.0 in
       let at = new_place geo v p q.0 q.1.1.0 q.1.1.1.0 in
       record { number = free.number; unmarked = free.unmarked; enter = enters_grown geo v p c kept s after at q.1.1.1.1.1.0 whole no_room block keeps news stands blocks; says = says; record_first = first }
 
-  pub accepted_make : (p : List ℕ) → Accepts geo old (Mkdir p) → (i a : ℕ) (dots : List ℕ) (s : ℕ) (entry : List ℕ) (after : List Cell) → IsFreeNumber geo v i → IsFreeBlock geo v a → AreDots i (holder geo v p) dots
+  pub accepted_make : (p words : List ℕ) → Accepts geo old (Mkdir p words) → (i a : ℕ) (dots : List ℕ) (s : ℕ) (entry : List ℕ) (after : List Cell) → IsFreeNumber geo v i → IsFreeBlock geo v a → AreDots i (holder geo v p) dots
       → slot geo v (holder geo v p) s ≡ Empty → IsEntryFor i (name_in p) entry → Contains after (Record i) → HasOtherBlocks geo v (holder geo v p) (block_of geo v (holder geo v p) (s / 16)) after
       → CanMakeIn geo v i a dots (holder geo v p) s (block_of geo v (holder geo v p) (s / 16)) (name_in p) entry after
   unfolding causes
-  accepted_make p accepts i a dots s entry after free block are empty says first others =
-      let q = quiet (causes geo old (Mkdir p)) accepts.0 in
+  accepted_make p words accepts i a dots s entry after free block are empty says first others =
+      let q = quiet (causes geo old (Mkdir p words)) accepts.0 in
       let at = new_place geo v p q.0 q.1.1.0 q.1.1.1.0 in
       record {
         make = record { number = free.number; unmarked = free.unmarked; address = block.address; block_unmarked = block.unmarked; are_dots = are };
@@ -77,12 +77,12 @@ module _ (geo : Geometry) (old : State) (b : Balance geo old) (ok : IsGeometry g
         others_first = others;
       }
 
-  pub accepted_make_grown : (p : List ℕ) → Accepts geo old (Mkdir p) → (i a : ℕ) (dots : List ℕ) (c : ℕ) (kept : Holder) (s : ℕ) (entry : List ℕ) (after : List Cell) → IsFreeNumber geo v i → IsFreeBlock geo v a → AreDots i (holder geo v p) dots
+  pub accepted_make_grown : (p words : List ℕ) → Accepts geo old (Mkdir p words) → (i a : ℕ) (dots : List ℕ) (c : ℕ) (kept : Holder) (s : ℕ) (entry : List ℕ) (after : List Cell) → IsFreeNumber geo v i → IsFreeBlock geo v a → AreDots i (holder geo v p) dots
       → IsFalse (has_room geo v (holder geo v p)) → IsFreeBlock geo v c → AreOther a c kept → IsKeptIn geo v (holder geo v p) (blocks_of (v.inode (holder geo v p)).size) c kept → AreApart (c ∷ new_blocks kept) → s / 16 ≡ blocks_of (v.inode (holder geo v p)).size
       → IsEntryFor i (name_in p) entry → Contains after (Record i) → HasBlocks geo v (holder geo v p) after → CanMakeGrown geo v i a dots (holder geo v p) c kept s (name_in p) entry after
   unfolding causes
-  accepted_make_grown p accepts i a dots c kept s entry after free block are no_room other_block other keeps news stands says first blocks =
-      let q = quiet (causes geo old (Mkdir p)) accepts.0 in
+  accepted_make_grown p words accepts i a dots c kept s entry after free block are no_room other_block other keeps news stands says first blocks =
+      let q = quiet (causes geo old (Mkdir p words)) accepts.0 in
       let at = new_place geo v p q.0 q.1.1.0 q.1.1.1.0 in
       record {
         make = record { number = free.number; unmarked = free.unmarked; address = block.address; block_unmarked = block.unmarked; are_dots = are };

@@ -48,57 +48,57 @@ module _ (geo : Geometry) (disk : View) (q : List Pending) (old : State) (safe :
       → Issues geo disk q (at_rest old.held safe) (plan v) (at_rest old.held safe')
   over plan safe' h = subst (λ w. Issues geo disk q (at_rest old.held safe) (plan w) (at_rest old.held safe')) stands.same h
 
-  pub carries_create : (p : List ℕ) → Accepts geo old (Create p) → (n s : ℕ) (entry : List ℕ) (after : List Cell) → IsFreeNumber geo v n → slot geo v (holder geo v p) s ≡ Empty → IsEntryFor n (name_in p) entry
+  pub carries_create : (p words : List ℕ) → Accepts geo old (Create p words) → (n s : ℕ) (entry : List ℕ) (after : List Cell) → IsFreeNumber geo v n → slot geo v (holder geo v p) s ≡ Empty → IsEntryFor n (name_in p) entry
       → Contains after (Record n) → HasOtherBlocks geo v (holder geo v p) (block_of geo v (holder geo v p) (s / 16)) after
-      → IsCarriedOut geo disk q old (Create p) (Number n) (creating n (block_of geo v (holder geo v p) (s / 16)) (v.bytes (block_of geo v (holder geo v p) (s / 16))) s entry after q)
-      (record old { view = users_view disk (creating n (block_of geo v (holder geo v p) (s / 16)) (v.bytes (block_of geo v (holder geo v p) (s / 16))) s entry after q) }) safe safe
-  carries_create p accepts n s entry after free empty says first others =
+      → IsCarriedOut geo disk q old (Create p words) (Number n) (creating n words (block_of geo v (holder geo v p) (s / 16)) (v.bytes (block_of geo v (holder geo v p) (s / 16))) s entry after q)
+      (record old { view = users_view disk (creating n words (block_of geo v (holder geo v p) (s / 16)) (v.bytes (block_of geo v (holder geo v p) (s / 16))) s entry after q) }) safe safe
+  carries_create p words accepts n s entry after free empty says first others =
       let d = holder geo v p in
       let c = block_of geo v d (s / 16) in
-      let can = accepted_create geo old stands.balance stands.geometry p accepts n s entry after free empty says first others in
-      carried geo disk q old safe stands (Create p) (Number n) (creating n c (v.bytes c) s entry after q) (record old { view = users_view disk (creating n c (v.bytes c) s entry after q) }) safe
-      (accepts, creating_creates geo old p n s c entry after (stands.balance).rules can disk q stands.same) refl
-      (over (λ w. creating n c (w.bytes c) s entry after q) safe
-      (creating_leads geo disk q old.held safe n d s c (name_in p) entry after (subst (λ w. CanCreate geo w n d s c (name_in p) entry after) (sym stands.same) can) stands.agree))
+      let can = accepted_create geo old stands.balance stands.geometry p words accepts n s entry after free empty says first others in
+      carried geo disk q old safe stands (Create p words) (Number n) (creating n words c (v.bytes c) s entry after q) (record old { view = users_view disk (creating n words c (v.bytes c) s entry after q) }) safe
+      (accepts, creating_creates geo old p words n s c entry after (stands.balance).rules can disk q stands.same) refl
+      (over (λ w. creating n words c (w.bytes c) s entry after q) safe
+      (creating_leads geo disk q old.held safe n words d s c (name_in p) entry after (subst (λ w. CanCreate geo w n d s c (name_in p) entry after) (sym stands.same) can) stands.agree))
 
-  pub carries_create_grown : (p : List ℕ) → Accepts geo old (Create p) → (n c : ℕ) (kept : Holder) (s : ℕ) (entry : List ℕ) (after : List Cell) → IsFreeNumber geo v n → IsFalse (has_room geo v (holder geo v p))
+  pub carries_create_grown : (p words : List ℕ) → Accepts geo old (Create p words) → (n c : ℕ) (kept : Holder) (s : ℕ) (entry : List ℕ) (after : List Cell) → IsFreeNumber geo v n → IsFalse (has_room geo v (holder geo v p))
       → IsFreeBlock geo v c → IsKeptIn geo v (holder geo v p) (blocks_of (v.inode (holder geo v p)).size) c kept → AreApart (c ∷ new_blocks kept) → s / 16 ≡ blocks_of (v.inode (holder geo v p)).size → IsEntryFor n (name_in p) entry
       → Contains after (Record n) → HasBlocks geo v (holder geo v p) after
-      → IsCarriedOut geo disk q old (Create p) (Number n) (creating_grown geo n (holder geo v p) (v.inode (holder geo v p)) c kept s entry after q)
-      (record old { view = users_view disk (creating_grown geo n (holder geo v p) (v.inode (holder geo v p)) c kept s entry after q) }) safe safe
-  carries_create_grown p accepts n c kept s entry after free no_room block keeps news at says first blocks =
+      → IsCarriedOut geo disk q old (Create p words) (Number n) (creating_grown geo n words (holder geo v p) (v.inode (holder geo v p)) c kept s entry after q)
+      (record old { view = users_view disk (creating_grown geo n words (holder geo v p) (v.inode (holder geo v p)) c kept s entry after q) }) safe safe
+  carries_create_grown p words accepts n c kept s entry after free no_room block keeps news at says first blocks =
       let d = holder geo v p in
-      let can = accepted_create_grown geo old stands.balance stands.geometry p accepts n c kept s entry after free no_room block keeps news at says first blocks in
-      carried geo disk q old safe stands (Create p) (Number n) (creating_grown geo n d (v.inode d) c kept s entry after q) (record old { view = users_view disk (creating_grown geo n d (v.inode d) c kept s entry after q) }) safe
-      (accepts, creating_grown_creates geo old p n c kept s entry after can disk q stands.same safe not_held stands.agree) refl
-      (over (λ w. creating_grown geo n d (w.inode d) c kept s entry after q) safe
-      (creating_grown_issues geo disk q old.held safe not_held' n d c kept s (name_in p) entry after (subst (λ w. CanCreateGrown geo w n d c kept s (name_in p) entry after) (sym stands.same) can) stands.agree))
+      let can = accepted_create_grown geo old stands.balance stands.geometry p words accepts n c kept s entry after free no_room block keeps news at says first blocks in
+      carried geo disk q old safe stands (Create p words) (Number n) (creating_grown geo n words d (v.inode d) c kept s entry after q) (record old { view = users_view disk (creating_grown geo n words d (v.inode d) c kept s entry after q) }) safe
+      (accepts, creating_grown_creates geo old p words n c kept s entry after can disk q stands.same safe not_held stands.agree) refl
+      (over (λ w. creating_grown geo n words d (w.inode d) c kept s entry after q) safe
+      (creating_grown_issues geo disk q old.held safe not_held' n words d c kept s (name_in p) entry after (subst (λ w. CanCreateGrown geo w n d c kept s (name_in p) entry after) (sym stands.same) can) stands.agree))
 
-  pub carries_make : (p : List ℕ) → Accepts geo old (Mkdir p) → (i a : ℕ) (dots : List ℕ) (s : ℕ) (entry : List ℕ) (after : List Cell) → IsFreeNumber geo v i → IsFreeBlock geo v a → AreDots i (holder geo v p) dots
+  pub carries_make : (p words : List ℕ) → Accepts geo old (Mkdir p words) → (i a : ℕ) (dots : List ℕ) (s : ℕ) (entry : List ℕ) (after : List Cell) → IsFreeNumber geo v i → IsFreeBlock geo v a → AreDots i (holder geo v p) dots
       → slot geo v (holder geo v p) s ≡ Empty → IsEntryFor i (name_in p) entry → Contains after (Record i) → HasOtherBlocks geo v (holder geo v p) (block_of geo v (holder geo v p) (s / 16)) after
-      → IsCarriedOut geo disk q old (Mkdir p) (Number i) (making i a dots (holder geo v p) (v.inode (holder geo v p)) (block_of geo v (holder geo v p) (s / 16)) (v.bytes (block_of geo v (holder geo v p) (s / 16))) s entry after q)
-      (record old { view = users_view disk (making i a dots (holder geo v p) (v.inode (holder geo v p)) (block_of geo v (holder geo v p) (s / 16)) (v.bytes (block_of geo v (holder geo v p) (s / 16))) s entry after q) }) safe safe
-  carries_make p accepts i a dots s entry after free block are empty says first others =
+      → IsCarriedOut geo disk q old (Mkdir p words) (Number i) (making i a words dots (holder geo v p) (v.inode (holder geo v p)) (block_of geo v (holder geo v p) (s / 16)) (v.bytes (block_of geo v (holder geo v p) (s / 16))) s entry after q)
+      (record old { view = users_view disk (making i a words dots (holder geo v p) (v.inode (holder geo v p)) (block_of geo v (holder geo v p) (s / 16)) (v.bytes (block_of geo v (holder geo v p) (s / 16))) s entry after q) }) safe safe
+  carries_make p words accepts i a dots s entry after free block are empty says first others =
       let d = holder geo v p in
       let c = block_of geo v d (s / 16) in
-      let can = accepted_make geo old stands.balance stands.geometry p accepts i a dots s entry after free block are empty says first others in
-      carried geo disk q old safe stands (Mkdir p) (Number i) (making i a dots d (v.inode d) c (v.bytes c) s entry after q) (record old { view = users_view disk (making i a dots d (v.inode d) c (v.bytes c) s entry after q) }) safe
-      (accepts, making_makes geo old p i a dots s c entry after (stands.balance).rules can disk q stands.same) refl
-      (over (λ w. making i a dots d (w.inode d) c (w.bytes c) s entry after q) safe
-      (making_issues geo disk q old.held safe i a dots d s c (name_in p) entry after (subst (λ w. CanMakeIn geo w i a dots d s c (name_in p) entry after) (sym stands.same) can) not_held' stands.agree))
+      let can = accepted_make geo old stands.balance stands.geometry p words accepts i a dots s entry after free block are empty says first others in
+      carried geo disk q old safe stands (Mkdir p words) (Number i) (making i a words dots d (v.inode d) c (v.bytes c) s entry after q) (record old { view = users_view disk (making i a words dots d (v.inode d) c (v.bytes c) s entry after q) }) safe
+      (accepts, making_makes geo old p words i a dots s c entry after (stands.balance).rules can disk q stands.same) refl
+      (over (λ w. making i a words dots d (w.inode d) c (w.bytes c) s entry after q) safe
+      (making_issues geo disk q old.held safe i a words dots d s c (name_in p) entry after (subst (λ w. CanMakeIn geo w i a dots d s c (name_in p) entry after) (sym stands.same) can) not_held' stands.agree))
 
-  pub carries_make_grown : (p : List ℕ) → Accepts geo old (Mkdir p) → (i a : ℕ) (dots : List ℕ) (c : ℕ) (kept : Holder) (s : ℕ) (entry : List ℕ) (after : List Cell) → IsFreeNumber geo v i → IsFreeBlock geo v a → AreDots i (holder geo v p) dots
+  pub carries_make_grown : (p words : List ℕ) → Accepts geo old (Mkdir p words) → (i a : ℕ) (dots : List ℕ) (c : ℕ) (kept : Holder) (s : ℕ) (entry : List ℕ) (after : List Cell) → IsFreeNumber geo v i → IsFreeBlock geo v a → AreDots i (holder geo v p) dots
       → IsFalse (has_room geo v (holder geo v p)) → IsFreeBlock geo v c → AreOther a c kept → IsKeptIn geo v (holder geo v p) (blocks_of (v.inode (holder geo v p)).size) c kept → AreApart (c ∷ new_blocks kept) → s / 16 ≡ blocks_of (v.inode (holder geo v p)).size
       → IsEntryFor i (name_in p) entry → Contains after (Record i) → HasBlocks geo v (holder geo v p) after
-      → IsCarriedOut geo disk q old (Mkdir p) (Number i) (making_grown geo i a dots (holder geo v p) (v.inode (holder geo v p)) c kept s entry after q)
-      (record old { view = users_view disk (making_grown geo i a dots (holder geo v p) (v.inode (holder geo v p)) c kept s entry after q) }) safe safe
-  carries_make_grown p accepts i a dots c kept s entry after free block are no_room other_block other keeps news at says first blocks =
+      → IsCarriedOut geo disk q old (Mkdir p words) (Number i) (making_grown geo i a words dots (holder geo v p) (v.inode (holder geo v p)) c kept s entry after q)
+      (record old { view = users_view disk (making_grown geo i a words dots (holder geo v p) (v.inode (holder geo v p)) c kept s entry after q) }) safe safe
+  carries_make_grown p words accepts i a dots c kept s entry after free block are no_room other_block other keeps news at says first blocks =
       let d = holder geo v p in
-      let can = accepted_make_grown geo old stands.balance stands.geometry p accepts i a dots c kept s entry after free block are no_room other_block other keeps news at says first blocks in
-      carried geo disk q old safe stands (Mkdir p) (Number i) (making_grown geo i a dots d (v.inode d) c kept s entry after q) (record old { view = users_view disk (making_grown geo i a dots d (v.inode d) c kept s entry after q) }) safe
-      (accepts, making_grown_makes geo old p i a dots c kept s entry after can disk q stands.same safe not_held stands.agree) refl
-      (over (λ w. making_grown geo i a dots d (w.inode d) c kept s entry after q) safe
-      (making_grown_issues geo disk q old.held safe not_held' i a dots d c kept s (name_in p) entry after (subst (λ w. CanMakeGrown geo w i a dots d c kept s (name_in p) entry after) (sym stands.same) can) stands.agree))
+      let can = accepted_make_grown geo old stands.balance stands.geometry p words accepts i a dots c kept s entry after free block are no_room other_block other keeps news at says first blocks in
+      carried geo disk q old safe stands (Mkdir p words) (Number i) (making_grown geo i a words dots d (v.inode d) c kept s entry after q) (record old { view = users_view disk (making_grown geo i a words dots d (v.inode d) c kept s entry after q) }) safe
+      (accepts, making_grown_makes geo old p words i a dots c kept s entry after can disk q stands.same safe not_held stands.agree) refl
+      (over (λ w. making_grown geo i a words dots d (w.inode d) c kept s entry after q) safe
+      (making_grown_issues geo disk q old.held safe not_held' i a words dots d c kept s (name_in p) entry after (subst (λ w. CanMakeGrown geo w i a dots d c kept s (name_in p) entry after) (sym stands.same) can) stands.agree))
 
   pub carries_link : (p r : List ℕ) → Accepts geo old (Link p r) → (s : ℕ) (entry : List ℕ) (after : List Cell) → slot geo v (holder geo v r) s ≡ Empty → IsEntryFor (number_at geo v p) (name_in r) entry
       → Contains after (Record (number_at geo v p)) → HasOtherBlocks geo v (holder geo v r) (block_of geo v (holder geo v r) (s / 16)) after

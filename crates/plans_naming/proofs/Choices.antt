@@ -74,31 +74,31 @@ enough_of : (geo : Geometry) (view : View) (need : ℕ) → too_few geo view nee
 enough_of geo view need e = ltb-false (unmarked_blocks geo view) need (when_none (ltb (unmarked_blocks geo view) need) NoBlock e)
 
 module _ (geo : Geometry) (old : State) where
-  pub create_number : (p : List ℕ) → Accepts geo old (Create p) → (n : ℕ) × IsFreeNumber geo old.view n
+  pub create_number : (p words : List ℕ) → Accepts geo old (Create p words) → (n : ℕ) × IsFreeNumber geo old.view n
   unfolding causes
-  create_number p accepts = let q = quiet (causes geo old (Create p)) accepts.0 in number_there geo old.view (not_false (has_number geo old.view) (when_none (not (has_number geo old.view)) NoInode q.1.1.1.1.0))
+  create_number p words accepts = let q = quiet (causes geo old (Create p words)) accepts.0 in number_there geo old.view (not_false (has_number geo old.view) (when_none (not (has_number geo old.view)) NoInode q.1.1.1.1.0))
 
-  pub make_number : (p : List ℕ) → Accepts geo old (Mkdir p) → (n : ℕ) × IsFreeNumber geo old.view n
+  pub make_number : (p words : List ℕ) → Accepts geo old (Mkdir p words) → (n : ℕ) × IsFreeNumber geo old.view n
   unfolding causes
-  make_number p accepts = let q = quiet (causes geo old (Mkdir p)) accepts.0 in number_there geo old.view (not_false (has_number geo old.view) (when_none (not (has_number geo old.view)) NoInode q.1.1.1.1.1.0))
+  make_number p words accepts = let q = quiet (causes geo old (Mkdir p words)) accepts.0 in number_there geo old.view (not_false (has_number geo old.view) (when_none (not (has_number geo old.view)) NoInode q.1.1.1.1.1.0))
 
-  pub create_blocks : (p : List ℕ) → Accepts geo old (Create p) → IsFalse (has_room geo old.view (holder geo old.view p)) → FindsBlocks geo old.view (holder geo old.view p)
+  pub create_blocks : (p words : List ℕ) → Accepts geo old (Create p words) → IsFalse (has_room geo old.view (holder geo old.view p)) → FindsBlocks geo old.view (holder geo old.view p)
   unfolding causes
-  create_blocks p accepts none =
-      let q = quiet (causes geo old (Create p)) accepts.0 in
+  create_blocks p words accepts none =
+      let q = quiet (causes geo old (Create p words)) accepts.0 in
       finds geo old.view (holder geo old.view p) none (enough_of geo old.view (blocks_to_enter geo old.view (holder geo old.view p)) q.1.1.1.1.1.1.0)
 
-  pub make_block : (p : List ℕ) → Accepts geo old (Mkdir p) → (a : ℕ) × IsFreeBlock geo old.view a
+  pub make_block : (p words : List ℕ) → Accepts geo old (Mkdir p words) → (a : ℕ) × IsFreeBlock geo old.view a
   unfolding causes
-  make_block p accepts =
-      let q = quiet (causes geo old (Mkdir p)) accepts.0 in
+  make_block p words accepts =
+      let q = quiet (causes geo old (Mkdir p words)) accepts.0 in
       let enough = enough_of geo old.view (1 + blocks_to_enter geo old.view (holder geo old.view p)) q.1.1.1.1.1.1.1.0 in
       one_free geo old.view (omega (arith, enough))
 
-  pub make_blocks : (p : List ℕ) → Accepts geo old (Mkdir p) → IsFalse (has_room geo old.view (holder geo old.view p)) → FindsOtherBlocks geo old.view (holder geo old.view p)
+  pub make_blocks : (p words : List ℕ) → Accepts geo old (Mkdir p words) → IsFalse (has_room geo old.view (holder geo old.view p)) → FindsOtherBlocks geo old.view (holder geo old.view p)
   unfolding causes
-  make_blocks p accepts none =
-      let q = quiet (causes geo old (Mkdir p)) accepts.0 in
+  make_blocks p words accepts none =
+      let q = quiet (causes geo old (Mkdir p words)) accepts.0 in
       finds_other geo old.view (holder geo old.view p) none (enough_of geo old.view (1 + blocks_to_enter geo old.view (holder geo old.view p)) q.1.1.1.1.1.1.1.0)
 
   pub link_blocks : (p r : List ℕ) → Accepts geo old (Link p r) → IsFalse (has_room geo old.view (holder geo old.view r)) → FindsBlocks geo old.view (holder geo old.view r)

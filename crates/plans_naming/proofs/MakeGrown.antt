@@ -55,16 +55,16 @@ dots_whole i d bytes h = subst IsBlock (sym h.whole) (record {
 
 -- ---- what is known once the new directory has its record
 
-module _ (geo : Geometry) (v : View) (rules : ObeysRules geo v) (i a : ℕ) (dots : List ℕ) (d b : ℕ) (kept : Holder) (s : ℕ) (name entry : List ℕ) (after : List Cell)
+module _ (geo : Geometry) (v : View) (rules : ObeysRules geo v) (i a : ℕ) (words dots : List ℕ) (d b : ℕ) (kept : Holder) (s : ℕ) (name entry : List ℕ) (after : List Cell)
     (can : CanMakeGrown geo v i a dots d b kept s name entry after) where
   abbrev w : View
-  w = v5 geo v rules i a d dots can.make can.enter.reachable
+  w = v5 geo v rules i a d words dots can.make can.enter.reachable
 
   parent : w.inode d ≡ with_links (v.inode d) ((v.inode d).links + 1)
-  parent = parent_record geo v rules i a d dots can.make can.enter.reachable
+  parent = parent_record geo v rules i a d words dots can.make can.enter.reachable
 
   pub not_claimed : (m x : ℕ) → IsClaim geo v d m x → x ≡ a → ⊥
-  not_claimed m x c e = unclaimed geo v rules i a d dots can.make can.enter.reachable (d, m, subst (λ y. IsClaim geo v d m y) e c)
+  not_claimed m x c e = unclaimed geo v rules i a d words dots can.make can.enter.reachable (d, m, subst (λ y. IsClaim geo v d m y) e c)
 
   pub other_table : IsOtherTable a kept
   other_table = go (blocks_of (v.inode d).size) b kept can.enter.grow.kept
@@ -76,17 +76,17 @@ module _ (geo : Geometry) (v : View) (rules : ObeysRules geo v) (i a : ℕ) (dot
 
   pub can_grow : CanGrow geo w d b kept
   can_grow = grow_there geo v w d b kept can.enter.grow pointers blocks (ap (λ (y : Inode). y.size) parent)
-      (made_folder geo v rules i a d dots can.make can.enter.reachable)
+      (made_folder geo v rules i a d words dots can.make can.enter.reachable)
       (put_there v.block_marked a b true (can.other).0 ∙ (can.enter.grow.free).unmarked)
       (λ x c f. put_there v.block_marked a x true (is_none a x (new_blocks kept) (can.other).1 c) ∙ f)
       (λ m x c. sym (put_there v.bytes a x dots (not_claimed m x c)))
     where
       pointers : (m : ℕ) → IsTrue (is_number geo m) → length (w.inode m).direct ≡ direct_positions
       pointers m number = elim (cases_eq m i) [
-        | inl e ↦ ap (λ k. length (w.inode k).direct) e ∙ ap (λ (y : Inode). length y.direct) (made_record geo v rules i a d dots can.make can.enter.reachable) ∙ ap (λ n. 1 + n) (length-replicate {A = ℕ} 11 0)
+        | inl e ↦ ap (λ k. length (w.inode k).direct) e ∙ ap (λ (y : Inode). length y.direct) (made_record geo v rules i a d words dots can.make can.enter.reachable) ∙ ap (λ n. 1 + n) (length-replicate {A = ℕ} 11 0)
         | inr e ↦ elim (cases_eq m d) [
           | inl f ↦ ap (λ k. length (w.inode k).direct) f ∙ ap (λ (y : Inode). length y.direct) parent ∙ ap (λ k. length (v.inode k).direct) (sym f) ∙ (can.enter.grow.whole).pointers m number
-          | inr f ↦ ap (λ (y : Inode). length y.direct) (put_there (put_at v.inode d (more geo v rules i a d dots can.make can.enter.reachable)) i m (new_directory a) e ∙ put_there v.inode d m (more geo v rules i a d dots can.make can.enter.reachable) f)
+          | inr f ↦ ap (λ (y : Inode). length y.direct) (put_there (put_at v.inode d (more geo v rules i a d words dots can.make can.enter.reachable)) i m (new_directory a words) e ∙ put_there v.inode d m (more geo v rules i a d words dots can.make can.enter.reachable) f)
               ∙ (can.enter.grow.whole).pointers m number
         ]
       ]
@@ -104,7 +104,7 @@ module _ (geo : Geometry) (v : View) (rules : ObeysRules geo v) (i a : ℕ) (dot
   ]
 
 module _ (geo : Geometry) (disk : View) (q : List Pending) (held safe : ℕ → Bool) (marked : UnmarkedAreNotHeld (users_view disk q) held)
-    (i a : ℕ) (dots : List ℕ) (d b : ℕ) (kept : Holder) (s : ℕ) (name entry : List ℕ) (after : List Cell) (can : CanMakeGrown geo (users_view disk q) i a dots d b kept s name entry after)
+    (i a : ℕ) (words dots : List ℕ) (d b : ℕ) (kept : Holder) (s : ℕ) (name entry : List ℕ) (after : List Cell) (can : CanMakeGrown geo (users_view disk q) i a dots d b kept s name entry after)
     (all : AllAgree geo disk q (at_rest held safe)) where
   abbrev ghost : Ghost
   ghost = at_rest held safe
@@ -122,7 +122,7 @@ module _ (geo : Geometry) (disk : View) (q : List Pending) (held safe : ℕ → 
   y = with_links x (x.links + 1)
 
   abbrev p : List Pending
-  p = made i a dots d x q
+  p = made i a words dots d x q
 
   abbrev mid : View
   mid = users_view disk p
@@ -134,27 +134,27 @@ module _ (geo : Geometry) (disk : View) (q : List Pending) (held safe : ℕ → 
   not_held = marked a can.make.block_unmarked
 
   first : Issues geo disk q ghost p ghost'
-  first = made_issues geo disk q held safe i a d dots can.make can.enter.reachable not_held all
+  first = made_issues geo disk q held safe i a d words dots can.make can.enter.reachable not_held all
 
   all5 : AllAgree geo disk p ghost'
   all5 = issues_agree geo disk q ghost p ghost' first all
 
   folder : SameFolder geo users mid d
-  folder = made_folder geo users o i a d dots can.make can.enter.reachable
+  folder = made_folder geo users o i a d words dots can.make can.enter.reachable
 
   here : mid.inode d ≡ y
-  here = parent_record geo users o i a d dots can.make can.enter.reachable
+  here = parent_record geo users o i a d words dots can.make can.enter.reachable
 
   spare : IsSpare mid ghost'
-  spare c f = (still_spare geo users o i a dots d b kept s name entry after can held marked c f, λ n k. refl)
+  spare c f = (still_spare geo users o i a words dots d b kept s name entry after can held marked c f, λ n k. refl)
 
   grow_now : CanGrow geo mid d b kept
-  grow_now = can_grow geo users o i a dots d b kept s name entry after can
+  grow_now = can_grow geo users o i a words dots d b kept s name entry after can
 
   grows : Grows geo disk p ghost' d y b kept s
   grows = grow_issues geo disk p ghost' d y b kept s here grow_now (folder.reach can.enter.reachable) spare can.enter.stands all5
 
-  pub making_grown_enters : Enters geo mid d name i (users_view disk (making_grown geo i a dots d x b kept s entry after q))
+  pub making_grown_enters : Enters geo mid d name i (users_view disk (making_grown geo i a words dots d x b kept s entry after q))
   making_grown_enters = enters_in_block geo disk p ghost' d y b kept s here grow_now (folder.reach can.enter.reachable) spare can.enter.stands all5 i name entry after can.says
 
   abbrev q2 : List Pending
@@ -170,25 +170,25 @@ module _ (geo : Geometry) (disk : View) (q : List Pending) (held safe : ℕ → 
   room = grows.room
 
   apart_it : d ≡ i → ⊥
-  apart_it = apart geo users o i a d dots can.make can.enter.reachable
+  apart_it = apart geo users o i a d words dots can.make can.enter.reachable
 
-  record_is : w2.inode i ≡ new_directory a
-  record_is = room.records i (λ e. apart_it (sym e)) ∙ made_record geo users o i a d dots can.make can.enter.reachable
+  record_is : w2.inode i ≡ new_directory a words
+  record_is = room.records i (λ e. apart_it (sym e)) ∙ made_record geo users o i a d words dots can.make can.enter.reachable
 
   parent_number : IsTrue (is_number geo d)
   parent_number = directory_number geo users d (reachable_directory geo users d can.enter.reachable)
 
   dots_are : w2.bytes a ≡ dots
   dots_are =
-      let at = made_dots geo users o i a d dots can.make can.enter.reachable in
-      let claim = dots_first geo mid i d a dots can.make.are_dots can.make.number parent_number can.make.address (made_record geo users o i a d dots can.make can.enter.reachable) at in
+      let at = made_dots geo users o i a d words dots can.make can.enter.reachable in
+      let claim = dots_first geo mid i d a dots can.make.are_dots can.make.number parent_number can.make.address (made_record geo users o i a d words dots can.make can.enter.reachable) at in
       sym ((room.folder i (λ e. apart_it (sym e))).bytes 0 a (omega arith) claim) ∙ at
 
   still_before : IsAfter disk q2 (Record i) (Block a)
-  still_before = after_grown geo disk p d y b kept (Record i) a can.other (other_table geo users o i a dots d b kept s name entry after can)
-      (dots_before geo disk q held safe i a d dots can.make can.enter.reachable not_held all)
+  still_before = after_grown geo disk p d y b kept (Record i) a can.other (other_table geo users o i a words dots d b kept s name entry after can)
+      (dots_before geo disk q held safe i a d words dots can.make can.enter.reachable not_held all)
 
-  pub making_grown_issues : Issues geo disk q ghost (making_grown geo i a dots d x b kept s entry after q) ghost
+  pub making_grown_issues : Issues geo disk q ghost (making_grown geo i a words dots d x b kept s entry after q) ghost
   making_grown_issues =
       let links : (w2.inode d).links ≡ x.links + 1 = room.links ∙ ap (λ (z : Inode). z.links) here in
       let low = number_low geo d parent_number in
@@ -196,13 +196,13 @@ module _ (geo : Geometry) (disk : View) (q : List Pending) (held safe : ℕ → 
       (fills_slot geo mid w2 d b s i name entry room (takes_there geo users mid d folder name can.enter.takes) can.make.number can.says)
       (new_name geo w2 d s b name after (room.takes name (takes_there geo users mid d folder name can.enter.takes)) (room.others after (blocks_there geo users mid d folder after can.enter.blocks_first)))
       can.make.are_dots can.make.number can.make.address record_is dots_are
-      (λ e t c z. made_unnamed geo users o i a d dots can.make can.enter.reachable e t c (place_back geo mid w2 room.tree i e t c z)) apart_it
+      (λ e t c z. made_unnamed geo users o i a d words dots can.make can.enter.reachable e t c (place_back geo mid w2 room.tree i e t c z)) apart_it
       (λ g. refl) (or_left (eqb i i) false (eq-eqb i i refl)) can.record_first still_before
       (λ cut closed f g c. grows.credit cut closed g d (s / 16) c)
       (λ m h.
       let then = fewer_entries geo mid w2 room.tree d m (omega (arith, low)) h in
-      let was = fewer_entries geo users mid (made_tree geo users o i a d dots can.make can.enter.reachable) d then.0 (omega (arith, low)) then.1 in
+      let was = fewer_entries geo users mid (made_tree geo users o i a d words dots can.make can.enter.reachable) d then.0 (omega (arith, low)) then.1 in
       let enough = o.rule8 d was.0 (inl can.enter.reachable) was.1 in
       omega (arith, then.2, was.2, enough, links)) in
-      subst (λ g. Issues geo disk q ghost (making_grown geo i a dots d x b kept s entry after q) g) (entered_again geo disk q held safe i a dots d s b name entry after)
+      subst (λ g. Issues geo disk q ghost (making_grown geo i a words dots d x b kept s entry after q) g) (entered_again geo disk q held safe i a words dots d s b name entry after)
       (Then (slot_written b empty_block s entry after) (now_entered i ghost') second (EntersDirectory after b (with_slot empty_block s entry) d s i a name enter))

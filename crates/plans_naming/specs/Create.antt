@@ -2,9 +2,10 @@
 use Rattle.std.specs.Prelude.{ℕ, true, List, [], ◌∷◌, IsTrue, IsFalse}
 use Rattle.std.specs.List.{Contains}
 use Rattle.model.specs.Layout.{Geometry, is_number}
-use Rattle.model.specs.View.{View, Inode, new_file}
+use Rattle.model.specs.View.{View, Inode}
 use Rattle.model.specs.Cells.{SetInode, SetNumber}
 use Rattle.model.specs.Slots.{Empty}
+use Rattle.machine.specs.Effects.{file_with}
 use Rattle.ordering.specs.Cuts.{Cell, Record, NumberBit, Pending}
 use Rattle.machine.specs.Cells.{IsEntryFor}
 use Rattle.plans_data.specs.Append.{Holder}
@@ -15,9 +16,9 @@ use Rattle.plans_naming.specs.Entries.{StandsAt, TakesName, HasOtherBlocks, slot
 abbrev pub born : ℕ → Inode → List Cell → List Pending → List Pending
 born n inode after q = record { change = SetInode n inode; after = NumberBit n ∷ after } ∷ record { change = SetNumber n true; after = [] } ∷ q
 
--- the updates of the command, newest first: number n, and the slot of a block with these bytes
-abbrev pub creating : ℕ → ℕ → List ℕ → ℕ → List ℕ → List Cell → List Pending → List Pending
-creating n block bytes s entry after q = slot_written block bytes s entry after ∷ born n new_file [] q
+-- the updates of the command, newest first: number n with these attributes, and the slot of a block with these bytes
+abbrev pub creating : ℕ → List ℕ → ℕ → List ℕ → ℕ → List ℕ → List Cell → List Pending → List Pending
+creating n words block bytes s entry after q = slot_written block bytes s entry after ∷ born n (file_with words) [] q
 
 -- what the command asks for where its directory has an empty slot
 pub record CanCreate (geo : Geometry) (users : View) (n d s block : ℕ) (name entry : List ℕ) (after : List Cell) : Type 0 where
@@ -34,8 +35,8 @@ pub record CanCreate (geo : Geometry) (users : View) (n d s block : ℕ) (name e
   pub others_first : HasOtherBlocks geo users d block after
 
 -- the updates of the command where directory d, with this record, gets block b for the entry
-abbrev pub creating_grown : Geometry → ℕ → ℕ → Inode → ℕ → Holder → ℕ → List ℕ → List Cell → List Pending → List Pending
-creating_grown geo n d parent b holder s entry after q = slot_written b empty_block s entry after ∷ grown geo d parent b holder (born n new_file [] q)
+abbrev pub creating_grown : Geometry → ℕ → List ℕ → ℕ → Inode → ℕ → Holder → ℕ → List ℕ → List Cell → List Pending → List Pending
+creating_grown geo n words d parent b holder s entry after q = slot_written b empty_block s entry after ∷ grown geo d parent b holder (born n (file_with words) [] q)
 
 -- what the command asks for then
 pub record CanCreateGrown (geo : Geometry) (users : View) (n d b : ℕ) (holder : Holder) (s : ℕ) (name entry : List ℕ) (after : List Cell) : Type 0 where

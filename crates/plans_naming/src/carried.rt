@@ -29,43 +29,43 @@ ghost use Rattle.plans_naming.specs.Plans.{slot_block, entry_block, create_plan,
 /// A file is created: in an empty slot of its directory, or in a new block of it.
 pub fn creations_are_carried_out()
     ensures in_a_slot { (geo : Geometry) (disk : View) (q : List Pending) (old : State) (safe : ℕ → Bool)
-        → Stands geo disk q old safe → (p : List ℕ) → Accepts geo old (Create p) → (n s : ℕ) (entry : List ℕ) (after : List Cell)
+        → Stands geo disk q old safe → (p words : List ℕ) → Accepts geo old (Create p words) → (n s : ℕ) (entry : List ℕ) (after : List Cell)
         → IsFreeNumber geo old.view n → slot geo old.view (holder geo old.view p) s ≡ Empty → IsEntryFor n (name_in p) entry
         → Contains after (Record n) → HasOtherBlocks geo old.view (holder geo old.view p) (slot_block geo old.view p s) after
-        → IsCarriedOut geo disk q old (Create p) (Number n)
-        (create_plan geo old.view p n s entry after q)
-        (now disk (create_plan geo old.view p n s entry after q) old) safe safe }
+        → IsCarriedOut geo disk q old (Create p words) (Number n)
+        (create_plan geo old.view p words n s entry after q)
+        (now disk (create_plan geo old.view p words n s entry after q) old) safe safe }
     ensures in_a_new_block { (geo : Geometry) (disk : View) (q : List Pending) (old : State) (safe : ℕ → Bool)
-        → Stands geo disk q old safe → (p : List ℕ) → Accepts geo old (Create p) → (n b : ℕ) (kept : Holder) (s : ℕ) (entry : List ℕ) (after : List Cell)
+        → Stands geo disk q old safe → (p words : List ℕ) → Accepts geo old (Create p words) → (n b : ℕ) (kept : Holder) (s : ℕ) (entry : List ℕ) (after : List Cell)
         → IsFreeNumber geo old.view n → IsFalse (has_room geo old.view (holder geo old.view p)) → IsFreeBlock geo old.view b
         → IsKeptIn geo old.view (holder geo old.view p) (blocks_of (old.view.inode (holder geo old.view p)).size) b kept → AreApart (b ∷ new_blocks kept)
         → s / 16 ≡ blocks_of (old.view.inode (holder geo old.view p)).size
         → IsEntryFor n (name_in p) entry → Contains after (Record n) → HasBlocks geo old.view (holder geo old.view p) after
-        → IsCarriedOut geo disk q old (Create p) (Number n)
-        (create_plan_grown geo old.view p n b kept s entry after q)
-        (now disk (create_plan_grown geo old.view p n b kept s entry after q) old) safe safe }
+        → IsCarriedOut geo disk q old (Create p words) (Number n)
+        (create_plan_grown geo old.view p words n b kept s entry after q)
+        (now disk (create_plan_grown geo old.view p words n b kept s entry after q) old) safe safe }
 {}
 
 /// A directory is made, in the same two ways.
 pub fn new_directories_are_carried_out()
     ensures in_a_slot { (geo : Geometry) (disk : View) (q : List Pending) (old : State) (safe : ℕ → Bool)
-        → Stands geo disk q old safe → (p : List ℕ) → Accepts geo old (Mkdir p) → (i a : ℕ) (dots : List ℕ) (s : ℕ) (entry : List ℕ) (after : List Cell)
+        → Stands geo disk q old safe → (p words : List ℕ) → Accepts geo old (Mkdir p words) → (i a : ℕ) (dots : List ℕ) (s : ℕ) (entry : List ℕ) (after : List Cell)
         → IsFreeNumber geo old.view i → IsFreeBlock geo old.view a → AreDots i (holder geo old.view p) dots → slot geo old.view (holder geo old.view p) s ≡ Empty
         → IsEntryFor i (name_in p) entry → Contains after (Record i) → HasOtherBlocks geo old.view (holder geo old.view p) (slot_block geo old.view p s) after
-        → IsCarriedOut geo disk q old (Mkdir p) (Number i)
-        (make_plan geo old.view p i a dots s entry after q)
-        (now disk (make_plan geo old.view p i a dots s entry after q) old) safe safe }
+        → IsCarriedOut geo disk q old (Mkdir p words) (Number i)
+        (make_plan geo old.view p words i a dots s entry after q)
+        (now disk (make_plan geo old.view p words i a dots s entry after q) old) safe safe }
     ensures in_a_new_block { (geo : Geometry) (disk : View) (q : List Pending) (old : State) (safe : ℕ → Bool)
-        → Stands geo disk q old safe → (p : List ℕ) → Accepts geo old (Mkdir p)
+        → Stands geo disk q old safe → (p words : List ℕ) → Accepts geo old (Mkdir p words)
         → (i a : ℕ) (dots : List ℕ) (b : ℕ) (kept : Holder) (s : ℕ) (entry : List ℕ) (after : List Cell)
         → IsFreeNumber geo old.view i → IsFreeBlock geo old.view a → AreDots i (holder geo old.view p) dots
         → IsFalse (has_room geo old.view (holder geo old.view p)) → IsFreeBlock geo old.view b → AreOther a b kept
         → IsKeptIn geo old.view (holder geo old.view p) (blocks_of (old.view.inode (holder geo old.view p)).size) b kept → AreApart (b ∷ new_blocks kept)
         → s / 16 ≡ blocks_of (old.view.inode (holder geo old.view p)).size
         → IsEntryFor i (name_in p) entry → Contains after (Record i) → HasBlocks geo old.view (holder geo old.view p) after
-        → IsCarriedOut geo disk q old (Mkdir p) (Number i)
-        (make_plan_grown geo old.view p i a dots b kept s entry after q)
-        (now disk (make_plan_grown geo old.view p i a dots b kept s entry after q) old) safe safe }
+        → IsCarriedOut geo disk q old (Mkdir p words) (Number i)
+        (make_plan_grown geo old.view p words i a dots b kept s entry after q)
+        (now disk (make_plan_grown geo old.view p words i a dots b kept s entry after q) old) safe safe }
 {}
 
 /// A file gets one more name, in the same two ways.

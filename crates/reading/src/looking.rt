@@ -6,7 +6,7 @@ ghost use Rattle.model.specs.Image.{image_view};
 ghost use Rattle.reading.specs.Replies.{Leads, Replies, WhyNot};
 
 use frozen::Frozen;
-use inode::{DIRECT_POINTERS, FREE, Record};
+use inode::{ATTRIBUTES, DIRECT_POINTERS, FREE, Record};
 use layout::{ROOT, Refusal};
 use live_paths::{Named, Path, names, target};
 use std::alloc::Global;
@@ -72,6 +72,7 @@ pub fn record_of(frozen: &Frozen, number: u32) -> Record
             direct: [0; DIRECT_POINTERS],
             indirect: 0,
             double: 0,
+            attributes: [0; ATTRIBUTES],
         };
     }
     frozen.record(number)

@@ -8,7 +8,7 @@ use Rattle.machine.specs.State.{State}
 use Rattle.machine.specs.Causes.{Accepts}
 use Rattle.machine.specs.Command.{Command, Read, ListNames, Stat, Freeze, SnapRead, Answer, Done, Number, Bytes, Listed, Status, Image, Reply}
 use Rattle.machine.specs.Step.{Run, Step}
-use Rattle.courses.specs.Done.{IsDoneBy, CreatesInSlot, CreatesInNewBlock, MakesInSlot, MakesInNewBlock, LinksInSlot, LinksInNewBlock, RenamesInSlot, MovesToSlot, MovesToNewBlock, UnlinksName, UnlinksFile, RemovesName, RemovesDirectory, WritesInPlace, WritesBehind, WritesElsewhere, TruncatesFile, ClosesHandle, CarriesOutRepair}
+use Rattle.courses.specs.Done.{IsDoneBy, CreatesInSlot, CreatesInNewBlock, MakesInSlot, MakesInNewBlock, LinksInSlot, LinksInNewBlock, RenamesInSlot, MovesToSlot, MovesToNewBlock, UnlinksName, UnlinksFile, RemovesName, RemovesDirectory, WritesInPlace, WritesBehind, WritesElsewhere, TruncatesFile, ClosesHandle, CarriesOutRepair, SetsItsAttributes}
 use Rattle.courses.specs.Serves.{Serves, ByPlan, Quietly, FlushesNone, FlushesSome, SyncsAll, Freezes, Releases, Service, Starts, CarriesOut, Refuses, Flushed}
 use Rattle.replies.specs.Replies.{IsCopied}
 
@@ -36,10 +36,10 @@ run_refused geo old new command reply copied run = (run.0, (inl refl, copied_kee
 -- a plan answers with no bytes and no names
 plan_not_copied : (geo : Geometry) (disk : View) (q : List Pending) (old : State) (safe : ℕ → Bool) (command : Command) (answer : Answer) (file : ℕ) (plan : List Pending) (new : State) (safe' : ℕ → Bool)
     → IsDoneBy geo disk q old safe command answer file plan new safe' → IsCopied (Ok answer) → ⊥
-plan_not_copied geo disk q old safe command answer file plan new safe' (CreatesInSlot p n s entry after free place) c = c
-plan_not_copied geo disk q old safe command answer file plan new safe' (CreatesInNewBlock p n b kept s entry after free place) c = c
-plan_not_copied geo disk q old safe command answer file plan new safe' (MakesInSlot p i a dots s entry after free block are place) c = c
-plan_not_copied geo disk q old safe command answer file plan new safe' (MakesInNewBlock p i a dots b kept s entry after free block are differ place) c = c
+plan_not_copied geo disk q old safe command answer file plan new safe' (CreatesInSlot p words n s entry after free place) c = c
+plan_not_copied geo disk q old safe command answer file plan new safe' (CreatesInNewBlock p words n b kept s entry after free place) c = c
+plan_not_copied geo disk q old safe command answer file plan new safe' (MakesInSlot p words i a dots s entry after free block are place) c = c
+plan_not_copied geo disk q old safe command answer file plan new safe' (MakesInNewBlock p words i a dots b kept s entry after free block are differ place) c = c
 plan_not_copied geo disk q old safe command answer file plan new safe' (LinksInSlot p r s entry after place) c = c
 plan_not_copied geo disk q old safe command answer file plan new safe' (LinksInNewBlock p r b kept s entry after place) c = c
 plan_not_copied geo disk q old safe command answer file plan new safe' (RenamesInSlot p r entry after same says others) c = c
@@ -53,6 +53,7 @@ plan_not_copied geo disk q old safe command answer file plan new safe' (WritesIn
 plan_not_copied geo disk q old safe command answer file plan new safe' (WritesBehind h k piece bytes b news over choice behind) c = c
 plan_not_copied geo disk q old safe command answer file plan new safe' (WritesElsewhere h k piece bytes b over free within is_kept) c = c
 plan_not_copied geo disk q old safe command answer file plan new safe' (TruncatesFile h size) c = c
+plan_not_copied geo disk q old safe command answer file plan new safe' (SetsItsAttributes n words) c = c
 plan_not_copied geo disk q old safe command answer file plan new safe' (ClosesHandle h) c = c
 plan_not_copied geo disk q old safe command answer file plan new safe' (CarriesOutRepair k plan' r stands there) c = c
 

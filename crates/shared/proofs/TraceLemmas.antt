@@ -20,7 +20,7 @@ use Rattle.snapshot.specs.declared.command.Command.{Command}
 use Rattle.snapshot.specs.declared.answer.Answer.{Answer}
 use Rattle.snapshot.specs.declared.answer.Answer.TheVariants.{Done, Number, Bytes, Names, Status, Image}
 use Rattle.snapshot.specs.Asked.{HasBytesOrNames, IsReply, asked, mode_of}
-use Rattle.snapshot.specs.declared.command.Command.TheVariants.{Create, Mkdir, Link, Unlink, Rmdir, Rename, Open, Close, Read, Write, Truncate, List as ListOf, Stat, Freeze, SnapRead, Release, Install, Repair, Flush, Sync}
+use Rattle.snapshot.specs.declared.command.Command.TheVariants.{Create, Mkdir, Link, Unlink, Rmdir, Rename, Open, Close, Read, Write, Truncate, List as ListOf, Stat, Freeze, SnapRead, Release, Install, Repair, Flush, Sync, SetAttributes}
 use Rattle.snapshot.specs.Durable.{GoesSoundly}
 use Rattle.snapshot.specs.Goes.{Applies, Goes, HasBeside, pieces_in, views_in}
 use Rattle.snapshot.specs.Stages.{Stage}
@@ -142,8 +142,8 @@ module _ {D : Type 0} (held held' : Held) (image image' : List (List ℕ)) (old 
 -- what was written does not hang on a copy of bytes or names
 module _ {D : Type 0} (honest : D → Type 0) (held_of : D → Held) (image_of : D → List (List ℕ)) (old new : Alive D) where
   copied_writes : (command : Command) (reply : Result Answer Refusal) → HasBytesOrNames reply → Writes honest held_of image_of old command reply new → Writes honest held_of image_of old command (Err NoMemory) new
-  copied_writes (Create path) reply c w = w
-  copied_writes (Mkdir path) reply c w = w
+  copied_writes (Create path attributes) reply c w = w
+  copied_writes (Mkdir path attributes) reply c w = w
   copied_writes (Link path other) reply c w = w
   copied_writes (Unlink path) reply c w = w
   copied_writes (Rmdir path) reply c w = w
@@ -153,6 +153,7 @@ module _ {D : Type 0} (honest : D → Type 0) (held_of : D → Held) (image_of :
   copied_writes (Read handle index) reply c w = w
   copied_writes (Write handle index piece) reply c w = w
   copied_writes (Truncate handle size) reply c w = w
+  copied_writes (SetAttributes inode attributes) reply c w = w
   copied_writes (ListOf path) reply c w = w
   copied_writes (Stat path) reply c w = w
   copied_writes Freeze reply c w = (w.0, λ e. let bad : Err NoMemory ≡ Err TooManySnapshots = e in cc)
@@ -218,8 +219,8 @@ noted_on held held' image image' trace old new command reply noted o applied not
 -- ---- histories
 
 asks_so : (geo : Geometry) (command : Command) → asks_repair (asked geo command) ≡ is_repair command
-asks_so geo (Create path) = refl
-asks_so geo (Mkdir path) = refl
+asks_so geo (Create path attributes) = refl
+asks_so geo (Mkdir path attributes) = refl
 asks_so geo (Link path other) = refl
 asks_so geo (Unlink path) = refl
 asks_so geo (Rmdir path) = refl
@@ -229,6 +230,7 @@ asks_so geo (Close handle) = refl
 asks_so geo (Read handle index) = refl
 asks_so geo (Write handle index piece) = refl
 asks_so geo (Truncate handle size) = refl
+asks_so geo (SetAttributes inode attributes) = refl
 asks_so geo (ListOf path) = refl
 asks_so geo (Stat path) = refl
 asks_so geo Freeze = refl

@@ -7,13 +7,13 @@ use Rattle.model.specs.Layout.{Geometry}
 use Rattle.model.specs.View.{View, free_inode}
 use Rattle.frozen.specs.Kept.{frozen_view}
 use Rattle.fsck.specs.Checked.{CheckedImage}
-use Rattle.machine.specs.Command.{Check, Command as Request, Reply as Response, Create as AsksCreate, Mkdir as AsksMkdir, Link as AsksLink, Unlink as AsksUnlink, Rmdir as AsksRmdir, Rename as AsksRename, Open as AsksOpen, Close as AsksClose, Read as AsksRead, Write as AsksWrite, Truncate as AsksTruncate, ListNames, Stat as AsksStat, Freeze as AsksFreeze, SnapRead as AsksSnapRead, Release as AsksRelease, Install as AsksInstall, RepairAt, Flush as AsksFlush, Sync as AsksSync}
+use Rattle.machine.specs.Command.{Check, Command as Request, Reply as Response, Create as AsksCreate, Mkdir as AsksMkdir, Link as AsksLink, Unlink as AsksUnlink, Rmdir as AsksRmdir, Rename as AsksRename, Open as AsksOpen, Close as AsksClose, Read as AsksRead, Write as AsksWrite, Truncate as AsksTruncate, ListNames, Stat as AsksStat, Freeze as AsksFreeze, SnapRead as AsksSnapRead, Release as AsksRelease, Install as AsksInstall, RepairAt, Flush as AsksFlush, Sync as AsksSync, SetAttributes as AsksSetAttributes}
 use Rattle.machine.specs.Command.{Answer as Answered, Done as IsDone, Number as IsNumber, Bytes as AreBytes, Listed, Status as IsStatus, Image as IsImage}
 use Rattle.metadata.specs.Shown.{Shows}
 use Rattle.live_paths.specs.Listed.{name_of}
 pub use Rattle.live.specs.Kinds.{mode_of}
 use Rattle.snapshot.specs.declared.command.Command.{Command}
-use Rattle.snapshot.specs.declared.command.Command.TheVariants.{Create, Mkdir, Link, Unlink, Rmdir, Rename, Open, Close, Read, Write, Truncate, List as ListOf, Stat, Freeze, SnapRead, Release, Install, Repair, Flush, Sync}
+use Rattle.snapshot.specs.declared.command.Command.TheVariants.{Create, Mkdir, Link, Unlink, Rmdir, Rename, Open, Close, Read, Write, Truncate, List as ListOf, Stat, Freeze, SnapRead, Release, Install, Repair, Flush, Sync, SetAttributes}
 use Rattle.snapshot.specs.declared.answer.Answer.{Answer}
 use Rattle.snapshot.specs.declared.answer.Answer.TheVariants.{Done, Number, Bytes, Names, Status, Image}
 
@@ -39,8 +39,8 @@ is_users _ = true
 
 -- what is asked of a volume of this geometry
 abbrev pub asked : Geometry → Command → Request
-asked geo (Create path) = AsksCreate path.items
-asked geo (Mkdir path) = AsksMkdir path.items
+asked geo (Create path attributes) = AsksCreate path.items attributes
+asked geo (Mkdir path attributes) = AsksMkdir path.items attributes
 asked geo (Link path other) = AsksLink path.items other.items
 asked geo (Unlink path) = AsksUnlink path.items
 asked geo (Rmdir path) = AsksRmdir path.items
@@ -50,6 +50,7 @@ asked geo (Close handle) = AsksClose handle
 asked geo (Read handle index) = AsksRead handle index
 asked geo (Write handle index piece) = AsksWrite handle index piece.items
 asked geo (Truncate handle size) = AsksTruncate handle size
+asked geo (SetAttributes inode attributes) = AsksSetAttributes inode attributes
 asked geo (ListOf path) = ListNames path.items
 asked geo (Stat path) = AsksStat path.items
 asked geo Freeze = AsksFreeze

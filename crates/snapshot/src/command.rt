@@ -1,14 +1,28 @@
 //! What a volume is asked for.
+ghost use Rattle.std.specs.Prelude.{◌≡◌};
+ghost use Rattle.machine.specs.Command.{no_attributes};
+ghost use Rattle.snapshot.specs.declared.command.Command.TheVariants.{Create, Mkdir};
+
 use fsck::Checked;
+use inode::ATTRIBUTES;
 use std::sync::Arc;
+
+/// The attributes of what is made without any.
+pub const NO_ATTRIBUTES: [u32; ATTRIBUTES] = [0; ATTRIBUTES];
 
 /// A command to a volume. Paths and names are bytes, in no encoding.
 #[derive(Drop)]
 pub enum Command {
-    /// A file without bytes; its answer is the file's number.
-    Create(Vec<u8>),
-    /// An empty directory; its answer is the directory's number.
-    Mkdir(Vec<u8>),
+    /// A file without bytes, with these attributes; its answer is the file's number.
+    Create {
+        path: Vec<u8>,
+        attributes: [u32; ATTRIBUTES],
+    },
+    /// An empty directory, with these attributes; its answer is the directory's number.
+    Mkdir {
+        path: Vec<u8>,
+        attributes: [u32; ATTRIBUTES],
+    },
     /// The file of the first path gets the second one as another name.
     Link(Vec<u8>, Vec<u8>),
     /// A name is taken from a file.
@@ -37,6 +51,11 @@ pub enum Command {
         handle: u32,
         size: u32,
     },
+    /// The inode of this number gets these attributes, 16 numbers that the volume keeps for its users.
+    SetAttributes {
+        inode: u32,
+        attributes: [u32; ATTRIBUTES],
+    },
     /// The names in a directory.
     List(Vec<u8>),
     /// What a path leads to.
@@ -59,4 +78,22 @@ pub enum Command {
     Flush(u32),
     /// All that is pending goes to the device.
     Sync,
+}
+
+impl Command {
+    /// A file without bytes and without attributes.
+    pub fn create(path: Vec<u8>) -> Command
+        ensures { result ≡ Create path no_attributes }
+    {
+        let attributes = NO_ATTRIBUTES;
+        Command::Create { path, attributes }
+    }
+
+    /// An empty directory without attributes.
+    pub fn mkdir(path: Vec<u8>) -> Command
+        ensures { result ≡ Mkdir path no_attributes }
+    {
+        let attributes = NO_ATTRIBUTES;
+        Command::Mkdir { path, attributes }
+    }
 }

@@ -19,7 +19,7 @@ mod volume;
 
 pub use answer::{Answer, Reply};
 pub use checking::tells_its_image;
-pub use command::Command;
+pub use command::{Command, NO_ATTRIBUTES};
 pub use laws::{
     calls_join, clean_volumes_stay_exact, each_image_held_is_mountable,
     each_power_cut_of_a_run_is_safe, each_stop_of_a_run_is_safe, files_show_their_own_bytes,

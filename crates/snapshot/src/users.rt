@@ -29,8 +29,8 @@ pub(crate) fn user_reply<D: Device>(live: &mut Live<D>, alloc: Global, command: 
     ensures honest { D.honest live.new.device → D.honest live.old.device }
 {
     match command {
-        Command::Create(path) => number(live.create(alloc, path)),
-        Command::Mkdir(path) => number(live.mkdir(alloc, path)),
+        Command::Create { path, attributes } => number(live.create(alloc, path, attributes)),
+        Command::Mkdir { path, attributes } => number(live.mkdir(alloc, path, attributes)),
         Command::Link(path, other) => done(live.link(alloc, path, other)),
         Command::Unlink(path) => done(live.unlink(alloc, path)),
         Command::Rmdir(path) => done(live.rmdir(alloc, path)),
@@ -44,6 +44,9 @@ pub(crate) fn user_reply<D: Device>(live: &mut Live<D>, alloc: Global, command: 
             piece,
         } => done(live.write(alloc, *handle, *index, piece)),
         Command::Truncate { handle, size } => done(live.truncate(alloc, *handle, *size)),
+        Command::SetAttributes { inode, attributes } => {
+            done(live.set_attributes(alloc, *inode, attributes))
+        }
         Command::List(path) => names(live.list(alloc, path)),
         Command::Stat(path) => status(live.stat(path)),
         Command::Flush(address) => count(live.flush(*address)),

@@ -1,10 +1,10 @@
--- What a flush leaves of the bytes of a record that are not looked at.
+-- What a flush leaves of the bytes of a record that stand for nothing.
 use Rattle.std.proofs.Common.{◌≡◌, ℕ, suc, Bool, ◌<◌, ◌≤◌, ◌+◌, ◌*◌, ◌%◌, ◌/◌, ◌⊎◌, inl, inr, List, [], ◌∷◌, refl, sym, ap, ap₂, ◌∙◌, subst, Contains, slice_index, arith}
 use Rattle.std.specs.List.{All}
 use Rattle.std.proofs.lemmas.Bool.{cases_eq, cases_lt}
 use Rattle.std.proofs.lemmas.List.Elements.{All-contains}
 use Rattle.model.specs.Layout.{Geometry, IsGeometry, group_of_address, inode_block, inode_byte}
-use Rattle.model.specs.View.{free_inode, looked_at}
+use Rattle.model.specs.View.{IsSpare, free_inode}
 use Rattle.model.specs.Cells.{Update, SetInode, SetNumber, SetBlock, SetBytes}
 use Rattle.model.proofs.Addresses.{inode_places}
 use Rattle.model.proofs.Places.{inodes_are_no_data, inodes_are_no_maps}
@@ -16,7 +16,10 @@ use Rattle.updates.specs.Alone.{IsPutInto, IsPutAll}
 use Rattle.updates.specs.Places.{IsCell}
 use Rattle.softdep.specs.Writing.{WritesTaken}
 
-module _ (geo : Geometry) (ok : IsGeometry geo) (n k : ℕ) (high : looked_at geo.version ≤ k) (low : k < 128) where
+module _ (geo : Geometry) (ok : IsGeometry geo) (n k : ℕ) (spare : IsSpare geo.version k) where
+  low : k < 128
+  low = omega (arith, spare.below)
+
   abbrev at : ℕ
   at = inode_byte n + k
 
@@ -34,7 +37,7 @@ module _ (geo : Geometry) (ok : IsGeometry geo) (n k : ℕ) (high : looked_at ge
   left : (old new : List ℕ) (u : Update) → IsCell geo (cell_of u) → home_of geo (cell_of u) ≡ inode_block geo n → IsPutInto geo u old new → (u ≡ SetInode n free_inode → ⊥)
       → slice_index new at ≡ slice_index old at
   left old new (SetInode m inode) t home put other = elim (cases_eq m n) [
-    | inl same ↦ subst (λ j. slice_index new (inode_byte j + k) ≡ slice_index old (inode_byte j + k)) same (put.alone.kept (λ free. other (ap₂ SetInode same free)) k high low)
+    | inl same ↦ subst (λ j. slice_index new (inode_byte j + k) ≡ slice_index old (inode_byte j + k)) same (put.alone.kept (λ free. other (ap₂ SetInode same free)) k spare)
     | inr differs ↦ put.alone.outside at (apart m differs home)
   ]
   left old new (SetNumber m marked) t home put other = absurd (inodes_are_no_maps geo ok n (m / geo.inodes) home)

@@ -1,7 +1,7 @@
 //! What follows from how a flush writes a block, and from what the medium holds.
-ghost use Rattle.std.specs.Prelude.{◌≡◌, ℕ, ◌<◌, ◌≤◌, ◌+◌, Bool, List, [], slice_index};
+ghost use Rattle.std.specs.Prelude.{◌≡◌, ℕ, ◌<◌, ◌+◌, Bool, List, [], slice_index};
 ghost use Rattle.model.specs.Layout.{Geometry, IsGeometry, inode_block, inode_byte};
-ghost use Rattle.model.specs.View.{free_inode, inode_at, looked_at};
+ghost use Rattle.model.specs.View.{IsSpare, free_inode, inode_at};
 ghost use Rattle.model.specs.Cells.{SetInode};
 ghost use Rattle.ordering.specs.Cuts.{Pending};
 ghost use Rattle.queue_model.specs.Flush.{TakesChange};
@@ -15,15 +15,15 @@ ghost use Rattle.softdep.specs.OnMedium.{IsOnMedium};
 ghost use Rattle.softdep.specs.Queued.{Queued};
 ghost use Rattle.softdep.specs.Writing.{WritesTaken};
 
-/// Of the bytes of a record that are not looked at, a flush leaves none where it takes an update that frees the record,
+/// Of the bytes of a record that stand for nothing, a flush leaves none where it takes an update that frees the record,
 /// and else each as it was. Where the record is free then, no byte of it is left.
 pub fn a_flush_clears_a_freed_record()
     ensures freed { (geo : Geometry) → IsGeometry geo → (n : ℕ) (q : List Pending) (cut : List Bool) (old new : List ℕ)
         → WritesTaken geo (inode_block geo n) q cut old new
-        → TakesChange q cut (SetInode n free_inode) → (k : ℕ) → looked_at geo.version ≤ k → k < 128 → slice_index new (inode_byte n + k) ≡ 0 }
+        → TakesChange q cut (SetInode n free_inode) → (k : ℕ) → IsSpare geo.version k → slice_index new (inode_byte n + k) ≡ 0 }
     ensures left { (geo : Geometry) → IsGeometry geo → (n : ℕ) (q : List Pending) (cut : List Bool) (old new : List ℕ)
         → WritesTaken geo (inode_block geo n) q cut old new
-        → (TakesChange q cut (SetInode n free_inode) → ⊥) → (k : ℕ) → looked_at geo.version ≤ k → k < 128
+        → (TakesChange q cut (SetInode n free_inode) → ⊥) → (k : ℕ) → IsSpare geo.version k
         → slice_index new (inode_byte n + k) ≡ slice_index old (inode_byte n + k) }
     ensures zero { (geo : Geometry) → IsGeometry geo → (n : ℕ) (q : List Pending) (cut : List Bool) (old new : List ℕ)
         → WritesTaken geo (inode_block geo n) q cut old new

@@ -4,7 +4,7 @@ use dirent::SLOT_BYTES;
 use findings::Finding;
 use frozen::{Frozen, load};
 use fsck::{Checked, check_one};
-use inode::{DIRECT_POINTERS, DIRECTORY, FILE, RECORD_BYTES, Record};
+use inode::{ATTRIBUTES, DIRECTORY, DIRECT_POINTERS, FILE, RECORD_BYTES, Record};
 use layout::{BLOCK_BYTES, Block, DOUBLE, Geometry, Refusal, SINGLE, fresh_block};
 use std::alloc::Global;
 use std::sync::Arc;
@@ -235,6 +235,7 @@ fn record(mode: u16, links: u16, size: u32, direct: &[u32], indirect: u32) -> Re
         direct: pointers(direct),
         indirect,
         double: 0,
+        attributes: [0; ATTRIBUTES],
     }
 }
 

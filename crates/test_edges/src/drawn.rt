@@ -1,6 +1,6 @@
 use crate::expect::{holds, same};
 use device::{Device, MemDevice, set_byte};
-use inode::{DIRECT_POINTERS, FILE, RECORD_BYTES, Record};
+use inode::{ATTRIBUTES, DIRECT_POINTERS, FILE, RECORD_BYTES, Record};
 use layout::{BLOCK_BYTES, DOUBLE, Geometry, INODES_PER_BLOCK, Refusal};
 use pictures::{Picture, Use, draw, look};
 use std::test::Fail;
@@ -56,6 +56,7 @@ fn record_of(size: u32, pointers: [u32; 3], indirect: u32) -> Record {
         direct,
         indirect,
         double: 0,
+        attributes: [0; ATTRIBUTES],
     }
 }
 

@@ -4,6 +4,8 @@
 #[cfg(test)]
 mod alike;
 #[cfg(test)]
+mod attribute_numbers;
+#[cfg(test)]
 mod cached;
 #[cfg(test)]
 mod devices;

@@ -1,5 +1,5 @@
 use crate::expect::{holds, same};
-use inode::{DIRECT_POINTERS, DIRECTORY, FILE, FREE, RECORD_BYTES, Record, blocks_of_size};
+use inode::{ATTRIBUTES, DIRECTORY, DIRECT_POINTERS, FILE, FREE, RECORD_BYTES, Record, blocks_of_size};
 use layout::{DOUBLE, Geometry, SINGLE};
 
 /// A free record.
@@ -10,6 +10,7 @@ const ZERO: Record = Record {
     direct: [0; DIRECT_POINTERS],
     indirect: 0,
     double: 0,
+    attributes: [0; ATTRIBUTES],
 };
 
 #[test]
@@ -21,6 +22,9 @@ fn a_written_record_has_its_bytes_and_is_read_back(rt: HostRuntime) {
         direct: [0x1112_1314, 2, 3, 4, 5, 6, 7, 8, 9, 10, 11, 0x2122_2324],
         indirect: 0x3132_3334,
         double: 0,
+        attributes: [
+            0x5152_5354, 17, 18, 19, 20, 21, 22, 23, 24, 25, 26, 27, 28, 29, 30, 0x6162_6364,
+        ],
     };
     let mut bytes = [0xaa; RECORD_BYTES];
     record.write(SINGLE, &mut bytes);
@@ -32,6 +36,12 @@ fn a_written_record_has_its_bytes_and_is_read_back(rt: HostRuntime) {
         wanted[8 + 4 * place] = 1 + place as u8;
     }
     wanted[52..60].copy_from_slice(&[0x24, 0x23, 0x22, 0x21, 0x34, 0x33, 0x32, 0x31]);
+    wanted[64..128].copy_from_slice(&[0; 64]);
+    wanted[64..68].copy_from_slice(&[0x54, 0x53, 0x52, 0x51]);
+    for place in 1..15 {
+        wanted[64 + 4 * place] = 16 + place as u8;
+    }
+    wanted[124..128].copy_from_slice(&[0x64, 0x63, 0x62, 0x61]);
     holds(&rt, "its bytes", bytes == wanted);
     same(&rt, "read", Record::read(SINGLE, &bytes), record);
 

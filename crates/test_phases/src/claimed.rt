@@ -2,7 +2,7 @@ use crate::expect::same;
 use device::{Device, MemDevice};
 use findings::{Finding, OfGroup, in_order};
 use frozen::{Frozen, load};
-use inode::{DIRECT_POINTERS, FILE, RECORD_BYTES, Record};
+use inode::{ATTRIBUTES, DIRECT_POINTERS, FILE, RECORD_BYTES, Record};
 use layout::{BLOCK_BYTES, Geometry, INODES_PER_BLOCK, Refusal};
 use phase_blocks::{BlockOwners, Claim, Part, owners, part};
 use std::alloc::Global;
@@ -42,6 +42,7 @@ fn file(size: u32, pointers: [u32; 3], indirect: u32) -> Record {
         direct,
         indirect,
         double: 0,
+        attributes: [0; ATTRIBUTES],
     }
 }
 

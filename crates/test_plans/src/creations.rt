@@ -1,7 +1,7 @@
 use crate::expect::holds;
 use device::MemDevice;
 use frozen::{Frozen, load};
-use inode::{DIRECTORY, Record};
+use inode::{ATTRIBUTES, DIRECTORY, Record};
 use layout::{BLOCK_BYTES, Geometry, ROOT, Refusal};
 use live_creations::{directory_for, dots, file_at, new_directory};
 use live_paths::Path;
@@ -109,6 +109,8 @@ fn a_new_directory_has_one_block(rt: HostRuntime) {
         direct,
         indirect: 0,
         double: 0,
+        attributes: [9; ATTRIBUTES],
     };
-    holds(&rt, "its record", new_directory(7) == wanted);
+    let made = new_directory(7, &[9; ATTRIBUTES]);
+    holds(&rt, "its record", made == wanted);
 }

@@ -5,7 +5,7 @@ ghost use Rattle.live_plans.specs.Linked.{HasPointers};
 
 use device::{Device, MemDevice, set_bytes};
 use frozen::{Frozen, load};
-use inode::{DIRECTORY, Record};
+use inode::{ATTRIBUTES, DIRECTORY, Record};
 use layout::{BLOCK_BYTES, Block, Geometry, ROOT, Refusal};
 use live_paths::Path;
 use live_places::choose;
@@ -177,6 +177,7 @@ fn directory(blocks: usize, then: u32, size: u32, indirect: u32) -> Record {
         direct,
         indirect,
         double: 0,
+        attributes: [0; ATTRIBUTES],
     }
 }
 

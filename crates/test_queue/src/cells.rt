@@ -1,7 +1,7 @@
 ghost use Rattle.std.specs.Prelude.{◌≡◌};
 
 use crate::expect::{holds, same};
-use inode::{DIRECT_POINTERS, FILE, RECORD_BYTES, Record};
+use inode::{ATTRIBUTES, DIRECT_POINTERS, FILE, RECORD_BYTES, Record};
 use layout::{BLOCK_BYTES, Block, DOUBLE, Geometry, SINGLE};
 use smallvec::smallvec;
 use std::alloc::{AllocError, Global};
@@ -80,6 +80,7 @@ fn record() -> Record
         direct: [5; DIRECT_POINTERS],
         indirect: 6,
         double: 0,
+        attributes: [7; ATTRIBUTES],
     }
 }
 
@@ -95,6 +96,10 @@ fn block_with_record() -> Block {
         block[136 + 4 * place] = 5;
     }
     block[128 + 56] = 6;
+    block[192..256].copy_from_slice(&[0; 64]);
+    for place in 0..ATTRIBUTES {
+        block[192 + 4 * place] = 7;
+    }
     block
 }
 

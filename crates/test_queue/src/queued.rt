@@ -6,7 +6,7 @@ ghost use Rattle.updates.specs.Values.{cell, change as value_of};
 
 use crate::expect::{holds, same};
 use device::{Device, Fuse, MemDevice};
-use inode::{DIRECT_POINTERS, FILE, FREE, Record};
+use inode::{ATTRIBUTES, DIRECT_POINTERS, FILE, FREE, Record};
 use layout::{BLOCK_BYTES, Block, DOUBLE, Geometry, ROOT, Refusal, SINGLE};
 use softdep::{Cell, Cells, Change, Queue, Update};
 use spares::Spares;
@@ -111,6 +111,7 @@ fn record_of(links: u16) -> Record {
         direct: [0; DIRECT_POINTERS],
         indirect: 0,
         double: 0,
+        attributes: [0; ATTRIBUTES],
     }
 }
 

@@ -38,8 +38,8 @@ fn shown(alloc: Global, command: &Command) -> Result<String, AllocError> {
 /// The word of a command without numbers.
 fn word_of(command: &Command) -> &'static str {
     match command {
-        Command::Create(_) => "create",
-        Command::Mkdir(_) => "mkdir",
+        Command::Create { .. } => "create",
+        Command::Mkdir { .. } => "mkdir",
         Command::Link(_, _) => "link",
         Command::Unlink(_) => "unlink",
         Command::Rmdir(_) => "rmdir",
@@ -142,7 +142,7 @@ fn expect_text(rt: &impl Abort, line: Option<&UserLine>, text: &[u8], path: &[u8
     let found = line.map(|line| line.text.as_slice());
     same(rt, "text", found, Some(text));
     let is_so = match line.map(|line| &line.command) {
-        Some(Command::Create(found)) => found.as_slice() == path,
+        Some(Command::Create { path: found, .. }) => found.as_slice() == path,
         _ => false,
     };
     holds(rt, "path", is_so);

@@ -81,7 +81,7 @@ fn are_same(noted: &Reply, reply: &Reply) -> bool {
 /// Whether a call is one of the thread with the file `/y`.
 fn is_second(entry: &Entry) -> bool {
     match &entry.command {
-        Command::Create(path) | Command::Unlink(path) => path.as_slice() == b"/y".as_slice(),
+        Command::Create { path, .. } | Command::Unlink(path) => path.as_slice() == b"/y".as_slice(),
         _ => false,
     }
 }

@@ -2,7 +2,7 @@
 use Rattle.std.specs.Prelude.{◌≡◌, ◌≢◌, ℕ, ◌<◌, ◌==◌, List, [], ◌∷◌, length, slice_index_or, Option, Some, None, Ok, Err, Result, if◌then◌else◌}
 use Rattle.layout.specs.declared.refusal.Refusal.{Refusal}
 use Rattle.layout.specs.declared.refusal.Refusal.TheVariants.{BadName, NotDirectory}
-use Rattle.machine.specs.Command.{Command, Link, Mkdir, Rename, Rmdir, Unlink}
+use Rattle.machine.specs.Command.{Command, Link, Mkdir, no_attributes, Rename, Rmdir, Unlink}
 use Rattle.machine.specs.Paths.{parts_of, target}
 use Rattle.model.specs.Layout.{Geometry}
 use Rattle.model.specs.Uses.{is_directory_at}
@@ -16,7 +16,7 @@ use Rattle.tool_answers.specs.declared.words.Naming.{Naming}
 use Rattle.tool_answers.specs.declared.words.Naming.TheVariants as namings
 
 abbrev pub request_of : Deed → List ℕ → Command
-request_of MakeDirectory path = Mkdir path
+request_of MakeDirectory path = Mkdir path no_attributes
 request_of Remove path = Unlink path
 request_of RemoveDirectory path = Rmdir path
 

@@ -23,7 +23,7 @@ where
 {
     let failure = Failure::from(cause).on_image(rt, image);
     match command {
-        Some(Command::Mkdir(path) | Command::Unlink(path) | Command::Rmdir(path)) => {
+        Some(Command::Mkdir { path, .. } | Command::Unlink(path) | Command::Rmdir(path)) => {
             failure.on_path(rt.alloc(), path)
         }
         Some(Command::Rename(old, new) | Command::Link(old, new)) => {

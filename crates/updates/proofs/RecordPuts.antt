@@ -1,9 +1,10 @@
 -- A record that was written over its bytes in its block.
 use Rattle.std.proofs.Common.{◌≡◌, ◌<◌, ◌≤◌, ◌+◌, ◌-◌, ◌*◌, ◌⊎◌, inl, inr, ℕ, List, length, take, drop, replicate, slice_index, sym, ap, ap₂, ◌∙◌, arith}
-use Rattle.model.specs.View.{Inode, free_inode, inode_at, looked_at}
+use Rattle.model.specs.View.{Inode, IsSpare, free_inode, inode_at}
+use Rattle.std.proofs.lemmas.List.{get_or-drop, get_or-take}
 use Rattle.layout.specs.Fresh.{put}
 use Rattle.layout.proofs.PutLemmas.{put_inside, put_apart, zeroes}
-use Rattle.inode.proofs.RecordBytes.{part_put, record_here, record_there, rest_stays}
+use Rattle.inode.proofs.RecordBytes.{part_put, record_here, record_there}
 use Rattle.updates.specs.Alone.{ChangesRecord}
 use borrow.Rule.Slice.PartMut.{put_mid, mid_of}
 
@@ -47,16 +48,20 @@ module _ (version place : ℕ) (low : place < 8) (block bytes : List ℕ) (size 
       ∙ ap (λ xs. slice_index xs (128 * place + k - 128 * place)) e
       ∙ zeroes 128 (128 * place + k - 128 * place)
 
-  rest_stays_there : drop (looked_at version) bytes ≡ drop (looked_at version) (mid_of (place * 128) (place * 128 + 128 - place * 128) block)
-      → (k : ℕ) → looked_at version ≤ k → slice_index after (128 * place + k) ≡ slice_index block (128 * place + k)
-  rest_stays_there e k high =
+  spare_stays_there : (k : ℕ) → k < 128 → slice_index bytes k ≡ slice_index (mid_of (place * 128) (place * 128 + 128 - place * 128) block) k
+      → slice_index after (128 * place + k) ≡ slice_index block (128 * place + k)
+  spare_stays_there k inside e =
       ap (λ xs. slice_index xs (128 * place + k)) after_is_put
-      ∙ rest_stays block bytes (128 * place) long fits (looked_at version) (e ∙ ap (drop (looked_at version)) before_is_cut) (128 * place + k) (inr (omega (arith, high)))
+      ∙ put_inside (128 * place) bytes block whole (128 * place + k) (omega arith) (omega (arith, long, inside))
+      ∙ ap (slice_index bytes) (omega arith)
+      ∙ e ∙ ap (λ xs. slice_index xs k) before_is_cut
+      ∙ get_or-take 128 (drop (128 * place) block) k 0 inside
+      ∙ get_or-drop (128 * place) block k 0
 
   pub record_changed : (inode : Inode) → (inode ≡ free_inode → bytes ≡ replicate 128 0)
-      → ((inode ≡ free_inode → ⊥) → drop (looked_at version) bytes ≡ drop (looked_at version) (mid_of (place * 128) (place * 128 + 128 - place * 128) block)) → ChangesRecord version block after (128 * place) inode
+      → ((inode ≡ free_inode → ⊥) → (k : ℕ) → IsSpare version k → slice_index bytes k ≡ slice_index (mid_of (place * 128) (place * 128 + 128 - place * 128) block) k) → ChangesRecord version block after (128 * place) inode
   record_changed inode freed kept = record {
     outside = outside_stays;
     freed = λ e k inside. zero_there (freed e) k inside;
-    kept = λ other k high inside. rest_stays_there (kept other) k high;
+    kept = λ other k spare. spare_stays_there k (omega (arith, spare.below)) (kept other k spare);
   }

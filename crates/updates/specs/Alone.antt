@@ -3,16 +3,16 @@ use Rattle.std.specs.Prelude.{◌≡◌, ◌≢◌, ℕ, ◌+◌, ◌%◌, ◌<�
 use Rattle.model.specs.Image.{IsGroupBlock}
 use Rattle.model.specs.Layout.{Geometry, group_block, inode_byte, data_bit}
 use Rattle.model.specs.Cells.{Update, SetInode, SetNumber, SetBlock, SetBytes, put_at, updated}
-use Rattle.model.specs.View.{Inode, free_inode, looked_at, view_of}
+use Rattle.model.specs.View.{Inode, IsSpare, free_inode, view_of}
 use Rattle.ordering.specs.Cuts.{cell_of}
 use Rattle.queue_model.specs.Blocks.{home_of}
 use Rattle.cgmaps.specs.Maps.{ChangesBit}
 
--- Of the block no byte changes outside the record that begins at this byte. All 128 bytes of a freed record are zero; of any other one those that this version of the layout does not look at are as they were.
+-- Of the block no byte changes outside the record that begins at this byte. All 128 bytes of a freed record are zero; of any other one those that stand for nothing in this version of the layout are as they were.
 pub record ChangesRecord (version : ℕ) (old new : List ℕ) (byte : ℕ) (inode : Inode) : Type 0 where
   pub outside : (k : ℕ) → (k < byte) ⊎ (byte + 128 ≤ k) → slice_index new k ≡ slice_index old k
   pub freed : inode ≡ free_inode → (k : ℕ) → k < 128 → slice_index new (byte + k) ≡ 0
-  pub kept : inode ≢ free_inode → (k : ℕ) → looked_at version ≤ k → k < 128 → slice_index new (byte + k) ≡ slice_index old (byte + k)
+  pub kept : inode ≢ free_inode → (k : ℕ) → IsSpare version k → slice_index new (byte + k) ≡ slice_index old (byte + k)
 
 -- The new block is the old one but for a record, or for one bit, or it is the bytes that were given.
 abbrev pub ChangesAlone : Geometry → Update → List ℕ → List ℕ → Type 0

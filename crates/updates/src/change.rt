@@ -1,6 +1,6 @@
 ghost use Rattle.std.specs.Arc.{arc_value};
-ghost use Rattle.std.specs.Prelude.{◌≡◌, ◌≢◌, ◌<◌, ◌*◌, ◌↔◌, ℕ, IfSome, IsTrue, List, length, drop, replicate};
-ghost use Rattle.model.specs.View.{Fits, free_inode, inode_at, looked_at, view_of};
+ghost use Rattle.std.specs.Prelude.{◌≡◌, ◌≢◌, ◌<◌, ◌*◌, ◌↔◌, ℕ, IfSome, IsTrue, List, length, replicate, slice_index};
+ghost use Rattle.model.specs.View.{Fits, IsSpare, free_inode, inode_at, view_of};
 ghost use Rattle.model.specs.Image.{IsGroupBlock};
 ghost use Rattle.model.specs.Layout.{Geometry as Numbers, IsGeometry, group_block};
 ghost use Rattle.model.specs.Cells.{put_at, updated};
@@ -12,7 +12,7 @@ ghost use Rattle.updates.specs.Alone.{ChangesAlone, ChangesRecord, IsPutInto};
 
 use crate::Cell;
 use cgmaps::{Map, put_bit};
-use inode::{DIRECT_POINTERS, FREE, RECORD_BYTES, Record};
+use inode::{ATTRIBUTES, DIRECT_POINTERS, FREE, RECORD_BYTES, Record};
 use layout::{Block, Geometry, INODES_PER_BLOCK};
 use smallvec::SmallVec;
 use std::sync::Arc;
@@ -28,6 +28,7 @@ const FREED: Record = Record {
     direct: [0; DIRECT_POINTERS],
     indirect: 0,
     double: 0,
+    attributes: [0; ATTRIBUTES],
 };
 
 /// A cell and its new value.
@@ -118,13 +119,13 @@ fn put_record(inode: &Record, geometry: &Geometry, place: u32, block: &mut Block
 }
 
 /// Writes a record over its bytes. No byte of a freed one stays, so that whoever is given the record next finds nothing
-/// in it; of any other one those stay that this version of the layout does not look at.
+/// in it; of any other one those stay that stand for nothing in this version of the layout.
 fn write_record(inode: &Record, geometry: &Geometry, bytes: &mut [u8])
     requires long { length bytes.old ≡ 128 }
     requires fits { Fits geometry.now.version inode.now }
     ensures read { inode_at geometry.now.version bytes.new 0 ≡ inode.now }
     ensures freed { inode.now ≡ free_inode → bytes.new ≡ replicate 128 0 }
-    ensures kept { inode.now ≢ free_inode → drop (looked_at geometry.now.version) bytes.new ≡ drop (looked_at geometry.now.version) bytes.old }
+    ensures kept { inode.now ≢ free_inode → (k : ℕ) → IsSpare geometry.now.version k → slice_index bytes.new k ≡ slice_index bytes.old k }
 {
     let Some(record) = bytes.as_mut_array::<RECORD_BYTES>() else {
         unreachable!()

@@ -82,6 +82,7 @@ module _ (block : List ℕ) (long : length block ≡ 1024) where
         (cond_both (eqb version 2) (u32_at (cleared block) (128 * j + 60)) 0 (λ n. n ≡ 0)
         (λ two. zero_number 4 (128 * j + 60) (cleared block) (record { at = λ k from until. cleared_zero k (omega arith) (omega arith) (omega arith) }))
         (λ one. refl))
+        (same_numbers 16 (128 * j + 64) (cleared block) block (λ k from until. cleared_other k (inr (omega arith))))
 
 -- ---- blocks
 whole_of : (block : List ℕ) → IsBlock block → IsWhole block

@@ -90,8 +90,8 @@ fn user_of(word: &[u8]) -> Option<u8>
 /// Whether a script may have this command.
 fn may_stand(command: &Command, which: Commands) -> bool {
     match command {
-        Command::Create(_)
-        | Command::Mkdir(_)
+        Command::Create { .. }
+        | Command::Mkdir { .. }
         | Command::Link(_, _)
         | Command::Unlink(_)
         | Command::Rmdir(_)
@@ -101,6 +101,7 @@ fn may_stand(command: &Command, which: Commands) -> bool {
         | Command::Read { .. }
         | Command::Write { .. }
         | Command::Truncate { .. }
+        | Command::SetAttributes { .. }
         | Command::List(_)
         | Command::Stat(_) => true,
         Command::Flush(_) | Command::Sync => which == Commands::OfUsersAndFlushes,

@@ -12,8 +12,14 @@ pub(crate) fn copy_of(alloc: Global, command: &Command) -> Result<Command, Alloc
     ensures { IfOk result (λ copy. (geo : Geometry) → asked geo copy ≡ asked geo command.now) }
 {
     Ok(match command {
-        Command::Create(path) => Command::Create(path.to_vec(alloc)?),
-        Command::Mkdir(path) => Command::Mkdir(path.to_vec(alloc)?),
+        Command::Create { path, attributes } => Command::Create {
+            path: path.to_vec(alloc)?,
+            attributes: *attributes,
+        },
+        Command::Mkdir { path, attributes } => Command::Mkdir {
+            path: path.to_vec(alloc)?,
+            attributes: *attributes,
+        },
         Command::Link(path, other) => Command::Link(path.to_vec(alloc)?, other.to_vec(alloc)?),
         Command::Unlink(path) => Command::Unlink(path.to_vec(alloc)?),
         Command::Rmdir(path) => Command::Rmdir(path.to_vec(alloc)?),
@@ -38,6 +44,10 @@ pub(crate) fn copy_of(alloc: Global, command: &Command) -> Result<Command, Alloc
         Command::Truncate { handle, size } => Command::Truncate {
             handle: *handle,
             size: *size,
+        },
+        Command::SetAttributes { inode, attributes } => Command::SetAttributes {
+            inode: *inode,
+            attributes: *attributes,
         },
         Command::List(path) => Command::List(path.to_vec(alloc)?),
         Command::Stat(path) => Command::Stat(path.to_vec(alloc)?),

@@ -15,3 +15,5 @@ returns c =
     (λ k b. c.read_u32_into.ensures k (omega (arith, c.read_u32_into.auto.dst)) ∙ number_in_part 8 48 (4 * k) bytes (omega arith)))
     (c.read_u32-2.ensures ∙ little_from-take 0 4 72 (drop 56 bytes) (omega arith))
     c.double_of.ensures
+    (numbers_read 16 64 c.read_u32_into-2.new.dst bytes c.read_u32_into-2.auto.dst
+    (λ k b. c.read_u32_into-2.ensures k (omega (arith, c.read_u32_into-2.auto.dst)) ∙ number_in_part 64 64 (4 * k) bytes (omega arith)))

@@ -7,4 +7,4 @@ pub returns : goal.returns
 returns c = λ version.
     let bytes = c.args.bytes.now in
     same_inode (c.mode_of.ensures version) (c.read_u16.ensures ∙ little_from-take 0 2 126 (drop 2 bytes) (omega arith))
-    (c.read_u32.ensures ∙ little_from-take 0 4 124 (drop 4 bytes) (omega arith)) refl refl refl
+    (c.read_u32.ensures ∙ little_from-take 0 4 124 (drop 4 bytes) (omega arith)) refl refl refl refl

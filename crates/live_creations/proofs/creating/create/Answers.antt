@@ -15,7 +15,7 @@ use Rattle.live_creations.proofs.creating.create.Goals as goal
 pub returns-in_err-parsed-clause-refused : goal.returns-in_err-parsed-clause-refused
 returns-in_err-parsed-clause-refused c =
     let p = err_from_is_err_and c.from_residual.result c.from_residual.ensures.1 in
-    rw (p.1, p.2) (inr (λ old shows. inl (create_bad c.args.metadata.now.geometry old c.args.path.now c.in_err-parsed.ensures.0 ∙ ap Some (sym c.in_err-parsed.ensures.1))))
+    rw (p.1, p.2) (inr (λ old shows. inl (create_bad c.args.metadata.now.geometry old c.args.path.now c.args.attributes.now c.in_err-parsed.ensures.0 ∙ ap Some (sym c.in_err-parsed.ensures.1))))
 
 pub returns-in_err-directory-clause-refused : goal.returns-in_err-directory-clause-refused
 returns-in_err-directory-clause-refused c =
@@ -23,7 +23,7 @@ returns-in_err-directory-clause-refused c =
     let ps = c.in_ok-parsed.parsed in
     let r = c.in_err-directory.field-0.0 in
     let p = err_from_is_err_and c.from_residual-in_err-directory.result c.from_residual-in_err-directory.ensures.1 in
-    rw (p.1, p.2) (inr (λ old shows. inl (create_unnamed kept.geometry old c.args.path.now ps c.in_ok-parsed.ensures r
+    rw (p.1, p.2) (inr (λ old shows. inl (create_unnamed kept.geometry old c.args.path.now c.args.attributes.now ps c.in_ok-parsed.ensures r
     (there (λ geo v. first_of (naming geo v ps) ≡ Some r) c.frozen.result.now kept c.frozen.ensures.same c.in_err-directory.ensures.refused old.view (shows_metadata kept old.view c.frozen.ensures.metadata shows)))))
 
 pub returns-in_default-clause-refused : goal.returns-in_default-clause-refused
@@ -31,7 +31,7 @@ returns-in_default-clause-refused c =
     let kept = c.args.metadata.now in
     let ps = c.in_ok-parsed.parsed in
     let d = c.in_ok-directory.directory in
-    inr (λ old shows. inl (create_named kept.geometry old c.args.path.now ps c.in_ok-parsed.ensures d
+    inr (λ old shows. inl (create_named kept.geometry old c.args.path.now c.args.attributes.now ps c.in_ok-parsed.ensures d
     (there (λ geo v. IsNewIn geo v ps d) c.frozen.result.now kept c.frozen.ensures.same c.in_ok-directory.ensures.named old.view (shows_metadata kept old.view c.frozen.ensures.metadata shows))
     ∙ no_inode kept.geometry old.view d (numbers_there kept old.view shows false c.in_default.ensures)))
 
@@ -44,7 +44,7 @@ returns-in_err-places-clause-refused c =
     let p = err_from_is_err_and c.from_residual-in_err-places.result c.from_residual-in_err-places.ensures.1 in
     rw (p.1, p.2) (inr (λ old shows.
     let shown = shows_metadata kept old.view c.frozen.ensures.metadata shows in
-    inl (create_named kept.geometry old c.args.path.now ps c.in_ok-parsed.ensures d (there (λ geo v. IsNewIn geo v ps d) c.frozen.result.now kept c.frozen.ensures.same c.in_ok-directory.ensures.named old.view shown)
+    inl (create_named kept.geometry old c.args.path.now c.args.attributes.now ps c.in_ok-parsed.ensures d (there (λ geo v. IsNewIn geo v ps d) c.frozen.result.now kept c.frozen.ensures.same c.in_ok-directory.ensures.named old.view shown)
     ∙ with_number kept.geometry old.view d (numbers_there kept old.view shows true c.in-Some.ensures.0)
     ∙ no_place kept.geometry old.view d r (c.in_err-places.ensures.refused old.view shown))))
 
@@ -71,7 +71,7 @@ returns-clause-planned c =
     let ps = c.in_ok-parsed.parsed in
     let d = c.in_ok-directory.directory in
     let named = there (λ geo v. IsNewIn geo v ps d) c.frozen.result.now kept c.frozen.ensures.same c.in_ok-directory.ensures.named in
-    create_planned kept c.args.path.now ps
+    create_planned kept c.args.path.now c.args.attributes.now ps
     (record { directory = d; parent = c.record.result; number = c.in-Some.number; name = c.name.result; place = c.in_ok-places.places.place })
     c.in_ok-created.field-0 c.frozen.ensures.metadata c.requires c.in_ok-parsed.ensures c.name.ensures.name
     (c.record.ensures ∙ ap (λ (k : Kept). (frozen_view k).inode d) c.frozen-2.ensures.same) c.in-Some.ensures.1.free named
@@ -79,7 +79,7 @@ returns-clause-planned c =
     (λ old shows.
     let shown = shows_metadata kept old.view c.frozen.ensures.metadata shows in
     let chosen = c.in_ok-places.ensures.chosen old.view shown in (
-      create_named kept.geometry old c.args.path.now ps c.in_ok-parsed.ensures d (named old.view shown)
+      create_named kept.geometry old c.args.path.now c.args.attributes.now ps c.in_ok-parsed.ensures d (named old.view shown)
           ∙ with_number kept.geometry old.view d (numbers_there kept old.view shows true c.in-Some.ensures.0)
           ∙ some_place kept.geometry old.view d chosen.0 chosen.1,
       tt,

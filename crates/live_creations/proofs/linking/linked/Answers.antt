@@ -12,7 +12,7 @@ pub push-requires-clause-fits : goal.push-requires-clause-fits
 push-requires-clause-fits c =
     let n = c.args.new.now.number in
     let same = c.frozen-frozen.ensures.same in
-    let was : Inode = record { mode = c.raised.inside.mode; links = c.raised.inside.links; size = c.raised.inside.size; direct = c.raised.inside.direct; indirect = c.raised.inside.indirect; double = c.raised.inside.double } in
+    let was : Inode = record { mode = c.raised.inside.mode; links = c.raised.inside.links; size = c.raised.inside.size; direct = c.raised.inside.direct; indirect = c.raised.inside.indirect; double = c.raised.inside.double; attributes = c.raised.inside.attributes } in
     written_fits c.args.metadata.now c.new-plan.result.geometry n (record was { links = was.links + 1 }) was (ap (λ (d : Draft). d.geometry) c.new-plan.ensures ∙ c.geometry.ensures.geometry ∙ ap (λ (k : Kept). k.geometry) same)
     (c.raised.view_is ∙ c.record-raised.ensures ∙ ap (λ (k : Kept). (frozen_view k).inode n) same) refl
 

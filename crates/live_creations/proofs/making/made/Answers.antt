@@ -25,7 +25,7 @@ push-requires-5-clause-fits c = λ one. ap (λ (i : Inode). i.double) c.new_dire
 pub returns : goal.returns
 returns c = λ view shows.
     let new = c.args.new.now in
-    makes_directory c.args.metadata.now.geometry c.geometry.result view new c.args.own (arc_value c.in_ok-dots.dots)
+    makes_directory c.args.metadata.now.geometry c.geometry.result view new c.args.own c.args.attributes.now (arc_value c.in_ok-dots.dots)
     c.new-plan.result c.push.new.self c.push-2.new.self c.push-3.new.self c.push-4.new.self c.push-5.new.self c.enter.new.plan
     (map cell c.new.result.items) (map cell c.new-2.result.items) (map cell c.new-3.result.items) (map cell c.in_ok-after.after.items) (map cell c.in_ok-after-2.after.items) c.new_directory.result
     c.new-plan.ensures (c.geometry.ensures.geometry ∙ ap (λ (k : Kept). k.geometry) c.frozen.ensures.same)

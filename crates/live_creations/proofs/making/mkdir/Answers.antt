@@ -19,7 +19,7 @@ use Rattle.live_creations.proofs.making.mkdir.Goals as goal
 pub returns-in_err-parsed-clause-refused : goal.returns-in_err-parsed-clause-refused
 returns-in_err-parsed-clause-refused c =
     let p = err_from_is_err_and c.from_residual.result c.from_residual.ensures.1 in
-    rw (p.1, p.2) (inr (λ old shows. inl (mkdir_bad c.args.metadata.now.geometry old c.args.path.now c.in_err-parsed.ensures.0 ∙ ap Some (sym c.in_err-parsed.ensures.1))))
+    rw (p.1, p.2) (inr (λ old shows. inl (mkdir_bad c.args.metadata.now.geometry old c.args.path.now c.args.attributes.now c.in_err-parsed.ensures.0 ∙ ap Some (sym c.in_err-parsed.ensures.1))))
 
 pub returns-in_err-directory-clause-refused : goal.returns-in_err-directory-clause-refused
 returns-in_err-directory-clause-refused c =
@@ -27,7 +27,7 @@ returns-in_err-directory-clause-refused c =
     let ps = c.in_ok-parsed.parsed in
     let r = c.in_err-directory.field-0.0 in
     let p = err_from_is_err_and c.from_residual-in_err-directory.result c.from_residual-in_err-directory.ensures.1 in
-    rw (p.1, p.2) (inr (λ old shows. inl (mkdir_unnamed kept.geometry old c.args.path.now ps c.in_ok-parsed.ensures r
+    rw (p.1, p.2) (inr (λ old shows. inl (mkdir_unnamed kept.geometry old c.args.path.now c.args.attributes.now ps c.in_ok-parsed.ensures r
     (there (λ geo v. first_of (naming geo v ps) ≡ Some r) c.frozen.result.now kept c.frozen.ensures.same c.in_err-directory.ensures.refused old.view (shows_metadata kept old.view c.frozen.ensures.metadata shows)))))
 
 pub returns-then-parent-ge-MOST_LINKS-clause-refused : goal.returns-then-parent-ge-MOST_LINKS-clause-refused
@@ -38,7 +38,7 @@ returns-then-parent-ge-MOST_LINKS-clause-refused c =
     let many : 32767 ≤ c.parent.inside.links = c.if-parent-ge-MOST_LINKS.true in
     inr (λ old shows.
     let same = links_there c.frozen-2.result.now kept c.frozen-2.ensures.same old.view shows d c.record-parent.result c.record-parent.ensures in
-    inl (mkdir_named kept.geometry old c.args.path.now ps c.in_ok-parsed.ensures d
+    inl (mkdir_named kept.geometry old c.args.path.now c.args.attributes.now ps c.in_ok-parsed.ensures d
     (there (λ geo v. IsNewIn geo v ps d) c.frozen.result.now kept c.frozen.ensures.same c.in_ok-directory.ensures.named old.view (shows_metadata kept old.view c.frozen.ensures.metadata shows))
     ∙ parent_many kept.geometry old.view d (omega (arith, many, ap (λ (x : Inode). x.links) c.parent.view_is, same))))
 
@@ -50,7 +50,7 @@ returns-in_default-clause-refused c =
     let few : c.parent.inside.links < 32767 = c.if-parent-ge-MOST_LINKS.false in
     inr (λ old shows.
     let same = links_there c.frozen-2.result.now kept c.frozen-2.ensures.same old.view shows d c.record-parent.result c.record-parent.ensures in
-    inl (mkdir_named kept.geometry old c.args.path.now ps c.in_ok-parsed.ensures d
+    inl (mkdir_named kept.geometry old c.args.path.now c.args.attributes.now ps c.in_ok-parsed.ensures d
     (there (λ geo v. IsNewIn geo v ps d) c.frozen.result.now kept c.frozen.ensures.same c.in_ok-directory.ensures.named old.view (shows_metadata kept old.view c.frozen.ensures.metadata shows))
     ∙ parent_no_inode kept.geometry old.view d (omega (arith, few, ap (λ (x : Inode). x.links) c.parent.view_is, same)) (numbers_there kept old.view shows false c.in_default.ensures)))
 
@@ -65,7 +65,7 @@ returns-in_err-places-clause-refused c =
     rw (p.1, p.2) (inr (λ old shows.
     let shown = shows_metadata kept old.view c.frozen.ensures.metadata shows in
     let same = links_there c.frozen-2.result.now kept c.frozen-2.ensures.same old.view shows d c.record-parent.result c.record-parent.ensures in
-    inl (mkdir_named kept.geometry old c.args.path.now ps c.in_ok-parsed.ensures d (there (λ geo v. IsNewIn geo v ps d) c.frozen.result.now kept c.frozen.ensures.same c.in_ok-directory.ensures.named old.view shown)
+    inl (mkdir_named kept.geometry old c.args.path.now c.args.attributes.now ps c.in_ok-parsed.ensures d (there (λ geo v. IsNewIn geo v ps d) c.frozen.result.now kept c.frozen.ensures.same c.in_ok-directory.ensures.named old.view shown)
     ∙ parent_no_place kept.geometry old.view d (omega (arith, few, ap (λ (x : Inode). x.links) c.parent.view_is, same)) (numbers_there kept old.view shows true c.in-Some.ensures.0) r
     (c.in_err-places.ensures.refused old.view shown))))
 
@@ -109,9 +109,9 @@ returns-clause-planned c =
     let ps = c.in_ok-parsed.parsed in
     let d = c.in_ok-directory.directory in
     let few : c.parent.inside.links < 32767 = c.if-parent-ge-MOST_LINKS.false in
-    let raised : Inode = record { mode = c.parent.inside.mode; links = c.parent.inside.links + 1; size = c.parent.inside.size; direct = c.parent.inside.direct; indirect = c.parent.inside.indirect; double = c.parent.inside.double } in
+    let raised : Inode = record { mode = c.parent.inside.mode; links = c.parent.inside.links + 1; size = c.parent.inside.size; direct = c.parent.inside.direct; indirect = c.parent.inside.indirect; double = c.parent.inside.double; attributes = c.parent.inside.attributes } in
     let named = there (λ geo v. IsNewIn geo v ps d) c.frozen.result.now kept c.frozen.ensures.same c.in_ok-directory.ensures.named in
-    mkdir_planned kept c.args.path.now ps
+    mkdir_planned kept c.args.path.now c.args.attributes.now ps
     (record { directory = d; parent = raised; number = c.in-Some.number; name = c.name.result; place = c.in_ok-places.places.place })
     c.in-Some-own.own c.in_ok-made.field-0 c.frozen.ensures.metadata c.requires c.in_ok-parsed.ensures c.name.ensures.name
     (ap (λ (x : Inode). with_links x (x.links + 1)) (c.parent.view_is ∙ c.record-parent.ensures ∙ ap (λ (k : Kept). (frozen_view k).inode d) c.frozen-2.ensures.same))
@@ -121,7 +121,7 @@ returns-clause-planned c =
     let shown = shows_metadata kept old.view c.frozen.ensures.metadata shows in
     let chosen = c.in_ok-places.ensures.chosen old.view shown in
     let same = links_there c.frozen-2.result.now kept c.frozen-2.ensures.same old.view shows d c.record-parent.result c.record-parent.ensures in (
-      mkdir_named kept.geometry old c.args.path.now ps c.in_ok-parsed.ensures d (named old.view shown)
+      mkdir_named kept.geometry old c.args.path.now c.args.attributes.now ps c.in_ok-parsed.ensures d (named old.view shown)
           ∙ parent_place kept.geometry old.view d (omega (arith, few, ap (λ (x : Inode). x.links) c.parent.view_is, same)) (numbers_there kept old.view shows true c.in-Some.ensures.0) chosen.0 chosen.1,
       tt,
     ))

@@ -39,7 +39,7 @@ pub push-requires-clause-fits : goal.push-requires-clause-fits
 push-requires-clause-fits c =
     let kept = c.args.metadata.now in
     let d = c.args.directory in
-    let before : Inode = record { mode = c.grown.inside.mode; links = c.grown.inside.links; size = c.grown.inside.size; direct = c.grown.inside.direct; indirect = c.grown.inside.indirect; double = c.grown.inside.double } in
+    let before : Inode = record { mode = c.grown.inside.mode; links = c.grown.inside.links; size = c.grown.inside.size; direct = c.grown.inside.direct; indirect = c.grown.inside.indirect; double = c.grown.inside.double; attributes = c.grown.inside.attributes } in
     let given : Inode = record before { size = c.parent.inside.size + 1024 } in
     let fits : Fits kept.geometry.version given = λ one.
     ap (λ (n : Inode). n.double) c.grown.view_is ∙ c.in_ok-linked.ensures.links.record_fits (kept_fits kept d c.args.parent.now c.requires.parent.0 c.requires.parent.1) one in
@@ -55,7 +55,7 @@ returns-clause-grows c =
     let d = c.args.directory in
     let b = c.args.block in
     let inode = c.args.parent.now in
-    let before : Inode = record { mode = c.grown.inside.mode; links = c.grown.inside.links; size = c.grown.inside.size; direct = c.grown.inside.direct; indirect = c.grown.inside.indirect; double = c.grown.inside.double } in
+    let before : Inode = record { mode = c.grown.inside.mode; links = c.grown.inside.links; size = c.grown.inside.size; direct = c.grown.inside.direct; indirect = c.grown.inside.indirect; double = c.grown.inside.double; attributes = c.grown.inside.attributes } in
     let given : Inode = record before { size = c.parent.inside.size + 1024 } in
     let size : c.parent.inside.size ≡ inode.size = ap (λ (n : Inode). n.size) c.parent.view_is in
     let same : given ≡ sized c.in_ok-linked.linked.record (inode.size + 1024) = ap₂ (λ (n : Inode) (s : ℕ). sized n (s + 1024)) c.grown.view_is size in

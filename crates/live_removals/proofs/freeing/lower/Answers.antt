@@ -14,7 +14,7 @@ use Rattle.live_removals.proofs.freeing.lower.Goals as goal
 pub push-requires-2-clause-fits : goal.push-requires-2-clause-fits
 push-requires-2-clause-fits c =
     let kept = c.args.metadata.now in
-    let was : Inode = record { mode = c.record.inside.mode; links = c.record.inside.links; size = c.record.inside.size; direct = c.record.inside.direct; indirect = c.record.inside.indirect; double = c.record.inside.double } in
+    let was : Inode = record { mode = c.record.inside.mode; links = c.record.inside.links; size = c.record.inside.size; direct = c.record.inside.direct; indirect = c.record.inside.indirect; double = c.record.inside.double; attributes = c.record.inside.attributes } in
     written_fits kept c.args.plan.now.geometry c.args.number (record was { links = was.links - c.args.fewer }) was c.requires.geometry
     (c.record.view_is ∙ c.record-record.ensures ∙ ap (λ (k : Kept). (frozen_view k).inode c.args.number) c.frozen.ensures.same) refl
 
@@ -22,7 +22,7 @@ pub returns : goal.returns
 returns c =
     let kept = c.args.metadata.now in
     let n = c.args.number in
-    let is : (record { mode = c.record.inside.mode; links = c.record.inside.links; size = c.record.inside.size; direct = c.record.inside.direct; indirect = c.record.inside.indirect; double = c.record.inside.double }) ≡ (frozen_view kept).inode n =
+    let is : (record { mode = c.record.inside.mode; links = c.record.inside.links; size = c.record.inside.size; direct = c.record.inside.direct; indirect = c.record.inside.indirect; double = c.record.inside.double; attributes = c.record.inside.attributes }) ≡ (frozen_view kept).inode n =
     c.record.view_is ∙ c.record-record.ensures ∙ ap (λ (k : Kept). (frozen_view k).inode n) c.frozen.ensures.same in
     let after : map cell c.push.new.self.items ≡ Block c.args.block ∷ [] =
     ap (map cell) (c.in_ok-push.ensures.ok ∙ ap (λ (xs : List Cell). xs ++ cells.Block c.args.block ∷ []) c.new-after.ensures.items) in

@@ -22,7 +22,7 @@ pub push-requires-clause-fits : goal.push-requires-clause-fits
 push-requires-clause-fits c =
     let kept = c.args.metadata.now in
     let same = c.frozen-frozen.ensures.same in
-    let was : Inode = record { mode = c.record.inside.mode; links = c.record.inside.links; size = c.record.inside.size; direct = c.record.inside.direct; indirect = c.record.inside.indirect; double = c.record.inside.double } in
+    let was : Inode = record { mode = c.record.inside.mode; links = c.record.inside.links; size = c.record.inside.size; direct = c.record.inside.direct; indirect = c.record.inside.indirect; double = c.record.inside.double; attributes = c.record.inside.attributes } in
     written_fits kept c.new-plan.result.geometry c.args.number (record was { size = c.args.size }) was (ap (λ (d : Draft). d.geometry) c.new-plan.ensures ∙ c.geometry.ensures.geometry ∙ ap (λ (k : Kept). k.geometry) same)
     (c.record.view_is ∙ c.record-record.ensures ∙ ap (λ (k : Kept). (frozen_view k).inode c.args.number) same) refl
 
@@ -38,7 +38,7 @@ returns c = λ view shows.
     let blocks = c.blocks_of_size-left.ensures in
     let start : c.new-plan.result ≡ no_updates kept.geometry c.args.number =
     c.new-plan.ensures ∙ ap (λ (g : Geometry). no_updates g c.args.number) (c.geometry.ensures.geometry ∙ ap (λ (k : Kept). k.geometry) same) in
-    let is : (record { mode = c.record.inside.mode; links = c.record.inside.links; size = c.record.inside.size; direct = c.record.inside.direct; indirect = c.record.inside.indirect; double = c.record.inside.double }) ≡ view.inode n =
+    let is : (record { mode = c.record.inside.mode; links = c.record.inside.links; size = c.record.inside.size; direct = c.record.inside.direct; indirect = c.record.inside.indirect; double = c.record.inside.double; attributes = c.record.inside.attributes }) ≡ view.inode n =
     c.record.view_is ∙ c.record-record.ensures ∙ ap (λ (k : Kept). (frozen_view k).inode n) same ∙ shows.inode n in
     let resized = resizes n size _ (view.inode n) (map cell c.new.result.items) c.new-plan.result c.push.new.self is (ap (map cell) c.new.ensures.items) c.in_ok-push.ensures in
     let gives : GoesOn c.push.new.self c.give_up.new.plan (cleared n (freed kept.geometry view holdings n (blocks_of size))) =

@@ -12,7 +12,7 @@ pub push-requires-clause-fits : goal.push-requires-clause-fits
 push-requires-clause-fits c =
     let kept = c.args.metadata.now in
     let n = c.args.number in
-    let was : Inode = record { mode = c.record.inside.mode; links = c.record.inside.links; size = c.record.inside.size; direct = c.record.inside.direct; indirect = c.record.inside.indirect; double = c.record.inside.double } in
+    let was : Inode = record { mode = c.record.inside.mode; links = c.record.inside.links; size = c.record.inside.size; direct = c.record.inside.direct; indirect = c.record.inside.indirect; double = c.record.inside.double; attributes = c.record.inside.attributes } in
     written_fits kept c.args.plan.now.geometry n (record was { links = was.links + 1 }) was c.requires.geometry
     (c.record.view_is ∙ c.record-record.ensures ∙ record_there c.frozen.result.now kept n c.frozen.ensures.same) refl
 
@@ -20,6 +20,6 @@ pub returns : goal.returns
 returns c =
     let kept = c.args.metadata.now in
     let n = c.args.number in
-    let is : (record { mode = c.record.inside.mode; links = c.record.inside.links; size = c.record.inside.size; direct = c.record.inside.direct; indirect = c.record.inside.indirect; double = c.record.inside.double }) ≡ (frozen_view kept).inode n =
+    let is : (record { mode = c.record.inside.mode; links = c.record.inside.links; size = c.record.inside.size; direct = c.record.inside.direct; indirect = c.record.inside.indirect; double = c.record.inside.double; attributes = c.record.inside.attributes }) ≡ (frozen_view kept).inode n =
     c.record.view_is ∙ c.record-record.ensures ∙ record_there c.frozen.result.now kept n c.frozen.ensures.same in
     on_ok_weaker c.push.result (raises n _ ((frozen_view kept).inode n) (map cell c.new.result.items) c.args.plan.now c.push.new.self is (ap (map cell) c.new.ensures.items)) c.push.ensures

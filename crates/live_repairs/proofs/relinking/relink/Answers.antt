@@ -29,7 +29,7 @@ pub push-requires-clause-fits : goal.push-requires-clause-fits
 push-requires-clause-fits c =
     let kept = c.args.metadata.now in
     let same = c.frozen-frozen.ensures.same in
-    let was : Inode = record { mode = c.record.inside.mode; links = c.record.inside.links; size = c.record.inside.size; direct = c.record.inside.direct; indirect = c.record.inside.indirect; double = c.record.inside.double } in
+    let was : Inode = record { mode = c.record.inside.mode; links = c.record.inside.links; size = c.record.inside.size; direct = c.record.inside.direct; indirect = c.record.inside.indirect; double = c.record.inside.double; attributes = c.record.inside.attributes } in
     written_fits kept c.new-plan.result.geometry c.args.number (record was { links = c.args.links }) was (ap (λ (d : Draft). d.geometry) c.new-plan.ensures ∙ c.geometry.ensures.geometry ∙ ap (λ (k : Kept). k.geometry) same)
     (c.record.view_is ∙ c.record-record.ensures ∙ ap (λ (k : Kept). (frozen_view k).inode c.args.number) same) refl
 
@@ -41,7 +41,7 @@ returns c = λ view shows.
     let same = c.frozen-frozen.ensures.same in
     let start : c.new-plan.result ≡ no_updates kept.geometry c.args.number =
     c.new-plan.ensures ∙ ap (λ (g : Geometry). no_updates g c.args.number) (c.geometry.ensures.geometry ∙ ap (λ (k : Kept). k.geometry) same) in
-    let was : Inode = record { mode = c.record.inside.mode; links = c.record.inside.links; size = c.record.inside.size; direct = c.record.inside.direct; indirect = c.record.inside.indirect; double = c.record.inside.double } in
+    let was : Inode = record { mode = c.record.inside.mode; links = c.record.inside.links; size = c.record.inside.size; direct = c.record.inside.direct; indirect = c.record.inside.indirect; double = c.record.inside.double; attributes = c.record.inside.attributes } in
     let is : was ≡ view.inode n =
     c.record.view_is ∙ c.record-record.ensures ∙ ap (λ (k : Kept). (frozen_view k).inode n) same ∙ shows.inode n in
     let why : (links ≢ 0) ⊎ IsTrue (is_open_by c.args.holdings.now n) =

@@ -44,7 +44,7 @@ push-requires-clause-fits c =
     let i = c.args.target.now.file in
     let same = c.requires.owner in
     let owner : Fits kept.geometry.version c.args.owner.now = subst (Fits kept.geometry.version) (sym same) (record_fits kept.geometry (kept_bytes kept.blocks) i) in
-    let before : Inode = record { mode = c.changed.inside.mode; links = c.changed.inside.links; size = c.changed.inside.size; direct = c.changed.inside.direct; indirect = c.changed.inside.indirect; double = c.changed.inside.double } in
+    let before : Inode = record { mode = c.changed.inside.mode; links = c.changed.inside.links; size = c.changed.inside.size; direct = c.changed.inside.direct; indirect = c.changed.inside.indirect; double = c.changed.inside.double; attributes = c.changed.inside.attributes } in
     let given : Inode = record before { size = c.args.size } in
     let fits : Fits kept.geometry.version given = λ one. ap (λ (n : Inode). n.double) c.changed.view_is ∙ c.in_ok-linked.ensures.links.record_fits owner one in
     subst (λ (g : Geometry). FitsVolume g (SetInode i given)) (sym (c.in_ok-linked.ensures.geometry ∙ c.requires.geometry)) fits
@@ -82,7 +82,7 @@ returns c =
     let b = c.args.block in
     let tables = c.args.tables in
     let same = c.requires.owner in
-    let before : Inode = record { mode = c.changed.inside.mode; links = c.changed.inside.links; size = c.changed.inside.size; direct = c.changed.inside.direct; indirect = c.changed.inside.indirect; double = c.changed.inside.double } in
+    let before : Inode = record { mode = c.changed.inside.mode; links = c.changed.inside.links; size = c.changed.inside.size; direct = c.changed.inside.direct; indirect = c.changed.inside.indirect; double = c.changed.inside.double; attributes = c.changed.inside.attributes } in
     let given : Inode = record before { size = c.args.size } in
     let sized_so = ap (λ (n : Inode). record n { size = c.args.size }) c.changed.view_is in
     let of_record : is_of_record (holder_at kept i k b tables) ≡ true = elim c.else-is_empty.branch [

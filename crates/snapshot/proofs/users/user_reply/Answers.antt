@@ -1,5 +1,5 @@
 use Rattle.std.proofs.Common.{◌≡◌, ℕ, map, refl, sym, ap, ap₂, ◌∙◌}
-use Rattle.machine.specs.Command.{Create as AsksCreate, Mkdir as AsksMkdir, Link as AsksLink, Unlink as AsksUnlink, Rmdir as AsksRmdir, Rename as AsksRename, Open as AsksOpen, Close as AsksClose, Read as AsksRead, Write as AsksWrite, Truncate as AsksTruncate, ListNames, Stat as AsksStat, Flush as AsksFlush, Sync as AsksSync}
+use Rattle.machine.specs.Command.{Create as AsksCreate, Mkdir as AsksMkdir, Link as AsksLink, Unlink as AsksUnlink, Rmdir as AsksRmdir, Rename as AsksRename, Open as AsksOpen, Close as AsksClose, Read as AsksRead, Write as AsksWrite, Truncate as AsksTruncate, ListNames, Stat as AsksStat, Flush as AsksFlush, Sync as AsksSync, SetAttributes as AsksSetAttributes}
 use Rattle.machine.specs.Command.{Number as IsNumber, Bytes as AreBytes, Listed, Status as IsStatus}
 use Rattle.device.specs.Media.{Held}
 use Rattle.softdep.specs.Queued.{pending_of}
@@ -15,14 +15,14 @@ use Rattle.snapshot.proofs.users.user_reply.Goals as goal
 
 pub returns-in-Create-clause-replied : goal.returns-in-Create-clause-replied
 returns-in-Create-clause-replied g c =
-    plain g.D.Device.honest g.D.Device.held g.D.Device.image c.args.live.now c.create.new.self (asked c.args.live.now.kept.geometry c.args.command.now) (AsksCreate c.deref.result.now)
-    (ap (asked c.args.live.now.kept.geometry) c.in-Create.is ∙ ap AsksCreate (sym c.deref.ensures.value))
+    plain g.D.Device.honest g.D.Device.held g.D.Device.image c.args.live.now c.create.new.self (asked c.args.live.now.kept.geometry c.args.command.now) (AsksCreate c.deref.result.now c.in-Create.attributes)
+    (ap (asked c.args.live.now.kept.geometry) c.in-Create.is ∙ ap (λ p. AsksCreate p c.in-Create.attributes) (sym c.deref.ensures.value))
     (λ (n : ℕ). Number n) (λ (n : ℕ). IsNumber n) (λ n. refl) c.create.result c.number.result c.number.ensures c.create.ensures.device c.create.ensures.done c.create.ensures.refused c.create.ensures.untouched c.create.ensures.sound
 
 pub returns-in-Mkdir-clause-replied : goal.returns-in-Mkdir-clause-replied
 returns-in-Mkdir-clause-replied g c =
-    plain g.D.Device.honest g.D.Device.held g.D.Device.image c.args.live.now c.mkdir.new.self (asked c.args.live.now.kept.geometry c.args.command.now) (AsksMkdir c.deref-in-Mkdir.result.now)
-    (ap (asked c.args.live.now.kept.geometry) c.in-Mkdir.is ∙ ap AsksMkdir (sym c.deref-in-Mkdir.ensures.value))
+    plain g.D.Device.honest g.D.Device.held g.D.Device.image c.args.live.now c.mkdir.new.self (asked c.args.live.now.kept.geometry c.args.command.now) (AsksMkdir c.deref-in-Mkdir.result.now c.in-Mkdir.attributes)
+    (ap (asked c.args.live.now.kept.geometry) c.in-Mkdir.is ∙ ap (λ p. AsksMkdir p c.in-Mkdir.attributes) (sym c.deref-in-Mkdir.ensures.value))
     (λ (n : ℕ). Number n) (λ (n : ℕ). IsNumber n) (λ n. refl) c.mkdir.result c.number-in-Mkdir.result c.number-in-Mkdir.ensures c.mkdir.ensures.device c.mkdir.ensures.done c.mkdir.ensures.refused c.mkdir.ensures.untouched c.mkdir.ensures.sound
 
 pub returns-in-Link-clause-replied : goal.returns-in-Link-clause-replied
@@ -80,6 +80,12 @@ returns-in-Truncate-clause-replied g c =
     (ap (asked c.args.live.now.kept.geometry) c.in-Truncate.is)
     c.truncate.result c.done-in-Truncate.result c.done-in-Truncate.ensures c.truncate.ensures.device c.truncate.ensures.done c.truncate.ensures.refused c.truncate.ensures.untouched c.truncate.ensures.sound
 
+pub returns-in-SetAttributes-clause-replied : goal.returns-in-SetAttributes-clause-replied
+returns-in-SetAttributes-clause-replied g c =
+    plainly_done g.D.Device.honest g.D.Device.held g.D.Device.image c.args.live.now c.set_attributes.new.self (asked c.args.live.now.kept.geometry c.args.command.now) (AsksSetAttributes c.in-SetAttributes.inode c.in-SetAttributes.attributes)
+    (ap (asked c.args.live.now.kept.geometry) c.in-SetAttributes.is)
+    c.set_attributes.result c.done-in-SetAttributes.result c.done-in-SetAttributes.ensures c.set_attributes.ensures.device c.set_attributes.ensures.done c.set_attributes.ensures.refused c.set_attributes.ensures.untouched c.set_attributes.ensures.sound
+
 pub returns-in-List-clause-replied : goal.returns-in-List-clause-replied
 returns-in-List-clause-replied g c =
     looked g.D.Device.honest g.D.Device.held g.D.Device.image c.args.live.now (asked c.args.live.now.kept.geometry c.args.command.now) (ListNames c.deref-in-List.result.now)
@@ -115,25 +121,25 @@ pub returns-in-Create-clause-cause : goal.returns-in-Create-clause-cause
 returns-in-Create-clause-cause g c =
     let live = c.args.live.now in
     device_blamed _ live.kept live.holdings _ c.number.result (replied_so _ live.kept live.holdings _ (λ (n : ℕ). Number n) c.create.result c.number.result c.number.ensures
-    (of_refused _ live.kept live.holdings (AsksCreate c.deref.result.now) c.create.result c.create.ensures.cause))
+    (of_refused _ live.kept live.holdings (AsksCreate c.deref.result.now c.in-Create.attributes) c.create.result c.create.ensures.cause))
 
 pub returns-in-Create-clause-error : goal.returns-in-Create-clause-error
 returns-in-Create-clause-error g c =
     let live = c.args.live.now in
-    cause_blamed ⊥ live.kept live.holdings _ (asked live.kept.geometry c.args.command.now) (ap (asked live.kept.geometry) c.in-Create.is ∙ ap AsksCreate (sym c.deref.ensures.value)) c.number.result (replied_so ⊥ live.kept live.holdings _ (λ (n : ℕ). Number n) c.create.result c.number.result c.number.ensures
-    (of_refused ⊥ live.kept live.holdings (AsksCreate c.deref.result.now) c.create.result c.create.ensures.cause))
+    cause_blamed ⊥ live.kept live.holdings _ (asked live.kept.geometry c.args.command.now) (ap (asked live.kept.geometry) c.in-Create.is ∙ ap (λ p. AsksCreate p c.in-Create.attributes) (sym c.deref.ensures.value)) c.number.result (replied_so ⊥ live.kept live.holdings _ (λ (n : ℕ). Number n) c.create.result c.number.result c.number.ensures
+    (of_refused ⊥ live.kept live.holdings (AsksCreate c.deref.result.now c.in-Create.attributes) c.create.result c.create.ensures.cause))
 
 pub returns-in-Mkdir-clause-cause : goal.returns-in-Mkdir-clause-cause
 returns-in-Mkdir-clause-cause g c =
     let live = c.args.live.now in
     device_blamed _ live.kept live.holdings _ c.number-in-Mkdir.result (replied_so _ live.kept live.holdings _ (λ (n : ℕ). Number n) c.mkdir.result c.number-in-Mkdir.result c.number-in-Mkdir.ensures
-    (of_refused _ live.kept live.holdings (AsksMkdir c.deref-in-Mkdir.result.now) c.mkdir.result c.mkdir.ensures.cause))
+    (of_refused _ live.kept live.holdings (AsksMkdir c.deref-in-Mkdir.result.now c.in-Mkdir.attributes) c.mkdir.result c.mkdir.ensures.cause))
 
 pub returns-in-Mkdir-clause-error : goal.returns-in-Mkdir-clause-error
 returns-in-Mkdir-clause-error g c =
     let live = c.args.live.now in
-    cause_blamed ⊥ live.kept live.holdings _ (asked live.kept.geometry c.args.command.now) (ap (asked live.kept.geometry) c.in-Mkdir.is ∙ ap AsksMkdir (sym c.deref-in-Mkdir.ensures.value)) c.number-in-Mkdir.result (replied_so ⊥ live.kept live.holdings _ (λ (n : ℕ). Number n) c.mkdir.result c.number-in-Mkdir.result c.number-in-Mkdir.ensures
-    (of_refused ⊥ live.kept live.holdings (AsksMkdir c.deref-in-Mkdir.result.now) c.mkdir.result c.mkdir.ensures.cause))
+    cause_blamed ⊥ live.kept live.holdings _ (asked live.kept.geometry c.args.command.now) (ap (asked live.kept.geometry) c.in-Mkdir.is ∙ ap (λ p. AsksMkdir p c.in-Mkdir.attributes) (sym c.deref-in-Mkdir.ensures.value)) c.number-in-Mkdir.result (replied_so ⊥ live.kept live.holdings _ (λ (n : ℕ). Number n) c.mkdir.result c.number-in-Mkdir.result c.number-in-Mkdir.ensures
+    (of_refused ⊥ live.kept live.holdings (AsksMkdir c.deref-in-Mkdir.result.now c.in-Mkdir.attributes) c.mkdir.result c.mkdir.ensures.cause))
 
 pub returns-in-Link-clause-cause : goal.returns-in-Link-clause-cause
 returns-in-Link-clause-cause g c =
@@ -237,11 +243,23 @@ returns-in-Truncate-clause-cause g c =
     device_blamed _ live.kept live.holdings _ c.done-in-Truncate.result (replied_so _ live.kept live.holdings _ (λ t. Done) c.truncate.result c.done-in-Truncate.result c.done-in-Truncate.ensures
     (of_caused _ live.kept live.holdings (AsksTruncate c.in-Truncate.handle c.in-Truncate.size) c.truncate.result c.truncate.ensures.cause))
 
+pub returns-in-SetAttributes-clause-cause : goal.returns-in-SetAttributes-clause-cause
+returns-in-SetAttributes-clause-cause g c =
+    let live = c.args.live.now in
+    device_blamed _ live.kept live.holdings _ c.done-in-SetAttributes.result (replied_so _ live.kept live.holdings _ (λ t. Done) c.set_attributes.result c.done-in-SetAttributes.result c.done-in-SetAttributes.ensures
+    (of_refused _ live.kept live.holdings (AsksSetAttributes c.in-SetAttributes.inode c.in-SetAttributes.attributes) c.set_attributes.result c.set_attributes.ensures.cause))
+
 pub returns-in-Truncate-clause-error : goal.returns-in-Truncate-clause-error
 returns-in-Truncate-clause-error g c =
     let live = c.args.live.now in
     cause_blamed ⊥ live.kept live.holdings _ (asked live.kept.geometry c.args.command.now) (ap (asked live.kept.geometry) c.in-Truncate.is) c.done-in-Truncate.result (replied_so ⊥ live.kept live.holdings _ (λ t. Done) c.truncate.result c.done-in-Truncate.result c.done-in-Truncate.ensures
     (of_caused ⊥ live.kept live.holdings (AsksTruncate c.in-Truncate.handle c.in-Truncate.size) c.truncate.result c.truncate.ensures.cause))
+
+pub returns-in-SetAttributes-clause-error : goal.returns-in-SetAttributes-clause-error
+returns-in-SetAttributes-clause-error g c =
+    let live = c.args.live.now in
+    cause_blamed ⊥ live.kept live.holdings _ (asked live.kept.geometry c.args.command.now) (ap (asked live.kept.geometry) c.in-SetAttributes.is) c.done-in-SetAttributes.result (replied_so ⊥ live.kept live.holdings _ (λ t. Done) c.set_attributes.result c.done-in-SetAttributes.result c.done-in-SetAttributes.ensures
+    (of_refused ⊥ live.kept live.holdings (AsksSetAttributes c.in-SetAttributes.inode c.in-SetAttributes.attributes) c.set_attributes.result c.set_attributes.ensures.cause))
 
 pub returns-in-List-clause-cause : goal.returns-in-List-clause-cause
 returns-in-List-clause-cause g c =
@@ -326,6 +344,9 @@ returns-in-Write-clause-reading g c = neither (λ t. Done) (λ t has. has) _ c.w
 pub returns-in-Truncate-clause-reading : goal.returns-in-Truncate-clause-reading
 returns-in-Truncate-clause-reading g c = neither (λ t. Done) (λ t has. has) _ c.truncate.result c.done-in-Truncate.result c.done-in-Truncate.ensures
 
+pub returns-in-SetAttributes-clause-reading : goal.returns-in-SetAttributes-clause-reading
+returns-in-SetAttributes-clause-reading g c = neither (λ t. Done) (λ t has. has) _ c.set_attributes.result c.done-in-SetAttributes.result c.done-in-SetAttributes.ensures
+
 pub returns-in-List-clause-reading : goal.returns-in-List-clause-reading
 returns-in-List-clause-reading g c = λ _. (refl, refl)
 
@@ -372,6 +393,9 @@ returns-in-Write-clause-writes g c = rw c.in-Write.is (record { image_stays = c.
 
 pub returns-in-Truncate-clause-writes : goal.returns-in-Truncate-clause-writes
 returns-in-Truncate-clause-writes g c = rw c.in-Truncate.is (untouched g.D.Device.held g.D.Device.image c.args.live.now.device c.truncate.new.self.device c.truncate.ensures.device)
+
+pub returns-in-SetAttributes-clause-writes : goal.returns-in-SetAttributes-clause-writes
+returns-in-SetAttributes-clause-writes g c = rw c.in-SetAttributes.is (untouched g.D.Device.held g.D.Device.image c.args.live.now.device c.set_attributes.new.self.device c.set_attributes.ensures.device)
 
 pub returns-in-List-clause-writes : goal.returns-in-List-clause-writes
 returns-in-List-clause-writes g c = rw c.in-List.is (record { image_stays = refl; held_stays = refl })
