@@ -1,5 +1,7 @@
 use crate::expect::{holds, same};
-use inode::{ATTRIBUTES, DIRECTORY, DIRECT_POINTERS, FILE, FREE, RECORD_BYTES, Record, blocks_of_size};
+use inode::{
+    ATTRIBUTES, DIRECT_POINTERS, DIRECTORY, FILE, FREE, RECORD_BYTES, Record, blocks_of_size,
+};
 use layout::{DOUBLE, Geometry, SINGLE};
 
 /// A free record.
@@ -23,7 +25,22 @@ fn a_written_record_has_its_bytes_and_is_read_back(rt: HostRuntime) {
         indirect: 0x3132_3334,
         double: 0,
         attributes: [
-            0x5152_5354, 17, 18, 19, 20, 21, 22, 23, 24, 25, 26, 27, 28, 29, 30, 0x6162_6364,
+            0x5152_5354,
+            17,
+            18,
+            19,
+            20,
+            21,
+            22,
+            23,
+            24,
+            25,
+            26,
+            27,
+            28,
+            29,
+            30,
+            0x6162_6364,
         ],
     };
     let mut bytes = [0xaa; RECORD_BYTES];

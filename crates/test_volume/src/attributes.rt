@@ -13,16 +13,47 @@ use test_mounted::VERSIONS;
 
 /// Numbers of which no two are the same.
 const FIRST: [u32; ATTRIBUTES] = [
-    0x3141_5346, 0x81a4, 1000, 100, 5, 6, 7, 8, 9, 10, 11, 12, 13, 14, 15, 0xffff_ffff,
+    0x3141_5346,
+    0x81a4,
+    1000,
+    100,
+    5,
+    6,
+    7,
+    8,
+    9,
+    10,
+    11,
+    12,
+    13,
+    14,
+    15,
+    0xffff_ffff,
 ];
 
 /// Others, each other than the first ones.
 const SECOND: [u32; ATTRIBUTES] = [
-    0x8000_0000, 0x41ed, 1001, 101, 55, 66, 77, 88, 99, 110, 111, 112, 113, 114, 115, 0x7fff_ffff,
+    0x8000_0000,
+    0x41ed,
+    1001,
+    101,
+    55,
+    66,
+    77,
+    88,
+    99,
+    110,
+    111,
+    112,
+    113,
+    114,
+    115,
+    0x7fff_ffff,
 ];
 
 /// The first file has this number, and the directory beside it the next.
 const FILE: u32 = 3;
+
 const DIRECTORY: u32 = 4;
 
 /// A file with the first attributes.
@@ -200,7 +231,13 @@ fn expect_held<R: AllocGlobal + Abort>(
 #[test]
 fn attributes_are_those_that_were_set_last(rt: HostRuntime) -> Result<(), Fail> {
     for version in VERSIONS {
-        on_mounted(rt.alloc(), version, 16, &[], |volume| expect_set(&rt, volume))?;
+        on_mounted(
+            rt.alloc(),
+            version,
+            16,
+            &[],
+            |volume| expect_set(&rt, volume),
+        )?;
     }
     Ok(())
 }

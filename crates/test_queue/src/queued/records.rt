@@ -1,7 +1,7 @@
 //! What a record is on the device, in each version of the layout.
 use super::{Bed, NONE, block_of, read_block, record_of};
 use crate::expect::{holds, same};
-use inode::Record;
+use inode::{ATTRIBUTES, Record};
 use layout::{Block, DOUBLE, Refusal, SINGLE};
 use softdep::{Cells, Change, Update};
 use std::alloc::Global;
@@ -45,13 +45,14 @@ fn no_byte_of_a_freed_record_stays(rt: HostRuntime) -> Result<(), Fail> {
 }
 
 #[test]
-fn a_changed_record_keeps_what_is_not_looked_at(rt: HostRuntime) -> Result<(), Fail> {
+fn a_changed_record_keeps_what_stands_for_nothing(rt: HostRuntime) -> Result<(), Fail> {
     for (version, behind) in [(SINGLE, 188), (DOUBLE, 192)] {
         let block = with_record_9(&rt, version, record_of(7))?;
         let mut wanted = block_of(3);
         for byte in &mut wanted[128..behind] {
             *byte = 0;
         }
+        wanted[192..256].copy_from_slice(&[0; 64]);
         wanted[128] = 1; // the mode of a file
         wanted[130] = 7;
         holds(&rt, ("record 9 has 7 links", version), block == wanted);
@@ -59,10 +60,11 @@ fn a_changed_record_keeps_what_is_not_looked_at(rt: HostRuntime) -> Result<(), F
     Ok(())
 }
 
-/// A file's record with a double indirect pointer.
+/// A file's record with a double indirect pointer and attributes.
 fn with_double_pointer() -> Record {
     Record {
         double: 0x0403_0201,
+        attributes: [0x0807_0605; ATTRIBUTES],
         ..record_of(7)
     }
 }
@@ -70,12 +72,16 @@ fn with_double_pointer() -> Record {
 #[test]
 fn a_double_indirect_pointer_stands_behind_the_others(rt: HostRuntime) -> Result<(), Fail> {
     let block = with_record_9(&rt, DOUBLE, with_double_pointer())?;
-    let mut record = [0; 64];
+    let mut record = [0; 128];
     record[0] = 1; // the mode of a file
     record[2] = 7;
-    record[60..].copy_from_slice(&[1, 2, 3, 4]);
+    record[60..64].copy_from_slice(&[1, 2, 3, 4]);
+    for place in 0..ATTRIBUTES {
+        let byte = 64 + 4 * place;
+        record[byte..byte + 4].copy_from_slice(&[5, 6, 7, 8]);
+    }
     let mut wanted = block_of(3);
-    wanted[128..192].copy_from_slice(&record);
+    wanted[128..256].copy_from_slice(&record);
     holds(&rt, "record 9 has a pointer more", block == wanted);
     Ok(())
 }
