@@ -90,7 +90,10 @@ fn made(
     let after = smallvec![in alloc; Cell::BlockBit(own), Cell::Record(new.directory)]?;
     plan.push(Change::SetBytes(own, dots), after)?;
     let after = smallvec![in alloc; Cell::NumberBit(new.number), Cell::Block(own)]?;
-    plan.push(Change::SetInode(new.number, new_directory(own, attributes)), after)?;
+    plan.push(
+        Change::SetInode(new.number, new_directory(own, attributes)),
+        after,
+    )?;
     enter(alloc, metadata, &mut plan, new)?;
     Ok(plan)
 }

@@ -4,7 +4,7 @@ use dirent::SLOT_BYTES;
 use findings::Finding;
 use frozen::{Frozen, load};
 use fsck::{Checked, check_one};
-use inode::{ATTRIBUTES, DIRECTORY, DIRECT_POINTERS, FILE, RECORD_BYTES, Record};
+use inode::{ATTRIBUTES, DIRECT_POINTERS, DIRECTORY, FILE, RECORD_BYTES, Record};
 use layout::{BLOCK_BYTES, Block, DOUBLE, Geometry, Refusal, SINGLE, fresh_block};
 use std::alloc::Global;
 use std::sync::Arc;

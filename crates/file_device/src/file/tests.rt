@@ -215,7 +215,11 @@ fn first_wrong(device: &mut FakeDevice, steps: &[Step]) -> Option<usize> {
 
 /// A device over blocks of this byte.
 fn over_blocks(alloc: Global, byte: u8, blocks: u8) -> Result<FakeDevice, AllocError> {
-    over_bytes(alloc, vec![in alloc; byte; blocks as usize * BLOCK_BYTES]?, blocks)
+    over_bytes(
+        alloc,
+        vec![in alloc; byte; blocks as usize * BLOCK_BYTES]?,
+        blocks,
+    )
 }
 
 /// A device of so many blocks over these bytes.

@@ -36,12 +36,7 @@ impl Earlier {
         ensures { IfOk result (λ earlier. writes_of_earlier earlier ≡ []) }
     {
         Ok(Earlier {
-            slots: Box::new(
-                alloc,
-                Slots {
-                    all: [None; SLOTS],
-                },
-            )?,
+            slots: Box::new(alloc, Slots { all: [None; SLOTS] })?,
         })
     }
 

@@ -16,16 +16,18 @@ returns c = record {
       let e = s.1 in
       let first : View = updated_all old.view (SetNumber i true ∷ SetInode i (file_with words) ∷ []) in
       let same = enters_same geo first (holder geo old.view path) (name_in path) i e.view e.enters i in
-      let here = put_here old.view.inode i (file_with words) in
-      (ap (λ (t : State). (t.view.inode i).mode) e.whole ∙ same.mode ∙ ap (λ (r : Inode). r.mode) here,
-      ap (λ (t : State). (t.view.inode i).attributes) e.whole ∙ same.attributes ∙ ap (λ (r : Inode). r.attributes) here);
+      let here = put_here old.view.inode i (file_with words) in (
+        ap (λ (t : State). (t.view.inode i).mode) e.whole ∙ same.mode ∙ ap (λ (r : Inode). r.mode) here,
+        ap (λ (t : State). (t.view.inode i).attributes) e.whole ∙ same.attributes ∙ ap (λ (r : Inode). r.attributes) here,
+      );
   made = λ geo old new path words i s.
       let e = s.1 in
       let d = holder geo old.view path in
       let before : View = updated_all old.view (SetNumber i true ∷ SetBlock e.block true ∷ SetInode d (with_links (old.view.inode d) ((old.view.inode d).links + 1)) ∷ SetBytes e.block e.bytes ∷ []) in
       let first : View = updated_all before (SetInode i (new_directory e.block words) ∷ []) in
       let same = enters_same geo first d (name_in path) i e.view e.enters i in
-      let here = put_here before.inode i (new_directory e.block words) in
-      (ap (λ (t : State). (t.view.inode i).mode) e.whole ∙ same.mode ∙ ap (λ (r : Inode). r.mode) here,
-      ap (λ (t : State). (t.view.inode i).attributes) e.whole ∙ same.attributes ∙ ap (λ (r : Inode). r.attributes) here);
+      let here = put_here before.inode i (new_directory e.block words) in (
+        ap (λ (t : State). (t.view.inode i).mode) e.whole ∙ same.mode ∙ ap (λ (r : Inode). r.mode) here,
+        ap (λ (t : State). (t.view.inode i).attributes) e.whole ∙ same.attributes ∙ ap (λ (r : Inode). r.attributes) here,
+      );
 }

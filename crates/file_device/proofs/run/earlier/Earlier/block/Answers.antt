@@ -17,7 +17,7 @@ returns-in-Some-clause-kept c =
 pub returns-in_default-clause-none : goal.returns-in_default-clause-none
 returns-in_default-clause-none c _ block there =
     let here = ap (λ (l : Slots). slice_index_or (slots_from 0 l.all) c.slot_of.result None) c.deref.ensures
-          ∙ ap (λ k. slice_index_or (slots_of c.args.self.now) k None) c.slot_of.ensures ∙ there in
+    ∙ ap (λ k. slice_index_or (slots_of c.args.self.now) k None) c.slot_of.ensures ∙ there in
     elim c.in_default.branch [
       | in_default-via-in-Some+else-slot-quotient_of w ↦ let s = w.in-Some.slot in
           omega (arith, (some_pair_parts _ _ _ _ (sym (filled_slot 0 c.slot_of.result c.deref.result.now.all s w.in-Some.is) ∙ here)).0, w.if-slot-quotient_of.false, w.quotient_of.ensures, c.slot_of.ensures)
