@@ -9,6 +9,7 @@ use std::fs;
 use std::marker::Brand;
 use std::os::unix::fs::FileExt;
 use std::rt::Files;
+use workers::Workers;
 
 /// What a line asks for.
 #[derive(Clone, Copy, PartialEq, Eq)]
@@ -16,7 +17,7 @@ pub enum Job<'a> {
     /// The volume of an image is mended, with this many workers.
     Mend {
         image: &'a str,
-        workers: u32,
+        workers: Workers,
     },
     /// The files of these paths are unlinked while one snapshot stands, then three more are taken, and the first one ends.
     Hold {
@@ -56,7 +57,7 @@ fn mode_of<'a>(mode: &str, image: &'a str, last: &'a str) -> Result<Job<'a>> {
     match mode {
         "mend" => Ok(Job::Mend {
             image,
-            workers: last.parse()?,
+            workers: Workers::new(last.parse()?)?,
         }),
         "hold" => Ok(Job::Hold { image, paths: last }),
         "end" => Ok(Job::End { image, paths: last }),

@@ -12,13 +12,13 @@ use std::rt::Files;
 use std::sync::Arc;
 use std::thread::Threads;
 use std::time::{Clock, Instant};
-use workers::OpenGate;
+use workers::{OpenGate, Workers};
 
 /// Mends the volume of an image, prints the time of each step, and counts the repairs.
 pub fn mend(
     rt: &(impl Files + AllocGlobal + Threads + Sync + Clock + Eprint),
     image: &str,
-    workers: u32,
+    workers: Workers,
 ) -> Result<usize> {
     let mut volume = mounted(rt, image)?;
     mend_volume(rt, &mut volume, workers)
@@ -28,7 +28,7 @@ pub fn mend(
 fn mend_volume(
     rt: &(impl AllocGlobal + Threads + Sync + Clock + Eprint),
     volume: &mut Volume<MemDevice>,
-    workers: u32,
+    workers: Workers,
 ) -> Result<usize> {
     let (number, frozen) = freeze(rt, volume)?;
     inspect(rt, volume, &frozen, workers)?;
@@ -60,7 +60,7 @@ fn inspect(
     rt: &(impl AllocGlobal + Threads + Sync + Clock + Eprint),
     volume: &mut Volume<MemDevice>,
     frozen: &Arc<Frozen>,
-    workers: u32,
+    workers: Workers,
 ) -> Result<()> {
     let start = Instant::now(rt)?;
     let checked = check(rt, rt.alloc(), frozen, workers, &OpenGate)?;

@@ -8,6 +8,7 @@ use snapshot::{Live, NotMounted, Volume};
 use std::alloc::Global;
 use std::fs;
 use std::rt::Files;
+use workers::Workers;
 
 /// How many users' threads there may be.
 const MOST_USERS: u32 = 61;
@@ -22,7 +23,7 @@ pub struct Load {
     /// How many rounds each carries out.
     pub rounds: u32,
     /// How many workers check.
-    pub workers: u32,
+    pub workers: Workers,
     ghost few: { users ≤ 61 },
 }
 
@@ -53,7 +54,7 @@ pub fn parse(words: &[String]) -> Result<Job<'_>> {
             beside,
             users,
             rounds: rounds.as_str().parse()?,
-            workers: workers.as_str().parse()?,
+            workers: Workers::new(workers.as_str().parse()?)?,
         },
     })
 }

@@ -1,4 +1,5 @@
 //! What a volume answers, as it is written.
+use crate::digits::write_attributes;
 use live_paths::Named;
 use snapshot::{Answer, Kind, Reply, Status};
 use std::alloc::AllocError;
@@ -16,6 +17,7 @@ pub fn write_reply(text: &mut String, reply: &Reply) -> Result<(), AllocError> {
 /// - `ok HEX`: bytes, each in two digits
 /// - `ok NAME=NUMBER NAME=NUMBER`: the names in a directory, and the numbers that they stand for; in a name a byte that is
 ///   not from 33 to 126, or is `%`, stands as `%` and two digits
+/// - `ok HEX`: attributes, the 64 bytes that stand for them in a record
 /// - `ok number NUMBER KIND links LINKS size SIZE`, where the kind is `file` or `directory`
 pub fn write_answer(text: &mut String, answer: &Answer) -> Result<(), AllocError> {
     match answer {
@@ -24,6 +26,10 @@ pub fn write_answer(text: &mut String, answer: &Answer) -> Result<(), AllocError
         Answer::Bytes(bytes) => write_bytes(text, bytes.as_slice()),
         Answer::Names(names) => write_names(text, names.as_slice()),
         Answer::Status(status) => write_status(text, status),
+        Answer::Attributes(attributes) => {
+            write!(text, "ok ")?;
+            write_attributes(text, attributes)
+        }
     }
 }
 

@@ -10,6 +10,7 @@ mod entries;
 mod lone_round;
 mod lost;
 mod shared_rounds;
+mod shared_walk;
 mod walkers;
 
 pub use alone::walk;

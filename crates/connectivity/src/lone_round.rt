@@ -1,19 +1,18 @@
 //! A round of a shared walk that one worker follows.
-ghost use Rattle.std.specs.Prelude.{◌≡◌, ◌≤◌, ◌∷◌, [], All, IfOk, IsOkUnless, IsTrue, length, vec_len};
+ghost use Rattle.std.specs.Prelude.{◌≡◌, ◌∷◌, [], All, IfOk, IsOkUnless, IsTrue, vec_len};
 ghost use Rattle.frozen.specs.Kept.{frozen_view};
 ghost use Rattle.model.specs.Layout.{inode_count};
 ghost use Rattle.model.specs.Uses.{is_directory_at};
 ghost use Rattle.directories.specs.Pieces.{AreCut};
-ghost use Rattle.workers.specs.Workers.{may_work};
+ghost use Rattle.worker_counts.specs.Workers.{may_work};
 ghost use Rattle.connectivity.specs.Asked.{HaveAsked};
 
 use crate::asking::follow;
 use crate::shared_rounds::PHASE;
-use claims::{Claims, Seat};
-use directories::Piece;
+use crate::shared_walk::SharedWalk;
+use claims::Seat;
 use frozen::Frozen;
 use layout::Refusal;
-use std::alloc::Global;
 use workers::Gate;
 
 /// How many blocks of directories there are for each worker of a round that is worth the threads.
@@ -37,56 +36,47 @@ pub(crate) fn is_short(frozen: &Frozen, round: &[u32], workers: usize) -> bool {
 /// Follows the entries of the directories of a round on the calling thread, with the last of the seats. The result has
 /// the seats, and the directories that are given to it for the first time.
 pub(crate) fn lone_round<G: Gate>(
-    alloc: Global,
-    frozen: &Frozen,
-    claims: &Claims,
+    walk: &SharedWalk<'_>,
     seats: Vec<Seat>,
     round: &[u32],
-    pieces: &[Piece],
     gate: &G,
 ) -> Result<(Vec<Seat>, Vec<u32>), Refusal>
-    requires own { All (λ seat. seat.of ≡ claims.now.id) seats.items }
+    requires own { All (λ seat. seat.of ≡ walk.now.claims.now.id) seats.items }
     requires seats { IsTrue (may_work (vec_len seats)) }
-    requires inodes { claims.now.inodes ≡ inode_count frozen.now.geometry }
-    requires directories { All (λ d. IsTrue (is_directory_at frozen.now.geometry (frozen_view frozen.now) d)) round.now }
-    requires pieces { AreCut 0 pieces.now (inode_count frozen.now.geometry) }
-    requires few { length pieces.now ≤ 65_537 }
-    ensures own { IfOk result (λ done. All (λ seat. seat.of ≡ claims.now.id) done.0.items) }
-    ensures asked { IfOk result (λ done. HaveAsked frozen.now.geometry (frozen_view frozen.now) round.now seats.items done.0.items done.1.items) }
+    requires directories { All (λ d. IsTrue (is_directory_at walk.now.frozen.now.geometry (frozen_view walk.now.frozen.now) d)) round.now }
+    requires pieces { AreCut 0 walk.now.pieces.now (inode_count walk.now.frozen.now.geometry) }
+    ensures own { IfOk result (λ done. All (λ seat. seat.of ≡ walk.now.claims.now.id) done.0.items) }
+    ensures asked { IfOk result (λ done. HaveAsked walk.now.frozen.now.geometry (frozen_view walk.now.frozen.now) round.now seats.items done.0.items done.1.items) }
     ensures error { IsOkUnless result Refusal.NoMemory }
 {
     let mut seats = seats;
     let Some(mut seat) = seats.pop() else {
         unreachable!()
     };
-    let found = follow_pieces(alloc, frozen, claims, round, pieces, &mut seat, gate)?;
+    let found = follow_pieces(walk, round, &mut seat, gate)?;
     seats.push(seat)?;
     Ok((seats, found))
 }
 
 /// Goes over all pieces, and follows of each the directories of a round that are of it. It passes the gate before each.
 fn follow_pieces<G: Gate>(
-    alloc: Global,
-    frozen: &Frozen,
-    claims: &Claims,
+    walk: &SharedWalk<'_>,
     round: &[u32],
-    pieces: &[Piece],
     seat: &mut Seat,
     gate: &G,
 ) -> Result<Vec<u32>, Refusal>
-    requires own { seat.old.of ≡ claims.now.id }
-    requires inodes { claims.now.inodes ≡ inode_count frozen.now.geometry }
-    requires directories { All (λ d. IsTrue (is_directory_at frozen.now.geometry (frozen_view frozen.now) d)) round.now }
-    requires pieces { AreCut 0 pieces.now (inode_count frozen.now.geometry) }
-    requires few { length pieces.now ≤ 65_537 }
+    requires own { seat.old.of ≡ walk.now.claims.now.id }
+    requires directories { All (λ d. IsTrue (is_directory_at walk.now.frozen.now.geometry (frozen_view walk.now.frozen.now) d)) round.now }
+    requires pieces { AreCut 0 walk.now.pieces.now (inode_count walk.now.frozen.now.geometry) }
     ensures own { seat.new.of ≡ seat.old.of }
-    ensures asked { IfOk result (λ found. HaveAsked frozen.now.geometry (frozen_view frozen.now) round.now (seat.old ∷ []) (seat.new ∷ []) found.items) }
+    ensures asked { IfOk result (λ found. HaveAsked walk.now.frozen.now.geometry (frozen_view walk.now.frozen.now)
+        round.now (seat.old ∷ []) (seat.new ∷ []) found.items) }
     ensures error { IsOkUnless result Refusal.NoMemory }
 {
-    let mut found = Vec::new(alloc);
-    for unit in 0..pieces.len() as u32 {
+    let mut found = Vec::new(walk.alloc);
+    for unit in 0..walk.pieces.len() as u32 {
         gate.pass(PHASE, unit);
-        follow(alloc, frozen, claims, round, pieces, unit, seat, &mut found)?;
+        follow(walk, round, unit, seat, &mut found)?;
     }
     Ok(found)
 }

@@ -2,14 +2,12 @@
 ghost use Rattle.std.specs.Prelude.{◌≡◌, ℕ, [], All, map, IfOk, IsTrue};
 ghost use Rattle.std.specs.List.{flat_map};
 ghost use Rattle.frozen.specs.Kept.{frozen_view};
-ghost use Rattle.model.specs.Layout.{inode_count};
 ghost use Rattle.model.specs.Uses.{is_directory_at};
 ghost use Rattle.connectivity.specs.Asked.{Asks, asked_of, in_pieces};
 
 use crate::asking::follow;
-use claims::{Claims, Seat};
-use directories::Piece;
-use frozen::Frozen;
+use crate::shared_walk::SharedWalk;
+use claims::Seat;
 use layout::Refusal;
 use std::alloc::{AllocError, Global};
 use workers::Work;
@@ -17,67 +15,47 @@ use workers::Work;
 /// A worker of a round, with its seat and the directories that it found in this round.
 #[derive(Drop)]
 pub(crate) struct Walker<'a> {
-    pub(crate) alloc: Global,
-    pub(crate) frozen: &'a Frozen,
-    pub(crate) claims: &'a Claims,
+    pub(crate) walk: &'a SharedWalk<'a>,
     pub(crate) round: &'a [u32],
-    pub(crate) pieces: &'a [Piece],
     pub(crate) seat: Seat,
     pub(crate) found: Vec<u32>,
-    ghost own: { seat.of ≡ claims.now.id },
-    ghost inodes: { claims.now.inodes ≡ inode_count frozen.now.geometry },
-    ghost directories: { All (λ d. IsTrue (is_directory_at frozen.now.geometry (frozen_view frozen.now) d)) round.now },
+    ghost own: { seat.of ≡ walk.now.claims.now.id },
+    ghost directories: { All (λ d. IsTrue (is_directory_at walk.now.frozen.now.geometry (frozen_view walk.now.frozen.now) d)) round.now },
 }
 
 impl Work for Walker<'_> {
     type Part = ();
 
-    ghost gives = { λ before unit part after. (after.claims.now ≡ before.claims.now) × (after.frozen.now ≡ before.frozen.now)
-        × (in_pieces after.round.now after.pieces.now ≡ in_pieces before.round.now before.pieces.now)
-        × Asks before.frozen.now.geometry (frozen_view before.frozen.now)
-        (asked_of before.frozen.now.geometry (frozen_view before.frozen.now) (in_pieces before.round.now before.pieces.now) unit)
+    ghost gives = { λ before unit part after. (after.walk.now.claims.now ≡ before.walk.now.claims.now) × (after.walk.now.frozen.now ≡ before.walk.now.frozen.now)
+        × (in_pieces after.round.now after.walk.now.pieces.now ≡ in_pieces before.round.now before.walk.now.pieces.now)
+        × Asks before.walk.now.frozen.now.geometry (frozen_view before.walk.now.frozen.now)
+        (asked_of before.walk.now.frozen.now.geometry (frozen_view before.walk.now.frozen.now) (in_pieces before.round.now before.walk.now.pieces.now) unit)
         before.seat before.found.items after.seat after.found.items };
 
     fn part(&mut self, unit: u32) -> Result<(), Refusal> {
-        follow(
-            self.alloc,
-            self.frozen,
-            self.claims,
-            self.round,
-            self.pieces,
-            unit,
-            &mut self.seat,
-            &mut self.found,
-        )
+        follow(self.walk, self.round, unit, &mut self.seat, &mut self.found)
     }
 }
 
 /// A worker for each seat, which found nothing yet.
 pub(crate) fn hired<'a>(
-    alloc: Global,
-    frozen: &'a Frozen,
-    claims: &'a Claims,
+    walk: &'a SharedWalk<'a>,
     round: &'a [u32],
-    pieces: &'a [Piece],
     seats: Vec<Seat>,
 ) -> Result<Vec<Walker<'a>>, AllocError>
-    requires own { All (λ seat. seat.of ≡ claims.now.id) seats.items }
-    requires inodes { claims.now.inodes ≡ inode_count frozen.now.geometry }
-    requires directories { All (λ d. IsTrue (is_directory_at frozen.now.geometry (frozen_view frozen.now) d)) round.now }
+    requires own { All (λ seat. seat.of ≡ walk.now.claims.now.id) seats.items }
+    requires directories { All (λ d. IsTrue (is_directory_at walk.now.frozen.now.geometry (frozen_view walk.now.frozen.now) d)) round.now }
     ensures seats { IfOk result (λ walkers. map (λ walker. walker.seat) walkers.items ≡ seats.items) }
-    ensures alike { IfOk result (λ walkers. All (λ walker. (walker.claims.now ≡ claims.now) × (walker.frozen.now ≡ frozen.now)
-        × (in_pieces walker.round.now walker.pieces.now ≡ in_pieces round.now pieces.now) × (walker.found.items ≡ [])) walkers.items) }
+    ensures alike { IfOk result (λ walkers. All (λ walker. (walker.walk.now.claims.now ≡ walk.now.claims.now) × (walker.walk.now.frozen.now ≡ walk.now.frozen.now)
+        × (in_pieces walker.round.now walker.walk.now.pieces.now ≡ in_pieces round.now walk.now.pieces.now) × (walker.found.items ≡ [])) walkers.items) }
 {
-    let mut walkers = Vec::new(alloc);
+    let mut walkers = Vec::new(walk.alloc);
     for seat in seats {
         walkers.push(Walker {
-            alloc,
-            frozen,
-            claims,
+            walk,
             round,
-            pieces,
             seat,
-            found: Vec::new(alloc),
+            found: Vec::new(walk.alloc),
         })?;
     }
     Ok(walkers)

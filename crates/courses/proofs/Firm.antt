@@ -7,11 +7,11 @@ use Rattle.model.specs.Cells.{Update, SetInode, updated, put_at}
 use Rattle.model.specs.Uses.{IsClaim, record_use}
 use Rattle.model.proofs.Steps.{use_sound}
 use Rattle.model.proofs.Uses.{use_number, number_use, record_uses_agree, same_fields}
+use Rattle.model.proofs.NewRecord.{other_use, other_mode}
+use Rattle.model.proofs.Places.{put_here, put_there}
 use Rattle.ordering.specs.Cuts.{Pending, users_view}
 use Rattle.ordering.specs.Ghosts.{Ghost}
 use Rattle.ordering.specs.Histories.{Step}
-use Rattle.ordering.proofs.Outside.{other_use, other_mode}
-use Rattle.ordering.proofs.Records.{put_here, put_there}
 use Rattle.machine.specs.Effects.{with_links}
 use Rattle.plans_data.specs.Issues.{Issues, Nothing, Then}
 use Rattle.queue_model.specs.Files.{Written, updates, creates, generation, IsFileBlock}

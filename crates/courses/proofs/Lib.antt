@@ -25,4 +25,4 @@ mod PlansHold
 mod BytesHeld
 pub mod Lasting
 pub mod ServiceBytes
-pub mod Sizes
+pub mod Looking

@@ -5,8 +5,8 @@ use Rattle.model.specs.View.{View, Inode}
 use Rattle.model.specs.Rules.{ObeysRules}
 use Rattle.model.specs.Uses.{blocks_of}
 use Rattle.model.specs.Slots.{Slot, Empty, Good}
+use Rattle.model.proofs.Places.{put_here, put_there}
 use Rattle.ordering.specs.Cuts.{Cell, Block, Pending, users_view}
-use Rattle.ordering.proofs.Records.{put_here, put_there}
 use Rattle.ordering.proofs.Data.{directory_mode}
 use Rattle.machine.specs.Cells.{with_slot}
 use Rattle.machine.specs.Effects.{file_with, with_links}

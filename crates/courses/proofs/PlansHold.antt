@@ -8,11 +8,11 @@ use Rattle.model.specs.Slots.{Good}
 use Rattle.model.specs.Shape.{most_blocks}
 use Rattle.model.specs.Uses.{blocks_of, is_sound_at}
 use Rattle.model.specs.Rules.{ObeysRules}
+use Rattle.model.proofs.Places.{put_here}
 use Rattle.ordering.specs.Cuts.{Cell, Block, Pending, users_view}
 use Rattle.ordering.specs.Ghosts.{Ghost, at_rest}
 use Rattle.ordering.specs.Agrees.{AllAgree}
 use Rattle.ordering.proofs.Bits.{users_obey}
-use Rattle.ordering.proofs.Records.{put_here}
 use Rattle.machine.specs.State.{State, is_open}
 use Rattle.machine.specs.Cells.{block_of}
 use Rattle.machine.specs.Effects.{size_after, with_links}

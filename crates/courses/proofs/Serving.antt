@@ -10,7 +10,7 @@ use Rattle.queue_model.specs.Blocks.{home_of}
 use Rattle.queue_model.specs.Files.{Written, updates}
 use Rattle.queue_model.specs.Sync.{Writes, WritesNone, WritesNext}
 use Rattle.machine.specs.State.{State}
-use Rattle.machine.specs.Command.{Command, Open, Read, ListNames, Stat, Freeze, SnapRead, Release, Install, Flush, Sync, Answer, Done, Number, Bytes, Listed, Reply}
+use Rattle.machine.specs.Command.{Command, Open, Read, ListNames, Stat, ReadAttributes, Freeze, SnapRead, Release, Install, Flush, Sync, Answer, Done, Number, Bytes, Listed, Reply}
 use Rattle.machine.specs.Causes.{Accepts}
 use Rattle.machine.specs.Snapshot.{frozen, released}
 use Rattle.machine.specs.Step.{Effect}
@@ -43,6 +43,7 @@ quiet_keeps geo old (Read h k) _ new t e = absurd e
 quiet_keeps geo old (ListNames p) (Listed names) new t e = (ap (λ (s : State). s.view) e.1, ap (λ (s : State). s.held) e.1)
 quiet_keeps geo old (ListNames p) _ new t e = absurd e
 quiet_keeps geo old (Stat p) answer new t e = (ap (λ (s : State). s.view) e.1, ap (λ (s : State). s.held) e.1)
+quiet_keeps geo old (ReadAttributes i) answer new t e = (ap (λ (s : State). s.view) e.1, ap (λ (s : State). s.held) e.1)
 quiet_keeps geo old (SnapRead s i k) (Bytes bytes) new t e = (ap (λ (s : State). s.view) e.3, ap (λ (s : State). s.held) e.3)
 quiet_keeps geo old (SnapRead s i k) _ new t e = absurd e
 quiet_keeps geo old (Install check) Done new t e = (ap (λ (s : State). s.view) e.whole, ap (λ (s : State). s.held) e.whole)

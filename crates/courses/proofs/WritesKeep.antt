@@ -10,12 +10,12 @@ use Rattle.model.specs.Uses.{IsClaim, IsUse, blocks_of, is_sound, is_sound_at, r
 use Rattle.model.specs.Rules.{ObeysRules}
 use Rattle.model.proofs.Shape.{table_is_table}
 use Rattle.model.proofs.Uses.{use_number, number_use, record_uses_agree, same_fields, bytes_leave_uses, above_table}
+use Rattle.model.proofs.NewRecord.{other_use, other_mode}
+use Rattle.model.proofs.Places.{put_here, put_there}
 use Rattle.ordering.specs.Agrees.{AllAgree}
 use Rattle.ordering.specs.Cuts.{Cell, Record, BlockBit, Block, Pending, users_view}
 use Rattle.ordering.specs.Ghosts.{Ghost, at_rest}
 use Rattle.ordering.proofs.Bits.{users_obey}
-use Rattle.ordering.proofs.Outside.{other_use, other_mode}
-use Rattle.ordering.proofs.Records.{put_here, put_there}
 use Rattle.machine.specs.State.{State}
 use Rattle.machine.specs.Cells.{with_pointer}
 use Rattle.plans_data.specs.Append.{Holder, KeptInRecord, KeptInTable, KeptInNew, IsWhole, IsSpare, MayAppend, filled, known, linked, pointed, pointer_after, sized, appended}

@@ -7,7 +7,7 @@ use Rattle.layout.specs.declared.refusal.Refusal.{Refusal}
 use Rattle.ordering.specs.Cuts.{Pending, IsClosed, seen, rest}
 use Rattle.ordering.specs.Ghosts.{at_rest}
 use Rattle.machine.specs.State.{State}
-use Rattle.machine.specs.Command.{Command, Unlink, Open, Read, ListNames, Stat, Freeze, SnapRead, Release, Install, Flush, Sync, Answer, Done, Number, Image, Reply}
+use Rattle.machine.specs.Command.{Command, Unlink, Open, Read, ListNames, Stat, ReadAttributes, Freeze, SnapRead, Release, Install, Flush, Sync, Answer, Done, Number, Image, Reply}
 use Rattle.machine.specs.Paths.{number_at}
 use Rattle.machine.specs.Snapshot.{settled, frozen, released}
 use Rattle.machine.specs.Causes.{Accepts}
@@ -30,6 +30,7 @@ is_quiet (Open p) = true
 is_quiet (Read h k) = true
 is_quiet (ListNames p) = true
 is_quiet (Stat p) = true
+is_quiet (ReadAttributes i) = true
 is_quiet (SnapRead s i k) = true
 is_quiet (Install check) = true
 is_quiet _ = false

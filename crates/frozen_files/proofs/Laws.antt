@@ -10,7 +10,7 @@ use Rattle.model.proofs.UseLemmas.{claim_from}
 use Rattle.findings.specs.declared.repair.Repair.TheVariants.{FreeBlock}
 use Rattle.machine.specs.Standing.{Standing, Snapshots, image_at, others}
 use Rattle.machine.specs.State.{State, is_kept, snapshot_at, keeps}
-use Rattle.machine.specs.Command.{Command, Create, Mkdir, Link, Unlink, Rmdir, Rename, Open, Close, Read, Write, Truncate, ListNames, Stat, Freeze, SnapRead, Release, Install, RepairAt, Flush, Sync, Answer, Done, Number, Bytes, Listed, Reply, SetAttributes}
+use Rattle.machine.specs.Command.{Command, Create, Mkdir, Link, Unlink, Rmdir, Rename, Open, Close, Read, Write, Truncate, ListNames, Stat, Freeze, SnapRead, Release, Install, RepairAt, Flush, Sync, Answer, Done, Number, Bytes, Listed, Reply, SetAttributes, ReadAttributes}
 use Rattle.machine.specs.Causes.{Accepts, file_of}
 use Rattle.machine.specs.Cells.{seen}
 use Rattle.machine.specs.Snapshot.{settled, frozen, released, is_orphan}
@@ -162,6 +162,7 @@ effect_keeps_files geo g old new (Truncate h n) Done b b' d k a e = by_blocks ge
 effect_keeps_files geo g old new (SetAttributes i words) Done b b' d k a e = by_blocks geo old new b b' d k (same_snapshots geo old new _ e refl) (λ x s. attributes_hold geo g old new b x _ s.kept s.good i words e)
 effect_keeps_files geo g old new (ListNames p) (Listed names) b b' d k a e = unchanged geo old new b b' d k e.1
 effect_keeps_files geo g old new (Stat p) answer b b' d k a e = unchanged geo old new b b' d k e.1
+effect_keeps_files geo g old new (ReadAttributes i) answer b b' d k a e = unchanged geo old new b b' d k e.1
 effect_keeps_files geo g old new Freeze answer b b' d k a e = freeze_files geo old new b b' d k e.1
 effect_keeps_files geo g old new (SnapRead s i n) (Bytes bytes) b b' d k a e = unchanged geo old new b b' d k e.3
 effect_keeps_files geo g old new (Release s) Done b b' d k a e = release_files geo old new b b' d k s e

@@ -1,6 +1,5 @@
 //! The phases that go over the groups by several workers.
-ghost use Rattle.std.specs.Prelude.{◌≡◌, IsTrue};
-ghost use Rattle.workers.specs.Workers.{may_work};
+ghost use Rattle.std.specs.Prelude.{◌≡◌};
 ghost use Rattle.frozen.specs.Kept.{KeepsFrame};
 ghost use Rattle.fsck.specs.Parts.{ArePiecesOf, MakesParts, MakesPieces, are_links_if, are_maps_of, is_counts_part, is_names_part, is_owned};
 
@@ -14,17 +13,16 @@ use phase_blocks::BlockOwners;
 use sets::Members;
 use std::alloc::Global;
 use std::thread::Threads;
-use workers::Gate;
+use workers::{Gate, Workers};
 
 /// Who owns the blocks of each group, and what phase 1 finds of it. The workers pass the gate in both passes.
 pub(crate) fn owners_by_crew<R: Threads + Sync, G: Gate>(
     rt: &R,
-    workers: u32,
+    workers: Workers,
     gate: &G,
     alloc: Global,
     frozen: &Frozen,
 ) -> Result<Vec<OfGroup<BlockOwners>>, Refusal>
-    requires { IsTrue (may_work workers) }
     ensures frame { KeepsFrame frozen.now }
     ensures made { MakesParts (λ unit made. is_owned frozen.now unit made.kept made.found.items) frozen.now.geometry.groups result }
 {
@@ -48,13 +46,12 @@ pub(crate) fn owners_by_crew<R: Threads + Sync, G: Gate>(
 /// What the slots of the directories of each of these pieces tell. The workers pass the gate before each piece.
 pub(crate) fn names_by_crew<R: Threads + Sync, G: Gate>(
     rt: &R,
-    workers: u32,
+    workers: Workers,
     gate: &G,
     alloc: Global,
     frozen: &Frozen,
     pieces: &[Piece],
 ) -> Result<Vec<phase_names::Part>, Refusal>
-    requires workers { IsTrue (may_work workers) }
     requires pieces { ArePiecesOf frozen.now pieces.now }
     ensures { MakesPieces (is_names_part frozen.now) frozen.now.geometry result }
 {
@@ -75,14 +72,13 @@ pub(crate) fn names_by_crew<R: Threads + Sync, G: Gate>(
 /// What the reachable directories of each of these pieces name. The workers pass the gate before each piece.
 fn counts_by_crew<R: Threads + Sync, G: Gate>(
     rt: &R,
-    workers: u32,
+    workers: Workers,
     gate: &G,
     alloc: Global,
     frozen: &Frozen,
     pieces: &[Piece],
     reached: &Members,
 ) -> Result<Vec<refcounts::Part>, Refusal>
-    requires workers { IsTrue (may_work workers) }
     requires pieces { ArePiecesOf frozen.now pieces.now }
     ensures { MakesPieces (is_counts_part frozen.now reached.now) frozen.now.geometry result }
 {
@@ -105,7 +101,7 @@ fn counts_by_crew<R: Threads + Sync, G: Gate>(
 /// pieces, and in the second that of the groups.
 pub(crate) fn links_by_crew<R: Threads + Sync, G: Gate, P: Gate>(
     rt: &R,
-    workers: u32,
+    workers: Workers,
     gate: &G,
     gate_of_pieces: &P,
     alloc: Global,
@@ -113,7 +109,6 @@ pub(crate) fn links_by_crew<R: Threads + Sync, G: Gate, P: Gate>(
     pieces: &[Piece],
     reached: &Members,
 ) -> Result<Vec<Vec<Finding>>, Refusal>
-    requires workers { IsTrue (may_work workers) }
     requires pieces { ArePiecesOf frozen.now pieces.now }
     ensures { MakesParts (λ unit found. are_links_if frozen.now reached.now unit found.items) frozen.now.geometry.groups result }
 {
@@ -137,13 +132,12 @@ pub(crate) fn links_by_crew<R: Threads + Sync, G: Gate, P: Gate>(
 /// What phase 5 finds of each group, where these are the owners of its blocks.
 pub(crate) fn maps_by_crew<R: Threads + Sync, G: Gate>(
     rt: &R,
-    workers: u32,
+    workers: Workers,
     gate: &G,
     alloc: Global,
     frozen: &Frozen,
     owners: &[BlockOwners],
 ) -> Result<Vec<Vec<Finding>>, Refusal>
-    requires { IsTrue (may_work workers) }
     ensures { MakesParts (λ unit found. are_maps_of frozen.now owners.now unit found.items) frozen.now.geometry.groups result }
 {
     parts_of_crew(

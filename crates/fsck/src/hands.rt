@@ -1,13 +1,12 @@
 //! Who makes the parts of a phase: one worker, or several at once.
-ghost use Rattle.std.specs.Prelude.{◌≡◌, All, IfOk, IsTrue, vec_len};
-ghost use Rattle.workers.specs.Workers.{may_work};
+ghost use Rattle.std.specs.Prelude.{◌≡◌, All, IfOk, vec_len};
 ghost use Rattle.fsck.specs.Parts.{MakesItsOwn, MakesParts};
 
 use crate::works::Look;
 use layout::Refusal;
 use std::alloc::{AllocError, Global};
 use std::thread::Threads;
-use workers::{Gate, each_group, in_turn};
+use workers::{Gate, Workers, each_group, in_turn};
 
 /// The parts of so many units, in their order, made by one worker on the calling thread, which passes no gate. Only
 /// `NoMemory` is refused.
@@ -27,14 +26,13 @@ pub(crate) fn parts_of_one<W: Look>(
 /// pass the gate with the phase's number.
 pub(crate) fn parts_of_crew<R: Threads + Sync, G: Gate, W: Look>(
     rt: &R,
-    workers: u32,
+    workers: Workers,
     gate: &G,
     alloc: Global,
     units: u32,
     work: W,
 ) -> Result<Vec<W::Part>, Refusal>
-    requires workers { IsTrue (may_work workers) }
-    requires work { MakesItsOwn W.gives W.is_of }
+    requires { MakesItsOwn W.gives W.is_of }
     ensures { MakesParts (W.is_of work) units result }
 {
     let works = copies(alloc, work, workers)?;
@@ -43,12 +41,12 @@ pub(crate) fn parts_of_crew<R: Threads + Sync, G: Gate, W: Look>(
 }
 
 /// So many workers that are alike.
-fn copies<W: Copy>(alloc: Global, work: W, workers: u32) -> Result<Vec<W>, AllocError>
-    ensures count { IfOk result (λ works. vec_len works ≡ workers) }
+fn copies<W: Copy>(alloc: Global, work: W, workers: Workers) -> Result<Vec<W>, AllocError>
+    ensures count { IfOk result (λ works. vec_len works ≡ workers.count) }
     ensures alike { IfOk result (λ works. All (λ one. one ≡ work) works.items) }
 {
     let mut works = Vec::new(alloc);
-    for _worker in 0..workers {
+    for _worker in 0..workers.count() {
         works.push(work)?;
     }
     Ok(works)

@@ -4,7 +4,7 @@
 //! what it claims or names, each learns what is claimed or named of it.
 #![tactic(auto)]
 
-ghost use Rattle.std.specs.Prelude.{◌≡◌, ◌↔◌, ℕ, List, IfOk, IsErrOf, IsFalse, IsOkUnless, IsTrue};
+ghost use Rattle.std.specs.Prelude.{◌≡◌, ◌↔◌, ℕ, List, IfOk, IsOkUnless};
 ghost use Rattle.std.specs.Arc.{arc_value};
 ghost use Rattle.findings.specs.Findings.{AreFindings};
 ghost use Rattle.findings.specs.Report.{verdict_of};
@@ -15,7 +15,6 @@ ghost use Rattle.model.specs.Image.{image_view};
 ghost use Rattle.model.specs.Layout.{Geometry};
 ghost use Rattle.model.specs.Rules.{ObeysRules};
 ghost use Rattle.model.specs.View.{View};
-ghost use Rattle.workers.specs.Workers.{may_work};
 ghost use Rattle.fsck.specs.Checked.{CheckedImage, IsChecked, IsFoundIn};
 ghost use Rattle.fsck.specs.Parts.{ArePiecesOf, MakesParts, MakesPieces, Reaches, are_links_if, are_maps_of, is_names_part, is_owned};
 
@@ -41,10 +40,10 @@ use sets::Members;
 use std::alloc::Global;
 use std::sync::Arc;
 use std::thread::Threads;
-use workers::{ByGroup, Gate, MOST_WORKERS};
+use workers::{ByGroup, Gate, Workers};
 
-/// Checks an image with 1 to 64 workers, which share the groups. `BadWorkers` is refused for any other number, and
-/// otherwise `NoMemory` alone. What is found is the same for every number of workers.
+/// Checks an image with several workers, which share the groups. Only `NoMemory` is refused. What is found is the same
+/// for every number of workers.
 ///
 /// The workers pass the gate before each group in each phase, with the phase's number from 1 to 5: first all groups in
 /// phase 1, and so on. In phases 1 and 4 they do so in each of two passes, and in phase 3 in each round of the walk.
@@ -52,18 +51,14 @@ pub fn check<G: Gate>(
     rt: &(impl Threads + Sync),
     alloc: Global,
     frozen: &Arc<Frozen>,
-    workers: u32,
+    workers: Workers,
     gate: &G,
 ) -> Result<Checked, Refusal>
     ensures frozen { IfOk result (λ checked. checked.frozen ≡ arc_value frozen.now) }
     ensures checked { IfOk result (λ checked.
         IsChecked (arc_value frozen.now).geometry (frozen_view (arc_value frozen.now)) checked) }
-    ensures workers { IsErrOf result Refusal.BadWorkers ↔ IsFalse (may_work workers) }
-    ensures error { IsTrue (may_work workers) → IsOkUnless result Refusal.NoMemory }
+    ensures error { IsOkUnless result Refusal.NoMemory }
 {
-    if workers == 0 || workers as usize > MOST_WORKERS {
-        return Err(Refusal::BadWorkers);
-    }
     let found = find_shared(rt, workers, gate, alloc, frozen)?;
     checked_of(rt, alloc, frozen, found)
 }
@@ -132,12 +127,11 @@ pub fn find(alloc: Global, frozen: &Frozen) -> Result<Vec<Finding>, Refusal>
 /// The same, with a crew. The numbers of the image are cut in pieces once, for all phases that look at directories.
 fn find_shared<R: Threads + Sync, G: Gate>(
     rt: &R,
-    workers: u32,
+    workers: Workers,
     gate: &G,
     alloc: Global,
     frozen: &Frozen,
 ) -> Result<Vec<Finding>, Refusal>
-    requires { IsTrue (may_work workers) }
     ensures found { IfOk result (λ found. (f : Found) → IsFoundIn frozen.now f found.items) }
     ensures error { IsOkUnless result Refusal.NoMemory }
 {
@@ -152,14 +146,13 @@ fn find_shared<R: Threads + Sync, G: Gate>(
 /// groups.
 fn find_in_pieces<R: Threads + Sync, G: Gate, P: Gate>(
     rt: &R,
-    workers: u32,
+    workers: Workers,
     gate: &G,
     gate_of_pieces: &P,
     alloc: Global,
     frozen: &Frozen,
     pieces: &[Piece],
 ) -> Result<Vec<Finding>, Refusal>
-    requires workers { IsTrue (may_work workers) }
     requires pieces { ArePiecesOf frozen.now pieces.now }
     ensures found { IfOk result (λ found. (f : Found) → IsFoundIn frozen.now f found.items) }
     ensures error { IsOkUnless result Refusal.NoMemory }
@@ -168,22 +161,18 @@ fn find_in_pieces<R: Threads + Sync, G: Gate, P: Gate>(
         alloc,
         frozen,
         || -> Result<Vec<OfGroup<BlockOwners>>, Refusal>
-            requires { IsTrue (may_work workers) }
             ensures frame { KeepsFrame frozen.entry.now }
             ensures made { MakesParts (λ unit made. is_owned frozen.entry.now unit made.kept made.found.items) frozen.entry.now.geometry.groups result }
         { owners_by_crew(rt, workers, gate, alloc, frozen) },
         || -> Result<Vec<phase_names::Part>, Refusal>
-            requires workers { IsTrue (may_work workers) }
             requires pieces { ArePiecesOf frozen.now pieces.now }
             ensures { MakesPieces (is_names_part frozen.entry.now) frozen.entry.now.geometry result }
         { names_by_crew(rt, workers, gate_of_pieces, alloc, frozen, pieces) },
         || -> Result<Members, Refusal>
-            requires workers { IsTrue (may_work workers) }
             requires pieces { ArePiecesOf frozen.now pieces.now }
             ensures { Reaches frozen.entry.now result }
         { connectivity::rounds(rt, alloc, frozen, pieces, workers, gate_of_pieces) },
         |reached: Members| -> Result<Vec<Vec<Finding>>, Refusal>
-            requires workers { IsTrue (may_work workers) }
             requires pieces { ArePiecesOf frozen.now pieces.now }
             ensures { MakesParts (λ unit found. are_links_if frozen.entry.now reached unit found.items) frozen.entry.now.geometry.groups result }
         {
@@ -199,7 +188,6 @@ fn find_in_pieces<R: Threads + Sync, G: Gate, P: Gate>(
             )
         },
         |owners: Vec<BlockOwners>| -> Result<Vec<Vec<Finding>>, Refusal>
-            requires { IsTrue (may_work workers) }
             ensures { MakesParts (λ unit found. are_maps_of frozen.entry.now owners.items unit found.items) frozen.entry.now.geometry.groups result }
         { maps_by_crew(rt, workers, gate, alloc, frozen, owners.as_slice()) },
     )

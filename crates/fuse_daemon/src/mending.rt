@@ -14,7 +14,7 @@ use std::alloc::Global;
 use std::sync::Wait;
 use std::thread::Threads;
 use upkeep::Asked;
-use workers::OpenGate;
+use workers::{OpenGate, Workers};
 
 /// What a check found, and how many repairs were carried out.
 #[derive(Clone, Copy, Debug, PartialEq, Eq)]
@@ -69,7 +69,7 @@ pub(crate) fn mend<D: Device + Drop, B: Beginning, R: Threads + Wait + Sync>(
     rt: &R,
     alloc: Global,
     between: &mut Between<'_, D, B, R>,
-    workers: u32,
+    workers: Workers,
 ) -> Result<Mended, Refusal>
     ensures mended { IfOk result (TellsOfMending between.old.calls.items between.new.calls.items) }
     // Whatever came of it, the snapshot that was taken was ended.

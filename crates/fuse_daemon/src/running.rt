@@ -24,12 +24,13 @@ use std::marker::Brand;
 use std::sync::{OnceToken, Wait};
 use std::thread::{Threads, join_mut};
 use std::time::Clock;
+use workers::Workers;
 
 /// What is done beside the service.
 #[derive(Clone, Copy, Debug, PartialEq, Eq)]
 pub struct Plan {
-    /// How many workers check the volume once it is mounted; with 0 it is not checked.
-    pub workers: u32,
+    /// How many workers check the volume once it is mounted; with none it is not checked.
+    pub workers: Option<Workers>,
     /// After how many seconds what is pending is on the medium; with 0 it waits for a sync or the end.
     pub seconds: u32,
 }
@@ -204,9 +205,9 @@ fn attend<
         Ok(right) => right,
         Err(token) => return Some(token),
     };
-    if plan.workers > 0 {
+    if let Some(workers) = plan.workers {
         let mut between = Between::new(rt, locked, &right);
-        teller.tell(match mend(rt, alloc, &mut between, plan.workers) {
+        teller.tell(match mend(rt, alloc, &mut between, workers) {
             Ok(mended) => News::Mended(mended),
             Err(refusal) => News::NotMended(refusal),
         });

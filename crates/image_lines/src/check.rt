@@ -1,5 +1,5 @@
 //! The line `check`: the report of an image.
-ghost use Rattle.std.specs.Prelude.{◌≡◌, ◌⊎◌, ◌<◌, ◌↔◌, ℕ, All, Err, IfOk, IfErr, IsFalse, IsTrue, OkIff, IsErrOf, IsOkUnless, List, [], OnOk, length};
+ghost use Rattle.std.specs.Prelude.{◌≡◌, ◌⊎◌, ◌<◌, ℕ, All, Err, IfOk, IfErr, IsFalse, IsErrOf, IsOkUnless, List, [], OnOk, length};
 ghost use Rattle.layout.specs.declared.refusal.Refusal.TheVariants.{BadWorkers, NoMemory};
 ghost use Rattle.frozen.specs.Kept.{IsKeptOf};
 ghost use Rattle.model.specs.Layout.{block_count};
@@ -7,7 +7,7 @@ ghost use Rattle.device.specs.Reading.{ReadsOnly};
 ghost use Rattle.device.specs.Writes.{HasFailed};
 ghost use Rattle.failures.specs.Status.{plain};
 ghost use Rattle.frozen.specs.Loading.{LoadRefuses};
-ghost use Rattle.workers.specs.Workers.{may_work};
+ghost use Rattle.worker_counts.specs.Workers.{may_work};
 ghost use Rattle.loaders.specs.Readers.{AreRead, Show};
 ghost use Rattle.image_lines.specs.Checks.{IsCheckOf};
 ghost use Rattle.image_lines.specs.Status.{status_of_verdict};
@@ -29,7 +29,7 @@ use std::os::unix::fs::FileExt;
 use std::rt::Files;
 use std::sync::Arc;
 use std::thread::Threads;
-use workers::{Gate, MOST_WORKERS};
+use workers::{Gate, Workers};
 
 /// What the line asks for: the findings of an image, by this many workers.
 #[derive(Clone, Copy)]
@@ -75,17 +75,17 @@ where
     ensures status { IfOk result (λ answer. answer.status < 3) }
     ensures workers { IsFalse (may_work line.now.workers) → result ≡ Err (plain BadWorkers) }
 {
-    allow_workers(line.workers)?;
-    check_file(rt, line.image, line.workers, &Watched { watcher }).map_err(
-        |failure| failure.on_image(rt, line.image),
-    )
+    let workers = Workers::new(line.workers)?;
+    check_file(rt, line.image, workers, &Watched { watcher }).map_err(|failure| failure.on_image(
+        rt, line.image,
+    ))
 }
 
 /// Checks a file's image.
 pub(crate) fn check_file<R: Files + AllocGlobal + Threads + Sync, G: Gate>(
     rt: &R,
     image: &str,
-    workers: u32,
+    workers: Workers,
     gate: &G,
 ) -> Result<Answer, Failure>
 where
@@ -105,7 +105,7 @@ fn check_devices<D: Device + Send + Drop, G: Gate>(
     alloc: Global,
     device: &mut D,
     others: &mut Vec<D>,
-    workers: u32,
+    workers: Workers,
     gate: &G,
 ) -> Result<Answer, Failure>
     requires { Show D.image (D.image device.old) others.old.items }
@@ -117,23 +117,12 @@ fn check_devices<D: Device + Send + Drop, G: Gate>(
     Ok(answer)
 }
 
-/// Refuses, with `BadWorkers`, other than 1 to 64 workers.
-pub fn allow_workers(workers: u32) -> Result<(), Refusal>
-    ensures allowed { OkIff result (IsTrue (may_work workers)) tt }
-    ensures error { IsOkUnless result Refusal.BadWorkers }
-{
-    if workers == 0 || workers as usize > MOST_WORKERS {
-        return Err(Refusal::BadWorkers);
-    }
-    Ok(())
-}
-
 /// Checks a device's image with this many workers, which pass the gate as in `fsck::check`. It writes nothing.
 pub fn check<D: Device, G: Gate>(
     rt: &(impl Threads + Sync),
     alloc: Global,
     device: &mut D,
-    workers: u32,
+    workers: Workers,
     gate: &G,
 ) -> Result<Checked, Refusal>
     // Where each read gave what stood there, the blocks are an image, and the findings, the report, the verdict and the
@@ -142,13 +131,11 @@ pub fn check<D: Device, G: Gate>(
     // The metadata that were checked are those of the image; the device has as many blocks as its volume, honest or not.
     ensures loaded { IfOk result (λ checked. D.honest device.new → IsKeptOf checked.frozen (D.image device.old)) }
     ensures count { IfOk result (λ checked. length (D.image device.old) ≡ block_count checked.frozen.geometry) }
-    ensures workers { IsErrOf result Refusal.BadWorkers ↔ IsFalse (may_work workers) }
-    ensures refused { IsTrue (may_work workers) → IfErr result (λ refusal. LoadRefuses (D.honest device.new) (D.image device.old) refusal) }
+    ensures refused { IfErr result (λ refusal. LoadRefuses (D.honest device.new) (D.image device.old) refusal) }
     ensures cause { IsErrOf result Refusal.Device → HasFailed (D.failures device.old) (D.failures device.new) }
 
     ensures reads { ReadsOnly D.honest D.image D.held device.old device.new }
 {
-    allow_workers(workers)?;
     let frozen = load(alloc, device)?;
     check_loaded(rt, alloc, frozen, workers, gate)
 }
@@ -160,7 +147,7 @@ pub fn check_by<D: Device + Send + Drop, G: Gate>(
     alloc: Global,
     device: &mut D,
     others: &mut Vec<D>,
-    workers: u32,
+    workers: Workers,
     gate: &G,
 ) -> Result<Checked, Refusal>
     requires { Show D.image (D.image device.old) others.old.items }
@@ -169,8 +156,7 @@ pub fn check_by<D: Device + Send + Drop, G: Gate>(
     ensures checked { IfOk result (λ checked. D.honest device.new → All D.honest others.new.items → IsCheckOf (D.image device.old) checked) }
     ensures loaded { IfOk result (λ checked. D.honest device.new → All D.honest others.new.items → IsKeptOf checked.frozen (D.image device.old)) }
     ensures count { IfOk result (λ checked. length (D.image device.old) ≡ block_count checked.frozen.geometry) }
-    ensures workers { IsErrOf result Refusal.BadWorkers ↔ IsFalse (may_work workers) }
-    ensures refused { IsTrue (may_work workers) → IfErr result (λ refusal.
+    ensures refused { IfErr result (λ refusal.
         LoadRefuses (D.honest device.new × All D.honest others.new.items) (D.image device.old) refusal) }
     ensures cause { IsErrOf result Refusal.Device → HasFailed (D.failures device.old) (D.failures device.new) }
 
@@ -178,7 +164,6 @@ pub fn check_by<D: Device + Send + Drop, G: Gate>(
     ensures others { OnOk result (AreRead D.honest D.image D.held others.old.items others.new.items) }
     ensures lost { IfErr result (λ refusal. ((refusal ≡ NoMemory) × (others.new.items ≡ [])) ⊎ AreRead D.honest D.image D.held others.old.items others.new.items) }
 {
-    allow_workers(workers)?;
     let frozen = load_by(rt, alloc, device, others)?;
     check_loaded(rt, alloc, frozen, workers, gate)
 }
@@ -188,10 +173,9 @@ fn check_loaded<G: Gate>(
     rt: &(impl Threads + Sync),
     alloc: Global,
     frozen: Frozen,
-    workers: u32,
+    workers: Workers,
     gate: &G,
 ) -> Result<Checked, Refusal>
-    requires { IsTrue (may_work workers) }
     ensures checked { IfOk result (λ checked. (image : List (List ℕ)) → IsKeptOf frozen image → IsCheckOf image checked) }
     ensures frozen { IfOk result (λ checked. checked.frozen ≡ frozen) }
     ensures error { IsOkUnless result Refusal.NoMemory }

@@ -1,5 +1,5 @@
 //! The volume of a device whose image was checked.
-ghost use Rattle.std.specs.Prelude.{◌≡◌, ◌⊎◌, [], IfErr, IfOk, IsTrue, length};
+ghost use Rattle.std.specs.Prelude.{◌≡◌, ◌⊎◌, [], IfErr, IfOk, length};
 ghost use Rattle.findings.specs.declared.verdicts.Verdict.TheVariants.{Damaged};
 ghost use Rattle.frozen.specs.Kept.{IsKeptOf};
 ghost use Rattle.image_changes.specs.GivenBack.{IsGivenBack};
@@ -11,7 +11,6 @@ ghost use Rattle.model.specs.Layout.{block_count};
 ghost use Rattle.rules.specs.Loading.{BreaksRule};
 ghost use Rattle.snapshot.specs.Mounting.{IsMountable};
 ghost use Rattle.softdep.specs.Queued.{fresh_queue, pending_of};
-ghost use Rattle.workers.specs.Workers.{may_work};
 
 use crate::check::check_by;
 use device::Device;
@@ -23,7 +22,7 @@ use layout::Refusal;
 use snapshot::{Live, NotMounted, tells_its_image};
 use std::alloc::Global;
 use std::thread::Threads;
-use workers::Gate;
+use workers::{Gate, Workers};
 
 /// Mounts the volume of a device once its image is checked with this many workers, which pass the gate as in `fsck::check`.
 /// Refused as `Live::mount` is; then the device is given back.
@@ -35,11 +34,10 @@ pub fn mount<D: Device + Send + Drop, G: Gate>(
     alloc: Global,
     mut device: D,
     mut others: Vec<D>,
-    workers: u32,
+    workers: Workers,
     gate: &G,
 ) -> Result<Live<Joint<D>>, Refused<Joint<D>>>
-    requires workers { IsTrue (may_work workers) }
-    requires show { Show D.image (D.image device) others.items }
+    requires { Show D.image (D.image device) others.items }
     ensures image { IfOk result (λ live. D.image live.device.device ≡ D.image device) }
     ensures held { IfOk result (λ live. D.held live.device.device ≡ D.held device) }
     ensures pending { IfOk result (λ live. pending_of live.queue ≡ []) }

@@ -1,5 +1,5 @@
 //! The line `repair`: the report of an image, and what is mended of it.
-ghost use Rattle.std.specs.Prelude.{◌≡◌, ◌⊎◌, ◌++◌, ◌<◌, [], Err, IfErr, IfOk, IsErrOf, IsFalse, IsOkUnless, IsTrue, OnOk, length};
+ghost use Rattle.std.specs.Prelude.{◌≡◌, ◌⊎◌, ◌++◌, ◌<◌, [], Err, IfErr, IfOk, IsErrOf, IsFalse, IsOkUnless, OnOk, length};
 ghost use Rattle.std.specs.String.{string_bytes};
 ghost use Rattle.failures.specs.Status.{plain};
 ghost use Rattle.file_device.specs.Calls.{all_writes};
@@ -13,14 +13,14 @@ ghost use Rattle.loaders.specs.Readers.{Show};
 ghost use Rattle.model.specs.Layout.{block_count};
 ghost use Rattle.snapshot.specs.Mounting.{IsMountable};
 ghost use Rattle.softdep.specs.Queued.{pending_of};
-ghost use Rattle.workers.specs.Workers.{may_work};
+ghost use Rattle.worker_counts.specs.Workers.{may_work};
 ghost use Rattle.image_lines.specs.Status.{status_of_verdict};
 ghost use Rattle.image_lines.specs.declared.repair.Outcome.TheVariants.{Left, Mended};
 ghost use Rattle.image_lines.specs.Checks.{IsCheckOf};
 ghost use Rattle.image_lines.specs.Repaired.{ComesTo, IsMended, IsNotRepaired, IsRepaired, device_of, done_text, outcome_in, repair_lines, repair_text_of};
 ghost use Rattle.mending.specs.Went.{FailedOnTheWay, Went};
 
-use crate::check::{allow_workers, by_workers, check_by, check_file, told};
+use crate::check::{by_workers, check_by, check_file, told};
 use crate::mounting::mount_checked;
 use clap::{ArgMatches, Command};
 use command_line::{Answer, Failure, SOFT, Watched, others_of};
@@ -41,7 +41,7 @@ use std::mem;
 use std::os::unix::fs::FileExt;
 use std::rt::Files;
 use std::thread::Threads;
-use workers::Gate;
+use workers::{Gate, Workers};
 
 /// What the line asks for: an image without what soft updates may leave, by this many workers.
 #[derive(Clone, Copy)]
@@ -81,10 +81,10 @@ where
     ensures status { IfOk result (λ answer. answer.status < 3) }
     ensures workers { IsFalse (may_work line.now.workers) → result ≡ Err (plain BadWorkers) }
 {
-    allow_workers(line.workers)?;
-    repair_file(rt, line.image, line.workers, &Watched { watcher }).map_err(
-        |failure| failure.on_image(rt, line.image),
-    )
+    let workers = Workers::new(line.workers)?;
+    repair_file(rt, line.image, workers, &Watched { watcher }).map_err(|failure| failure.on_image(
+        rt, line.image,
+    ))
 }
 
 /// Checks a file's image, and mends it where it is soft. A file that may not be written is checked too: only where its image
@@ -92,7 +92,7 @@ where
 fn repair_file<R: Files + AllocGlobal + Threads + Sync, G: Gate>(
     rt: &R,
     image: &str,
-    workers: u32,
+    workers: Workers,
     gate: &G,
 ) -> Result<Answer, Failure>
 where
@@ -114,7 +114,7 @@ fn repair_device<F: FileExt + OpenFile + Send + Drop, S: Start + Send, G: Gate>(
     rt: &(impl Threads + Sync),
     alloc: Global,
     device: FileDevice<F, S>,
-    workers: u32,
+    workers: Workers,
     gate: &G,
 ) -> Result<Answer, Failure>
     requires { all_writes device ≡ [] }
@@ -132,7 +132,7 @@ fn repair_device<F: FileExt + OpenFile + Send + Drop, S: Start + Send, G: Gate>(
 fn check_unwritable<R: Files + AllocGlobal + Threads + Sync, G: Gate>(
     rt: &R,
     image: &str,
-    workers: u32,
+    workers: Workers,
     gate: &G,
     refused: OpenError,
 ) -> Result<Answer, Failure>
@@ -171,8 +171,8 @@ pub struct NotRepaired<D: Device> {
 }
 
 /// Checks a device's image with this many workers, which pass the gate as in `fsck::check`. Where it is soft, the volume is
-/// mounted and mended by this check: the image is read once, and checked once. Refused with `BadWorkers`, as an image that
-/// cannot be loaded, with `NoMemory` and with `Device`; then the device is given back, or its volume as far as it was mended.
+/// mounted and mended by this check: the image is read once, and checked once. Refused as an image that cannot be
+/// loaded, with `NoMemory` and with `Device`; then the device is given back, or its volume as far as it was mended.
 ///
 /// The image is loaded by as many workers as there are other devices, which show the same. These are read alone, and let go
 /// before the first write.
@@ -181,7 +181,7 @@ pub fn repair<D: Device + Send + Drop, G: Gate>(
     alloc: Global,
     mut device: D,
     mut others: Vec<D>,
-    workers: u32,
+    workers: Workers,
     gate: &G,
 ) -> Result<Repaired<Joint<D>>, NotRepaired<Joint<D>>>
     requires { Show D.image (D.image device) others.items }
@@ -193,17 +193,9 @@ pub fn repair<D: Device + Send + Drop, G: Gate>(
     ensures status { IfOk result (λ repaired. repaired.answer.status < 3) }
     // Whatever came of it, the device was not written, or its volume was mounted and mended, and nothing else was done to it.
     ensures went { ComesTo (AllHonest D.honest) (of_device D.image) (of_device D.held) (record { device = device; readers = others.items }) (outcome_in result) }
-    // These it looks at first, before the device.
-    ensures workers { IsFalse (may_work workers) → result ≡ Err (record { cause = BadWorkers; outcome = Left (record { device = device; readers = others.items }) }) }
-    ensures refused { IsTrue (may_work workers) → IfErr result (IsNotRepaired (AllHonest D.honest) (of_device D.image) (of_device D.held) (of_device D.failures)
+    ensures refused { IfErr result (IsNotRepaired (AllHonest D.honest) (of_device D.image) (of_device D.held) (of_device D.failures)
         (record { device = device; readers = others.items })) }
 {
-    if let Err(cause) = allow_workers(workers) {
-        return Err(NotRepaired {
-            cause,
-            outcome: Outcome::Left(Joint::new(device, others)),
-        });
-    }
     let checked = check_by(rt, alloc, &mut device, &mut others, workers, gate);
     let device = Joint::new(device, others);
     match checked {

@@ -12,7 +12,6 @@ use Rattle.model.specs.Slots.{Slot, Empty, Good, slot}
 use Rattle.model.proofs.SlotLemmas.{reachable_directory, directory_number}
 use Rattle.ordering.specs.Cuts.{Cell, Record, NumberBit, BlockBit, Block, Pending, users_view}
 use Rattle.ordering.proofs.Data.{directory_mode}
-use Rattle.ordering.proofs.Records.{put_here, put_there, put_same}
 use Rattle.machine.specs.Cells.{with_slot}
 use Rattle.machine.specs.Effects.{file_with, with_links, new_directory}
 use Rattle.plans_data.specs.Append.{Holder, KeptInRecord, KeptInTable, KeptInNew, IsKeptIn, IsNoneOf, new_blocks, linked, pointed, sized, filled}
@@ -28,6 +27,7 @@ use Rattle.plans_naming.specs.Rename.{CanRename, renaming}
 use Rattle.plans_naming.specs.Unlink.{CanUnlink, lowered, unlinking, unlinking_last}
 use Rattle.model.proofs.Shape.{many_blocks}
 use Rattle.model.proofs.Uses.{has_below}
+use Rattle.model.proofs.Places.{put_here, put_there, put_same}
 use Rattle.machine.proofs.Records.{new_directory_uses}
 use Rattle.kept_claims.proofs.Since.{Since, nothing, At, Or, NotNew, start as nothing_yet, number_on, block_on, bytes_on, given_on, record_since, links_on, empty_on, freeing_on, no_table, unmarked_no_table, data_no_table}
 use Rattle.kept_claims.proofs.Grows.{Gets, Grown, linked_once, not_grown}

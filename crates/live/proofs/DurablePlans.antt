@@ -30,7 +30,7 @@ use Rattle.courses.specs.Serves.{CarriesOut, IsBeginning, IsSafeService, Release
 use Rattle.courses.proofs.Doing.{Steps, steps}
 use Rattle.courses.proofs.LifeCourses.{life_lived}
 use Rattle.courses.proofs.ServiceLemmas.{plan_safe, service_safe}
-use Rattle.courses.proofs.Sizes.{Behind, Here, SizeIs, Then, WritesNoRecord, each_sized, plan_sized, released as releases_blocks}
+use Rattle.courses.proofs.Looking.{Behind, Here, LooksAre, Then, WritesNoRecord, each_looking, plan_looking, released as releases_blocks}
 use Rattle.cut_courses.specs.Durably.{IsDurably}
 use Rattle.cut_courses.proofs.Along.{users_same}
 use Rattle.frozen.specs.Kept.{Kept, KeepsMetadata}
@@ -52,7 +52,7 @@ use Rattle.live_states.proofs.SnapshotEnds.{accepts, cleared, few, held_after}
 use Rattle.live_states.proofs.Planning.{leaves, planned_with}
 use Rattle.live_states.proofs.Standing.{has}
 use Rattle.live.specs.Alive.{Alive}
-use Rattle.live.specs.Durable.{GoesSoundly, HasSizeIn, IsSound, IsSoundOn, LeavesShown, Owns, Piece, Put, PutAlong, Starts, pieces_of}
+use Rattle.live.specs.Durable.{GoesSoundly, WritesLooksOf, IsSound, IsSoundOn, LeavesShown, Owns, Piece, Put, PutAlong, Starts, pieces_of}
 use Rattle.live.proofs.Durably.{Since, base, held_nothing, owned}
 use Rattle.live.proofs.Owning.{OwnsWith, along_written, plan_owns, release_owns}
 
@@ -80,14 +80,14 @@ named_each Is geo mount file h q h' p p' (More {h' = before} {p = r} u named nam
     (named_each Is geo mount file h q before r s named behind (ap (drop 1) same))
 
 -- each record has a size of one of the two views
-sized_in : (v w : View) (u : Written) → SizeIs v w u.update.change → HasSizeIn (w ∷ v ∷ []) u
-sized_in v w u is n x same = elim (subst (SizeIs v w) same is) [
+looks_in : (v w : View) (u : Written) → LooksAre v w u.update.change → WritesLooksOf (w ∷ v ∷ []) u
+looks_in v w u is n x same = elim (subst (LooksAre v w) same is) [
   | inl before ↦ (v, (1, omega arith, refl), before)
   | inr then ↦ (w, (0, omega arith, refl), then)
 ]
 
-none_sized : (u : Written) → WritesNoRecord u.update.change → HasSizeIn [] u
-none_sized u is n x same = absurd (subst WritesNoRecord same is)
+none_looking : (u : Written) → WritesNoRecord u.update.change → WritesLooksOf [] u
+none_looking u is n x same = absurd (subst WritesNoRecord same is)
 
 -- An issue that leads to such a moment over what is durable; and where files have their own bytes then, they have them since.
 pub issued_since : (m : Medium) (geo : Geometry) (queue : Queued) (held held' safe safe' : ℕ → Bool) (s : IsSound m geo queue held safe) (queue' : Queued) (ws : List Written) → queue' ≡ issued queue ws → (h' : List Written) (cut' : List Bool)
@@ -232,14 +232,14 @@ module _ (m : Medium) (kept : Kept) (holdings : Holdings) (queue : Queued) (safe
         (taken.leaves (leaves kept holdings sights command answer draft holdings' planned D U old safe begin.stands shows held sees'))
         (pieces_of (opened_by holdings) command) (λ n k piece write. asks n k piece command (taken.asks n k piece write)) lived more.0 more.1
 
-    sizing : All (HasSizeIn (users_view (image_view kept.geometry m.durable) (over (unsynced_of queue) draft.updates) ∷ users_view (image_view kept.geometry m.durable) (unsynced_of queue) ∷ [])) more.0
+    sizing : All (WritesLooksOf (users_view (image_view kept.geometry m.durable) (over (unsynced_of queue) draft.updates) ∷ users_view (image_view kept.geometry m.durable) (unsynced_of queue) ∷ [])) more.0
     unfolding more
     sizing =
         let v = users_view D U in
         let w = users_view D U' in
-        All-weaker (λ (u : Written). SizeIs v w u.update.change) (HasSizeIn (w ∷ v ∷ [])) (sized_in v w) more.0
-        (named_each (SizeIs v w) geo s.durably.mount draft.file lived.wrote.0 U lived.h' U' U' lived.wrote.2
-        (each_sized v w U U' (plan_sized geo D U old safe begin.stands.balance.rules draft.file U' (held_by holdings') safe' taken.is_plan)) refl)
+        All-weaker (λ (u : Written). LooksAre v w u.update.change) (WritesLooksOf (w ∷ v ∷ [])) (looks_in v w) more.0
+        (named_each (LooksAre v w) geo s.durably.mount draft.file lived.wrote.0 U lived.h' U' U' lived.wrote.2
+        (each_looking v w U U' (plan_looking geo D U old safe begin.stands.balance.rules draft.file U' (held_by holdings') safe' taken.is_plan)) refl)
 
     module _ (queue' : Queued) (is : queue' ≡ issued queue (map written draft.updates)) where
       unsynced' : unsynced_of queue' ≡ over (unsynced_of queue) draft.updates
@@ -258,14 +258,14 @@ module _ (m : Medium) (kept : Kept) (holdings : Holdings) (queue : Queued) (safe
 
       pub planned_since : (added : List Written)
           × Since (base s) (pieces_of (opened_by holdings) command) s.durably.mount (added ++ s.durably.history) m kept.geometry queue' (held_by holdings') (safe_after kept.geometry (users_view (image_view kept.geometry (image_of m)) (pending_of queue)) command safe)
-          × All (HasSizeIn (users_view (image_view kept.geometry (image_of m)) (pending_of queue') ∷ users_view (image_view kept.geometry (image_of m)) (pending_of queue) ∷ [])) added
+          × All (WritesLooksOf (users_view (image_view kept.geometry (image_of m)) (pending_of queue') ∷ users_view (image_view kept.geometry (image_of m)) (pending_of queue) ∷ [])) added
       planned_since =
           let asked = pieces_of (opened_by holdings) command in (
             more.0,
             subst (λ v. Since (base s) asked s.durably.mount (more.0 ++ s.durably.history) m geo queue' (held_by holdings') (safe_after geo v command safe)) e
                 (subst (λ h. Since (base s) asked s.durably.mount h m geo queue' (held_by holdings') safe') more.1 since_plan),
-            subst (λ v. All (HasSizeIn (users_view disk (pending_of queue') ∷ v ∷ [])) more.0) e
-                (subst (λ w. All (HasSizeIn (w ∷ users_view D U ∷ [])) more.0) users' sizing),
+            subst (λ v. All (WritesLooksOf (users_view disk (pending_of queue') ∷ v ∷ [])) more.0) e
+                (subst (λ w. All (WritesLooksOf (w ∷ users_view D U ∷ [])) more.0) users' sizing),
           )
 
 -- ---- of a volume
@@ -287,14 +287,14 @@ goes_planned held image answers old new geometry volume sights command answer dr
     let asked = pieces_of (opened_by old.holdings) command in
     let views = users_view (image_view new.kept.geometry image) (pending_of new.queue) ∷ users_view (image_view geo image) (pending_of old.queue) ∷ [] in
     let since : (s : IsSound held.now geo old.queue (held_by old.holdings) safe) → (added : List Written) × Since (base s) asked s.durably.mount (added ++ s.durably.history) held.now new.kept.geometry new.queue (held_by new.holdings) safe'
-    × All (HasSizeIn views) added = λ s.
+    × All (WritesLooksOf views) added = λ s.
     let planned' = planned_since held.now old.kept old.holdings old.queue safe s (subst (λ i. IsVolume old.kept old.holdings (pending_of old.queue) (image_view geo i)) answers volume) sights command answer draft new.holdings planned
     (subst (λ i. AreSeen sights (users_view (image_view geo i) (pending_of old.queue))) answers sees) new.queue is in (
       planned'.0,
       subst (λ x. Since (base s) asked s.durably.mount (planned'.0 ++ s.durably.history) held.now x new.queue (held_by new.holdings) safe') (sym geometry)
           (subst (λ i. Since (base s) asked s.durably.mount (planned'.0 ++ s.durably.history) held.now geo new.queue (held_by new.holdings) (safe_after geo (users_view (image_view geo i) (pending_of old.queue)) command safe)) (sym answers) planned'.1),
-      subst (λ x. All (HasSizeIn (users_view (image_view x image) (pending_of new.queue) ∷ users_view (image_view geo image) (pending_of old.queue) ∷ [])) planned'.0) (sym geometry)
-          (subst (λ i. All (HasSizeIn (users_view (image_view geo i) (pending_of new.queue) ∷ users_view (image_view geo i) (pending_of old.queue) ∷ [])) planned'.0) (sym answers) planned'.2),
+      subst (λ x. All (WritesLooksOf (users_view (image_view x image) (pending_of new.queue) ∷ users_view (image_view geo image) (pending_of old.queue) ∷ [])) planned'.0) (sym geometry)
+          (subst (λ i. All (WritesLooksOf (users_view (image_view geo i) (pending_of new.queue) ∷ users_view (image_view geo i) (pending_of old.queue) ∷ [])) planned'.0) (sym answers) planned'.2),
     ) in
     record {
       geometry = geometry;
@@ -309,7 +309,7 @@ goes_planned held image answers old new geometry volume sights command answer dr
         each = All-nil (LeavesShown geo s.durably.mount ((since s).0 ++ s.durably.history) safe');
       };
       owns = λ s puts o. owned asked (since s).1 puts o;
-      sizes = λ s. (since s).2;
+      looking = λ s. (since s).2;
     }
 
 -- ---- a snapshot ends, with nothing left that is not durable
@@ -331,10 +331,10 @@ goes_released held image answers old new geometry keeps volume0 none_pending non
     each = All-nil (LeavesShown old.kept.geometry s.durably.mount ((since s).0 ++ s.durably.history) safe);
   };
   owns = λ s puts o. owned [] (since s).1 puts o;
-  sizes = λ s. (since s).2;
+  looking = λ s. (since s).2;
 }
   where
-    since : (s : IsSoundOn held.now old safe) → (added : List Written) × Since (base s) [] s.durably.mount (added ++ s.durably.history) held.now new.kept.geometry new.queue (held_by new.holdings) safe × All (HasSizeIn []) added
+    since : (s : IsSoundOn held.now old safe) → (added : List Written) × Since (base s) [] s.durably.mount (added ++ s.durably.history) held.now new.kept.geometry new.queue (held_by new.holdings) safe × All (WritesLooksOf []) added
     since s =
         let geo = old.kept.geometry in
         let m = held.now in
@@ -381,6 +381,6 @@ goes_released held image answers old new geometry keeps volume0 none_pending non
               (issued_since m geo old.queue (held_by old.holdings) (held_by new.holdings) safe safe s new.queue (map written us) queue lived.h' lived.cut' now
               (λ f t. ap (λ (v : View). (v.inode f).mode) (ap₂ users_view same unsynced' ∙ service.stands.same) ∙ service.stands.files f t)
               [] (λ puts o. ([], refl, subst (λ l. PutAlong d.mount d.history l []) (sym longer) (along_written d.mount d.history d.history [] more.0 Starts), release_owns geo d.mount d.history d.cut disk (held_by old.holdings) safe moment puts o was (held_still was number) (let_go_below was number n) refl may lived)))),
-          All-weaker (λ (u : Written). WritesNoRecord u.update.change) (HasSizeIn []) none_sized more.0
+          All-weaker (λ (u : Written). WritesNoRecord u.update.change) (WritesLooksOf []) none_looking more.0
               (named_each WritesNoRecord geo d.mount 0 lived.wrote.0 [] lived.h' left left lived.wrote.2 (releases_blocks (let_go_below was number n) [] [] Here) refl),
         )

@@ -34,7 +34,7 @@ use Rattle.softdep.proofs.Swept.{held_more, held_same, held_nothing as put_held_
 use Rattle.live_states.specs.Holdings.{held_by}
 use Rattle.frozen.specs.Kept.{Kept}
 use Rattle.live.specs.Alive.{Alive}
-use Rattle.live.specs.Durable.{AddsOnly, GoesSoundly, HasSizeIn, HeldSafely, IsSound, IsSoundOn, LeavesOwn, LeavesSafe, LeavesShown, MayHave, Owns, OwnsMore, Piece, Put, PutAlong, Starts}
+use Rattle.live.specs.Durable.{AddsOnly, GoesSoundly, WritesLooksOf, HeldSafely, IsSound, IsSoundOn, LeavesOwn, LeavesSafe, LeavesShown, MayHave, Owns, OwnsMore, Piece, Put, PutAlong, Starts}
 use Rattle.live.specs.Mounting.{IsMountable}
 use Rattle.live.proofs.Owning.{OwnsWith, along_then, first_member, later_member, left_later, more_left, owns_first, owns_put}
 
@@ -250,11 +250,11 @@ held_own m geo queue held safe s puts o more each =
 pub held_nothing : (geo : Geometry) (held held' : Held) (safe : ℕ → Bool) → held'.media ≡ held.media → HeldSafely geo held held' safe
 held_nothing geo held held' safe same = record { more = []; media = same ∙ sym (append-nil held.media); each = All-nil (LeavesSafe geo safe) }
 
-first_sized : (more views : List View) (w : Written) → HasSizeIn more w → HasSizeIn (more ++ views) w
-first_sized more views w has n x is = let one = has n x is in (one.0, first_member more views one.0 one.1, one.2)
+first_looking : (more views : List View) (w : Written) → WritesLooksOf more w → WritesLooksOf (more ++ views) w
+first_looking more views w has n x is = let one = has n x is in (one.0, first_member more views one.0 one.1, one.2)
 
-later_sized : (more views : List View) (w : Written) → HasSizeIn views w → HasSizeIn (more ++ views) w
-later_sized more views w has n x is = let one = has n x is in (one.0, later_member more views one.0 one.1, one.2)
+later_looking : (more views : List View) (w : Written) → WritesLooksOf views w → WritesLooksOf (more ++ views) w
+later_looking more views w has n x is = let one = has n x is in (one.0, later_member more views one.0 one.1, one.2)
 
 module _ {D : Type 0} where
   pub goes_then : (held held1 held2 : Held) (old mid new : Alive D) (safe safe1 safe2 : ℕ → Bool) (asked more : List Piece) (views others : List View) → GoesSoundly held old held1 mid safe safe1 asked views → GoesSoundly held1 mid held2 new safe1 safe2 more others
@@ -321,12 +321,12 @@ module _ {D : Type 0} where
               subst (λ l. LeavesOwn geo two.durably.mount two.durably.history l at) all
               (subst (λ x. LeavesOwn x two.durably.mount two.durably.history (now.added ++ (was.added ++ puts)) at) first.geometry (now.each k d low)));
         };
-    sizes = λ s.
+    looking = λ s.
         let one = (first.sound s).0 in
         let before = (first.adds s).added in
         let behind = (later.adds one).added in
-        All-append (HasSizeIn (others ++ views)) behind before (All-weaker (HasSizeIn others) (HasSizeIn (others ++ views)) (first_sized others views) behind (later.sizes one))
-        (All-weaker (HasSizeIn views) (HasSizeIn (others ++ views)) (later_sized others views) before (first.sizes s));
+        All-append (WritesLooksOf (others ++ views)) behind before (All-weaker (WritesLooksOf others) (WritesLooksOf (others ++ views)) (first_looking others views) behind (later.looking one))
+        (All-weaker (WritesLooksOf views) (WritesLooksOf (others ++ views)) (later_looking others views) before (first.looking s));
   }
 
   -- nothing was written and nothing added
@@ -359,7 +359,7 @@ module _ {D : Type 0} where
     sound = λ s. ((still_since held held' old new same queue geometry holds safe s).sound, held_nothing old.kept.geometry held held' safe (ap (λ (h : Held). h.media) same));
     adds = λ s. adds_nothing held held' old new safe s (still_since held held' old new same queue geometry holds safe s) (ap (λ (h : Held). h.media) same);
     owns = λ s puts o. owned [] (still_since held held' old new same queue geometry holds safe s) puts o;
-    sizes = λ s. All-nil (HasSizeIn []);
+    looking = λ s. All-nil (WritesLooksOf []);
   }
 
   -- writes, and the word of the device
@@ -401,7 +401,7 @@ module _ {D : Type 0} where
                   (subst (λ h. LeavesOwn geo d.mount h puts at) (sym (put s).history)
                   (subst (λ v. LeavesOwn geo v s.durably.history puts at) (sym (put s).mount) (held_own held.now geo old.queue (held_by old.holdings) safe s puts o now.2.more now.2.each k d' low)));
             };
-        sizes = λ s. All-nil (HasSizeIn []);
+        looking = λ s. All-nil (WritesLooksOf []);
       }
 
   pub goes_synced : (held held' : Held) (old new : Alive D) → new.kept ≡ old.kept → new.holdings ≡ old.holdings → HasPut old.queue new.queue
@@ -435,7 +435,7 @@ module _ {D : Type 0} where
     sound = goes.sound;
     adds = goes.adds;
     owns = goes.owns;
-    sizes = λ s. All-weaker (HasSizeIn []) (HasSizeIn views) (first_sized [] views) (goes.adds s).added (goes.sizes s);
+    looking = λ s. All-weaker (WritesLooksOf []) (WritesLooksOf views) (first_looking [] views) (goes.adds s).added (goes.looking s);
   }
 
 -- ---- where a volume begins

@@ -16,7 +16,7 @@ use Rattle.courses.specs.Plans.{IsPlan}
 use Rattle.courses.proofs.Lasting.{plan_lasts, release_lasts}
 use Rattle.courses.proofs.LifeBytes.{IsWriteOf, LeavesBehind}
 use Rattle.courses.proofs.OwnBytes.{over_byte, zero_byte}
-use Rattle.live.specs.Durable.{HasSizeIn, LeavesOwn, MayHave, MayShow, Owns, Piece, Put, PutAlong, Puts, Starts, Writes}
+use Rattle.live.specs.Durable.{WritesLooksOf, LeavesOwn, MayHave, MayShow, Owns, Piece, Put, PutAlong, Puts, Starts, Writes}
 
 -- ---- members
 

@@ -9,6 +9,7 @@ use Rattle.model.specs.View.{View, Inode}
 use Rattle.device.specs.Media.{Held, MayBeLeft, Medium, image_of}
 use Rattle.ordering.specs.Cuts.{IsClosed, seen, users_view}
 use Rattle.machine.specs.Command.{Command, Write}
+use Rattle.machine.specs.Looks.{Looks, looks}
 use Rattle.machine.specs.State.{handle_count}
 use Rattle.queue_model.specs.Files.{IsFileBlock, Written, generation, shown, updates}
 use Rattle.queue_model.specs.History.{Holds}
@@ -112,19 +113,19 @@ pub record OwnsMore (geo : Geometry) (mount : View) (start history : List Writte
   pub owns : Owns geo mount history cut (added ++ puts)
   pub each : All (LeavesOwn geo mount history (added ++ puts)) more
 
--- ---- how large a loss of power shows a file
+-- ---- how a loss of power shows an inode
 
--- the number has this size in one of these views
-abbrev pub IsSizeIn : List View → ℕ → ℕ → Type 0
-IsSizeIn views n size = (view : View) × Contains views view × (size ≡ (view.inode n).size)
+-- the number looks so in one of these views
+abbrev pub LooksAsIn : List View → ℕ → Looks → Type 0
+LooksAsIn views n so = (view : View) × Contains views view × (so ≡ looks (view.inode n))
 
--- a record that this writes has the size of one of these views
-abbrev pub HasSizeIn : List View → Written → Type 0
-HasSizeIn views w = (n : ℕ) (x : Inode) → w.update.change ≡ SetInode n x → IsSizeIn views n x.size
+-- a record that this writes looks as in one of these views
+abbrev pub WritesLooksOf : List View → Written → Type 0
+WritesLooksOf views w = (n : ℕ) (x : Inode) → w.update.change ≡ SetInode n x → LooksAsIn views n (looks x)
 
 -- ---- what a volume goes through
 
--- Where a volume was sound on the medium of its device it is so then, no file more is safe, and each medium that the device had since leaves what is safe then. Where files had their own bytes they have them then, but for these pieces, which users wrote; and each record that was written since has a size of one of these views, which users saw.
+-- Where a volume was sound on the medium of its device it is so then, no file more is safe, and each medium that the device had since leaves what is safe then. Where files had their own bytes they have them then, but for these pieces, which users wrote; and each record that was written since looks as in one of these views, which users saw.
 pub record GoesSoundly {D : Type 0} (held : Held) (old : Alive D) (held' : Held) (new : Alive D) (safe safe' : ℕ → Bool) (asked : List Piece) (views : List View) : Type 0 where
   pub geometry : new.kept.geometry ≡ old.kept.geometry
   pub fewer : (f : ℕ) → IsTrue (safe' f) → IsTrue (safe f)
@@ -132,7 +133,7 @@ pub record GoesSoundly {D : Type 0} (held : Held) (old : Alive D) (held' : Held)
   pub adds : (s : IsSoundOn held.now old safe) → AddsOnly held old held' new safe safe' s (sound s).0
   pub owns : (s : IsSoundOn held.now old safe) (puts : List Put) → Owns old.kept.geometry s.durably.mount s.durably.history s.durably.cut puts
       → OwnsMore old.kept.geometry (sound s).0.durably.mount s.durably.history (sound s).0.durably.history (sound s).0.durably.cut asked puts (adds s).more
-  pub sizes : (s : IsSoundOn held.now old safe) → All (HasSizeIn views) (adds s).added
+  pub looking : (s : IsSoundOn held.now old safe) → All (WritesLooksOf views) (adds s).added
 
 -- whichever files are safe, they stay so, and nothing is written to a file
 abbrev pub StaysSound : {D : Type 0} → (D → Held) → Alive D → Alive D → Type 0

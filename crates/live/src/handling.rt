@@ -18,7 +18,7 @@ use crate::ending::Ending;
 use device::Device;
 use layout::{BLOCK_BYTES, Block, Refusal};
 use live_files::{Reading, opening_of, reading_of};
-use live_writes::{Target, aim};
+use live_writes::{Piece, Target, aim};
 use std::alloc::Global;
 
 impl<D: Device> Live<D> {
@@ -81,13 +81,16 @@ impl<D: Device> Live<D> {
         let mut before = [0; BLOCK_BYTES];
         let target = aim(&self.metadata, &self.holdings, handle, index, piece)?;
         self.read_under(&target, &mut before)?;
+        let over = Piece {
+            bytes: piece,
+            before: &before,
+        };
         let planned = live_writes::write(
             alloc,
             &self.metadata,
             &self.holdings,
             &target,
-            &before,
-            piece,
+            &over,
             &mut self.spares,
         )?;
         self.carry_out(alloc, planned, Ending::Nothing)?;

@@ -1,9 +1,9 @@
-ghost use Rattle.std.specs.Prelude.{◌≡◌, IfErr, OnErr, OnOk};
-ghost use Rattle.machine.specs.Command.{Done, SetAttributes};
+ghost use Rattle.std.specs.Prelude.{◌≡◌, IfErr, IfOk, OnErr, OnOk};
+ghost use Rattle.machine.specs.Command.{Attributes, Done, ReadAttributes, SetAttributes};
 ghost use Rattle.live_states.specs.Planned.{IsRefused};
 ghost use Rattle.live.specs.Durable.{StaysSoundAfter};
-ghost use Rattle.live.specs.Alive.{MayRefuse};
-ghost use Rattle.live.specs.Seen.{Answered};
+ghost use Rattle.live.specs.Alive.{IsFirstCause, MayRefuse};
+ghost use Rattle.live.specs.Seen.{Answered, Tells};
 
 use crate::Live;
 use crate::ending::Ending;
@@ -30,5 +30,20 @@ impl<D: Device> Live<D> {
         let plan = live_attributes::set_attributes(alloc, &self.metadata, number, attributes)?;
         self.carry_out(alloc, plan.without_holds(alloc), Ending::Nothing)?;
         Ok(())
+    }
+
+    /// The attributes that the inode of this number has. Refused with `NotFound` where no sound inode has the number.
+    pub fn attributes(&self, number: u32) -> Result<[u32; ATTRIBUTES], Refusal>
+        ensures attributes { IfOk result (λ attributes. D.honest self.now.device → Tells D.image self.now (ReadAttributes number) (Attributes attributes)) }
+        ensures refused { IfErr result (λ r. D.honest self.now.device → MayRefuse (D.image self.now.device) self.now (ReadAttributes number) r) }
+        ensures cause { IfErr result (IsFirstCause self.now.kept (ReadAttributes number)) }
+    {
+        let frozen = self.metadata.frozen();
+        if !frozen.is_sound_at(number) {
+            return Err(Refusal::NotFound);
+        }
+        let record = frozen.record(number);
+        let attributes = record.attributes;
+        Ok(attributes)
     }
 }

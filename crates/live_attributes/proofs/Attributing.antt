@@ -1,13 +1,13 @@
 -- The update carries the command out.
-use Rattle.std.proofs.Common.{◌≡◌, ℕ, Bool, true, false, not, List, [], ◌∷◌, Some, refl, sym, ap, ◌∙◌, subst, IsTrue, IsFalse}
-use Rattle.model.specs.Layout.{Geometry}
-use Rattle.model.specs.Uses.{is_sound_at}
+use Rattle.std.proofs.Common.{◌≡◌, ℕ, Bool, true, false, not, ◌&&◌, List, [], ◌∷◌, Some, refl, sym, ap, ◌∙◌, subst, IsTrue, IsFalse}
+use Rattle.model.specs.Layout.{Geometry, is_number}
+use Rattle.model.specs.Uses.{is_sound, is_sound_at}
 use Rattle.model.specs.View.{Inode, View}
 use Rattle.layout.specs.declared.refusal.Refusal.TheVariants.{NotFound}
 use Rattle.ordering.specs.Cuts.{Pending, users_view}
 use Rattle.machine.specs.Below.{first_of, when}
 use Rattle.machine.specs.Causes.{Accepts, FirstRefusal, causes, refusal_of}
-use Rattle.machine.specs.Command.{Done, SetAttributes}
+use Rattle.machine.specs.Command.{Done, ReadAttributes, SetAttributes}
 use Rattle.machine.specs.State.{State}
 use Rattle.plans_data.specs.Attributes.{attributing}
 use Rattle.plans_data.specs.Carried.{Stands}
@@ -25,9 +25,22 @@ module _ (geo : Geometry) (old : State) (n : ℕ) (words : List ℕ) where
   unfolding causes
   attributes_refused none = ap (λ b. first_of (when (not b) NotFound ∷ [])) none
 
+  pub reading_refused : IsFalse (is_sound_at geo old.view n) → refusal_of geo old (ReadAttributes n) ≡ Some NotFound
+  unfolding causes
+  reading_refused none = ap (λ b. first_of (when (not b) NotFound ∷ [])) none
+
+  pub reading_accepted : IsTrue (is_sound_at geo old.view n) → Accepts geo old (ReadAttributes n)
+  unfolding causes
+  reading_accepted at = (ap (λ b. first_of (when (not b) NotFound ∷ [])) at, tt)
+
   pub attributes_accepted : IsTrue (is_sound_at geo old.view n) → Accepts geo old (SetAttributes n words)
   unfolding causes
   attributes_accepted at = (ap (λ b. first_of (when (not b) NotFound ∷ [])) at, tt)
+
+-- what is kept shows which inodes are sound
+pub sound_shown : (kept f : Kept) → f ≡ kept → (n : ℕ) (view : View) → Shows kept view → (b c : Bool) → b ≡ is_sound_at f.geometry (frozen_view f) n → b ≡ c → is_sound_at kept.geometry view n ≡ c
+sound_shown kept f same n view shows b c is e =
+    sym (ap (λ (i : Inode). is_number kept.geometry n && is_sound kept.geometry i) (shows.inode n)) ∙ sym (ap (λ (k : Kept). is_sound_at k.geometry (frozen_view k) n) same) ∙ sym is ∙ e
 
 -- done as another draft says
 done_so : (geo : Geometry) (disk : View) (q : List Pending) (old : State) (safe : ℕ → Bool) (n : ℕ) (words : List ℕ) (file : ℕ) (plan : List Pending) → file ≡ n

@@ -1,1 +1,1 @@
-mod Attributing
+pub mod Attributing

@@ -12,7 +12,7 @@ ghost use Rattle.live_plans.specs.Linked.{HasPointers};
 ghost use Rattle.live_states.specs.Planned.{IsOfVolume};
 
 use crate::growing::grow;
-use crate::{Plan, add_blocks, bytes_of, entry, put_slot};
+use crate::{Plan, Slot, add_blocks, bytes_of, entry, put_slot};
 use dirent::SLOTS;
 use inode::Record;
 use layout::BLOCK_BYTES;
@@ -85,20 +85,22 @@ pub fn enter_at(
     match new.place {
         Place::Slot { slot, block } => {
             let bytes = bytes_of(metadata, new.directory, slot / SLOTS as u32, block);
-            put_slot(alloc, plan, block, bytes, slot, &entry, after)
+            let slot = Slot {
+                index: slot,
+                block,
+                bytes,
+            };
+            put_slot(alloc, plan, &slot, &entry, after)
         }
         Place::NewBlock { block, tables } => {
-            let slot = SLOTS as u32 * new.parent.blocks();
-            grow(
-                alloc,
-                metadata,
-                plan,
-                new.directory,
-                &new.parent,
+            let index = SLOTS as u32 * new.parent.blocks();
+            grow(alloc, metadata, plan, new, block, tables)?;
+            let slot = Slot {
+                index,
                 block,
-                tables,
-            )?;
-            put_slot(alloc, plan, block, &[0; BLOCK_BYTES], slot, &entry, after)
+                bytes: &[0; BLOCK_BYTES],
+            };
+            put_slot(alloc, plan, &slot, &entry, after)
         }
     }
 }

@@ -43,23 +43,33 @@ pub fn bytes_of(metadata: &Metadata, directory: u32, position: u32, block: u32) 
     }
 }
 
-/// Adds the update that puts 64 bytes into a slot of a directory's block which holds these bytes, after these cells.
+/// A slot of a directory.
+#[derive(Clone, Copy)]
+pub struct Slot<'a> {
+    /// Which one it is, counted through the whole directory.
+    pub index: u32,
+    /// The address of the directory's block in which it stands.
+    pub block: u32,
+    /// The bytes of that block.
+    pub bytes: &'a Block,
+}
+
+/// Adds the update that puts 64 bytes into a slot of a directory, after these cells.
 pub fn put_slot(
     alloc: Global,
     plan: &mut Plan,
-    block: u32,
-    bytes: &Block,
-    slot: u32,
+    slot: &Slot,
     entry: &[u8; SLOT_BYTES],
     after: Cells,
 ) -> Result<(), AllocError>
-    requires block { IsTrue (is_data_address plan.old.geometry block) }
+    requires block { IsTrue (is_data_address plan.old.geometry slot.now.block) }
     requires after { All (IsCell plan.old.geometry) (map cell after.items) }
-    ensures { OnOk result (GoesOn plan.old plan.new (λ q. slot_written block bytes.now slot entry.now (map cell after.items) ∷ q)) }
+    ensures { OnOk result (GoesOn plan.old plan.new
+        (λ q. slot_written slot.now.block slot.now.bytes.now slot.now.index entry.now (map cell after.items) ∷ q)) }
 {
-    let mut bytes = *bytes;
-    replace(&mut bytes, slot as usize % SLOTS, entry);
-    let change = Change::SetBytes(block, Arc::new(alloc, bytes)?);
+    let mut bytes = *slot.bytes;
+    replace(&mut bytes, slot.index as usize % SLOTS, entry);
+    let change = Change::SetBytes(slot.block, Arc::new(alloc, bytes)?);
     plan.push(change, after)
 }
 
@@ -80,16 +90,12 @@ pub fn empty_slot(
     ensures geometry { OnOk result (plan.new.geometry ≡ plan.old.geometry) }
 {
     let position = found.slot / SLOTS as u32;
-    let bytes = bytes_of(metadata, found.directory, position, found.block);
-    put_slot(
-        alloc,
-        plan,
-        found.block,
-        bytes,
-        found.slot,
-        &[0; SLOT_BYTES],
-        after,
-    )
+    let slot = Slot {
+        index: found.slot,
+        block: found.block,
+        bytes: bytes_of(metadata, found.directory, position, found.block),
+    };
+    put_slot(alloc, plan, &slot, &[0; SLOT_BYTES], after)
 }
 
 /// Adds the cells of a directory's blocks of slots behind these, and no others.

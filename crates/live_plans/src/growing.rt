@@ -13,8 +13,7 @@ ghost use Rattle.live_states.specs.Drafts.{GoesOn};
 ghost use Rattle.live_plans.specs.Grown.{Grows};
 ghost use Rattle.live_plans.specs.Linked.{HasPointers};
 
-use crate::{Plan, link};
-use inode::Record;
+use crate::{NewBlock, NewEntry, Plan, link};
 use layout::{BLOCK_BYTES, Block};
 use live_places::Tables;
 use metadata::Metadata;
@@ -24,45 +23,44 @@ use std::alloc::{AllocError, Global};
 use std::sync::Arc;
 use updates::{Cell, Cells, Change};
 
-/// Adds the updates by which a directory gets a block of zeroes: the block, the pointer to it, and the record.
+/// Adds the updates by which the directory of a new entry gets a block of zeroes: the block, the pointer to it, and the
+/// record.
 pub(crate) fn grow(
     alloc: Global,
     metadata: &Metadata,
     plan: &mut Plan,
-    directory: u32,
-    parent: &Record,
+    new: &NewEntry,
     block: u32,
     tables: Tables,
 ) -> Result<(), AllocError>
     requires geometry { plan.old.geometry ≡ metadata.now.geometry }
-    requires pointers { HasPointers metadata.now directory }
-    requires directory { IsTrue (is_directory_at metadata.now.geometry (frozen_view metadata.now) directory) }
-    requires parent { (links : ℕ) × (parent.now ≡ with_links ((frozen_view metadata.now).inode directory) links) }
-    requires place { IsNewBlock metadata.now.geometry (frozen_view metadata.now) directory block tables }
-    requires room { IsFalse (is_full metadata.now.geometry (frozen_view metadata.now) directory) }
+    requires pointers { HasPointers metadata.now new.now.directory }
+    requires directory { IsTrue (is_directory_at metadata.now.geometry (frozen_view metadata.now) new.now.directory) }
+    requires parent { (links : ℕ) × (new.now.parent ≡ with_links ((frozen_view metadata.now).inode new.now.directory) links) }
+    requires place { IsNewBlock metadata.now.geometry (frozen_view metadata.now) new.now.directory block tables }
+    requires room { IsFalse (is_full metadata.now.geometry (frozen_view metadata.now) new.now.directory) }
     ensures geometry { OnOk result (plan.new.geometry ≡ plan.old.geometry) }
-    ensures grows { OnOk result ((view : View) → Shows metadata.now view → Grows metadata.now.geometry view directory parent.now block tables plan.old plan.new) }
+    ensures grows { OnOk result ((view : View) → Shows metadata.now view
+        → Grows metadata.now.geometry view new.now.directory new.now.parent block tables plan.old plan.new) }
 {
     // What is kept is all metadata.
     metadata.frozen(); // for the proof: its clause `metadata`
     let zeroes = Arc::new(alloc, [0; BLOCK_BYTES])?;
     fill(alloc, plan, block, zeroes)?;
+    let parent = &new.parent;
     let size = parent.size + BLOCK_BYTES as u32;
     let mut spares = Spares::none(alloc);
-    let linked = link(
-        alloc,
-        metadata,
-        plan,
-        &mut spares,
-        directory,
-        parent,
-        parent.blocks(),
+    let new_block = NewBlock {
+        number: new.directory,
+        owner: new.parent,
+        position: parent.blocks(),
         block,
         tables,
-    )?;
+    };
+    let linked = link(alloc, metadata, plan, &mut spares, &new_block)?;
     let mut grown = linked.record;
     grown.size = size;
-    plan.push(Change::SetInode(directory, grown), linked.after)
+    plan.push(Change::SetInode(new.directory, grown), linked.after)
 }
 
 /// Adds the updates that mark a block and then fill it.

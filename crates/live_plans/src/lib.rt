@@ -13,8 +13,8 @@ mod locating;
 mod plan;
 
 pub use entering::{NewEntry, enter, enter_at};
-pub use entries::{add_blocks, bytes_of, empty_slot, entry, put_slot};
+pub use entries::{Slot, add_blocks, bytes_of, empty_slot, entry, put_slot};
 pub use growing::fill;
-pub use linking::{Linked, link, pointer_after};
+pub use linking::{Linked, NewBlock, link, pointer_after};
 pub use locating::{Found, locate};
 pub use plan::{Plan, Planned};

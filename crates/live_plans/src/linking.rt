@@ -31,6 +31,34 @@ use updates::{Cell, Cells, Change};
 /// How many bytes a pointer has.
 const POINTER_BYTES: usize = 4;
 
+/// A block that an inode is to get.
+#[derive(Clone, Copy, Debug)]
+pub struct NewBlock {
+    /// The inode.
+    pub number: u32,
+    /// Its record, as the updates before leave it.
+    pub owner: Record,
+    /// The position of the block in it.
+    pub position: u32,
+    /// The address of the block.
+    pub block: u32,
+    /// The new tables that come with it.
+    pub tables: Tables,
+}
+
+/// A table of pointers that an inode has.
+#[derive(Clone, Copy)]
+struct PointerTable<'a> {
+    /// The inode.
+    number: u32,
+    /// The address of the table.
+    address: u32,
+    /// The pointers in it.
+    pointers: &'a Block,
+    /// The address of the table over it, where there is one.
+    over: Option<u32>,
+}
+
 /// The record of an inode once one of its positions points to a new block, and the cells that it comes after.
 #[derive(Drop)]
 pub struct Linked {
@@ -38,57 +66,41 @@ pub struct Linked {
     pub after: Cells,
 }
 
-/// Adds the updates by which a position of an inode with this record points to a new block. The pointer goes into the
-/// record, into a table that is there, or, where new ones are given, into the nearest of them, to which the inode then
-/// points likewise. Spare blocks serve for the copy of a table, where there are some.
+/// Adds the updates by which an inode points to a new block. The pointer goes into the record, into a table that is there,
+/// or, where new ones are given, into the nearest of them, to which the inode then points likewise. Spare blocks serve for
+/// the copy of a table, where there are some.
 pub fn link(
     alloc: Global,
     metadata: &Metadata,
     plan: &mut Plan,
     spares: &mut Spares,
-    number: u32,
-    owner: &Record,
-    position: u32,
-    block: u32,
-    tables: Tables,
+    new: &NewBlock,
 ) -> Result<Linked, AllocError>
     requires geometry { plan.old.geometry ≡ metadata.now.geometry }
-    requires number { IsTrue (is_number metadata.now.geometry number) }
-    requires position { position < position_count metadata.now.geometry }
-    requires block { IsTrue (is_data_address metadata.now.geometry block) }
-    requires tables { CanLink metadata.now number position tables }
+    requires number { IsTrue (is_number metadata.now.geometry new.now.number) }
+    requires position { new.now.position < position_count metadata.now.geometry }
+    requires block { IsTrue (is_data_address metadata.now.geometry new.now.block) }
+    requires tables { CanLink metadata.now new.now.number new.now.position new.now.tables }
     ensures geometry { OnOk result (plan.new.geometry ≡ plan.old.geometry) }
-    ensures links { IfOk result (λ linked. IsLinked metadata.now.geometry number owner.now position block
-        (holder_of metadata.now.geometry (frozen_view metadata.now) number position block tables) plan.old plan.new linked.record (map cell linked.after.items)) }
+    ensures links { IfOk result (λ linked. IsLinked metadata.now.geometry new.now.number new.now.owner new.now.position new.now.block
+        (holder_of metadata.now.geometry (frozen_view metadata.now) new.now.number new.now.position new.now.block new.now.tables)
+        plan.old plan.new linked.record (map cell linked.after.items)) }
 {
-    let Some(table) = tables.first() else {
-        return link_there(
-            alloc,
-            metadata.frozen(),
-            plan,
-            spares,
-            number,
-            owner,
-            position,
-            block,
-        );
+    let Some(table) = new.tables.first() else {
+        return link_there(alloc, metadata.frozen(), plan, spares, new);
     };
-    let Some(place) = metadata.frozen().geometry().pointer_place(position) else {
+    let Some(place) = metadata.frozen().geometry().pointer_place(new.position) else {
         unreachable!()
     };
-    start_table(alloc, plan, spares, block, table)?;
-    let mut linked = link(
-        alloc,
-        metadata,
-        plan,
-        spares,
-        number,
-        owner,
-        place.table,
-        table,
-        tables.rest(),
-    )?;
-    linked.after.push(Cell::Block(block))?;
+    start_table(alloc, plan, spares, new.block, table)?;
+    let over = NewBlock {
+        position: place.table,
+        block: table,
+        tables: new.tables.rest(),
+        ..*new
+    };
+    let mut linked = link(alloc, metadata, plan, spares, &over)?;
+    linked.after.push(Cell::Block(new.block))?;
     Ok(linked)
 }
 
@@ -98,48 +110,41 @@ fn link_there(
     frozen: &Frozen,
     plan: &mut Plan,
     spares: &mut Spares,
-    number: u32,
-    owner: &Record,
-    position: u32,
-    block: u32,
+    new: &NewBlock,
 ) -> Result<Linked, AllocError>
     requires metadata { KeepsMetadata frozen.now }
     requires geometry { plan.old.geometry ≡ frozen.now.geometry }
-    requires number { IsTrue (is_number frozen.now.geometry number) }
-    requires position { position < position_count frozen.now.geometry }
-    requires block { IsTrue (is_data_address frozen.now.geometry block) }
-    requires tables { CanLink frozen.now number position [] }
+    requires number { IsTrue (is_number frozen.now.geometry new.now.number) }
+    requires position { new.now.position < position_count frozen.now.geometry }
+    requires block { IsTrue (is_data_address frozen.now.geometry new.now.block) }
+    requires tables { CanLink frozen.now new.now.number new.now.position [] }
     ensures geometry { OnOk result (plan.new.geometry ≡ plan.old.geometry) }
-    ensures links { IfOk result (λ linked. IsLinked frozen.now.geometry number owner.now position block
-        (holder_of frozen.now.geometry (frozen_view frozen.now) number position block []) plan.old plan.new linked.record (map cell linked.after.items)) }
+    ensures links { IfOk result (λ linked. IsLinked frozen.now.geometry new.now.number new.now.owner new.now.position new.now.block
+        (holder_of frozen.now.geometry (frozen_view frozen.now) new.now.number new.now.position new.now.block [])
+        plan.old plan.new linked.record (map cell linked.after.items)) }
 {
     let geometry = frozen.geometry();
-    let Some(place) = geometry.pointer_place(position) else {
+    let Some(place) = geometry.pointer_place(new.position) else {
         let mut after = Cells::new(alloc);
-        after.push(Cell::Block(block))?;
-        let record = owner.with_field(&geometry, position, block);
+        after.push(Cell::Block(new.block))?;
+        let record = new.owner.with_field(&geometry, new.position, new.block);
         return Ok(Linked { record, after });
     };
-    let inode = frozen.record(number);
-    let Some(table) = claim_of(frozen, &inode, place.table) else {
+    let inode = frozen.record(new.number);
+    let Some(address) = claim_of(frozen, &inode, place.table) else {
         unreachable!()
     };
-    let pointers = pointers_of(frozen, number, place.table, table);
     let over = table_over(frozen, &inode, place.table);
-    put_at(
-        alloc,
-        plan,
-        spares,
-        number,
-        place.place,
-        block,
-        table,
-        pointers,
+    let table = PointerTable {
+        number: new.number,
+        address,
+        pointers: pointers_of(frozen, new.number, place.table, address),
         over,
-    )?;
-    let after = cells_of(alloc, over, table, block)?;
+    };
+    put_at(alloc, plan, spares, &table, place.place, new.block)?;
+    let after = cells_of(alloc, over, address, new.block)?;
     Ok(Linked {
-        record: *owner,
+        record: new.owner,
         after,
     })
 }
@@ -169,33 +174,36 @@ fn table_over(frozen: &Frozen, inode: &Record, table: u32) -> Option<u32>
     claim_of(frozen, inode, place.table)
 }
 
-/// Adds the update that puts the pointer to a new block into a table of an inode, which has these pointers and this table
-/// over it, at this place.
+/// Adds the update that puts the pointer to a new block into a table, at this place among the pointers.
 fn put_at(
     alloc: Global,
     plan: &mut Plan,
     spares: &mut Spares,
-    number: u32,
+    table: &PointerTable,
     place: usize,
     block: u32,
-    table: u32,
-    pointers: &Block,
-    over: Option<u32>,
 ) -> Result<(), AllocError>
     requires place { place < 256 }
-    requires number { IsTrue (is_number plan.old.geometry number) }
+    requires number { IsTrue (is_number plan.old.geometry table.now.number) }
     requires block { IsTrue (is_data_address plan.old.geometry block) }
-    requires table { IsTrue (is_data_address plan.old.geometry table) }
-    requires over { IfSome over (λ a. IsTrue (is_data_address plan.old.geometry a)) }
+    requires table { IsTrue (is_data_address plan.old.geometry table.now.address) }
+    requires over { IfSome table.now.over (λ a. IsTrue (is_data_address plan.old.geometry a)) }
     ensures { OnOk result (GoesOn plan.old plan.new (λ q. record {
-      change = SetBytes table (with_pointer pointers.now place block);
-      after = pointer_after number place block pointers.now (option_to_list over);
+      change = SetBytes table.now.address (with_pointer table.now.pointers.now place block);
+      after = pointer_after table.now.number place block table.now.pointers.now (option_to_list table.now.over);
     } ∷ q)) }
 {
-    let mut copy = spares.share(alloc, pointers)?;
-    let after = pointer_after(alloc, number, place, block, pointers, over)?;
+    let mut copy = spares.share(alloc, table.pointers)?;
+    let after = pointer_after(
+        alloc,
+        table.number,
+        place,
+        block,
+        table.pointers,
+        table.over,
+    )?;
     put_into(&mut copy, place, block)?;
-    plan.push(Change::SetBytes(table, copy), after)
+    plan.push(Change::SetBytes(table.address, copy), after)
 }
 
 /// What a pointer to a block comes after that is put into this place of a table of an inode: the block, and where another

@@ -17,11 +17,11 @@ use Rattle.model.proofs.UseLemmas.{claim_from, claim_parts}
 use Rattle.model.proofs.Shape.{more_reach, reach_parts}
 use Rattle.model.proofs.Steps.{use_at_is}
 use Rattle.model.proofs.Uses.{same_field, sound_few, use_has, use_number}
+use Rattle.model.proofs.NewRecord.{record_uses}
+use Rattle.model.proofs.Places.{put_here}
 use Rattle.machine.specs.Cells.{block_of, claims}
 use Rattle.machine.specs.State.{State, is_kept}
-use Rattle.machine.proofs.Records.{record_uses}
 use Rattle.machine.proofs.Tests.{claims_tested, test_claims}
-use Rattle.ordering.proofs.Records.{put_here}
 use Rattle.plans_data.specs.Append.{sized}
 use Rattle.plans_data.specs.Freeing.{AreGivenUp, held_with}
 use Rattle.plans_data.specs.Lists.{gives_up, given_up_with}

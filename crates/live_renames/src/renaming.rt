@@ -14,7 +14,7 @@ use dirent::SLOTS;
 use frozen::Frozen;
 use layout::Refusal;
 use live_paths::{Path, walk};
-use live_plans::{Found, Plan, add_blocks, bytes_of, entry, locate, put_slot};
+use live_plans::{Found, Plan, Slot, add_blocks, bytes_of, entry, locate, put_slot};
 use metadata::Metadata;
 use std::alloc::{AllocError, Global};
 use updates::Cells;
@@ -88,16 +88,12 @@ pub fn rename_in_slot(
     let mut after = Cells::new(alloc);
     add_blocks(metadata, found.directory, &mut after)?;
     let position = found.slot / SLOTS as u32;
-    let bytes = bytes_of(metadata, found.directory, position, found.block);
+    let slot = Slot {
+        index: found.slot,
+        block: found.block,
+        bytes: bytes_of(metadata, found.directory, position, found.block),
+    };
     let entry = entry(found.number, name);
-    put_slot(
-        alloc,
-        &mut plan,
-        found.block,
-        bytes,
-        found.slot,
-        &entry,
-        after,
-    )?;
+    put_slot(alloc, &mut plan, &slot, &entry, after)?;
     Ok(plan)
 }

@@ -4,7 +4,7 @@ use Rattle.model.specs.Layout.{Geometry}
 use Rattle.model.specs.View.{View}
 use Rattle.ordering.specs.Cuts.{Pending, users_view}
 use Rattle.machine.specs.Causes.{Accepts}
-use Rattle.machine.specs.Command.{Answer, Command, Create, Mkdir, Link, Unlink, Rmdir, Rename, Open, Close, Read, Write, Truncate, ListNames, Stat, Freeze, SnapRead, Release, Install, RepairAt, Flush, Sync, SetAttributes}
+use Rattle.machine.specs.Command.{Answer, Command, Create, Mkdir, Link, Unlink, Rmdir, Rename, Open, Close, Read, Write, Truncate, ListNames, Stat, Freeze, SnapRead, Release, Install, RepairAt, Flush, Sync, SetAttributes, ReadAttributes}
 use Rattle.machine.specs.State.{State}
 use Rattle.machine.specs.Step.{Step}
 use Rattle.plans_data.specs.Carried.{Stands}
@@ -45,6 +45,7 @@ still_nothing geo view (Truncate h n) = refl
 still_nothing geo view (SetAttributes i words) = refl
 still_nothing geo view (ListNames p) = refl
 still_nothing geo view (Stat p) = refl
+still_nothing geo view (ReadAttributes i) = refl
 still_nothing geo view Freeze = refl
 still_nothing geo view (SnapRead s i k) = refl
 still_nothing geo view (Release s) = refl

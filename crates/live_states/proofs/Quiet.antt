@@ -4,7 +4,7 @@ use Rattle.model.specs.Layout.{Geometry}
 use Rattle.model.specs.View.{View}
 use Rattle.ordering.specs.Cuts.{Pending, users_view}
 use Rattle.machine.specs.Causes.{Accepts}
-use Rattle.machine.specs.Command.{Answer, Command, Create, Mkdir, Link, Unlink, Rmdir, Rename, Open, Close, Read, Write, Truncate, ListNames, Stat, Freeze, SnapRead, Release, Install, RepairAt, Flush, Sync, SetAttributes}
+use Rattle.machine.specs.Command.{Answer, Command, Create, Mkdir, Link, Unlink, Rmdir, Rename, Open, Close, Read, Write, Truncate, ListNames, Stat, Freeze, SnapRead, Release, Install, RepairAt, Flush, Sync, SetAttributes, ReadAttributes}
 use Rattle.machine.specs.State.{State}
 use Rattle.machine.specs.Step.{Effect, Step}
 use Rattle.courses.specs.Serves.{IsBeginning, IsSafeService, Quietly, Serves, Starts, CarriesOut, is_quiet}
@@ -31,6 +31,7 @@ same_safe geo view (Truncate h n) safe t = refl
 same_safe geo view (SetAttributes i words) safe t = refl
 same_safe geo view (ListNames p) safe t = refl
 same_safe geo view (Stat p) safe t = refl
+same_safe geo view (ReadAttributes i) safe t = refl
 same_safe geo view Freeze safe t = refl
 same_safe geo view (SnapRead s i k) safe t = refl
 same_safe geo view (Release s) safe t = refl

@@ -128,10 +128,3 @@ held_below kept holdings volume i k (InPlace a) is j d low = absurd (omega (arit
 held_below kept holdings volume i k (Behind b tables) is j d low = absurd (omega (arith, low))
 held_below kept holdings volume i k (Elsewhere a b) is zero d low = (data_range kept.geometry volume.stands.geometry a (claim_parts kept.geometry (frozen_view kept) i k a is.1).1).1
 held_below kept holdings volume i k (Elsewhere a b) is (suc j) d low = absurd (omega (arith, low))
-
--- the larger of two sizes
-pub size_from : (kept : Kept) (i k : ℕ) (piece : List ℕ) (size end : ℕ) → size ≡ ((frozen_view kept).inode i).size → end ≡ 1024 * k + length piece → size < end → end ≡ grown_size kept i k piece
-size_from kept i k piece size end e f more = omega (arith, e, f, more)
-
-pub size_stays : (kept : Kept) (i k : ℕ) (piece : List ℕ) (size end : ℕ) → size ≡ ((frozen_view kept).inode i).size → end ≡ 1024 * k + length piece → end ≤ size → size ≡ grown_size kept i k piece
-size_stays kept i k piece size end e f less = omega (arith, e, f, less)

@@ -15,4 +15,4 @@ mod aiming;
 mod writing;
 
 pub use aiming::{Place, Target, aim, place_behind};
-pub use writing::{held_blocks, overwritten, write};
+pub use writing::{Piece, held_blocks, overwritten, write};

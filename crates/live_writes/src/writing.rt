@@ -1,4 +1,4 @@
-ghost use Rattle.std.specs.Prelude.{◌≡◌, ◌<◌, ◌≤◌, ◌∷◌, [], ℕ, IfOk, IsTrue, List, OnOk, length, map};
+ghost use Rattle.std.specs.Prelude.{◌≡◌, ◌<◌, ◌≤◌, ◌∷◌, [], ℕ, IfOk, IsTrue, List, OnOk, length, map, max};
 ghost use Rattle.std.specs.Arc.{arc_value};
 ghost use Rattle.std.specs.List.{All};
 ghost use Rattle.frozen.specs.Kept.{frozen_view};
@@ -23,7 +23,7 @@ use inode::Record;
 use layout::{BLOCK_BYTES, Block};
 use live_holdings::Holdings;
 use live_places::Tables;
-use live_plans::{Plan, Planned, fill, link};
+use live_plans::{NewBlock, Plan, Planned, fill, link};
 use metadata::Metadata;
 use smallvec::smallvec;
 use spares::Spares;
@@ -31,9 +31,18 @@ use std::alloc::{AllocError, Global};
 use std::sync::Arc;
 use updates::{Cell, Cells, Change};
 
-/// The plan by which a piece is written where `aim` has settled, over these bytes of the block that is seen there. Behind
-/// the last block it is put over zeroes. What is behind the piece stays, also behind the file's size: a stop may show an
-/// older, larger size with these bytes.
+/// A piece that is written at the start of a block.
+#[derive(Clone, Copy)]
+pub struct Piece<'a> {
+    /// Its bytes.
+    pub bytes: &'a [u8],
+    /// The bytes of the block that it is put over.
+    pub before: &'a Block,
+}
+
+/// The plan by which a piece is written where `aim` has settled, over the bytes of the block that is seen there. Behind the
+/// last block it is put over zeroes. What is behind the piece stays, also behind the file's size: a stop may show an older,
+/// larger size with these bytes.
 ///
 /// Whatever the bytes of the block were, the same plan is that of a piece, which reaches to the end of the block or of
 /// the file. Spare blocks serve for its new bytes, where there are some.
@@ -42,24 +51,25 @@ pub fn write(
     metadata: &Metadata,
     holdings: &Holdings,
     target: &Target,
-    before: &Block,
-    piece: &[u8],
+    piece: &Piece,
     spares: &mut Spares,
 ) -> Result<Planned, AllocError>
     requires volume { IsOfVolumeWith metadata.now holdings.now }
-    requires aimed { (h : ℕ) × (k : ℕ) × IsAimed metadata.now holdings.now h k piece.now target.now }
+    requires aimed { (h : ℕ) × (k : ℕ) × IsAimed metadata.now holdings.now h k piece.now.bytes.now target.now }
     requires wide { block_count metadata.now.geometry ≤ length holdings.now.held }
-    ensures planned { IfOk result (λ planned. (h k : ℕ) → IsAimed metadata.now holdings.now h k piece.now target.now
-        → IsPlannedToTheByte metadata.now holdings.now (seen_before target.now before.now) (Write h k piece.now) Done planned.plan (with_held holdings.now planned.holds.items)) }
-    ensures planned_anyhow { IfOk result (λ planned. (h k : ℕ) → IsAimed metadata.now holdings.now h k piece.now target.now
-        → (other : List ℕ) × IsPlannedWith metadata.now holdings.now [] (Write h k other) Done planned.plan (with_held holdings.now planned.holds.items)) }
+    ensures planned { IfOk result (λ planned. (h k : ℕ) → IsAimed metadata.now holdings.now h k piece.now.bytes.now target.now
+        → IsPlannedToTheByte metadata.now holdings.now (seen_before target.now piece.now.before.now) (Write h k piece.now.bytes.now) Done planned.plan
+        (with_held holdings.now planned.holds.items)) }
+    ensures planned_anyhow { IfOk result (λ planned. (h k : ℕ) → IsAimed metadata.now holdings.now h k piece.now.bytes.now target.now
+        → (other : List ℕ) × IsPlannedWith metadata.now holdings.now [] (Write h k other) Done planned.plan
+        (with_held holdings.now planned.holds.items)) }
     ensures holds { IfOk result (λ planned. All (λ a. a < block_count metadata.now.geometry) planned.holds.items) }
 {
-    let owner = metadata.frozen().record(target.file);
-    let end = BLOCK_BYTES as u32 * target.index + piece.len() as u32;
-    let size = if end > owner.size { end } else { owner.size };
-    let bytes = overwritten(alloc, &target.place, before, piece, spares)?;
-    let plan = updates(alloc, metadata, target, &owner, bytes, size, spares)?;
+    // What is kept is all metadata.
+    metadata.frozen(); // for the proof: its clause `metadata`
+    let end = BLOCK_BYTES as u32 * target.index + piece.bytes.len() as u32;
+    let bytes = overwritten(alloc, &target.place, piece.before, piece.bytes, spares)?;
+    let plan = updates(alloc, metadata, target, bytes, end, spares)?;
     let holds = held_blocks(alloc, &target.place)?;
     Ok(Planned { plan, holds })
 }
@@ -112,47 +122,52 @@ fn overwritten_in_part(
     spares.share(alloc, &bytes)
 }
 
-/// The updates by which the block that is written gets its bytes, and the file, which has this record, this size.
+/// The updates by which the block that is written gets its bytes, which end here in the file, and the file the size that it
+/// needs for them.
 fn updates(
     alloc: Global,
     metadata: &Metadata,
     target: &Target,
-    owner: &Record,
     bytes: Arc<Block>,
-    size: u32,
+    end: u32,
     spares: &mut Spares,
 ) -> Result<Plan, AllocError>
-    requires owner { owner.now ≡ (frozen_view metadata.now).inode target.now.file }
     requires pointers { HasPointers metadata.now target.now.file }
     requires fits { (holdings : Held) × Fits metadata.now holdings target.now }
-    ensures { IfOk result (λ plan. GoesOn (record { geometry = metadata.now.geometry; file = target.now.file; updates = [] }) plan (updates_at metadata.now target.now (arc_value bytes) size)) }
+    ensures { IfOk result (λ plan. GoesOn (record { geometry = metadata.now.geometry; file = target.now.file; updates = [] }) plan
+        (updates_at metadata.now target.now (arc_value bytes) (max ((frozen_view metadata.now).inode target.now.file).size end))) }
 {
-    let mut plan = Plan::new(alloc, metadata.frozen().geometry(), target.file);
+    let frozen = metadata.frozen();
+    let owner = frozen.record(target.file);
+    let size = owner.size.max(end);
+    let mut plan = Plan::new(alloc, frozen.geometry(), target.file);
     match target.place {
         Place::InPlace { block } => {
             replace(alloc, &mut plan, block, bytes)?;
             let after = smallvec![in alloc; Cell::Block(block)]?;
-            enlarge(&mut plan, target.file, owner, size, after)?;
+            enlarge(&mut plan, target.file, &owner, size, after)?;
         }
         Place::Behind { block, tables } => {
             fill(alloc, &mut plan, block, bytes)?;
-            repoint(
-                alloc, metadata, &mut plan, target, owner, block, tables, size, spares,
-            )?;
+            let new = NewBlock {
+                number: target.file,
+                owner,
+                position: target.index,
+                block,
+                tables,
+            };
+            repoint(alloc, metadata, &mut plan, spares, &new, size)?;
         }
         Place::Elsewhere { block, .. } => {
             fill(alloc, &mut plan, block, bytes)?;
-            repoint(
-                alloc,
-                metadata,
-                &mut plan,
-                target,
+            let new = NewBlock {
+                number: target.file,
                 owner,
+                position: target.index,
                 block,
-                Tables::none(),
-                size,
-                spares,
-            )?;
+                tables: Tables::none(),
+            };
+            repoint(alloc, metadata, &mut plan, spares, &new, size)?;
         }
     }
     Ok(plan)
@@ -187,46 +202,32 @@ fn enlarge(
     plan.push(Change::SetInode(number, larger), after)
 }
 
-/// Adds the updates by which a file with this record points to a new block at the position that is written, and gets this
-/// size. The pointer goes into the record, into a table that is there, or into the nearest of these new ones; the record is
-/// written only where it changes.
+/// Adds the updates by which a file points to a new block, and gets this size. The pointer goes into the record, into a table
+/// that is there, or into the nearest of the new ones; the record is written only where it changes.
 fn repoint(
     alloc: Global,
     metadata: &Metadata,
     plan: &mut Plan,
-    target: &Target,
-    owner: &Record,
-    block: u32,
-    tables: Tables,
-    size: u32,
     spares: &mut Spares,
+    new: &NewBlock,
+    size: u32,
 ) -> Result<(), AllocError>
     requires geometry { plan.old.geometry ≡ metadata.now.geometry }
-    requires owner { owner.now ≡ (frozen_view metadata.now).inode target.now.file }
-    requires sound { IsTrue (is_sound_at metadata.now.geometry (frozen_view metadata.now) target.now.file) }
-    requires room { target.now.index < most_blocks metadata.now.geometry }
-    requires block { IsTrue (is_data_address metadata.now.geometry block) }
-    requires tables { CanLink metadata.now target.now.file target.now.index tables }
+    requires owner { new.now.owner ≡ (frozen_view metadata.now).inode new.now.number }
+    requires sound { IsTrue (is_sound_at metadata.now.geometry (frozen_view metadata.now) new.now.number) }
+    requires room { new.now.position < most_blocks metadata.now.geometry }
+    requires block { IsTrue (is_data_address metadata.now.geometry new.now.block) }
+    requires tables { CanLink metadata.now new.now.number new.now.position new.now.tables }
     ensures { OnOk result (GoesOn plan.old plan.new
-        (repointed metadata.now.geometry target.now.file ((frozen_view metadata.now).inode target.now.file) target.now.index block size
-        (holder_at metadata.now target.now.file target.now.index block tables))) }
+        (repointed metadata.now.geometry new.now.number ((frozen_view metadata.now).inode new.now.number) new.now.position new.now.block size
+        (holder_at metadata.now new.now.number new.now.position new.now.block new.now.tables))) }
 {
-    let linked = link(
-        alloc,
-        metadata,
-        plan,
-        spares,
-        target.file,
-        owner,
-        target.index,
-        block,
-        tables,
-    )?;
+    let linked = link(alloc, metadata, plan, spares, new)?;
     let geometry = metadata.frozen().geometry();
-    if tables.is_empty() && geometry.pointer_place(target.index).is_some() {
-        return enlarge(plan, target.file, owner, size, linked.after);
+    if new.tables.is_empty() && geometry.pointer_place(new.position).is_some() {
+        return enlarge(plan, new.number, &new.owner, size, linked.after);
     }
     let mut changed = linked.record;
     changed.size = size;
-    plan.push(Change::SetInode(target.file, changed), linked.after)
+    plan.push(Change::SetInode(new.number, changed), linked.after)
 }

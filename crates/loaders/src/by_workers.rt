@@ -9,7 +9,7 @@ ghost use Rattle.layout.specs.declared.refusal.Refusal.TheVariants.{NoMemory};
 ghost use Rattle.model.specs.Image.{IsSuper, block_at};
 ghost use Rattle.model.specs.Layout.{block_count};
 ghost use Rattle.loaders.specs.Readers.{AreRead, IsFirstRefusal, Show};
-ghost use Rattle.workers.specs.Workers.{may_work};
+ghost use Rattle.worker_counts.specs.Workers.{may_work};
 
 use crate::looking::kinds_by;
 use crate::placing::place_all;
@@ -21,7 +21,7 @@ use std::alloc::Global;
 use std::mem;
 use std::sync::Arc;
 use std::thread::Threads;
-use workers::{MOST_WORKERS, OpenGate, each_group};
+use workers::{OpenGate, Workers, each_group};
 
 /// Reads the metadata of a device's image as `load` does, by as many workers as there are other devices, which show the same
 /// image: each reads the blocks that each volume has of the groups that it draws, and those of the directories whose records stand
@@ -51,10 +51,9 @@ pub fn load_by<D: Device + Send + Drop>(
     ensures others { OnOk result (AreRead D.honest D.image D.held others.old.items others.new.items) }
     ensures lost { IfErr result (λ refusal. ((refusal ≡ NoMemory) × (others.new.items ≡ [])) ⊎ AreRead D.honest D.image D.held others.old.items others.new.items) }
 {
-    if others.is_empty() || others.len() > MOST_WORKERS {
+    let Ok(workers) = Workers::for_each(others.as_slice()) else {
         return Ok(load(alloc, device)?);
-    }
-    let workers = others.len();
+    };
     let (geometry, first) = read_first(device)?;
     let blocks = match read_frame(rt, alloc, &geometry, &first, others) {
         Ok(blocks) => blocks,

@@ -1,15 +1,14 @@
 //! What the records tell of all inode numbers, found out by workers.
-ghost use Rattle.std.specs.Prelude.{◌≡◌, ◌<◌, ℕ, All, IfOk, IsOkUnless, IsTrue, Some, length, slice_get, vec_len};
+ghost use Rattle.std.specs.Prelude.{◌≡◌, ◌<◌, ℕ, All, IfOk, IsOkUnless, Some, length, slice_get, vec_len};
 ghost use Rattle.frozen.specs.Kept.{frozen_view};
 ghost use Rattle.frozen.specs.Kinds.{AreKinds};
 ghost use Rattle.loaders.specs.Looking.{TellsKinds};
-ghost use Rattle.workers.specs.Workers.{may_work};
 
 use frozen::{Held, Kind};
 use layout::Refusal;
 use std::alloc::{AllocError, Global};
 use std::thread::Threads;
-use workers::{OpenGate, Work, each_group};
+use workers::{OpenGate, Work, Workers, each_group};
 
 /// A worker that looks at the records of groups.
 #[derive(Drop)]
@@ -37,9 +36,8 @@ pub(crate) fn kinds_by(
     rt: &(impl Threads + Sync),
     alloc: Global,
     held: &Held,
-    workers: usize,
+    workers: Workers,
 ) -> Result<Vec<Kind>, Refusal>
-    requires { IsTrue (may_work workers) }
     ensures known { IfOk result (λ kinds. AreKinds held.now.geometry (frozen_view held.now) kinds.items) }
     ensures error { IsOkUnless result Refusal.NoMemory }
 {
@@ -49,12 +47,12 @@ pub(crate) fn kinds_by(
 }
 
 /// So many workers.
-fn lookers(alloc: Global, held: &Held, workers: usize) -> Result<Vec<Looker<'_>>, AllocError>
-    ensures count { IfOk result (λ works. vec_len works ≡ workers) }
+fn lookers(alloc: Global, held: &Held, workers: Workers) -> Result<Vec<Looker<'_>>, AllocError>
+    ensures count { IfOk result (λ works. vec_len works ≡ workers.count) }
     ensures alike { IfOk result (λ works. All (λ work. work.held.now ≡ held.now) works.items) }
 {
-    let mut works = Vec::with_capacity(alloc, workers)?;
-    for _worker in 0..workers {
+    let mut works = Vec::with_capacity(alloc, workers.count() as usize)?;
+    for _worker in 0..workers.count() {
         works.push(Looker { alloc, held })?;
     }
     Ok(works)

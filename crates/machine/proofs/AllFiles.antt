@@ -5,7 +5,7 @@ use Rattle.model.specs.Cells.{put_at}
 use Rattle.findings.specs.declared.repair.Repair.{Repair}
 use Rattle.findings.specs.declared.repair.Repair.TheVariants.{DropInode, LowerCount, FreeBlock, FreeNumber}
 use Rattle.machine.specs.State.{State}
-use Rattle.machine.specs.Command.{Command, Create, Mkdir, Link, Unlink, Rmdir, Rename, Open, Close, Read, Write, Truncate, SetAttributes, ListNames, Stat, Freeze, SnapRead, Release, Install, RepairAt, Flush, Sync, Answer, Done, Number, Bytes, Listed, Reply}
+use Rattle.machine.specs.Command.{Command, Create, Mkdir, Link, Unlink, Rmdir, Rename, Open, Close, Read, Write, Truncate, SetAttributes, ReadAttributes, ListNames, Stat, Freeze, SnapRead, Release, Install, RepairAt, Flush, Sync, Answer, Done, Number, Bytes, Listed, Reply}
 use Rattle.machine.specs.Causes.{Accepts, file_of}
 use Rattle.machine.specs.Effects.{closed, truncated}
 use Rattle.machine.specs.Snapshot.{released}
@@ -70,6 +70,7 @@ effect_stays geo g old new (SetAttributes i words) Done j b a e is other =
     subst (λ (t : State). Stays geo old.view t.view j) (sym e) (inl (set_file geo old.view i words (set_sound geo old new b i words a.0) j))
 effect_stays geo g old new (ListNames p) (Listed names) j b a e is other = unchanged geo old new j e.1
 effect_stays geo g old new (Stat p) answer j b a e is other = unchanged geo old new j e.1
+effect_stays geo g old new (ReadAttributes i) answer j b a e is other = unchanged geo old new j e.1
 effect_stays geo g old new Freeze answer j b a e is other = remarked geo old new j _ refl refl e.1
 effect_stays geo g old new (SnapRead s i k) (Bytes bytes) j b a e is other = unchanged geo old new j e.3
 effect_stays geo g old new (Release s) Done j b a e is other = remarked geo old new j (released old s) refl refl e

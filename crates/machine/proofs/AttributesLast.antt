@@ -1,16 +1,17 @@
 -- The attributes of an inode that is in use and stays so are as they were, unless a command sets them.
-use Rattle.std.proofs.Common.{◌≡◌, ◌+◌, ◌-◌, ◌*◌, ◌/◌, ℕ, Bool, true, false, not, ◌&&◌, eqb, List, [], ◌∷◌, ◌⊎◌, inl, inr, refl, sym, ap, ◌∙◌, subst, replicate, IsTrue, Ok, Err}
+use Rattle.std.proofs.Common.{◌≡◌, ◌+◌, ◌-◌, ◌*◌, ℕ, Bool, true, false, not, ◌&&◌, eqb, List, [], ◌∷◌, ◌⊎◌, inl, inr, refl, sym, ap, ◌∙◌, subst, Ok, Err}
 use Rattle.std.proofs.lemmas.Bool.{cases_Bool, cases_eq, both_ways, cond-true, cond-false}
 use Rattle.model.specs.Layout.{Geometry}
 use Rattle.model.specs.View.{View, Inode, free_inode}
-use Rattle.model.specs.Cells.{Update, SetInode, SetNumber, SetBlock, SetBytes, put_at, updated, updated_all}
+use Rattle.model.specs.Cells.{Update, SetInode, SetNumber, SetBlock, SetBytes, updated, updated_all}
+use Rattle.model.proofs.Places.{put_here, put_there, put_same}
 use Rattle.findings.specs.declared.repair.Repair.{Repair}
 use Rattle.findings.specs.declared.repair.Repair.TheVariants.{DropInode, LowerCount, FreeBlock, FreeNumber}
 use Rattle.machine.specs.Attributes.{IsSettingOf}
 use Rattle.machine.specs.Balance.{Balance}
 use Rattle.machine.specs.Causes.{file_of}
-use Rattle.machine.specs.Cells.{Points, InRecord, InTable, InNewTable, Places, MakesRoom, Enters, with_entry}
-use Rattle.machine.specs.Command.{Command, Create, Mkdir, Link, Unlink, Rmdir, Rename, Open, Close, Read, Write, Truncate, SetAttributes, ListNames, Stat, Freeze, SnapRead, Release, Install, RepairAt, Flush, Sync, Answer, Done, Number, Bytes, Listed, Reply}
+use Rattle.machine.specs.Cells.{Points, InRecord, InTable, InNewTable, Places, MakesRoom, Enters}
+use Rattle.machine.specs.Command.{Command, Create, Mkdir, Link, Unlink, Rmdir, Rename, Open, Close, Read, Write, Truncate, SetAttributes, ReadAttributes, ListNames, Stat, Freeze, SnapRead, Release, Install, RepairAt, Flush, Sync, Answer, Done, Number, Bytes, Listed, Reply}
 use Rattle.machine.specs.Effects.{lets_go, swept, relinked, emptied, with_links, new_directory, file_with, Renames, Within, Across, Stores, InPlace, Moved, Appended}
 use Rattle.machine.specs.Paths.{holder, name_in, number_at, slot_at}
 use Rattle.machine.specs.Repairs.{repaired}
@@ -20,7 +21,6 @@ use Rattle.machine.specs.Step.{Step, Effect}
 use Rattle.machine.proofs.OtherLinks.{other_links}
 use Rattle.machine.proofs.Placements.{placed_whole}
 use Rattle.machine.proofs.Pointing.{IsLike, founded, pointed_like}
-use Rattle.machine.proofs.Shapes.{put_here, put_there, put_same}
 
 -- inode j is of the mode that it was, with the attributes that it had
 pub record Same (v w : View) (j : ℕ) : Type 0 where
@@ -186,6 +186,7 @@ module _ (geo : Geometry) (old new : State) (j : ℕ) where
     effect_last (SetAttributes i words) Done e other = from _ e (inr (alike old.view _ j (put_there old.view.inode i j _ other)))
     effect_last (ListNames p) (Listed names) e other = same e.1
     effect_last (Stat p) answer e other = same e.1
+    effect_last (ReadAttributes i) answer e other = same e.1
     effect_last Freeze answer e other = kept _ refl e.1
     effect_last (SnapRead s i k) (Bytes bytes) e other = same e.3
     effect_last (Release s) Done e other = kept _ refl e

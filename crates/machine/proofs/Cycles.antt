@@ -5,6 +5,7 @@ use Rattle.std.proofs.lemmas.Bool.{cases_eq, both_ways}
 use Rattle.model.specs.Layout.{Geometry, IsGeometry}
 use Rattle.model.specs.View.{View}
 use Rattle.model.specs.Cells.{put_at}
+use Rattle.model.proofs.Places.{put_here, put_there}
 use Rattle.findings.specs.declared.repair.Repair.{Repair}
 use Rattle.layout.specs.declared.refusal.Refusal.TheVariants.{PlanStands, TooManySnapshots}
 use Rattle.machine.specs.Standing.{Snapshots, image_at, latest_at, begun, ended, too_many, AreNumbered}
@@ -17,7 +18,6 @@ use Rattle.machine.specs.Step.{Step, Effect, Run}
 use Rattle.machine.specs.Runs.{IsTaken}
 use Rattle.machine.specs.Balance.{Balance, Exact, OwesNothing}
 use Rattle.machine.proofs.Walks.{quiet, when_none}
-use Rattle.machine.proofs.Shapes.{put_here, put_there}
 use Rattle.machine.proofs.Exactness.{exact}
 use Rattle.machine.proofs.Paying.{done_plan}
 use Rattle.machine.proofs.AllSteps.{run_keeps, run_owes_nothing}

@@ -7,13 +7,13 @@ use Rattle.model.specs.Uses.{is_sound_at, is_directory_at, blocks_of}
 use Rattle.model.specs.Slots.{Empty, Good, slot}
 use Rattle.model.specs.Reach.{IsReachableDirectory, slot_count}
 use Rattle.model.proofs.SlotLemmas.{reachable_directory}
+use Rattle.model.proofs.SameTree.{kept}
 use Rattle.findings.specs.declared.repair.Repair.{Repair}
 use Rattle.machine.specs.State.{State}
 use Rattle.machine.specs.Paths.{is_part}
 use Rattle.machine.specs.Room.{is_empty, is_full}
 use Rattle.machine.specs.Cells.{Enters, with_entry}
 use Rattle.machine.proofs.Decisions.{any_same}
-use Rattle.machine.proofs.Trees.{kept}
 use Rattle.machine.proofs.Behind.{behind_dots}
 use Rattle.machine.proofs.Naming.{once}
 use Rattle.machine.proofs.Growing.{Roomy, makes_room}

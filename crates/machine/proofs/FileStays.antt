@@ -10,10 +10,10 @@ use Rattle.model.specs.Slots.{Slot, Absent, slot}
 use Rattle.model.specs.Rules.{UsesAreClaims}
 use Rattle.model.proofs.SlotLemmas.{slot_content}
 use Rattle.model.proofs.UseLemmas.{claim_parts}
+use Rattle.model.proofs.Places.{put_here, put_there}
 use Rattle.machine.specs.State.{State, is_open}
 use Rattle.machine.specs.Cells.{with_slot, with_entry}
 use Rattle.machine.specs.Effects.{lets_go, swept, relinked}
-use Rattle.machine.proofs.Shapes.{put_here, put_there}
 use Rattle.machine.proofs.OtherLinks.{other_links, shape, modes, uses}
 use Rattle.machine.proofs.SameFiles.{SameFile, same_file, then_file, record_file, block_file}
 

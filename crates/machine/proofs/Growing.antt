@@ -11,12 +11,12 @@ use Rattle.findings.specs.declared.repair.Repair.{Repair}
 use Rattle.model.proofs.SlotLemmas.{reachable_directory}
 use Rattle.model.proofs.Uses.{use_number, use_has, has_below}
 use Rattle.model.proofs.Slots.{slot_claimed}
+use Rattle.model.proofs.SameTree.{SameTree, same_tree}
 use Rattle.machine.specs.State.{State}
 use Rattle.machine.specs.Room.{has_room, is_full}
 use Rattle.machine.specs.Cells.{MakesRoom, Places}
 use Rattle.machine.proofs.Bools.{or_right}
 use Rattle.machine.proofs.Decisions.{sound_parts, directory_is_sound}
-use Rattle.machine.proofs.Trees.{SameTree, same_tree}
 use Rattle.machine.proofs.ZeroBlocks.{zero_block, zero_whole, zero_slot}
 use Rattle.machine.proofs.Placing.{Placed, sounds, directories, added_ledger, placed_directory, grown_slot}
 use Rattle.machine.proofs.Placements.{places}

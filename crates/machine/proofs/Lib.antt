@@ -19,10 +19,6 @@ mod PathLemmas
 mod RowSteps
 mod RowRun
 mod VersionRows
-mod Counts
-mod Trees
-mod Shapes
-mod OneSlots
 pub mod Entries
 mod Naming
 pub mod NewFile
@@ -39,8 +35,6 @@ mod SlotEvolves
 mod Emptying
 mod Relinked
 mod Unlinking
-mod Prune
-mod Graft
 mod GraftCount
 mod EmptyingDirectory
 mod Removing

@@ -11,6 +11,9 @@ use Rattle.model.proofs.SlotLemmas.{reachable_directory, directory_number}
 use Rattle.model.proofs.Shape.{many_blocks}
 use Rattle.model.proofs.Uses.{use_number, number_use}
 use Rattle.model.proofs.Slots.{slot_claimed, slot_absent}
+use Rattle.model.proofs.Places.{put_here, put_there}
+use Rattle.model.proofs.SameTree.{kept, reachable_back}
+use Rattle.model.proofs.Graft.{IsLoose}
 use Rattle.layout.specs.declared.refusal.Refusal.TheVariants.{TooBig}
 use Rattle.machine.specs.State.{State}
 use Rattle.machine.specs.Command.{Mkdir}
@@ -25,11 +28,9 @@ use Rattle.machine.proofs.Walks.{quiet, when_none}
 use Rattle.machine.proofs.Holders.{IsNewPlace, new_place}
 use Rattle.machine.proofs.Behind.{behind_dots}
 use Rattle.machine.proofs.Records.{new_directory_sound, new_directory_first, new_directory_uses}
-use Rattle.machine.proofs.Shapes.{put_here, put_there}
 use Rattle.machine.proofs.WholeBlocks.{put_whole}
 use Rattle.machine.proofs.NewFile.{unsound_at}
 use Rattle.machine.proofs.Naming.{once}
-use Rattle.machine.proofs.Trees.{kept, reachable_back}
 use Rattle.machine.proofs.Unlinking.{once_here, once_there}
 use Rattle.machine.proofs.OtherLinks.{other_links, shape, same, slots}
 use Rattle.machine.proofs.NewLinks.{raised}
@@ -38,7 +39,6 @@ use Rattle.machine.proofs.Founding.{Founded, founded_ledger, founded_tree, found
 use Rattle.machine.proofs.EntersFile.{full_same}
 use Rattle.machine.proofs.Growing.{Roomy, makes_room}
 use Rattle.machine.proofs.DotBlocks.{own_slot, parent_slot, rest_slot, dots_whole}
-use Rattle.machine.proofs.Graft.{IsLoose}
 use Rattle.machine.proofs.GraftCount.{came_of}
 use Rattle.machine.proofs.EnteringDirectory.{grafted_ledger}
 
@@ -173,8 +173,8 @@ module _ (geo : Geometry) (g : IsGeometry geo) (old new : State) (b : Balance ge
     loose : IsLoose geo r i d
     loose = record {
       directory = sym (room.directories i) ∙ dir_new;
-      no_place = λ e t z q. founded_unreached geo (Owes geo old) (once (Good d [])) (came_of d i) (record old { view = v1 }) l1 w i founded others_slack own_slack
-          (reachable_back geo w r room.tree i (named_reachable geo r room.ledger.rules e t i q.reachable q.names));
+      no_name = λ e t q names. founded_unreached geo (Owes geo old) (once (Good d [])) (came_of d i) (record old { view = v1 }) l1 w i founded others_slack own_slack
+          (reachable_back geo w r room.tree i (named_reachable geo r room.ledger.rules e t i q names));
       dot = (46 ∷ [], still 0 i (46 ∷ []) dot);
       dot_dot = (46 ∷ 46 ∷ [], still 1 d (46 ∷ 46 ∷ []) dot_dot);
       rest = λ t two. elim (room.slots i t) [

@@ -5,6 +5,7 @@ use Rattle.model.specs.Layout.{Geometry, IsGeometry}
 use Rattle.model.specs.View.{View}
 use Rattle.model.specs.Cells.{SetBytes, updated}
 use Rattle.model.specs.Uses.{is_sound_at}
+use Rattle.model.proofs.Places.{put_there}
 use Rattle.machine.specs.State.{State}
 use Rattle.machine.specs.Command.{Mkdir}
 use Rattle.machine.specs.Paths.{holder, name_in}
@@ -14,7 +15,6 @@ use Rattle.machine.specs.Effects.{MakesDirectory, new_directory, with_links}
 use Rattle.machine.specs.Balance.{Balance, Owes}
 use Rattle.machine.specs.Files.{IsFile}
 use Rattle.machine.proofs.Holders.{IsNewPlace}
-use Rattle.machine.proofs.Shapes.{put_there}
 use Rattle.machine.proofs.NewFile.{unsound_at}
 use Rattle.machine.proofs.OtherLinks.{other_links}
 use Rattle.machine.proofs.GraftCount.{came_of}

@@ -1,9 +1,8 @@
 -- A view with the record of a new file at a free number, which nothing names yet.
-use Rattle.std.proofs.Common.{◌≡◌, ◌/◌, ℕ, Bool, true, false, cond, ◌&&◌, List, [], ◌∷◌, inl, inr, refl, sym, ap, ◌∙◌, arith, IsTrue, IsFalse, None}
-use Rattle.std.proofs.lemmas.Bool.{le-leb, cases_eq, cases_Bool, both_ways, false_from_ne_true}
+use Rattle.std.proofs.Common.{◌≡◌, ◌/◌, ℕ, Bool, true, false, cond, ◌&&◌, List, [], ◌∷◌, inl, inr, refl, sym, ap, ◌∙◌, arith, IsFalse, None}
+use Rattle.std.proofs.lemmas.Bool.{cases_eq, cases_Bool, both_ways, false_from_ne_true}
 use Rattle.model.specs.Layout.{Geometry, is_number}
 use Rattle.model.specs.View.{View, new_file}
-use Rattle.model.specs.Shape.{most_blocks}
 use Rattle.model.specs.Uses.{is_sound, is_sound_at, is_directory, is_directory_at, has_position, record_use, use_at}
 use Rattle.model.specs.Slots.{slot}
 use Rattle.model.specs.Cells.{SetInode, SetNumber, put_at, updated, updated_all}
@@ -12,12 +11,13 @@ use Rattle.model.proofs.Shape.{reach_parts}
 use Rattle.model.proofs.Steps.{use_sound, use_at_is}
 use Rattle.model.proofs.Uses.{use_has, record_uses_agree}
 use Rattle.model.proofs.Slots.{slots_of_uses}
+use Rattle.model.proofs.NewRecord.{record_uses}
+use Rattle.model.proofs.Places.{put_same}
 use Rattle.machine.specs.Effects.{file_with}
 use Rattle.machine.specs.Room.{IsFreeNumber}
 use Rattle.machine.proofs.Decisions.{sound_mode}
 use Rattle.machine.proofs.Tests.{and_false}
-use Rattle.machine.proofs.Records.{no_option, record_uses}
-use Rattle.machine.proofs.Shapes.{put_same}
+use Rattle.machine.proofs.Records.{no_option}
 
 -- the record of a new file has no position
 pub new_has_none : (geo : Geometry) (k : ℕ) → IsFalse (has_position geo new_file k)

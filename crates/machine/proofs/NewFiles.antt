@@ -10,6 +10,8 @@ use Rattle.model.specs.Slots.{Good, slot}
 use Rattle.model.specs.Reach.{IsReachableDirectory}
 use Rattle.model.proofs.SlotLemmas.{reachable_directory}
 use Rattle.model.proofs.Uses.{use_number, new_file_sound}
+use Rattle.model.proofs.Places.{put_here, put_there}
+use Rattle.model.proofs.SameTree.{kept}
 use Rattle.layout.specs.declared.refusal.Refusal.TheVariants.{TooBig}
 use Rattle.machine.specs.State.{State}
 use Rattle.machine.specs.Command.{Create}
@@ -23,10 +25,8 @@ use Rattle.machine.proofs.Decisions.{directory_is_sound}
 use Rattle.machine.proofs.Tests.{and_false}
 use Rattle.machine.proofs.Walks.{quiet, when_none}
 use Rattle.machine.proofs.Holders.{IsNewPlace, new_place}
-use Rattle.machine.proofs.Shapes.{put_here, put_there}
 use Rattle.machine.proofs.NewFile.{new_unused, unsound_at}
 use Rattle.machine.proofs.Naming.{once}
-use Rattle.machine.proofs.Trees.{kept}
 use Rattle.machine.proofs.Unlinking.{once_here, once_there}
 use Rattle.machine.proofs.Ledger.{Ledger, ledger, no_slack, Kept, kept_by}
 use Rattle.machine.proofs.Founding.{Founded, founded_ledger, founded_tree, founded_slots, founded_number}

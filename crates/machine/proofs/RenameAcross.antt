@@ -13,6 +13,10 @@ use Rattle.model.specs.Slots.{Empty, Good, slot}
 use Rattle.model.specs.Reach.{IsReachableDirectory}
 use Rattle.model.proofs.SlotLemmas.{names_stands, reachable_directory}
 use Rattle.model.proofs.UseLemmas.{claim_from}
+use Rattle.model.proofs.Places.{put_here, put_there}
+use Rattle.model.proofs.SameTree.{kept}
+use Rattle.model.proofs.SlotChange.{slot_uses, slot_others}
+use Rattle.model.proofs.SameReach.{reach_kept}
 use Rattle.machine.specs.State.{State}
 use Rattle.machine.specs.Paths.{holder, name_in, slot_at, number_at}
 use Rattle.machine.specs.Room.{is_full}
@@ -24,11 +28,8 @@ use Rattle.machine.proofs.Decisions.{reachable_sound}
 use Rattle.machine.proofs.Clears.{named_reachable}
 use Rattle.machine.proofs.Holders.{IsNewPlace}
 use Rattle.machine.proofs.Renaming.{IsPlace}
-use Rattle.machine.proofs.Shapes.{put_here, put_there}
 use Rattle.machine.proofs.Behind.{behind_dots}
-use Rattle.machine.proofs.Trees.{kept}
 use Rattle.machine.proofs.Naming.{once}
-use Rattle.machine.proofs.OneSlots.{slot_uses, slot_others, reach_kept}
 use Rattle.machine.proofs.Putting.{PutsEntry, puts_entry, entry_says}
 use Rattle.machine.proofs.Unlinking.{once_here}
 use Rattle.machine.proofs.Growing.{Roomy, makes_room}

@@ -12,15 +12,16 @@ use Rattle.model.specs.Uses.{is_sound, use_at}
 use Rattle.model.specs.Slots.{Slot, Good, Bad, slot, Names}
 use Rattle.model.specs.Reach.{IsReachableDirectory, IsReachable, IsEntry, HasEntries}
 use Rattle.model.specs.Rules.{ObeysRules, UsesAreClaims, SlotsAreRight}
+use Rattle.model.proofs.SlotChange.{slot_uses, slot_before, slot_now, slot_others, at_or_not}
+use Rattle.model.proofs.SameReach.{reach_obeys, slots_right}
 use Rattle.layout.specs.declared.refusal.Refusal.TheVariants.{IsRoot, BadName}
 use Rattle.machine.specs.Paths.{parts, parts_of, holder, name_in, slot_at, number_at, target, walk, last_part, is_part, slot_of}
 use Rattle.machine.specs.Cells.{with_slot}
 use Rattle.machine.specs.Causes.{top, bad_name, missing, is_root_path}
 use Rattle.machine.proofs.Walks.{when_none, no_error, target_found}
 use Rattle.machine.proofs.Holders.{good_parts}
-use Rattle.machine.proofs.OneSlots.{slot_uses, slot_before, slot_now, slot_others, reach_obeys}
 use Rattle.machine.proofs.Putting.{PutsEntry}
-use Rattle.machine.proofs.Naming.{ChangesName, once, at_or_not, kept, back, count_change, slots_right}
+use Rattle.machine.proofs.Naming.{ChangesName, once, kept, back, count_change}
 
 module _ (geo : Geometry) (v : View) (o : ObeysRules geo v) (i d s : ℕ) (first name entry : List ℕ) (p : PutsEntry geo v d s entry (Good i first) (Good i name))
     (reachable : IsReachableDirectory geo v d) (after_dots : 2 ≤ s) (new : (t j : ℕ) → slot geo v d t ≡ Good j name → ⊥) where
@@ -96,10 +97,10 @@ module _ (geo : Geometry) (v : View) (o : ObeysRules geo v) (i d s : ℕ) (first
   }
 
   names_right : SlotsAreRight geo w
-  names_right = slots_right geo v w d s (Good i first) (Good i name) change o
+  names_right = slots_right geo v w change.reach d s (Good i name) slots after o
       (λ e. (let bad : Good i name ≡ Bad = e in cc))
       (λ t j k other e two apart is. new t j (subst (λ (q : List ℕ). slot geo v d t ≡ Good j q) (same_name e) is))
-      (λ j other e. subst (λ q. IsTrue (is_sound geo (v.inode q))) (is_i e) (o.rule6.sound d s i reachable (first, before)))
+      (λ j other q e. subst (λ q. IsTrue (is_sound geo (v.inode q))) (is_i e) (o.rule6.sound d s i reachable (first, before)))
       (λ j h. h)
     where
       same_name : {k : ℕ} {other : List ℕ} → Good i name ≡ Good k other → other ≡ name

@@ -10,8 +10,8 @@ use Rattle.model.specs.Cells.{SetBytes, updated}
 use Rattle.model.specs.Shape.{most_blocks}
 use Rattle.model.specs.Uses.{is_sound_at, is_directory_at, use_at, claim_at, blocks_of, IsClaim}
 use Rattle.model.proofs.UseLemmas.{claim_parts}
+use Rattle.model.proofs.Places.{put_there}
 use Rattle.machine.specs.Cells.{seen, block_of}
-use Rattle.machine.proofs.Shapes.{put_there}
 use Rattle.machine.proofs.Placing.{same_uses}
 
 -- w shows of inode j what v shows, by the same blocks

@@ -1,11 +1,14 @@
 -- The attributes of an inode are set, which keeps the ledger and all files.
-use Rattle.std.proofs.Common.{◌≡◌, ℕ, false, not, ◌&&◌, List, length, inl, refl, sym, ap, ◌∙◌, subst, IsTrue, None}
+use Rattle.std.proofs.Common.{◌≡◌, ℕ, not, ◌&&◌, List, length, inl, refl, sym, ◌∙◌, subst, IsTrue, None}
 use Rattle.machine.proofs.Bools.{not_false}
 use Rattle.model.specs.Layout.{Geometry, is_number}
 use Rattle.model.specs.View.{View, Inode, with_attributes}
 use Rattle.model.specs.Cells.{SetInode, updated}
 use Rattle.model.specs.Uses.{is_sound, is_sound_at, IsClaim}
 use Rattle.model.specs.Rules.{ObeysRules}
+use Rattle.model.proofs.SameShape.{SameShape}
+use Rattle.model.proofs.NewRecord.{record_shape}
+use Rattle.model.proofs.Places.{put_same}
 use Rattle.layout.specs.declared.refusal.Refusal.TheVariants.{NotFound}
 use Rattle.findings.specs.declared.repair.Repair.{Repair}
 use Rattle.machine.specs.State.{State}
@@ -20,7 +23,6 @@ use Rattle.machine.proofs.Ledger.{Ledger, Kept, kept_by, ledger, no_slack}
 use Rattle.machine.proofs.Rewrites.{Rewrites}
 use Rattle.machine.proofs.Rewriting.{rewritten_kept}
 use Rattle.machine.proofs.SameFiles.{SameFile}
-use Rattle.machine.proofs.Shapes.{SameShape, body_shape, put_same}
 use Rattle.machine.proofs.Tests.{test_claims, claims_tested}
 use Rattle.machine.proofs.Walks.{quiet, when_none}
 
@@ -32,7 +34,7 @@ module _ (geo : Geometry) (v : View) (i : ℕ) (words : List ℕ) (sound : IsTru
   w = updated v (SetInode i set)
 
   body : SameShape geo v w
-  body = let s = (sound_parts geo v i sound).1 in body_shape geo v i set (record { sound = s; still_sound = s; mode = refl; blocks = refl; direct = refl; indirect = refl; double = refl })
+  body = let s = (sound_parts geo v i sound).1 in record_shape geo v i set s s refl refl refl refl refl
 
   module _ (o : ObeysRules geo v) (whole_v : HasWholeBlocks geo v) (records_v : HasWholeRecords v) where
     was : (k a : ℕ) → IsClaim geo w i k a → IsClaim geo v i k a

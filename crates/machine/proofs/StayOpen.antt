@@ -4,16 +4,16 @@ use Rattle.std.proofs.lemmas.Bool.{cases_Bool, cond-true, cond-false}
 use Rattle.model.specs.Layout.{Geometry}
 use Rattle.model.specs.View.{free_inode}
 use Rattle.model.specs.Cells.{SetInode, SetNumber, updated_all, put_at}
+use Rattle.model.proofs.Places.{put_there}
 use Rattle.findings.specs.declared.repair.Repair.{Repair}
 use Rattle.findings.specs.declared.repair.Repair.TheVariants.{DropInode, LowerCount, FreeBlock, FreeNumber}
 use Rattle.machine.specs.State.{State, open_at, handle_count, is_open}
-use Rattle.machine.specs.Command.{Command, Create, Mkdir, Link, Unlink, Rmdir, Rename, Open, Close, Read, Write, Truncate, SetAttributes, ListNames, Stat, Freeze, SnapRead, Release, Install, RepairAt, Flush, Sync, Answer, Done, Number, Bytes, Listed}
+use Rattle.machine.specs.Command.{Command, Create, Mkdir, Link, Unlink, Rmdir, Rename, Open, Close, Read, Write, Truncate, SetAttributes, ReadAttributes, ListNames, Stat, Freeze, SnapRead, Release, Install, RepairAt, Flush, Sync, Answer, Done, Number, Bytes, Listed}
 use Rattle.machine.specs.Causes.{file_of}
 use Rattle.machine.specs.Paths.{holder, slot_at, number_at}
 use Rattle.machine.specs.Effects.{lets_go, swept, relinked, emptied, removed, closed, size_after, Stores, InPlace, Moved, Appended, Renames, Within, Across, Opens}
 use Rattle.machine.specs.Repairs.{repaired}
 use Rattle.machine.specs.Step.{Effect}
-use Rattle.machine.proofs.Shapes.{put_there}
 use Rattle.machine.proofs.Tests.{not_some}
 use Rattle.machine.proofs.Relinked.{relinked_opened}
 
@@ -86,6 +86,7 @@ effect_opened geo old new (Truncate m n) Done h i e was other = by_table geo old
 effect_opened geo old new (SetAttributes j words) Done h i e was other = by_table geo old new h i was (ap (λ (s : State). s.opened) e)
 effect_opened geo old new (ListNames p) (Listed names) h i e was other = by_table geo old new h i was (ap (λ (s : State). s.opened) e.1)
 effect_opened geo old new (Stat p) answer h i e was other = by_table geo old new h i was (ap (λ (s : State). s.opened) e.1)
+effect_opened geo old new (ReadAttributes j) answer h i e was other = by_table geo old new h i was (ap (λ (s : State). s.opened) e.1)
 effect_opened geo old new Freeze answer h i e was other = by_table geo old new h i was (ap (λ (s : State). s.opened) e.1)
 effect_opened geo old new (SnapRead s j k) (Bytes bytes) h i e was other = by_table geo old new h i was (ap (λ (s : State). s.opened) e.3)
 effect_opened geo old new (Release s) Done h i e was other = by_table geo old new h i was (ap (λ (s : State). s.opened) e)

@@ -10,6 +10,7 @@ use Rattle.model.specs.Cells.{put_at}
 use Rattle.findings.specs.declared.repair.Repair.{Repair}
 use Rattle.findings.specs.declared.repair.Repair.TheVariants.{DropInode, LowerCount, FreeBlock, FreeNumber}
 use Rattle.model.specs.Rules.{ObeysRules}
+use Rattle.model.proofs.Places.{put_here, put_there}
 use Rattle.layout.specs.declared.refusal.Refusal.TheVariants.{AlreadyDone, IsDirectory, BadName}
 use Rattle.machine.specs.Below.{when}
 use Rattle.machine.specs.State.{State, Plan, open_at, is_open, IsOpen, is_kept, snapshot_at, latest}
@@ -31,7 +32,6 @@ use Rattle.machine.proofs.Handles.{opened_kept, closed_kept}
 use Rattle.machine.proofs.Snapshots.{at_here, at_other}
 use Rattle.machine.proofs.Ledger.{Kept, ledger}
 use Rattle.machine.proofs.Debts.{already, found_before}
-use Rattle.machine.proofs.Shapes.{put_here, put_there}
 use Rattle.machine.proofs.Closing.{closing}
 use Rattle.machine.proofs.Repairing.{inode_dropped, count_lowered}
 use Rattle.machine.proofs.Unmarking.{number_freed, block_freed}

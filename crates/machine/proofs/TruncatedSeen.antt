@@ -8,6 +8,7 @@ use Rattle.model.specs.View.{View, Inode}
 use Rattle.model.specs.Uses.{is_sound, is_sound_at, blocks_of, record_use, IsUse}
 use Rattle.model.proofs.UseLemmas.{claim_from}
 use Rattle.model.proofs.Uses.{use_number, number_use, record_uses_agree}
+use Rattle.model.proofs.Places.{put_here, put_there}
 use Rattle.machine.specs.State.{State}
 use Rattle.machine.specs.Command.{Truncate, Done}
 use Rattle.machine.specs.Cells.{seen, block_of}
@@ -16,7 +17,6 @@ use Rattle.machine.specs.Effects.{truncated}
 use Rattle.machine.specs.Balance.{Balance}
 use Rattle.machine.specs.Step.{Step}
 use Rattle.machine.proofs.Decisions.{sound_mode, sound_parts}
-use Rattle.machine.proofs.Shapes.{put_here, put_there}
 use Rattle.machine.proofs.Reading.{claimed}
 use Rattle.machine.proofs.SameFiles.{SameFile, record_file}
 use Rattle.machine.proofs.Truncating.{shorter_uses, truncate_allows}

@@ -9,6 +9,7 @@ use Rattle.model.specs.Uses.{is_sound, is_sound_at, is_directory, is_directory_a
 use Rattle.model.proofs.Shape.{more_reach}
 use Rattle.model.proofs.Steps.{use_sound}
 use Rattle.model.proofs.Uses.{use_has, use_number, number_use, sound_few, same_field, record_uses_agree}
+use Rattle.model.proofs.Places.{put_here, put_there, put_same}
 use Rattle.layout.specs.declared.refusal.Refusal.TheVariants.{BadIndex}
 use Rattle.machine.specs.State.{State}
 use Rattle.machine.specs.Command.{Truncate}
@@ -19,7 +20,6 @@ use Rattle.machine.proofs.Decisions.{sound_parts}
 use Rattle.machine.proofs.Tests.{test_claims}
 use Rattle.machine.proofs.OpenHandles.{opened_file}
 use Rattle.machine.proofs.Walks.{quiet, when_none}
-use Rattle.machine.proofs.Shapes.{put_here, put_there, put_same}
 use Rattle.machine.proofs.FileRecords.{file_mode, file_sound}
 use Rattle.machine.proofs.FileTrees.{file_tree}
 use Rattle.machine.proofs.Ledger.{Ledger, ledger, no_slack, Kept, kept_by}

@@ -8,6 +8,7 @@ use Rattle.model.specs.Shape.{most_blocks}
 use Rattle.model.specs.Uses.{is_sound_at, is_directory_at, use_at, blocks_of, IsClaim}
 use Rattle.model.specs.Rules.{ObeysRules}
 use Rattle.model.proofs.UseLemmas.{claim_from}
+use Rattle.model.proofs.Places.{put_here, put_there}
 use Rattle.machine.specs.State.{State}
 use Rattle.machine.specs.Command.{Write, Done}
 use Rattle.machine.specs.Cells.{seen, block_of}
@@ -16,7 +17,6 @@ use Rattle.machine.specs.Effects.{Stores, InPlace, Moved, Appended, size_after, 
 use Rattle.machine.specs.Whole.{HasWholeBlocks, HasWholeRecords}
 use Rattle.machine.specs.Step.{Step}
 use Rattle.machine.specs.Balance.{Balance}
-use Rattle.machine.proofs.Shapes.{put_here, put_there}
 use Rattle.machine.proofs.Reading.{claimed}
 use Rattle.machine.proofs.WriteInPlace.{same_blocks, only, uses}
 use Rattle.machine.proofs.Writing.{placed, placed_new, write_allows}

@@ -16,7 +16,7 @@ use Rattle.layout.specs.declared.refusal.Refusal.TheVariants.{NotFound, Exists, 
 use Rattle.machine.specs.Below.{any_below, when, first_of}
 use Rattle.machine.specs.Standing.{too_many}
 use Rattle.machine.specs.State.{State, Plan, open_at, handle_count, is_kept, snapshot_at, latest}
-use Rattle.machine.specs.Command.{Command, Create, Mkdir, Link, Unlink, Rmdir, Rename, Open, Close, Read, Write, Truncate, SetAttributes, ListNames, Stat, Freeze, SnapRead, Release, Install, RepairAt, Flush, Sync}
+use Rattle.machine.specs.Command.{Command, Create, Mkdir, Link, Unlink, Rmdir, Rename, Open, Close, Read, Write, Truncate, SetAttributes, ReadAttributes, ListNames, Stat, Freeze, SnapRead, Release, Install, RepairAt, Flush, Sync}
 use Rattle.machine.specs.Paths.{parts_of, parts, walk, target, holder, number_at}
 use Rattle.machine.specs.Room.{has_number, unmarked_blocks, blocks_to_append, blocks_to_enter, is_full}
 use Rattle.machine.specs.Cells.{block_of}
@@ -139,6 +139,7 @@ causes geo old (Write h k piece) =
     ∷ when (nat_lt ((old.view.inode (file_of old h)).size / 1024) k) BadIndex ∷ too_few geo old.view (blocks_to_write geo old (file_of old h) k) ∷ []
 causes geo old (Truncate h n) = not_open old h ∷ when (nat_lt (old.view.inode (file_of old h)).size n) BadIndex ∷ []
 causes geo old (SetAttributes i words) = when (not (is_sound_at geo old.view i)) NotFound ∷ []
+causes geo old (ReadAttributes i) = when (not (is_sound_at geo old.view i)) NotFound ∷ []
 causes geo old (ListNames p) = bad_name p ∷ missing geo old.view p ∷ not_directory geo old.view (number_at geo old.view p) ∷ []
 causes geo old (Stat p) = bad_name p ∷ missing geo old.view p ∷ []
 causes geo old Freeze = when (too_many old.snapshots) TooManySnapshots ∷ []

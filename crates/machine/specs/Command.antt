@@ -14,7 +14,7 @@ abbrev pub no_attributes : List ℕ
 no_attributes = replicate 16 0
 
 -- Paths and pieces are lists of bytes; handles, indices and numbers are as the caller gives them. What is made gets the attributes that are given; of what is
--- there they are set by the inode's number. A read of a snapshot names it, an inode and a block; an end names the snapshot.
+-- there they are set and read by the inode's number. A read of a snapshot names it, an inode and a block; an end names the snapshot.
 pub data Command : Type 0 where
   Create : List ℕ → List ℕ → Command
   Mkdir : List ℕ → List ℕ → Command
@@ -28,6 +28,7 @@ pub data Command : Type 0 where
   Write : ℕ → ℕ → List ℕ → Command
   Truncate : ℕ → ℕ → Command
   SetAttributes : ℕ → List ℕ → Command
+  ReadAttributes : ℕ → Command
   ListNames : List ℕ → Command
   Stat : List ℕ → Command
   Freeze : Command
@@ -49,6 +50,7 @@ pub data Answer : Type 0 where
   Number : ℕ → Answer
   Bytes : List ℕ → Answer
   Listed : List Name → Answer
+  Attributes : List ℕ → Answer
   Status : ℕ → ℕ → ℕ → ℕ → Answer
   Image : ℕ → View → Answer
 

@@ -18,3 +18,4 @@ pub mod Debts
 pub mod Runs
 pub mod Files
 pub mod Attributes
+pub mod Looks

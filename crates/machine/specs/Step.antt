@@ -4,7 +4,7 @@ use Rattle.model.specs.Layout.{Geometry}
 use Rattle.model.specs.View.{View}
 use Rattle.layout.specs.declared.refusal.Refusal.TheVariants.{NoMemory, Device}
 use Rattle.machine.specs.State.{State, snapshot_at}
-use Rattle.machine.specs.Command.{Command, Create, Mkdir, Link, Unlink, Rmdir, Rename, Open, Close, Read, Write, Truncate, SetAttributes, ListNames, Stat, Freeze, SnapRead, Release, Install, RepairAt, Flush, Sync, Answer, Done, Number, Bytes, Listed, Image, Reply}
+use Rattle.machine.specs.Command.{Command, Create, Mkdir, Link, Unlink, Rmdir, Rename, Open, Close, Read, Write, Truncate, SetAttributes, ReadAttributes, ListNames, Stat, Freeze, SnapRead, Release, Install, RepairAt, Flush, Sync, Answer, Done, Number, Bytes, Listed, Attributes, Image, Reply}
 use Rattle.machine.specs.Paths.{number_at}
 use Rattle.machine.specs.Causes.{FirstRefusal, Accepts, file_of}
 use Rattle.machine.specs.Cells.{seen}
@@ -27,6 +27,7 @@ Effect geo old (Read h k) (Bytes bytes) new = (bytes ≡ seen geo old.view (file
 Effect geo old (Write h k piece) Done new = Writes geo old (file_of old h) k piece new
 Effect geo old (Truncate h n) Done new = new ≡ truncated geo old (file_of old h) n
 Effect geo old (SetAttributes i words) Done new = new ≡ attributed old i words
+Effect geo old (ReadAttributes i) answer new = (answer ≡ Attributes (old.view.inode i).attributes) × (new ≡ old)
 Effect geo old (ListNames p) (Listed names) new = (names ≡ names_below geo old.view (number_at geo old.view p) (slot_count geo)) × (new ≡ old)
 Effect geo old (Stat p) answer new = (answer ≡ status old.view (number_at geo old.view p)) × (new ≡ old)
 Effect geo old Freeze answer new = (answer ≡ Image old.snapshots.freezes (settled geo old)) × (new ≡ frozen geo old)

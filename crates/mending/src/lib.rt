@@ -2,7 +2,7 @@
 //! volume is written; then a check of its device finds nothing.
 #![tactic(auto)]
 
-ghost use Rattle.std.specs.Prelude.{◌≡◌, [], IfErr, IfOk, IsErrOf, IsOkUnless, IsSome, IsTrue, OnOk, Some};
+ghost use Rattle.std.specs.Prelude.{◌≡◌, [], IfErr, IfOk, IsErrOf, IsOkUnless, IsSome, OnOk, Some};
 ghost use Rattle.std.specs.Arc.{arc_value};
 ghost use Rattle.findings.specs.Findings.{AreFindings};
 ghost use Rattle.frozen.specs.Kept.{IsKeptOf};
@@ -14,7 +14,6 @@ ghost use Rattle.model.specs.Image.{IsImage};
 ghost use Rattle.snapshot.specs.Mounting.{IsMountable};
 ghost use Rattle.snapshot.specs.Alive.{disk_of};
 ghost use Rattle.softdep.specs.Queued.{pending_of};
-ghost use Rattle.workers.specs.Workers.{may_work};
 ghost use Rattle.mending.specs.Repairs.{HasPlan, IsSnapshotChecked, MayMend, MendsFrozen, Repaired};
 ghost use Rattle.mending.specs.Went.{FailedOnTheWay, Went};
 
@@ -28,9 +27,9 @@ use snapshot::{Command, Volume};
 use std::alloc::Global;
 use std::sync::Arc;
 use std::thread::Threads;
-use workers::Gate;
+use workers::{Gate, Workers};
 
-/// Mends a volume that was just mounted, with 1 to 64 workers, which pass the gate as in `fsck::check`: its image is frozen
+/// Mends a volume that was just mounted, with several workers, which pass the gate as in `fsck::check`: its image is frozen
 /// and checked, each repair of the check is carried out in order, the snapshot is released, and all is written. Gives the
 /// check. Refused with `NoMemory` and with `Device`; what was written before stays written, and may be mounted and mended
 /// again.
@@ -38,13 +37,12 @@ pub fn mend<D: Device, G: Gate>(
     rt: &(impl Threads + Sync),
     alloc: Global,
     volume: &mut Volume<D>,
-    workers: u32,
+    workers: Workers,
     gate: &G,
 ) -> Result<Arc<Checked>, Refusal>
     requires pending { pending_of volume.old.queue ≡ [] }
     requires idle { IsIdle volume.old.holdings }
     requires mounted { D.honest volume.old.device → IsMountable volume.old.kept.geometry (D.image volume.old.device) }
-    requires workers { IsTrue (may_work workers) }
     // Where the device was honest, a check finds nothing on the image that it now holds.
     ensures clean { IfOk result (λ checked. D.honest volume.new.device
         → AreFindings volume.new.kept.geometry (disk_of (D.image volume.new.device) volume.new) []) }
@@ -113,10 +111,9 @@ fn check_snapshot<D: Device, G: Gate>(
     rt: &(impl Threads + Sync),
     alloc: Global,
     volume: &Volume<D>,
-    workers: u32,
+    workers: Workers,
     gate: &G,
 ) -> Result<Checked, Refusal>
-    requires { IsTrue (may_work workers) }
     ensures checked { IfOk result (IsSnapshotChecked volume.now) }
     ensures error { IsSome (latest_at volume.now.holdings.snapshots.standing volume.now.holdings.snapshots.freezes) → IsOkUnless result Refusal.NoMemory }
     ensures device { IsErrOf result Refusal.Device → ⊥ }

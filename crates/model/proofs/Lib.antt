@@ -23,3 +23,11 @@ pub mod NamedLemmas
 pub mod ReachLemmas
 pub mod Counting
 pub mod Adding
+pub mod EntryCounts
+pub mod SameTree
+pub mod SameShape
+pub mod NewRecord
+pub mod SlotChange
+pub mod SameReach
+pub mod Prune
+pub mod Graft

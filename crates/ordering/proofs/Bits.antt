@@ -9,13 +9,14 @@ use Rattle.model.specs.Slots.{slot_in}
 use Rattle.model.specs.Rules.{ObeysRules}
 use Rattle.model.proofs.Slots.{slots_of_uses}
 use Rattle.model.proofs.Uses.{use_parts, used_has, uses_agree}
+use Rattle.model.proofs.SameShape.{SameShape, shape_from, shape_rules}
 use Rattle.ordering.specs.Cuts.{Cell, Record, NumberBit, BlockBit, Pending, users_view, AreIn}
 use Rattle.ordering.specs.Places.{HasPlace}
 use Rattle.ordering.specs.Ghosts.{Ghost}
 use Rattle.ordering.specs.Agrees.{Agrees, AllAgree}
 use Rattle.ordering.specs.Kinds.{Keeps, MayClearNumber, MayClearBlock, number_cleared, block_cleared}
 use Rattle.ordering.proofs.CutLemmas.{users_cut, was_fresh, is_other, still_fresh}
-use Rattle.ordering.proofs.Frames.{SameShape, shape_from, shape_step, shape_rules, keeps_all, keeps_without, numbers_without, numbers_same}
+use Rattle.ordering.proofs.Frames.{shape_step, keeps_all, keeps_without, numbers_without, numbers_same}
 
 -- a view with the same records and bytes has the same shape
 bits_shape : (geo : Geometry) (v w : View) → v.inode ≡ w.inode → v.bytes ≡ w.bytes → SameShape geo v w

@@ -14,6 +14,12 @@ use Rattle.model.proofs.Slots.{slots_of_uses}
 use Rattle.model.proofs.Uses.{new_file_sound}
 use Rattle.model.proofs.Sums.{sum-none, sum-one}
 use Rattle.model.proofs.SlotLemmas.{names_from_number, reachable_directory, directory_sound, number_low, number_below, directory_number}
+use Rattle.model.proofs.SameTree.{SameTree, kept}
+use Rattle.model.proofs.SameShape.{SameShape}
+use Rattle.model.proofs.Places.{put_here}
+use Rattle.model.proofs.NewRecord.{outside_tree, other_directory, other_use}
+use Rattle.model.proofs.SameReach.{SameReach}
+use Rattle.model.proofs.SlotChange.{at_or_not, names_there, names_then, SlotChange, names_at_slot, names_at_slot_now}
 use Rattle.ordering.specs.Cuts.{Cell, NumberBit, Pending, users_view}
 use Rattle.ordering.specs.Places.{HasPlace}
 use Rattle.ordering.specs.Ghosts.{Ghost, at_rest}
@@ -21,16 +27,11 @@ use Rattle.ordering.specs.Agrees.{AllAgree}
 use Rattle.ordering.specs.Rewrites.{MayCreate}
 use Rattle.ordering.specs.OneSlot.{OneSlot, MayEnter}
 use Rattle.ordering.specs.Create.{creation, MayCreateFile}
-use Rattle.ordering.proofs.Trees.{SameTree, kept, place_back}
-use Rattle.ordering.proofs.Counts.{place_of}
+use Rattle.ordering.proofs.Places.{place_back, place_of, place_from, slot_change}
 use Rattle.ordering.proofs.Bits.{users_obey, sound_used, claim_used, place_used, number_bit_shape, set_number_keeps}
-use Rattle.ordering.proofs.Frames.{SameShape}
-use Rattle.ordering.proofs.Records.{put_here}
-use Rattle.ordering.proofs.Outside.{outside_tree, other_directory, other_use}
 use Rattle.ordering.proofs.RecordKinds.{create_file_keeps}
 use Rattle.ordering.proofs.NewNames.{enter_keeps}
 use Rattle.ordering.proofs.SlotKinds.{no_file_directory}
-use Rattle.ordering.proofs.OneSlots.{SameReach, at_slot, names_there, names_then, names_at_slot, names_at_slot_now, place_from}
 
 -- an inode with one place has at most one entry
 pub one_entry : (geo : Geometry) (v : View) (i d s : ℕ) → 1 ≤ i → d < inode_count geo → s < slot_count geo → ((e t c : ℕ) → HasPlace geo v i e t c → (e ≡ d) × (t ≡ s)) → (m : ℕ) → HasEntries geo v i m → m ≤ 1
@@ -163,25 +164,28 @@ module _ (geo : Geometry) (disk : View) (q : List Pending) (held safe : ℕ → 
         now = h.now;
       }
 
+      its_slot : SlotChange geo u2 block bytes d s Empty (Good n name)
+      its_slot = slot_change one_slot
+
       not_directory : IsTrue (is_directory_at geo u2 n) → ⊥
       not_directory = no_file_directory geo u2 n (ap (λ (y : Inode). y.mode) here)
 
       reach : SameReach geo u2 u3
       reach = record {
         directories = λ j. refl;
-        names = λ e t j dir. elim (at_slot geo u2 block bytes d s Empty (Good n name) one_slot rules2.rule3 e t) [
-          | inr other ↦ (names_there geo u2 block bytes d s Empty (Good n name) one_slot rules2.rule3 e t j other, names_then geo u2 block bytes d s Empty (Good n name) one_slot rules2.rule3 e t j other)
+        names = λ e t j dir. elim (at_or_not d s e t) [
+          | inr other ↦ (names_there geo u2 block bytes d s Empty (Good n name) its_slot rules2.rule3 e t j other, names_then geo u2 block bytes d s Empty (Good n name) its_slot rules2.rule3 e t j other)
           | inl at ↦ (
-            (λ m. absurd (let k = names_at_slot geo u2 block bytes d s Empty (Good n name) one_slot rules2.rule3 e t j at m in let same : Empty ≡ Good j k.0 = k.1 in cc)),
-            (λ m. absurd (let k = names_at_slot_now geo u2 block bytes d s Empty (Good n name) one_slot rules2.rule3 e t j at m in let same : Good n name ≡ Good j k.0 = k.1 in let nj : j ≡ n = cc in not_directory (subst (λ x. IsTrue (is_directory_at geo u2 x)) nj dir))),
+            (λ m. absurd (let k = names_at_slot geo u2 block bytes d s Empty (Good n name) its_slot rules2.rule3 e t j at m in let same : Empty ≡ Good j k.0 = k.1 in cc)),
+            (λ m. absurd (let k = names_at_slot_now geo u2 block bytes d s Empty (Good n name) its_slot rules2.rule3 e t j at m in let same : Good n name ≡ Good j k.0 = k.1 in let nj : j ≡ n = cc in not_directory (subst (λ x. IsTrue (is_directory_at geo u2 x)) nj dir))),
           )
         ];
       }
 
       only : (e t c : ℕ) → HasPlace geo u3 n e t c → (e ≡ d) × (t ≡ s)
-      only e t c p = elim (at_slot geo u2 block bytes d s Empty (Good n name) one_slot rules2.rule3 e t) [
+      only e t c p = elim (at_or_not d s e t) [
         | inl at ↦ at
-        | inr other ↦ absurd (place_used geo u1 rules1 n e t c (place_back geo u1 u2 tree n e t c (place_from geo u2 block bytes d s Empty (Good n name) one_slot rules2.rule3 reach n e t c other p)) free)
+        | inr other ↦ absurd (place_used geo u1 rules1 n e t c (place_back geo u1 u2 tree n e t c (place_from geo u2 block bytes d s Empty (Good n name) its_slot rules2.rule3 reach n e t c other p)) free)
       ]
 
       enter : MayEnter geo u2 ghost after block bytes d s n name

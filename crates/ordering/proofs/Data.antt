@@ -10,11 +10,12 @@ use Rattle.model.specs.Slots.{slot}
 use Rattle.model.specs.Rules.{ObeysRules}
 use Rattle.model.proofs.CellLemmas.{use_stays, slot_stays}
 use Rattle.model.proofs.NamedLemmas.{no_directory_no_slot}
+use Rattle.model.proofs.SameShape.{SameShape, shape_from, shape_rules}
 use Rattle.ordering.specs.Cuts.{Cell, BlockBit, Block, Pending, users_view, AreIn}
 use Rattle.ordering.specs.Ghosts.{Ghost}
 use Rattle.ordering.specs.Agrees.{Agrees}
 use Rattle.ordering.specs.Kinds.{Keeps, MayFill, MayWrite}
-use Rattle.ordering.proofs.Frames.{SameShape, shape_from, shape_step, shape_rules, keeps_all, keeps_without, numbers_without, numbers_same}
+use Rattle.ordering.proofs.Frames.{shape_step, keeps_all, keeps_without, numbers_without, numbers_same}
 use Rattle.std.proofs.lemmas.Bool.{and_parts}
 use Rattle.ordering.proofs.Bits.{users_obey, claim_used}
 use Rattle.std.proofs.Common.{eqb-true}

@@ -7,11 +7,11 @@ use Rattle.model.specs.View.{View, Inode}
 use Rattle.model.specs.Cells.{Update, SetInode, SetNumber, SetBlock, SetBytes, updated, put_at}
 use Rattle.model.specs.Reach.{IsReachable}
 use Rattle.model.specs.Rules.{ObeysRules}
+use Rattle.model.proofs.Places.{put_there}
 use Rattle.ordering.specs.Cuts.{Cell, Record, NumberBit, BlockBit, Block, cell_of, Pending, without, fresh, seen, rest, joined, IsClosed, users_view, EachCut, SameAt}
 use Rattle.ordering.specs.Ghosts.{Ghost, at_rest}
 use Rattle.ordering.specs.Agrees.{Agrees, AllAgree}
 use Rattle.ordering.proofs.CutLemmas.{was_fresh, is_other, still_fresh, each_none, whole, whole_closed, whole_seen}
-use Rattle.ordering.proofs.Records.{put_there}
 
 -- ---- updates of different cells commute
 

@@ -1,64 +1,19 @@
 -- What agrees with the users' view still does after an update that changes no use, no mode and no name.
-use Rattle.std.proofs.Common.{◌≡◌, ◌≢◌, ◌≤◌, ℕ, Bool, ◌/◌, List, ◌⊎◌, inl, inr, refl, sym, ◌∙◌, IsTrue, IsFalse, ◌∷◌}
-use Rattle.model.specs.Layout.{Geometry, root, is_number}
+use Rattle.std.proofs.Common.{◌≡◌, ◌≢◌, ℕ, Bool, List, ◌⊎◌, inl, inr, sym, ◌∙◌, IsTrue, IsFalse, ◌∷◌}
+use Rattle.model.specs.Layout.{Geometry}
 use Rattle.model.specs.View.{View}
 use Rattle.model.specs.Cells.{updated}
-use Rattle.model.specs.Uses.{is_directory_at, is_sound_at, IsUse, IsClaim, use_at, IsClaimed}
-use Rattle.model.specs.Slots.{slot}
-use Rattle.model.specs.Reach.{IsReachableDirectory, IsReachable}
-use Rattle.model.specs.Rules.{ObeysRules, UsesAreClaims, RecordsAreSound}
+use Rattle.model.specs.Uses.{IsClaim, IsClaimed}
+use Rattle.model.specs.Reach.{IsReachableDirectory}
+use Rattle.model.specs.Rules.{ObeysRules}
+use Rattle.model.proofs.SameTree.{back, reachable_kept}
+use Rattle.model.proofs.SameShape.{SameShape, same_shape, use_kept, use_back, claim_kept, claim_back}
 use Rattle.ordering.specs.Cuts.{Cell, Record, NumberBit, BlockBit, Block, SameAt, without, AreIn, Pending, cell_of, users_view}
 use Rattle.ordering.proofs.CutLemmas.{was_fresh, still_fresh, each_step, same_skip, same_take}
 use Rattle.ordering.specs.Places.{HasPlace}
 use Rattle.ordering.specs.Ghosts.{Ghost, Gone}
 use Rattle.ordering.specs.Agrees.{AllAgree, NumbersAgree, BlocksAgree, ModesAgree, TreeAgrees, Agrees}
-use Rattle.ordering.proofs.Trees.{SameTree, same_tree, back, place_kept, place_back, reachable_kept, tree_obeys, links_cover}
-
--- the same modes, uses and names
-pub record SameShape (geo : Geometry) (v w : View) : Type 0 where
-  pub modes : (n : ℕ) → (v.inode n).mode ≡ (w.inode n).mode
-  pub directories : (n : ℕ) → is_directory_at geo v n ≡ is_directory_at geo w n
-  pub uses : (n k : ℕ) → use_at geo v n k ≡ use_at geo w n k
-  pub tree : SameTree geo v w
-
-pub same_shape : (geo : Geometry) (v : View) → SameShape geo v v
-same_shape geo v = record { modes = λ n. refl; directories = λ n. refl; uses = λ n k. refl; tree = same_tree geo v }
-
--- where the slots are the same one by one
-pub shape_from : (geo : Geometry) (v w : View) → ((n : ℕ) → (v.inode n).mode ≡ (w.inode n).mode) → ((n : ℕ) → is_directory_at geo v n ≡ is_directory_at geo w n)
-    → ((n : ℕ) → is_sound_at geo v n ≡ is_sound_at geo w n) → ((n k : ℕ) → use_at geo v n k ≡ use_at geo w n k) → ((d s : ℕ) → slot geo v d s ≡ slot geo w d s) → SameShape geo v w
-shape_from geo v w modes directories sound uses slots = record {
-  modes = modes;
-  directories = directories;
-  uses = uses;
-  tree = record {
-    top = directories root;
-    directory = λ d s i r n. directories i;
-    sound = λ d s i r n. sound i;
-    good = λ d s i name r. ((λ h. sym (slots d s) ∙ h), (λ h. slots d s ∙ h));
-    bad = λ d s r h. slots d s ∙ h;
-    blocks = λ d s i b r n. ((λ c. (sym (uses d (s / 16)) ∙ c.0, c.1)), (λ c. (uses d (s / 16) ∙ c.0, c.1)));
-  };
-}
-
-pub use_kept : (geo : Geometry) (v w : View) → SameShape geo v w → (n k b : ℕ) → IsUse geo v n k b → IsUse geo w n k b
-use_kept geo v w s n k b u = sym (s.uses n k) ∙ u
-
-pub use_back : (geo : Geometry) (v w : View) → SameShape geo v w → (n k b : ℕ) → IsUse geo w n k b → IsUse geo v n k b
-use_back geo v w s n k b u = s.uses n k ∙ u
-
-pub claim_kept : (geo : Geometry) (v w : View) → SameShape geo v w → (n k b : ℕ) → IsClaim geo v n k b → IsClaim geo w n k b
-claim_kept geo v w s n k b c = (use_kept geo v w s n k b c.0, c.1)
-
-pub claim_back : (geo : Geometry) (v w : View) → SameShape geo v w → (n k b : ℕ) → IsClaim geo w n k b → IsClaim geo v n k b
-claim_back geo v w s n k b c = (use_back geo v w s n k b c.0, c.1)
-
-pub shape_claims : (geo : Geometry) (v w : View) → SameShape geo v w → ((b n k : ℕ) → IsClaim geo v n k b → IsTrue (w.block_marked b)) → UsesAreClaims geo v → UsesAreClaims geo w
-shape_claims geo v w s marked u = record {
-  claims = λ n k b h. u.claims n k b (use_back geo v w s n k b h);
-  marked = λ n k b c. marked b n k (claim_back geo v w s n k b c);
-  once = λ n k m l b c d. u.once n k m l b (claim_back geo v w s n k b c) (claim_back geo v w s m l b d);
-}
+use Rattle.ordering.proofs.Places.{place_kept, place_back}
 
 -- the fewer cells and the more ghosts
 pub record Keeps (geo : Geometry) (users : View) (ghost : Ghost) (set : Cell → Bool) (view : View) (ghost' : Ghost) (set' : Cell → Bool) : Type 0 where
@@ -199,11 +154,3 @@ shape_step geo disk q ghost ghost' u shape skip take all =
 
     users' : View
     users' = updated users u.change
-
--- the rules, where uses and names stay
-pub shape_rules : (geo : Geometry) (v w : View) → SameShape geo v w → ObeysRules geo v → RecordsAreSound geo w
-    → ((b n k : ℕ) → IsClaim geo v n k b → IsTrue (w.block_marked b))
-    → ((n : ℕ) → IsTrue (is_number geo n) → (v.inode n).mode ≢ 0 → IsTrue (w.number_marked n))
-    → ((i : ℕ) → IsReachable geo v i → (v.inode i).links ≤ (w.inode i).links) → ObeysRules geo w
-shape_rules geo v w s o sound blocks numbers links =
-    tree_obeys geo v w s.tree o sound (shape_claims geo v w s blocks o.rule3) (λ n h u. numbers n h (λ z. u (sym (s.modes n) ∙ z))) (links_cover geo v w s.tree links o.rule8)

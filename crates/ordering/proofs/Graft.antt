@@ -1,237 +1,64 @@
 -- The entry of a directory comes that had none.
-use Rattle.std.proofs.Common.{◌≡◌, ℕ, zero, suc, ◌<◌, ◌≤◌, ◌/◌, Bool, ◌&&◌, List, ◌⊎◌, inl, inr, refl, sym, ap, ◌∙◌, subst, IsTrue, le_refl, arith, Some}
+use Rattle.std.proofs.Common.{◌≡◌, ℕ, ◌<◌, ◌≤◌, ◌/◌, Bool, ◌&&◌, List, ◌⊎◌, inl, inr, refl, sym, ap, ◌∙◌, subst, IsTrue, le_refl, arith, Some}
 use Rattle.std.proofs.lemmas.Bool.{both_ways, cases_eq, and_parts, cases_lt}
-use Rattle.model.specs.Layout.{Geometry, is_number, root}
+use Rattle.model.specs.Layout.{Geometry, is_number}
 use Rattle.model.specs.View.{View, Inode}
 use Rattle.model.specs.Cells.{SetBytes, updated}
 use Rattle.model.specs.Shape.{is_table}
 use Rattle.model.specs.Uses.{use_at, is_directory, is_directory_at, is_sound, blocks_of, IsUse, IsClaim}
-use Rattle.model.specs.Slots.{Absent, Empty, Good, Bad, slot, slot_in, Names}
-use Rattle.model.specs.Reach.{Path, IsReachableDirectory, IsReachable, IsEntry, HasEntries, HasParent}
-use Rattle.model.specs.Rules.{ObeysRules, LinksCoverEntries}
+use Rattle.model.specs.Slots.{Empty, Good, slot, slot_in, Names}
+use Rattle.model.specs.Reach.{IsReachableDirectory, HasEntries}
+use Rattle.model.specs.Rules.{ObeysRules}
 use Rattle.model.proofs.Shape.{few_none}
-use Rattle.model.proofs.SlotLemmas.{reachable_directory, directory_sound, directory_number, names_one, number_low}
+use Rattle.model.proofs.SlotLemmas.{directory_sound, directory_number, names_one, number_low}
 use Rattle.model.proofs.Slots.{slots_of_uses}
 use Rattle.model.proofs.Uses.{above_table, has_below, used_has, uses_agree}
+use Rattle.model.proofs.SameTree.{reachable_kept}
+use Rattle.model.proofs.EntryCounts.{entries_within, links_at}
+use Rattle.model.proofs.SlotChange.{slot_uses, slot_now, the_block, block_there, block_then, SlotChange}
+use Rattle.model.proofs.Graft.{IsLoose, loose_leaf, graft_kept, graft_came, reach_grafted, reach_new, reach_came, entry_came, graft_reachable, graft_obeys}
 use Rattle.ordering.specs.Cuts.{Cell, Record, NumberBit, Block, Pending, users_view, without, AreIn}
 use Rattle.ordering.specs.Places.{HasPlace}
 use Rattle.ordering.specs.Ghosts.{Ghost}
 use Rattle.ordering.specs.Agrees.{Agrees, TreeAgrees}
 use Rattle.ordering.specs.Kinds.{Keeps}
-use Rattle.ordering.specs.OneSlot.{OneSlot, MayEnterDirectory, now_entered}
+use Rattle.ordering.specs.OneSlot.{MayEnterDirectory, now_entered}
 use Rattle.ordering.proofs.CutLemmas.{was_fresh, is_other, still_fresh}
-use Rattle.ordering.proofs.Trees.{place_back, reachable_kept}
+use Rattle.ordering.proofs.Places.{place_back, slot_change, places_stay, unnamed}
 use Rattle.ordering.proofs.Bits.{users_obey, sound_used}
-use Rattle.ordering.proofs.Counts.{place_of, entries_within}
-use Rattle.ordering.proofs.OneSlots.{slot_uses, slot_now, slot_others, at_slot, names_there, names_then, the_block, block_there, block_then, names_at_slot, names_at_slot_now, links_at}
-use Rattle.ordering.proofs.SlotSteps.{SlotTaken, slot_step_with, uses_obey}
+use Rattle.ordering.proofs.SlotSteps.{SlotTaken, slot_step_with}
 use Rattle.ordering.proofs.SlotKinds.{two_cases, unclaimed_shape, unclaimed_rules}
 use Rattle.ordering.proofs.NewNames.{new_in_cut}
 use Rattle.ordering.proofs.Prune.{reached_or_not, unreached_tree, unreached_rules}
 
 -- ---- one view
 
--- a directory of dots that nothing names
-pub record IsLoose (geo : Geometry) (v : View) (i d : ℕ) : Type 0 where
-  pub directory : IsTrue (is_directory_at geo v i)
-  pub no_place : (e t c : ℕ) → HasPlace geo v i e t c → ⊥
-  pub dot : Names geo v i 0 i
-  pub dot_dot : Names geo v i 1 d
-  pub rest : (t : ℕ) → 2 ≤ t → (slot geo v i t ≡ Empty) ⊎ (slot geo v i t ≡ Absent)
-
-module _ (geo : Geometry) (v : View) (block : ℕ) (bytes : List ℕ) (d s i : ℕ) (name : List ℕ) (h : OneSlot geo v block bytes d s Empty (Good i name)) (o : ObeysRules geo v) (low : 2 ≤ s)
+module _ (geo : Geometry) (v : View) (block : ℕ) (bytes : List ℕ) (d s i : ℕ) (name : List ℕ) (h : SlotChange geo v block bytes d s Empty (Good i name)) (o : ObeysRules geo v) (low : 2 ≤ s)
     (reached : IsReachableDirectory geo v d) (loose : IsLoose geo v i d) where
   abbrev w : View
   w = updated v (SetBytes block bytes)
 
-  pub loose_out : IsReachableDirectory geo v i → ⊥
-  loose_out r = let p = place_of geo v i i 0 r loose.dot in loose.no_place i 0 p.0 p.1
-
-  apart : i ≡ d → ⊥
-  apart e = loose_out (subst (λ x. IsReachableDirectory geo v x) (sym e) reached)
-
-  not_root : i ≡ root → ⊥
-  not_root e = loose_out (0, (e, o.rule1))
-
-  pub graft_kept : (e t j : ℕ) → Names geo v e t j → Names geo w e t j
-  graft_kept e t j n = elim (at_slot geo v block bytes d s Empty (Good i name) h o.rule3 e t) [
-    | inr other ↦ names_there geo v block bytes d s Empty (Good i name) h o.rule3 e t j other n
-    | inl at ↦ absurd (let k = names_at_slot geo v block bytes d s Empty (Good i name) h o.rule3 e t j at n in let same : Empty ≡ Good j k.0 = k.1 in cc)
-  ]
-
-  graft_came : (e t j : ℕ) → Names geo w e t j → Names geo v e t j ⊎ ((j ≡ i) × (e ≡ d) × (t ≡ s))
-  graft_came e t j n = elim (at_slot geo v block bytes d s Empty (Good i name) h o.rule3 e t) [
-    | inr other ↦ inl (names_then geo v block bytes d s Empty (Good i name) h o.rule3 e t j other n)
-    | inl at ↦ inr (let k = names_at_slot_now geo v block bytes d s Empty (Good i name) h o.rule3 e t j at n in let same : Good i name ≡ Good j k.0 = k.1 in let ij : j ≡ i = cc in (ij, at.0, at.1))
-  ]
-
-  -- the new directory names nothing but its dots
-  leaf : (t j : ℕ) → 2 ≤ t → Names geo v i t j → ⊥
-  leaf t j l n = elim (loose.rest t l) [ inl e ↦ (let e' : slot geo v i t ≡ Empty = e in let n' : slot geo v i t ≡ Good j n.0 = n.1 in cc) | inr e ↦ (let e' : slot geo v i t ≡ Absent = e in let n' : slot geo v i t ≡ Good j n.0 = n.1 in cc) ]
-
-  path_grafted : (n e : ℕ) → Path geo v n e → Path geo w n e
-  path_grafted zero e p = (p.0, p.1)
-  path_grafted (suc n) e p = (p.0, p.1, path_grafted n p.0 p.2, p.3, graft_kept p.0 p.1 e p.4, p.5)
-
-  pub reach_grafted : (e : ℕ) → IsReachableDirectory geo v e → IsReachableDirectory geo w e
-  reach_grafted e r = (r.0, path_grafted r.0 e r.1)
-
-  pub reach_new : IsReachableDirectory geo w i
-  reach_new = (suc reached.0, (d, s, path_grafted reached.0 d reached.1, low, (name, slot_now geo v block bytes d s Empty (Good i name) h o.rule3), loose.directory))
-
-  path_came : (n e : ℕ) → Path geo w n e → IsReachableDirectory geo v e ⊎ (e ≡ i)
-  path_came zero e p = inl (0, (p.0, p.1))
-  path_came (suc n) e p = step (path_came n p.0 p.2) (graft_came p.0 p.1 e p.4)
-    where
-      step : IsReachableDirectory geo v p.0 ⊎ (p.0 ≡ i) → Names geo v p.0 p.1 e ⊎ ((e ≡ i) × (p.0 ≡ d) × (p.1 ≡ s)) → IsReachableDirectory geo v e ⊎ (e ≡ i)
-      step (inl r) (inl m) = inl (suc r.0, (p.0, p.1, r.1, p.3, m, p.5))
-      step (inr q) (inl m) = absurd (leaf p.1 e p.3 (subst (λ x. Names geo v x p.1 e) q m))
-      step r (inr m) = inr m.0
-
-  pub reach_came : (e : ℕ) → IsReachableDirectory geo w e → IsReachableDirectory geo v e ⊎ (e ≡ i)
-  reach_came e r = path_came r.0 e r.1
-
   pub place_grafted : (j e t c : ℕ) → HasPlace geo v j e t c → HasPlace geo w j e t c
-  place_grafted j e t c p = record { reachable = reach_grafted e p.reachable; names = graft_kept e t j p.names; block = block_there geo v block bytes d s Empty (Good i name) h o.rule3 e t c p.block }
+  place_grafted j e t c p = record {
+    reachable = reach_grafted geo v block bytes d s i name h o low reached loose e p.reachable;
+    names = graft_kept geo v block bytes d s i name h o low reached loose e t j p.names;
+    block = block_there geo v block bytes d s Empty (Good i name) h o.rule3 e t c p.block;
+  }
 
   -- a place of w is one of v, the entry, or a dot of the new directory
   pub place_came : (j e t c : ℕ) → HasPlace geo w j e t c → HasPlace geo v j e t c ⊎ (((j ≡ i) × (e ≡ d) × (t ≡ s) × (c ≡ block)) ⊎ ((e ≡ i) × (t < 2) × Names geo v i t j × IsClaim geo v i (t / 16) c))
-  place_came j e t c p = elim (graft_came e t j p.names) [
+  place_came j e t c p = elim (graft_came geo v block bytes d s i name h o low reached loose e t j p.names) [
     | inr at ↦ inr (inl (at.0, at.1, at.2, the_block geo v block bytes d s Empty (Good i name) h o.rule3 e t c (at.1, at.2) (block_then geo v block bytes d s Empty (Good i name) h o.rule3 e t c p.block)))
-    | inl m ↦ elim (reach_came e p.reachable) [
+    | inl m ↦ elim (reach_came geo v block bytes d s i name h o low reached loose e p.reachable) [
       | inl r ↦ inl (record { reachable = r; names = m; block = block_then geo v block bytes d s Empty (Good i name) h o.rule3 e t c p.block })
       | inr mine ↦
           let m' : Names geo v i t j = subst (λ x. Names geo v x t j) mine m in
           elim (cases_lt t 2) [
             | inl below ↦ inr (inr (mine, below, m', subst (λ x. IsClaim geo v x (t / 16) c) mine (block_then geo v block bytes d s Empty (Good i name) h o.rule3 e t c p.block)))
-            | inr high ↦ absurd (leaf t j high m')
+            | inr high ↦ absurd (loose_leaf geo v block bytes d s i name h o low reached loose t j high m')
           ]
     ]
   ]
-
-  pub entry_came : (e t j : ℕ) → IsEntry geo w e t j → IsEntry geo v e t j ⊎ ((j ≡ i) × (e ≡ d) × (t ≡ s))
-  entry_came e t j x = let p = place_of geo w j e t x.reachable x.names in elim (place_came j e t p.0 p.1) [
-    | inl old ↦ inl (record { reachable = old.reachable; after_dots = x.after_dots; names = old.names })
-    | inr new ↦ elim new [
-      | inl at ↦ inr (at.0, at.1, at.2)
-      | inr dots ↦ absurd (let below : t < 2 = dots.1 in let high : 2 ≤ t = x.after_dots in omega (arith, below, high))
-    ]
-  ]
-
-  entry_grafted : (e t j : ℕ) → IsEntry geo v e t j → IsEntry geo w e t j
-  entry_grafted e t j x = record { reachable = reach_grafted e x.reachable; after_dots = x.after_dots; names = graft_kept e t j x.names }
-
-  pub graft_reachable : (f : ℕ) → IsReachable geo v f → IsReachable geo w f
-  graft_reachable f (inl y) = inl (reach_grafted f y)
-  graft_reachable f (inr y) = inr (y.0, y.1, y.2, entry_grafted y.1 y.2 f y.3)
-
-  no_entry : (e t : ℕ) → IsEntry geo v e t i → ⊥
-  no_entry e t x = let p = place_of geo v i e t x.reachable x.names in loose.no_place e t p.0 p.1
-
-  new_slot : (t : ℕ) → slot geo v i t ≡ slot geo w i t
-  new_slot t = slot_others geo v block bytes d s Empty (Good i name) h o.rule3 i t (λ at. apart at.0)
-
-  module _ (new : (t j : ℕ) → 2 ≤ t → (t ≡ s → ⊥) → slot geo v d t ≡ Good j name → ⊥) (links : LinksCoverEntries geo w) where
-    others : (e t : ℕ) → ((e ≡ d) × (t ≡ s) → ⊥) → slot geo v e t ≡ slot geo w e t
-    others = slot_others geo v block bytes d s Empty (Good i name) h o.rule3
-
-    at : (e t : ℕ) → ((e ≡ d) × (t ≡ s)) ⊎ ((e ≡ d) × (t ≡ s) → ⊥)
-    at = at_slot geo v block bytes d s Empty (Good i name) h o.rule3
-
-    at_there : (P : ℕ → ℕ → Type 0) (e t : ℕ) → (e ≡ d) × (t ≡ s) → P e t → P d s
-    at_there P e t here p = subst (λ x. P x s) here.0 (subst (λ y. P e y) here.1 p)
-
-    clash : (e t u j k : ℕ) (nm : List ℕ) → (e ≡ d) × (t ≡ s) → 2 ≤ u → ((e ≡ d) × (u ≡ s) → ⊥) → slot geo w e t ≡ Good j nm → slot geo w e u ≡ Good k nm → ⊥
-    clash e t u j k nm here l other f g =
-        let now : slot geo w d s ≡ Good i name = slot_now geo v block bytes d s Empty (Good i name) h o.rule3 in
-        let f' : slot geo w d s ≡ Good j nm = at_there (λ x y. slot geo w x y ≡ Good j nm) e t here f in
-        let same : nm ≡ name = cc in
-        new u k l (λ x. other (here.0, x)) (subst (λ x. slot geo v x u ≡ Good k name) here.0 (others e u other ∙ g ∙ ap (Good k) same))
-
-    old_distinct : (e t u j k : ℕ) (nm : List ℕ) → IsReachableDirectory geo v e → 2 ≤ t → 2 ≤ u → slot geo w e t ≡ Good j nm → slot geo w e u ≡ Good k nm → t ≡ u
-    old_distinct e t u j k nm r p q f g = elim (at e t) [
-      | inl here ↦ elim (at e u) [
-        | inl there ↦ here.1 ∙ sym there.1
-        | inr other ↦ absurd (clash e t u j k nm here q other f g)
-      ]
-      | inr other ↦ elim (at e u) [
-        | inl there ↦ absurd (clash e u t k j nm there p other g f)
-        | inr other' ↦ o.rule6.distinct e t u j k nm r p q (others e t other ∙ f) (others e u other' ∙ g)
-      ]
-    ]
-
-    old_bad : (e t : ℕ) → IsReachableDirectory geo v e → slot geo w e t ≡ Bad → ⊥
-    old_bad e t r b = elim (at e t) [
-      | inr other ↦ o.rule6.none_bad e t r (others e t other ∙ b)
-      | inl here ↦ let b' : slot geo w d s ≡ Bad = at_there (λ x y. slot geo w x y ≡ Bad) e t here b in let now : slot geo w d s ≡ Good i name = slot_now geo v block bytes d s Empty (Good i name) h o.rule3 in cc
-    ]
-
-    new_bad : (t : ℕ) → slot geo w i t ≡ Bad → ⊥
-    new_bad t b = let b' : slot geo v i t ≡ Bad = new_slot t ∙ b in elim (cases_lt t 2) [
-      | inr high ↦ elim (loose.rest t high) [ inl e ↦ (let e' : slot geo v i t ≡ Empty = e in cc) | inr e ↦ (let e' : slot geo v i t ≡ Absent = e in cc) ]
-      | inl below ↦ elim (cases_eq t 0) [
-        | inl first ↦ (let n : slot geo v i 0 ≡ Good i loose.dot.0 = loose.dot.1 in let b0 : slot geo v i 0 ≡ Bad = subst (λ x. slot geo v i x ≡ Bad) first b' in cc)
-        | inr second ↦ (let one : t ≡ 1 = omega (arith, below, second) in let n : slot geo v i 1 ≡ Good d loose.dot_dot.0 = loose.dot_dot.1 in let b1 : slot geo v i 1 ≡ Bad = subst (λ x. slot geo v i x ≡ Bad) one b' in cc)
-      ]
-    ]
-
-    new_sound : (t j : ℕ) → Names geo v i t j → IsTrue (is_sound geo (v.inode j))
-    new_sound t j n = elim (cases_lt t 2) [
-      | inr high ↦ absurd (leaf t j high n)
-      | inl below ↦ elim (cases_eq t 0) [
-        | inl first ↦ subst (λ x. IsTrue (is_sound geo (v.inode x))) (names_one geo v i 0 i j loose.dot (subst (λ x. Names geo v i x j) first n)) (directory_sound geo v i loose.directory)
-        | inr second ↦
-            let one : t ≡ 1 = omega (arith, below, second) in
-            subst (λ x. IsTrue (is_sound geo (v.inode x))) (names_one geo v i 1 d j loose.dot_dot (subst (λ x. Names geo v i x j) one n)) (directory_sound geo v d (reachable_directory geo v d reached))
-      ]
-    ]
-
-    parent_grafted : (e : ℕ) → HasParent geo v e → HasParent geo w e
-    parent_grafted e (inl p) = inl (p.0, graft_kept e 1 root p.1)
-    parent_grafted e (inr p) = inr (p.0, p.1, p.2, graft_kept e 1 p.1 p.3, entry_grafted p.1 p.2 e p.4)
-
-    new_parent : HasParent geo w i
-    new_parent = inr (not_root, d, s, graft_kept i 1 d loose.dot_dot, record { reachable = reach_grafted d reached; after_dots = low; names = (name, slot_now geo v block bytes d s Empty (Good i name) h o.rule3) })
-
-    once : (e t f u j : ℕ) → IsTrue (is_directory_at geo v j) → IsEntry geo w e t j → IsEntry geo w f u j → (e ≡ f) × (t ≡ u)
-    once e t f u j dir x y = both (entry_came e t j x) (entry_came f u j y)
-      where
-        both : IsEntry geo v e t j ⊎ ((j ≡ i) × (e ≡ d) × (t ≡ s)) → IsEntry geo v f u j ⊎ ((j ≡ i) × (f ≡ d) × (u ≡ s)) → (e ≡ f) × (t ≡ u)
-        both (inl a) (inl b) = o.rule7.once e t f u j dir a b
-        both (inl a) (inr b) = absurd (no_entry e t (subst (λ z. IsEntry geo v e t z) b.0 a))
-        both (inr a) (inl b) = absurd (no_entry f u (subst (λ z. IsEntry geo v f u z) a.0 b))
-        both (inr a) (inr b) = (a.1 ∙ sym b.1, a.2 ∙ sym b.2)
-
-    pub graft_obeys : ObeysRules geo w
-    graft_obeys = record {
-      rule1 = o.rule1;
-      rule2 = o.rule2;
-      rule3 = uses_obey geo v w (slot_uses geo v block bytes d s Empty (Good i name) h o.rule3) (λ b. refl) o.rule3;
-      rule4 = o.rule4;
-      rule5 = λ e r. elim (reach_came e r) [
-        | inl old ↦ (graft_kept e 0 e (o.rule5 e old).0, parent_grafted e (o.rule5 e old).1)
-        | inr mine ↦ subst (λ x. Names geo w x 0 x × HasParent geo w x) (sym mine) (graft_kept i 0 i loose.dot, new_parent)
-      ];
-      rule6 = record {
-        none_bad = λ e t r b. elim (reach_came e r) [ inl old ↦ old_bad e t old b | inr mine ↦ new_bad t (subst (λ x. slot geo w x t ≡ Bad) mine b) ];
-        distinct = λ e t u j k nm r p q f g. elim (reach_came e r) [
-          | inl old ↦ old_distinct e t u j k nm old p q f g
-          | inr mine ↦ absurd (leaf t j p (nm, new_slot t ∙ subst (λ x. slot geo w x t ≡ Good j nm) mine f))
-        ];
-        sound = λ e t j r n. elim (graft_came e t j n) [
-          | inr here ↦ subst (λ x. IsTrue (is_sound geo (v.inode x))) (sym here.0) (directory_sound geo v i loose.directory)
-          | inl m ↦ elim (reach_came e r) [
-            | inl old ↦ o.rule6.sound e t j old m
-            | inr mine ↦ new_sound t j (subst (λ x. Names geo v x t j) mine m)
-          ]
-        ];
-      };
-      rule7 = record {
-        once = once;
-        no_root = λ e t x. elim (entry_came e t root x) [ inl old ↦ o.rule7.no_root e t old | inr here ↦ not_root (sym here.0) ];
-      };
-      rule8 = links;
-    }
 
 -- ---- a directory of one block
 
@@ -269,11 +96,11 @@ module _ (geo : Geometry) (disk : View) (q : List Pending) (ghost : Ghost) (afte
   abbrev ghost' : Ghost
   ghost' = now_entered i ghost
 
-  h_users : OneSlot geo users block bytes d s Empty (Good i name)
-  h_users = may.change.slot
+  h_users : SlotChange geo users block bytes d s Empty (Good i name)
+  h_users = slot_change may.change.slot
 
   loose_users : IsLoose geo users i d
-  loose_users = record { directory = may.directory; no_place = may.no_place; dot = may.dot; dot_dot = may.dot_dot; rest = may.rest }
+  loose_users = record { directory = may.directory; no_name = unnamed geo users i may.no_place; dot = may.dot; dot_dot = may.dot_dot; rest = may.rest }
 
   users_grafted : (j e t c : ℕ) → HasPlace geo users j e t c → HasPlace geo users' j e t c
   users_grafted = place_grafted geo users block bytes d s i name h_users rules may.change.after_dots may.change.reachable loose_users
@@ -377,7 +204,7 @@ module _ (geo : Geometry) (disk : View) (q : List Pending) (ghost : Ghost) (afte
                         (λ z. elim z [
                           | inl y ↦ elim (reach_came geo view block bytes d s i name h a.rules may.change.after_dots reached loose_view j y) [ inl k ↦ inl k | inr k ↦ absurd (other k) ]
                           | inr y ↦ elim (entry_came geo view block bytes d s i name h a.rules may.change.after_dots reached loose_view y.1 y.2 j y.3) [ inl k ↦ inr (y.0, y.1, y.2, k) | inr k ↦ absurd (other k.0) ]
-                        ]) old (le_refl (view.inode j).links) a.rules.rule8 n r x
+                        ]) (places_stay geo view' view j old) (le_refl (view.inode j).links) a.rules.rule8 n r x
                   ]
                 ]);
             tree = grafted_tree set set view view' a (λ c f. f) (λ n f. f) came (λ f. bit);
@@ -413,16 +240,16 @@ module _ (geo : Geometry) (disk : View) (q : List Pending) (ghost : Ghost) (afte
       loose_view : IsLoose geo view i d
       loose_view = record {
         directory = block_directory geo view users i b same same_block may.one_block may.first ∙ may.directory;
-        no_place = λ e t c p. elim (a.tree.places i e t c written p) [
+        no_name = unnamed geo view i (λ e t c p. elim (a.tree.places i e t c written p) [
           | inl u ↦ may.no_place e t c u
           | inr g ↦ both_ways (ghost.gone (record { number = i; directory = e; slot = t; block = c; witness = g.0 })) (may.none_gone (record { number = i; directory = e; slot = t; block = c; witness = g.0 })) g.1
-        ];
+        ]);
         dot = (may.dot.0, slots 0 ∙ may.dot.1);
         dot_dot = (may.dot_dot.0, slots 1 ∙ may.dot_dot.1);
         rest = λ t l. elim (may.rest t l) [ inl e ↦ inl (slots t ∙ e) | inr e ↦ inr (slots t ∙ e) ];
       }
 
-      view_came : OneSlot geo view block bytes d s Empty (Good i name) → IsReachableDirectory geo view d → Came view view'
+      view_came : SlotChange geo view block bytes d s Empty (Good i name) → IsReachableDirectory geo view d → Came view view'
       view_came h reached j e t c p = elim (place_came geo view block bytes d s i name h a.rules may.change.after_dots reached loose_view j e t c p) [
         | inl old ↦ inl old
         | inr new ↦ elim new [
@@ -435,13 +262,13 @@ module _ (geo : Geometry) (disk : View) (q : List Pending) (ghost : Ghost) (afte
       counted : (j k : ℕ) → j ≡ k → view.inode k ≡ users.inode k → IsTrue (set (Record k)) → ((m : ℕ) → HasEntries geo users' k m → m ≤ (users.inode k).links) → 1 ≤ k → Came view view'
           → (n : ℕ) → HasEntries geo view' j n → n ≤ (view.inode j).links
       counted j k jk same_record fresh_record cover low came n x =
-          let inside = entries_within geo view' users' k low (λ e t c p. elim (came k e t c p) [
+          let inside = entries_within geo view' users' k low (places_stay geo view' users' k (λ e t c p. elim (came k e t c p) [
             | inr new ↦ new_place k e t c new
             | inl old ↦ elim (a.tree.places k e t c fresh_record old) [
               | inl u ↦ users_grafted k e t c u
               | inr g ↦ absurd (both_ways (ghost.gone (record { number = k; directory = e; slot = t; block = c; witness = g.0 })) (may.none_gone (record { number = k; directory = e; slot = t; block = c; witness = g.0 })) g.1)
             ]
-          ]) n (subst (λ y. HasEntries geo view' y n) jk x) in
+          ])) n (subst (λ y. HasEntries geo view' y n) jk x) in
           let enough = cover inside.0 inside.1 in
           let links : (view.inode j).links ≡ (users.inode k).links = ap (λ y. (view.inode y).links) jk ∙ ap (λ (y : Inode). y.links) same_record in
           omega (arith, enough, inside.2, links)
@@ -461,7 +288,7 @@ pub enter_directory_keeps : (geo : Geometry) (disk : View) (q : List Pending) (g
 enter_directory_keeps geo disk q ghost after block bytes d s i b name may all =
     let rules = users_obey geo disk q ghost all in
     slot_step_with geo disk q ghost ghost.gone (now_entered i ghost).entering ghost.safe after block bytes
-    (λ f h. h) (slot_uses geo (users_view disk q) block bytes d s Empty (Good i name) may.change.slot rules.rule3)
+    (λ f h. h) (slot_uses geo (users_view disk q) block bytes d s Empty (Good i name) (slot_change may.change.slot) rules.rule3)
     (λ set view. (IsTrue (set (Record i)) → IsTrue (set (Block b))) × (IsTrue (set (Record i)) → IsTrue (set (Block block)) → IsClaim geo view d (s / 16) block → IsTrue (set (Record d))))
     (λ cut closed. (may.dots_first cut closed, may.credit cut closed))
     (λ set view a. grafted_tree geo disk q ghost after block bytes d s i b name may rules set (without set (Block block)) view view a

@@ -12,16 +12,16 @@ use Rattle.model.proofs.NamedLemmas.{too_far_no_slot}
 use Rattle.model.proofs.Slots.{slot_absent, slot_claimed, slots_of_uses}
 use Rattle.model.proofs.Steps.{use_at_is}
 use Rattle.model.proofs.Uses.{no_position_none, used_has}
+use Rattle.model.proofs.SameTree.{SameTree}
+use Rattle.model.proofs.Places.{put_here}
+use Rattle.model.proofs.NewRecord.{other_directory, other_sound, other_use, other_slot}
 use Rattle.ordering.specs.Cuts.{Cell, Record, BlockBit, Block, Pending, users_view, EachCut}
 use Rattle.ordering.specs.Ghosts.{Ghost}
 use Rattle.ordering.specs.Agrees.{Agrees, AllAgree}
 use Rattle.ordering.specs.Kinds.{Keeps}
 use Rattle.ordering.specs.Rewrites.{Comes, MayGrowDirectory}
 use Rattle.ordering.proofs.CutLemmas.{each_step, was_fresh}
-use Rattle.ordering.proofs.Trees.{SameTree}
 use Rattle.ordering.proofs.Bits.{users_obey, sound_used}
-use Rattle.ordering.proofs.Records.{put_here}
-use Rattle.ordering.proofs.Outside.{other_directory, other_sound, other_use, other_slot}
 use Rattle.ordering.proofs.CutUses.{stays_used, comes_used}
 use Rattle.ordering.proofs.RecordSteps.{record_step, record_there, use_there, Fits}
 use Rattle.ordering.proofs.RecordKinds.{same_flags, keeps_tree_skip, keeps_tree_take}

@@ -1,18 +1,15 @@
 pub mod CutLemmas
-pub mod Trees
+pub mod Places
 pub mod Frames
 pub mod Bits
 pub mod Data
 pub mod Records
-pub mod Counts
 pub mod Claims
-pub mod Outside
 pub mod CutUses
 pub mod RecordSteps
 pub mod RecordKinds
 pub mod Growth
 pub mod Tables
-pub mod OneSlots
 mod SlotSteps
 pub mod SlotKinds
 mod NewNames

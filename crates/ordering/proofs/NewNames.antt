@@ -10,21 +10,23 @@ use Rattle.model.specs.Slots.{Slot, Empty, Good, Bad, slot, slot_in, Names}
 use Rattle.model.specs.Reach.{IsReachableDirectory, IsReachable, HasEntries}
 use Rattle.model.specs.Rules.{ObeysRules, UsesAreClaims, SlotsAreRight}
 use Rattle.model.proofs.SlotLemmas.{slot_content, number_low}
-use Rattle.model.proofs.UseLemmas.{claim_parts}
+use Rattle.model.proofs.UseLemmas.{claim_parts, uses_obey}
 use Rattle.ordering.specs.Cuts.{Cell, Record, NumberBit, Block, Pending, users_view, without, AreIn}
 use Rattle.ordering.specs.Places.{HasPlace}
 use Rattle.ordering.specs.Ghosts.{Ghost}
 use Rattle.ordering.specs.Agrees.{Agrees, TreeAgrees}
 use Rattle.ordering.specs.Kinds.{Keeps}
-use Rattle.ordering.specs.OneSlot.{OneSlot, IsNewName, MayEnter, MayRename}
+use Rattle.ordering.specs.OneSlot.{IsNewName, MayEnter, MayRename}
 use Rattle.ordering.proofs.CutLemmas.{was_fresh, is_other, still_fresh}
-use Rattle.ordering.proofs.Trees.{place_back, reachable_kept}
+use Rattle.ordering.proofs.Places.{place_back, place_of, place_to, place_from, slot_change, places_stay}
 use Rattle.ordering.proofs.Bits.{users_obey}
 use Rattle.ordering.proofs.Data.{directory_mode}
-use Rattle.ordering.proofs.Counts.{place_of, entries_within}
 use Rattle.model.proofs.Slots.{slot_claimed}
-use Rattle.ordering.proofs.OneSlots.{slot_uses, slot_before, slot_now, slot_others, at_slot, names_there, names_then, the_block, block_there, block_then, names_at_slot, names_at_slot_now, SameReach, reach_kept, reach_back, reach_obeys, place_to, place_from, links_at}
-use Rattle.ordering.proofs.SlotSteps.{SlotTaken, slot_step, uses_obey}
+use Rattle.model.proofs.SameTree.{reachable_kept}
+use Rattle.model.proofs.EntryCounts.{entries_within, links_at}
+use Rattle.model.proofs.SlotChange.{slot_uses, slot_before, slot_now, slot_others, at_or_not, names_there, names_then, the_block, block_there, block_then, SlotChange, names_at_slot, names_at_slot_now}
+use Rattle.model.proofs.SameReach.{SameReach, reach_kept, reach_back, reach_obeys, slots_right}
+use Rattle.ordering.proofs.SlotSteps.{SlotTaken, slot_step}
 use Rattle.ordering.proofs.SlotKinds.{two_cases, unclaimed_shape, unclaimed_rules, no_file_directory}
 
 -- a name that is new to the users is new in a cut with the last bytes of the directory's blocks
@@ -44,52 +46,22 @@ new_in_cut geo users ghost after block d s name dir fresh_name set view a own me
     fresh_name.new t j low other (slot_claimed geo users d t at.block dir below (claimed, claim.1) ∙ ap (λ b. slot_in geo b t) (sym (a.same (Block at.block) written)) ∙ at.content)
 
 -- the sixth rule, where a slot gets a new name of a sound inode
-pub named_slots_right : (geo : Geometry) (v : View) (block : ℕ) (bytes : List ℕ) (d s : ℕ) (old : Slot) (i : ℕ) (name : List ℕ) (h : OneSlot geo v block bytes d s old (Good i name)) (o : ObeysRules geo v)
-    → 2 ≤ s → SameReach geo v (updated v (SetBytes block bytes)) → ((t j : ℕ) → 2 ≤ t → (t ≡ s → ⊥) → slot geo v d t ≡ Good j name → ⊥)
+pub named_slots_right : (geo : Geometry) (v : View) (block : ℕ) (bytes : List ℕ) (d s : ℕ) (old : Slot) (i : ℕ) (name : List ℕ) (h : SlotChange geo v block bytes d s old (Good i name)) (o : ObeysRules geo v)
+    → SameReach geo v (updated v (SetBytes block bytes)) → ((t j : ℕ) → 2 ≤ t → (t ≡ s → ⊥) → slot geo v d t ≡ Good j name → ⊥)
     → (IsReachableDirectory geo v d → IsTrue (is_sound geo (v.inode i))) → SlotsAreRight geo (updated v (SetBytes block bytes))
-named_slots_right geo v block bytes d s old i name h o low r new sound = record {
-  none_bad = λ e t p b. elim (at e t) [
-    | inr other ↦ o.rule6.none_bad e t (reach_back geo v after r e p) (others e t other ∙ b)
-    | inl here ↦ absurd (let b' : slot geo after d s ≡ Bad = moved (λ x y. slot geo after x y ≡ Bad) e t here b in let now : slot geo after d s ≡ Good i name = slot_now geo v block bytes d s old (Good i name) h o.rule3 in cc)
-  ];
-  distinct = λ e t u j k name' p q q' f g. elim (at e t) [
-    | inl here ↦ elim (at e u) [
-      | inl there ↦ here.1 ∙ sym there.1
-      | inr other ↦ absurd (clash e t u j k name' here q' other f g)
-    ]
-    | inr other ↦ elim (at e u) [
-      | inl there ↦ absurd (clash e u t k j name' there q other g f)
-      | inr other' ↦ o.rule6.distinct e t u j k name' (reach_back geo v after r e p) q q' (others e t other ∙ f) (others e u other' ∙ g)
-    ]
-  ];
-  sound = λ e t j p n. elim (at e t) [
-    | inr other ↦ o.rule6.sound e t j (reach_back geo v after r e p) (names_then geo v block bytes d s old (Good i name) h o.rule3 e t j other n)
-    | inl here ↦
-        let k = names_at_slot_now geo v block bytes d s old (Good i name) h o.rule3 e t j here n in
-        let same : Good i name ≡ Good j k.0 = k.1 in
-        let ij : i ≡ j = cc in
-        subst (λ x. IsTrue (is_sound geo (v.inode x))) ij (sound (subst (λ x. IsReachableDirectory geo v x) here.0 (reach_back geo v after r e p)))
-  ];
-}
+named_slots_right geo v block bytes d s old i name h o r new sound =
+    slots_right geo v (updated v (SetBytes block bytes)) r d s (Good i name)
+    (slot_others geo v block bytes d s old (Good i name) h o.rule3) (slot_now geo v block bytes d s old (Good i name) h o.rule3) o
+    (λ e. (let bad : Good i name ≡ Bad = e in cc))
+    (λ t j k other e two apart is. new t j two apart (subst (λ q. slot geo v d t ≡ Good j q) (same_name e) is))
+    (λ j other p e. subst (λ q. IsTrue (is_sound geo (v.inode q))) (same_number e) (sound p))
+    (λ j k. k)
   where
-    after : View
-    after = updated v (SetBytes block bytes)
+    same_name : {k : ℕ} {other : List ℕ} → Good i name ≡ Good k other → other ≡ name
+    same_name e = cc
 
-    at : (e t : ℕ) → ((e ≡ d) × (t ≡ s)) ⊎ ((e ≡ d) × (t ≡ s) → ⊥)
-    at = at_slot geo v block bytes d s old (Good i name) h o.rule3
-
-    others : (e t : ℕ) → ((e ≡ d) × (t ≡ s) → ⊥) → slot geo v e t ≡ slot geo after e t
-    others = slot_others geo v block bytes d s old (Good i name) h o.rule3
-
-    moved : (P : ℕ → ℕ → Type 0) (e t : ℕ) → (e ≡ d) × (t ≡ s) → P e t → P d s
-    moved P e t here p = subst (λ x. P x s) here.0 (subst (λ y. P e y) here.1 p)
-
-    clash : (e t u j k : ℕ) (name' : List ℕ) → (e ≡ d) × (t ≡ s) → 2 ≤ u → ((e ≡ d) × (u ≡ s) → ⊥) → slot geo after e t ≡ Good j name' → slot geo after e u ≡ Good k name' → ⊥
-    clash e t u j k name' here low other f g =
-        let now : slot geo after d s ≡ Good i name = slot_now geo v block bytes d s old (Good i name) h o.rule3 in
-        let f' : slot geo after d s ≡ Good j name' = moved (λ x y. slot geo after x y ≡ Good j name') e t here f in
-        let same : name' ≡ name = cc in
-        new u k low (λ x. other (here.0, x)) (subst (λ x. slot geo v x u ≡ Good k name) here.0 (others e u other ∙ g ∙ ap (Good k) same))
+    same_number : {k : ℕ} {other : List ℕ} → Good i name ≡ Good k other → i ≡ k
+    same_number e = cc
 
 -- what is reachable, where the places of an inode are among the old ones
 pub reachable_by_places : (geo : Geometry) (v w : View) → SameReach geo v w → v.inode ≡ w.inode → (j : ℕ) → ((e t c : ℕ) → HasPlace geo w j e t c → HasPlace geo v j e t c) → IsReachable geo w j → IsReachable geo v j
@@ -118,10 +90,10 @@ module _ (geo : Geometry) (disk : View) (q : List Pending) (ghost : Ghost) (afte
   users' = updated users (SetBytes block bytes)
 
   module _ (rules : ObeysRules geo users) where
-    pub entered_reach : (v : View) → OneSlot geo v block bytes d s Empty (Good i name) → UsesAreClaims geo v → (IsTrue (is_directory_at geo v i) → ⊥) → SameReach geo v (updated v (SetBytes block bytes))
+    pub entered_reach : (v : View) → SlotChange geo v block bytes d s Empty (Good i name) → UsesAreClaims geo v → (IsTrue (is_directory_at geo v i) → ⊥) → SameReach geo v (updated v (SetBytes block bytes))
     entered_reach v h u file = record {
       directories = λ j. refl;
-      names = λ e t j dir. elim (at_slot geo v block bytes d s Empty (Good i name) h u e t) [
+      names = λ e t j dir. elim (at_or_not d s e t) [
         | inr other ↦ (names_there geo v block bytes d s Empty (Good i name) h u e t j other, names_then geo v block bytes d s Empty (Good i name) h u e t j other)
         | inl at ↦ (
           (λ n. absurd (let k = names_at_slot geo v block bytes d s Empty (Good i name) h u e t j at n in let same : Empty ≡ Good j k.0 = k.1 in cc)),
@@ -130,16 +102,16 @@ module _ (geo : Geometry) (disk : View) (q : List Pending) (ghost : Ghost) (afte
       ];
     }
 
-    stays : (v : View) (h : OneSlot geo v block bytes d s Empty (Good i name)) (u : UsesAreClaims geo v) → SameReach geo v (updated v (SetBytes block bytes))
+    stays : (v : View) (h : SlotChange geo v block bytes d s Empty (Good i name)) (u : UsesAreClaims geo v) → SameReach geo v (updated v (SetBytes block bytes))
         → (j e t c : ℕ) → HasPlace geo v j e t c → HasPlace geo (updated v (SetBytes block bytes)) j e t c
-    stays v h u r j e t c p = elim (at_slot geo v block bytes d s Empty (Good i name) h u e t) [
+    stays v h u r j e t c p = elim (at_or_not d s e t) [
       | inr other ↦ place_to geo v block bytes d s Empty (Good i name) h u r j e t c other p
       | inl at ↦ absurd (let k = names_at_slot geo v block bytes d s Empty (Good i name) h u e t j at p.names in let same : Empty ≡ Good j k.0 = k.1 in cc)
     ]
 
-    pub came : (v : View) (h : OneSlot geo v block bytes d s Empty (Good i name)) (u : UsesAreClaims geo v) → SameReach geo v (updated v (SetBytes block bytes))
+    pub came : (v : View) (h : SlotChange geo v block bytes d s Empty (Good i name)) (u : UsesAreClaims geo v) → SameReach geo v (updated v (SetBytes block bytes))
         → (j e t c : ℕ) → HasPlace geo (updated v (SetBytes block bytes)) j e t c → ((j ≡ i) × (e ≡ d) × (t ≡ s) × (c ≡ block)) ⊎ HasPlace geo v j e t c
-    came v h u r j e t c p = elim (at_slot geo v block bytes d s Empty (Good i name) h u e t) [
+    came v h u r j e t c p = elim (at_or_not d s e t) [
       | inr other ↦ inr (place_from geo v block bytes d s Empty (Good i name) h u r j e t c other p)
       | inl at ↦ inl (
           let k = names_at_slot_now geo v block bytes d s Empty (Good i name) h u e t j at p.names in
@@ -148,8 +120,8 @@ module _ (geo : Geometry) (disk : View) (q : List Pending) (ghost : Ghost) (afte
           (ij, at.0, at.1, the_block geo v block bytes d s Empty (Good i name) h u e t c at (block_then geo v block bytes d s Empty (Good i name) h u e t c p.block)))
     ]
 
-    h_users : OneSlot geo users block bytes d s Empty (Good i name)
-    h_users = may.change.slot
+    h_users : SlotChange geo users block bytes d s Empty (Good i name)
+    h_users = slot_change may.change.slot
 
     reach : SameReach geo users users'
     reach = entered_reach users h_users rules.rule3 (no_file_directory geo users i may.file)
@@ -206,27 +178,27 @@ module _ (geo : Geometry) (disk : View) (q : List Pending) (ghost : Ghost) (afte
           record {
             uses = slot_uses geo view block bytes d s Empty (Good i name) h a.rules.rule3;
             rules = reach_obeys geo view view' r a.rules a.rules.rule2
-                (uses_obey geo view view' (slot_uses geo view block bytes d s Empty (Good i name) h a.rules.rule3) (λ b. refl) a.rules.rule3)
+                (uses_obey geo view view' (slot_uses geo view block bytes d s Empty (Good i name) h a.rules.rule3) (λ b n k c. a.rules.rule3.marked n k b c) a.rules.rule3)
                 a.rules.rule4
-                (named_slots_right geo view block bytes d s Empty i name h a.rules may.change.after_dots r
+                (named_slots_right geo view block bytes d s Empty i name h a.rules r
                 (new_in_cut geo users ghost after block d s name h_users.directory may.fresh_name set view a own met there.1)
                 (λ reached. sound))
                 (λ j n reached e. elim (cases_eq j i) [
                   | inl ji ↦
                       let inside = entries_within geo view' users' i low_number
-                      (λ e t c p. elim (came_view i e t c p) [
+                      (places_stay geo view' users' i (λ e t c p. elim (came_view i e t c p) [
                         | inl at ↦ the_place i e t c at
                         | inr old ↦ elim (a.tree.places i e t c written old) [
                           | inl u ↦ stays users h_users rules.rule3 reach i e t c u
                           | inr g ↦ absurd (both_ways (ghost.gone (record { number = i; directory = e; slot = t; block = c; witness = g.0 })) (may.none_gone (record { number = i; directory = e; slot = t; block = c; witness = g.0 })) g.1)
                         ]
-                      ]) n (subst (λ x. HasEntries geo view' x n) ji e) in
+                      ])) n (subst (λ x. HasEntries geo view' x n) ji e) in
                       let enough = may.links inside.0 inside.1 in
                       let links : (view.inode j).links ≡ (users.inode i).links = ap (λ x. (view.inode x).links) ji ∙ ap (λ (y : Inode). y.links) same in
                       omega (arith, enough, inside.2, links)
                   | inr other ↦ links_at geo view view' j
                       (reachable_by_places geo view view' r refl j (λ e t c p. elim (came_view j e t c p) [ inl at ↦ absurd (other at.0) | inr old ↦ old ]))
-                      (λ e t c p. elim (came_view j e t c p) [ inl at ↦ absurd (other at.0) | inr old ↦ old ])
+                      (places_stay geo view' view j (λ e t c p. elim (came_view j e t c p) [ inl at ↦ absurd (other at.0) | inr old ↦ old ]))
                       (le_refl (view.inode j).links) a.rules.rule8 n reached e
                 ]);
             tree = entered_tree set set view view' a (λ c f. f) (λ n f. f) came_view (λ f. bit);
@@ -262,7 +234,7 @@ module _ (geo : Geometry) (disk : View) (q : List Pending) (ghost : Ghost) (afte
   enter_keeps all =
       let rules = users_obey geo disk q ghost all in
       slot_step geo disk q ghost ghost.gone ghost.entering ghost.safe after block bytes
-      (λ f h. h) (slot_uses geo users block bytes d s Empty (Good i name) may.change.slot rules.rule3)
+      (λ f h. h) (slot_uses geo users block bytes d s Empty (Good i name) (slot_change may.change.slot) rules.rule3)
       (λ set view a. entered_tree rules set (without set (Block block)) view view a
       (λ c f. was_fresh set (Block block) c f) (λ n f. still_fresh set (Block block) (NumberBit n) f (λ e. cc))
       (λ j e t c p. inr p)
@@ -279,12 +251,15 @@ module _ (geo : Geometry) (disk : View) (q : List Pending) (ghost : Ghost) (afte
   abbrev renamed_users' : View
   renamed_users' = updated renamed_users (SetBytes block bytes)
 
-  module _ (v : View) (h : OneSlot geo v block bytes d s (Good i old) (Good i new)) (u : UsesAreClaims geo v) where
+  renamed_slot : SlotChange geo renamed_users block bytes d s (Good i old) (Good i new)
+  renamed_slot = slot_change may.change.slot
+
+  module _ (v : View) (h : SlotChange geo v block bytes d s (Good i old) (Good i new)) (u : UsesAreClaims geo v) where
     abbrev w : View
     w = updated v (SetBytes block bytes)
 
     renamed_there : (e t j : ℕ) → Names geo v e t j → Names geo w e t j
-    renamed_there e t j n = elim (at_slot geo v block bytes d s (Good i old) (Good i new) h u e t) [
+    renamed_there e t j n = elim (at_or_not d s e t) [
       | inr other ↦ names_there geo v block bytes d s (Good i old) (Good i new) h u e t j other n
       | inl at ↦
           let k = names_at_slot geo v block bytes d s (Good i old) (Good i new) h u e t j at n in
@@ -294,7 +269,7 @@ module _ (geo : Geometry) (disk : View) (q : List Pending) (ghost : Ghost) (afte
     ]
 
     renamed_then : (e t j : ℕ) → Names geo w e t j → Names geo v e t j
-    renamed_then e t j n = elim (at_slot geo v block bytes d s (Good i old) (Good i new) h u e t) [
+    renamed_then e t j n = elim (at_or_not d s e t) [
       | inr other ↦ names_then geo v block bytes d s (Good i old) (Good i new) h u e t j other n
       | inl at ↦
           let k = names_at_slot_now geo v block bytes d s (Good i old) (Good i new) h u e t j at n in
@@ -319,19 +294,19 @@ module _ (geo : Geometry) (disk : View) (q : List Pending) (ghost : Ghost) (afte
         → TreeAgrees geo renamed_users' ghost set' view'
     renamed_tree set set' view view' a fewer number before = record {
       places = λ j e t c f p. elim (a.tree.places j e t c (fewer (Record j) f) (before j e t c p)) [
-        | inl there ↦ inl (renamed_place renamed_users may.change.slot rules.rule3 j e t c there)
+        | inl there ↦ inl (renamed_place renamed_users renamed_slot rules.rule3 j e t c there)
         | inr g ↦ inr g
       ];
       directories = λ j e t c r f low p.
-          let r' : IsReachableDirectory geo renamed_users j ⊎ IsTrue (ghost.entering j) = elim r [ inl y ↦ inl (reach_back geo renamed_users renamed_users' (renamed_reach renamed_users may.change.slot rules.rule3) j y) | inr y ↦ inr y ] in
-          renamed_place renamed_users may.change.slot rules.rule3 j e t c (a.tree.directories j e t c r' (fewer (NumberBit j) f) low (before j e t c p));
-      numbers = λ j e t c low p f. number j (a.tree.numbers j e t c low (renamed_back renamed_users may.change.slot rules.rule3 j e t c p) (fewer (Block c) f));
+          let r' : IsReachableDirectory geo renamed_users j ⊎ IsTrue (ghost.entering j) = elim r [ inl y ↦ inl (reach_back geo renamed_users renamed_users' (renamed_reach renamed_users renamed_slot rules.rule3) j y) | inr y ↦ inr y ] in
+          renamed_place renamed_users renamed_slot rules.rule3 j e t c (a.tree.directories j e t c r' (fewer (NumberBit j) f) low (before j e t c p));
+      numbers = λ j e t c low p f. number j (a.tree.numbers j e t c low (renamed_back renamed_users renamed_slot rules.rule3 j e t c p) (fewer (Block c) f));
       removed = λ g y f p. a.tree.removed g y (fewer (Block g.witness) f) (before g.number g.directory g.slot g.block p);
     }
 
     renamed_take : (set : Cell → Bool) (view : View) → Agrees geo renamed_users ghost set view → IsTrue (set (Block block)) → AreIn after set
         → SlotTaken geo disk q ghost ghost.gone ghost.entering ghost.safe after block bytes set view
-    renamed_take set view a own met = elim (two_cases geo renamed_users ghost block bytes d s (Good i old) (Good i new) may.change.slot set view a own) [
+    renamed_take set view a own met = elim (two_cases geo renamed_users ghost block bytes d s (Good i old) (Good i new) renamed_slot set view a own) [
       | inl none ↦
           let shape = unclaimed_shape geo view block bytes none in
           record {
@@ -347,12 +322,12 @@ module _ (geo : Geometry) (disk : View) (q : List Pending) (ghost : Ghost) (afte
           record {
             uses = slot_uses geo view block bytes d s (Good i old) (Good i new) h a.rules.rule3;
             rules = reach_obeys geo view view' r a.rules a.rules.rule2
-                (uses_obey geo view view' (slot_uses geo view block bytes d s (Good i old) (Good i new) h a.rules.rule3) (λ b. refl) a.rules.rule3)
+                (uses_obey geo view view' (slot_uses geo view block bytes d s (Good i old) (Good i new) h a.rules.rule3) (λ b n k c. a.rules.rule3.marked n k b c) a.rules.rule3)
                 a.rules.rule4
-                (named_slots_right geo view block bytes d s (Good i old) i new h a.rules may.change.after_dots r
+                (named_slots_right geo view block bytes d s (Good i old) i new h a.rules r
                 (new_in_cut geo renamed_users ghost after block d s new may.change.slot.directory may.fresh_name set view a own met there.1)
                 (λ reached. a.rules.rule6.sound d s i reached (old, slot_before geo view block bytes d s (Good i old) (Good i new) h a.rules.rule3)))
-                (λ j n reached e. links_at geo view view' j (reachable_by_places geo view view' r refl j (back j)) (back j) (le_refl (view.inode j).links) a.rules.rule8 n reached e);
+                (λ j n reached e. links_at geo view view' j (reachable_by_places geo view view' r refl j (back j)) (places_stay geo view' view j (back j)) (le_refl (view.inode j).links) a.rules.rule8 n reached e);
             tree = renamed_tree set set view view' a (λ c f. f) (λ n f. f) back;
             safe = λ f t. reachable_by_kept geo view view' r refl f (renamed_place view h a.rules.rule3 f);
           }
@@ -365,7 +340,7 @@ module _ (geo : Geometry) (disk : View) (q : List Pending) (ghost : Ghost) (afte
   rename_keeps all =
       let rules = users_obey geo disk q ghost all in
       slot_step geo disk q ghost ghost.gone ghost.entering ghost.safe after block bytes
-      (λ f h. h) (slot_uses geo renamed_users block bytes d s (Good i old) (Good i new) may.change.slot rules.rule3)
+      (λ f h. h) (slot_uses geo renamed_users block bytes d s (Good i old) (Good i new) renamed_slot rules.rule3)
       (λ set view a. renamed_tree rules set (without set (Block block)) view view a
       (λ c f. was_fresh set (Block block) c f) (λ n f. still_fresh set (Block block) (NumberBit n) f (λ e. cc))
       (λ j e t c p. p))

@@ -6,26 +6,27 @@ use Rattle.model.specs.View.{View}
 use Rattle.model.specs.Cells.{SetBytes, updated}
 use Rattle.model.specs.Shape.{most_blocks}
 use Rattle.model.specs.Uses.{use_at, IsUse, IsClaim}
-use Rattle.model.specs.Slots.{Slot, Empty, Good, Bad, slot, slot_in, Names}
-use Rattle.model.specs.Reach.{Path, IsReachableDirectory, IsReachable, IsEntry, HasParent}
+use Rattle.model.specs.Slots.{Slot, Empty, Good, slot, slot_in, Names}
+use Rattle.model.specs.Reach.{Path, IsReachableDirectory, IsEntry}
 use Rattle.model.specs.Rules.{ObeysRules, UsesAreClaims}
 use Rattle.model.proofs.Finite.{reachable_set}
 use Rattle.model.proofs.SlotLemmas.{slot_content, names_one}
-use Rattle.model.proofs.UseLemmas.{claim_parts}
+use Rattle.model.proofs.UseLemmas.{claim_parts, uses_obey}
 use Rattle.ordering.specs.Cuts.{Cell, Record, NumberBit, Block, Pending, users_view, without, AreIn}
 use Rattle.ordering.specs.Places.{HasPlace}
 use Rattle.ordering.specs.Ghosts.{Ghost, Gone}
 use Rattle.ordering.specs.Agrees.{Agrees, TreeAgrees}
 use Rattle.ordering.specs.Kinds.{Keeps}
-use Rattle.ordering.specs.OneSlot.{OneSlot, MayRemoveDirectory, same_gone, removed_directory}
+use Rattle.ordering.specs.OneSlot.{MayRemoveDirectory, same_gone, removed_directory}
 use Rattle.ordering.proofs.CutLemmas.{was_fresh, is_other, still_fresh}
-use Rattle.ordering.proofs.Trees.{SameTree, tree_obeys, links_cover, place_back, back, reachable_kept}
+use Rattle.ordering.proofs.Places.{place_back, place_of, slot_change}
 use Rattle.ordering.proofs.Bits.{users_obey, sound_used}
 use Rattle.ordering.proofs.Data.{directory_mode}
-use Rattle.ordering.proofs.Counts.{place_of}
 use Rattle.model.proofs.Slots.{slot_claimed}
-use Rattle.ordering.proofs.OneSlots.{slot_uses, slot_before, slot_now, slot_others, at_slot, names_there, names_then, the_block, block_there, block_then, names_at_slot, names_at_slot_now, links_at}
-use Rattle.ordering.proofs.SlotSteps.{SlotTaken, slot_step, uses_obey}
+use Rattle.model.proofs.SameTree.{SameTree, tree_obeys, links_cover, back, reachable_kept}
+use Rattle.model.proofs.SlotChange.{slot_uses, slot_before, slot_others, at_or_not, names_there, the_block, block_there, block_then, SlotChange, names_at_slot, names_at_slot_now}
+use Rattle.model.proofs.Prune.{names_were, prune_back, prune_kept, pruned, prune_reachable, prune_obeys}
+use Rattle.ordering.proofs.SlotSteps.{SlotTaken, slot_step}
 use Rattle.ordering.proofs.SlotKinds.{two_cases, unclaimed_shape, unclaimed_rules}
 
 -- whether a directory is reachable
@@ -36,7 +37,7 @@ reached_or_not geo v d = let set = reachable_set geo v in elim (cases_Bool (set.
 ]
 
 -- a change of a slot of a directory that nothing reaches
-pub unreached_tree : (geo : Geometry) (v : View) (block : ℕ) (bytes : List ℕ) (d s : ℕ) (old new : Slot) (h : OneSlot geo v block bytes d s old new) (u : UsesAreClaims geo v)
+pub unreached_tree : (geo : Geometry) (v : View) (block : ℕ) (bytes : List ℕ) (d s : ℕ) (old new : Slot) (h : SlotChange geo v block bytes d s old new) (u : UsesAreClaims geo v)
     → (IsReachableDirectory geo v d → ⊥) → SameTree geo v (updated v (SetBytes block bytes))
 unreached_tree geo v block bytes d s old new h u out = record {
   top = refl;
@@ -50,67 +51,34 @@ unreached_tree geo v block bytes d s old new h u out = record {
     slots : (e t : ℕ) → IsReachableDirectory geo v e → slot geo v e t ≡ slot geo (updated v (SetBytes block bytes)) e t
     slots e t r = slot_others geo v block bytes d s old new h u e t (λ at. out (subst (λ x. IsReachableDirectory geo v x) at.0 r))
 
-pub unreached_rules : (geo : Geometry) (v : View) (block : ℕ) (bytes : List ℕ) (d s : ℕ) (old new : Slot) (h : OneSlot geo v block bytes d s old new) (o : ObeysRules geo v)
+pub unreached_rules : (geo : Geometry) (v : View) (block : ℕ) (bytes : List ℕ) (d s : ℕ) (old new : Slot) (h : SlotChange geo v block bytes d s old new) (o : ObeysRules geo v)
     → (IsReachableDirectory geo v d → ⊥) → ObeysRules geo (updated v (SetBytes block bytes))
 unreached_rules geo v block bytes d s old new h o out =
     let t = unreached_tree geo v block bytes d s old new h o.rule3 out in
     let w = updated v (SetBytes block bytes) in
-    tree_obeys geo v w t o o.rule2 (uses_obey geo v w (slot_uses geo v block bytes d s old new h o.rule3) (λ b. refl) o.rule3) o.rule4 (links_cover geo v w t (λ i r. le_refl (v.inode i).links) o.rule8)
+    tree_obeys geo v w t o o.rule2 (uses_obey geo v w (slot_uses geo v block bytes d s old new h o.rule3) (λ b n k c. o.rule3.marked n k b c) o.rule3) o.rule4 (links_cover geo v w t (λ i r. le_refl (v.inode i).links) o.rule8)
 
 -- ---- one view
 
-module _ (geo : Geometry) (v : View) (block : ℕ) (bytes : List ℕ) (d s i : ℕ) (name : List ℕ) (h : OneSlot geo v block bytes d s (Good i name) Empty) (o : ObeysRules geo v) (low : 2 ≤ s)
+module _ (geo : Geometry) (v : View) (block : ℕ) (bytes : List ℕ) (d s i : ℕ) (name : List ℕ) (h : SlotChange geo v block bytes d s (Good i name) Empty) (o : ObeysRules geo v) (low : 2 ≤ s)
     (not_root : i ≡ root → ⊥) (only : (e t : ℕ) → IsEntry geo v e t i → (e ≡ d) × (t ≡ s)) (leaf : (t j : ℕ) → 2 ≤ t → Names geo v i t j → ⊥) where
   abbrev w : View
   w = updated v (SetBytes block bytes)
 
-  -- a name of w is one of v, elsewhere
-  names_were : (e t j : ℕ) → Names geo w e t j → Names geo v e t j × ((e ≡ d) × (t ≡ s) → ⊥)
-  names_were e t j n = elim (at_slot geo v block bytes d s (Good i name) Empty h o.rule3 e t) [
-    | inr other ↦ (names_then geo v block bytes d s (Good i name) Empty h o.rule3 e t j other n, other)
-    | inl at ↦ absurd (let k = names_at_slot_now geo v block bytes d s (Good i name) Empty h o.rule3 e t j at n in let same : Empty ≡ Good j k.0 = k.1 in cc)
-  ]
-
-  names_stay : (e t j : ℕ) → (j ≡ i → ⊥) → Names geo v e t j → Names geo w e t j
-  names_stay e t j other n = elim (at_slot geo v block bytes d s (Good i name) Empty h o.rule3 e t) [
-    | inr differs ↦ names_there geo v block bytes d s (Good i name) Empty h o.rule3 e t j differs n
-    | inl at ↦ absurd (let k = names_at_slot geo v block bytes d s (Good i name) Empty h o.rule3 e t j at n in let same : Good i name ≡ Good j k.0 = k.1 in let ij : j ≡ i = cc in other ij)
-  ]
-
-  prune_path_back : (n e : ℕ) → Path geo w n e → Path geo v n e
-  prune_path_back zero e p = (p.0, p.1)
-  prune_path_back (suc n) e p = (p.0, p.1, prune_path_back n p.0 p.2, p.3, (names_were p.0 p.1 e p.4).0, p.5)
-
-  pub prune_back : (e : ℕ) → IsReachableDirectory geo w e → IsReachableDirectory geo v e
-  prune_back e r = (r.0, prune_path_back r.0 e r.1)
-
-  prune_out : (n : ℕ) → Path geo w n i → ⊥
-  prune_out zero p = not_root p.0
-  prune_out (suc n) p =
-      let names = names_were p.0 p.1 i p.4 in
-      names.1 (only p.0 p.1 (record { reachable = (n, prune_path_back n p.0 p.2); after_dots = p.3; names = names.0 }))
-
-  pub pruned : IsReachableDirectory geo w i → ⊥
-  pruned r = prune_out r.0 r.1
-
-  prune_path_kept : (n e : ℕ) → (e ≡ i → ⊥) → Path geo v n e → Path geo w n e
-  prune_path_kept zero e other p = (p.0, p.1)
-  prune_path_kept (suc n) e other p =
-      (p.0, p.1, prune_path_kept n p.0 (λ q. leaf p.1 e p.3 (subst (λ x. Names geo v x p.1 e) q p.4)) p.2, p.3, names_stay p.0 p.1 e other p.4, p.5)
-
-  pub prune_kept : (e : ℕ) → (e ≡ i → ⊥) → IsReachableDirectory geo v e → IsReachableDirectory geo w e
-  prune_kept e other r = (r.0, prune_path_kept r.0 e other r.1)
-
   pub prune_place_back : (j e t c : ℕ) → HasPlace geo w j e t c → HasPlace geo v j e t c
-  prune_place_back j e t c p = record { reachable = prune_back e p.reachable; names = (names_were e t j p.names).0; block = block_then geo v block bytes d s (Good i name) Empty h o.rule3 e t c p.block }
+  prune_place_back j e t c p = record {
+    reachable = prune_back geo v block bytes d s i name h o low not_root only leaf e p.reachable;
+    names = (names_were geo v block bytes d s i name h o low not_root only leaf e t j p.names).0;
+    block = block_then geo v block bytes d s (Good i name) Empty h o.rule3 e t c p.block;
+  }
 
   -- a place stays, or it is the slot's, or it stands in the directory that goes
   pub prune_place : (j e t c : ℕ) → HasPlace geo v j e t c → HasPlace geo w j e t c ⊎ (((j ≡ i) × (e ≡ d) × (t ≡ s) × (c ≡ block)) ⊎ (e ≡ i))
   prune_place j e t c p = elim (cases_eq e i) [
     | inl mine ↦ inr (inr mine)
-    | inr other ↦ elim (at_slot geo v block bytes d s (Good i name) Empty h o.rule3 e t) [
+    | inr other ↦ elim (at_or_not d s e t) [
       | inr differs ↦ inl (record {
-        reachable = prune_kept e other p.reachable;
+        reachable = prune_kept geo v block bytes d s i name h o low not_root only leaf e other p.reachable;
         names = names_there geo v block bytes d s (Good i name) Empty h o.rule3 e t j differs p.names;
         block = block_there geo v block bytes d s (Good i name) Empty h o.rule3 e t c p.block;
       })
@@ -121,75 +89,6 @@ module _ (geo : Geometry) (v : View) (block : ℕ) (bytes : List ℕ) (d s i : �
           (ij, at.0, at.1, the_block geo v block bytes d s (Good i name) Empty h o.rule3 e t c at p.block)))
     ]
   ]
-
-  entry_was : (e t j : ℕ) → IsEntry geo w e t j → IsEntry geo v e t j
-  entry_was e t j x = record { reachable = prune_back e x.reachable; after_dots = x.after_dots; names = (names_were e t j x.names).0 }
-
-  -- the dots stand elsewhere
-  dots_stay : (e t j : ℕ) → t < 2 → Names geo v e t j → Names geo w e t j
-  dots_stay e t j below n = names_there geo v block bytes d s (Good i name) Empty h o.rule3 e t j (λ at. let ts : t ≡ s = at.1 in omega (arith, below, ts, low)) n
-
-  parent_stays : (e : ℕ) → (e ≡ i → ⊥) → HasParent geo v e → HasParent geo w e
-  parent_stays e other (inl p) = inl (p.0, dots_stay e 1 root (omega arith) p.1)
-  parent_stays e other (inr p) = inr (
-    p.0,
-    p.1,
-    p.2,
-    dots_stay e 1 p.1 (omega arith) p.3,
-    record {
-      reachable = prune_kept p.1 (λ q. leaf p.2 e p.4.after_dots (subst (λ x. Names geo v x p.2 e) q p.4.names)) p.4.reachable;
-      after_dots = p.4.after_dots;
-      names = names_stay p.1 p.2 e other p.4.names;
-    },
-  )
-
-  reachable_was : (j : ℕ) → IsReachable geo w j → IsReachable geo v j
-  reachable_was j (inl y) = inl (prune_back j y)
-  reachable_was j (inr y) = inr (y.0, y.1, y.2, entry_was y.1 y.2 j y.3)
-
-  pub prune_reachable : (f : ℕ) → (f ≡ i → ⊥) → IsReachable geo v f → IsReachable geo w f
-  prune_reachable f other (inl y) = inl (prune_kept f other y)
-  prune_reachable f other (inr y) = inr (
-    y.0,
-    y.1,
-    y.2,
-    record {
-      reachable = prune_kept y.1 (λ q. leaf y.2 f y.3.after_dots (subst (λ x. Names geo v x y.2 f) q y.3.names)) y.3.reachable;
-      after_dots = y.3.after_dots;
-      names = names_stay y.1 y.2 f other y.3.names;
-    },
-  )
-
-  pub prune_obeys : ObeysRules geo w
-  prune_obeys = record {
-    rule1 = o.rule1;
-    rule2 = o.rule2;
-    rule3 = uses_obey geo v w (slot_uses geo v block bytes d s (Good i name) Empty h o.rule3) (λ b. refl) o.rule3;
-    rule4 = o.rule4;
-    rule5 = λ e r.
-        let old = o.rule5 e (prune_back e r) in
-        (dots_stay e 0 e (omega arith) old.0, parent_stays e (λ q. pruned (subst (λ x. IsReachableDirectory geo w x) q r)) old.1);
-    rule6 = record {
-      none_bad = λ e t r b. elim (at_slot geo v block bytes d s (Good i name) Empty h o.rule3 e t) [
-        | inr other ↦ o.rule6.none_bad e t (prune_back e r) (slot_others geo v block bytes d s (Good i name) Empty h o.rule3 e t other ∙ b)
-        | inl at ↦ absurd (
-            let b' : slot geo w d s ≡ Bad = subst (λ x. slot geo w x s ≡ Bad) at.0 (subst (λ x. slot geo w e x ≡ Bad) at.1 b) in
-            let now : slot geo w d s ≡ Empty = slot_now geo v block bytes d s (Good i name) Empty h o.rule3 in cc)
-      ];
-      distinct = λ e t u j k nm r p q f g.
-          let f' = slot_was e t j nm f in let g' = slot_was e u k nm g in
-          o.rule6.distinct e t u j k nm (prune_back e r) p q f' g';
-      sound = λ e t j r n. o.rule6.sound e t j (prune_back e r) (names_were e t j n).0;
-    };
-    rule7 = record {
-      once = λ e t f u j dir x y. o.rule7.once e t f u j dir (entry_was e t j x) (entry_was f u j y);
-      no_root = λ e t x. o.rule7.no_root e t (entry_was e t root x);
-    };
-    rule8 = λ j n r x. links_at geo v w j (reachable_was j) (prune_place_back j) (le_refl (v.inode j).links) o.rule8 n r x;
-  }
-    where
-      slot_was : (e t j : ℕ) (nm : List ℕ) → slot geo w e t ≡ Good j nm → slot geo v e t ≡ Good j nm
-      slot_was e t j nm f = slot_others geo v block bytes d s (Good i name) Empty h o.rule3 e t (names_were e t j (nm, f)).1 ∙ f
 
 -- ---- the three gone places
 
@@ -226,8 +125,8 @@ module _ (geo : Geometry) (disk : View) (q : List Pending) (ghost : Ghost) (afte
   abbrev ghost' : Ghost
   ghost' = removed_directory i d s block b ghost
 
-  h_users : OneSlot geo users block bytes d s (Good i name) Empty
-  h_users = may.change.slot
+  h_users : SlotChange geo users block bytes d s (Good i name) Empty
+  h_users = slot_change may.change.slot
 
   the_entry : IsEntry geo users d s i
   the_entry = record { reachable = may.change.reachable; after_dots = may.change.after_dots; names = (name, slot_before geo users block bytes d s (Good i name) Empty h_users rules.rule3) }
@@ -439,7 +338,7 @@ pub remove_directory_keeps : (geo : Geometry) (disk : View) (q : List Pending) (
 remove_directory_keeps geo disk q ghost after block bytes d s i b name may all =
     let rules = users_obey geo disk q ghost all in
     slot_step geo disk q ghost (removed_directory i d s block b ghost).gone ghost.entering ghost.safe after block bytes
-    (λ f h. h) (slot_uses geo (users_view disk q) block bytes d s (Good i name) Empty may.change.slot rules.rule3)
+    (λ f h. h) (slot_uses geo (users_view disk q) block bytes d s (Good i name) Empty (slot_change may.change.slot) rules.rule3)
     (λ set view a. pruned_tree geo disk q ghost after block bytes d s i b name may rules set (without set (Block block)) view view a
     (λ c f. was_fresh set (Block block) c f) (λ n f. still_fresh set (Block block) (NumberBit n) f (λ e. cc))
     (λ j e t c p. p)

@@ -8,6 +8,9 @@ use Rattle.model.specs.Uses.{is_directory, is_directory_at, is_sound, is_sound_a
 use Rattle.model.specs.Reach.{IsReachable, IsReachableDirectory}
 use Rattle.model.specs.Rules.{ObeysRules}
 use Rattle.model.proofs.SlotLemmas.{reachable_directory, directory_sound}
+use Rattle.model.proofs.SameTree.{SameTree}
+use Rattle.model.proofs.Places.{put_here}
+use Rattle.model.proofs.NewRecord.{outside_tree}
 use Rattle.ordering.specs.Cuts.{Cell, Record, NumberBit, Pending, users_view, without}
 use Rattle.ordering.specs.Places.{HasPlace}
 use Rattle.ordering.specs.Ghosts.{Ghost, Gone}
@@ -15,12 +18,10 @@ use Rattle.ordering.specs.Agrees.{Agrees, AllAgree}
 use Rattle.ordering.specs.Kinds.{Keeps}
 use Rattle.ordering.specs.Rewrites.{Rewrites, MayRewriteFile, MayCreate, MayFree, moved, freed, entered}
 use Rattle.ordering.proofs.CutLemmas.{was_fresh, is_other, still_fresh}
-use Rattle.ordering.proofs.Trees.{SameTree}
-use Rattle.ordering.proofs.Counts.{place_of}
+use Rattle.ordering.proofs.Places.{unnamed}
 use Rattle.ordering.proofs.Bits.{users_obey, sound_used, place_used}
 use Rattle.ordering.proofs.Data.{directory_mode}
-use Rattle.ordering.proofs.Records.{put_here, none_gone, only_there, still_gone, was_gone}
-use Rattle.ordering.proofs.Outside.{outside_tree}
+use Rattle.ordering.proofs.Records.{none_gone, only_there, still_gone, was_gone}
 use Rattle.ordering.proofs.RecordSteps.{record_step, Fits, TreeKeeps}
 
 -- the same kind before and after
@@ -242,16 +243,16 @@ free_keeps geo disk q ghost held given_up after n x may all =
     rules = users_obey geo disk q ghost all
 
     dots : (view : View) → ObeysRules geo view → ((d s b : ℕ) → HasPlace geo view n d s b → ⊥) → IsReachableDirectory geo view n → ⊥
-    dots view o none r = let p = place_of geo view n n 0 r (o.rule5 n r).0 in none n 0 p.0 p.1
+    dots view o none r = unnamed geo view n none n 0 r (o.rule5 n r).0
 
     unreached : (view : View) → ObeysRules geo view → ((d s b : ℕ) → HasPlace geo view n d s b → ⊥) → IsReachable geo view n → ⊥
     unreached view o none (inl r) = dots view o none r
-    unreached view o none (inr r) = let p = place_of geo view n r.1 r.2 r.3.reachable r.3.names in none r.1 r.2 p.0 p.1
+    unreached view o none (inr r) = unnamed geo view n none r.1 r.2 r.3.reachable r.3.names
 
     tree_at : (view : View) → ObeysRules geo view → ((d s b : ℕ) → HasPlace geo view n d s b → ⊥) → SameTree geo view (updated view (SetInode n x))
     tree_at view o none =
         outside_tree geo view n x o.rule1 (dots view o none)
-        (λ d s r h. absurd (let p = place_of geo view n d s r h in none d s p.0 p.1))
+        (λ d s r h. absurd (unnamed geo view n none d s r h))
 
     fits : Fits geo disk q ghost ghost' after n x may.blocks
     fits = record {

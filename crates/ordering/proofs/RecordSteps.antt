@@ -10,18 +10,19 @@ use Rattle.model.specs.Rules.{UsesAreClaims}
 use Rattle.model.specs.Reach.{IsReachable, IsReachableDirectory}
 use Rattle.model.proofs.Steps.{use_sound}
 use Rattle.model.proofs.Uses.{record_uses_agree, use_has, use_number, number_use}
+use Rattle.model.proofs.SameTree.{SameTree, same_tree, tree_obeys, back, reachable_kept}
+use Rattle.model.proofs.Places.{put_here}
+use Rattle.model.proofs.NewRecord.{other_directory, other_use, other_mode, records_obey, numbers_obey, links_obey}
 use Rattle.ordering.specs.Cuts.{Cell, Record, NumberBit, BlockBit, Block, Pending, users_view, EachCut, without, AreIn}
 use Rattle.ordering.specs.Places.{HasPlace}
 use Rattle.ordering.specs.Ghosts.{Ghost, Gone}
 use Rattle.ordering.specs.Agrees.{Agrees, AllAgree, NumbersAgree, ModesAgree, BlocksAgree, TreeAgrees}
 use Rattle.ordering.specs.Rewrites.{Stays, Comes, Rewrites}
 use Rattle.ordering.proofs.CutLemmas.{was_fresh, is_other, still_fresh, each_step, same_skip, same_take}
-use Rattle.ordering.proofs.Trees.{SameTree, same_tree, tree_obeys, place_back, place_kept, back, reachable_kept}
+use Rattle.ordering.proofs.Places.{place_back, place_kept}
 use Rattle.ordering.proofs.CutUses.{stays_used, comes_used}
 use Rattle.ordering.proofs.Claims.{ClaimsMove, claims_frame, claims_obey}
-use Rattle.ordering.proofs.Records.{put_here}
 use Rattle.ordering.proofs.Bits.{sound_used}
-use Rattle.ordering.proofs.Outside.{other_directory, other_use, other_mode, records_obey, numbers_obey, links_obey}
 
 -- what the tree asks of the cells and the ghosts
 pub record TreeKeeps (geo : Geometry) (users : View) (ghost : Ghost) (set : Cell → Bool) (view : View) (ghost' : Ghost) (set' : Cell → Bool) : Type 0 where

@@ -1,73 +1,30 @@
 -- The kinds of update that write a record and keep its mode and its blocks.
-use Rattle.std.proofs.Common.{◌≡◌, ℕ, ◌≤◌, Bool, not, ◌&&◌, cond, eqb, ◌/◌, List, inl, inr, refl, sym, ap, ap₂, ◌∙◌, subst, IsTrue, le_refl, arith, Contains, eq-eqb, ne_eqb, None, ◌⊎◌}
-use Rattle.std.proofs.lemmas.Bool.{cases_eq, cond-true, cond-false, and_parts, and_from, not_from_false}
-use Rattle.model.specs.Layout.{Geometry, is_number}
+use Rattle.std.proofs.Common.{◌≡◌, ℕ, ◌≤◌, Bool, not, eqb, List, inl, inr, refl, sym, ap, ◌∙◌, subst, IsTrue, arith, Contains, ne_eqb}
+use Rattle.std.proofs.lemmas.Bool.{cases_eq, and_parts, and_from, not_from_false}
+use Rattle.model.specs.Layout.{Geometry}
 use Rattle.model.specs.View.{View, Inode}
 use Rattle.model.specs.Cells.{SetInode, updated, put_at}
-use Rattle.model.specs.Uses.{use_at, record_use, is_directory, is_directory_at, is_sound}
 use Rattle.model.specs.Reach.{HasEntries}
-use Rattle.model.specs.Rules.{RecordsAreSound}
-use Rattle.model.proofs.Fields.{fields_agree}
-use Rattle.model.proofs.Steps.{use_at_is}
-use Rattle.model.proofs.Uses.{record_uses_agree, same_fields}
-use Rattle.model.proofs.Slots.{slots_of_uses}
+use Rattle.model.proofs.EntryCounts.{entries_within}
+use Rattle.model.proofs.SameTree.{tree_obeys, reachable_back, count_back}
+use Rattle.model.proofs.SameShape.{SameShape, shape_rules}
+use Rattle.model.proofs.SlotLemmas.{number_low}
+use Rattle.model.proofs.Same.{reachable_number}
+use Rattle.model.proofs.Places.{put_here, put_there, put_same}
+use Rattle.model.proofs.NewRecord.{record_shape, records_obey, more_links}
+use Rattle.model.proofs.UseLemmas.{uses_obey}
 use Rattle.ordering.specs.Cuts.{Cell, Record, Block, Pending, users_view, AreIn}
 use Rattle.ordering.specs.Ghosts.{Ghost, Gone}
 use Rattle.ordering.specs.Agrees.{Agrees}
 use Rattle.ordering.specs.Kinds.{Keeps, SameBody, MayRaise, MayLower, settled}
-use Rattle.ordering.proofs.Counts.{entries_within}
 use Rattle.ordering.proofs.CutLemmas.{is_other}
 use Rattle.ordering.specs.Places.{HasPlace}
-use Rattle.ordering.proofs.Trees.{tree_obeys, reachable_back, reachable_low, fewer_entries}
-use Rattle.ordering.proofs.Frames.{SameShape, shape_from, shape_step, shape_rules, shape_claims, keeps_all, keeps_without, numbers_without, numbers_same}
+use Rattle.ordering.proofs.Frames.{shape_step, keeps_all, keeps_without, numbers_without, numbers_same}
 use Rattle.ordering.proofs.Bits.{sound_used}
-
-pub put_here : {A : Type 0} (f : ℕ → A) (n : ℕ) (x : A) → put_at f n x n ≡ x
-put_here f n x = cond-true (eqb n n) x (f n) (eq-eqb n n refl)
-
-pub put_there : {A : Type 0} (f : ℕ → A) (n m : ℕ) (x : A) → (m ≡ n → ⊥) → put_at f n x m ≡ f m
-put_there f n m x differs = cond-false (eqb m n) x (f m) (ne_eqb m n differs)
-
--- what is the same of an old and a new value at a number is the same at each number
-pub put_same : {A B : Type 0} (g : ℕ → A) (n : ℕ) (x : A) (f : ℕ → A → B) → f n (g n) ≡ f n x → (m : ℕ) → f m (g m) ≡ f m (put_at g n x m)
-put_same g n x f e m = elim (cases_eq m n) [
-  | inl q ↦ subst (λ k. f k (g k) ≡ f k (put_at g n x k)) (sym q) (e ∙ ap (f n) (sym (put_here g n x)))
-  | inr d ↦ ap (f m) (sym (put_there g n m x d))
-]
+use Rattle.ordering.proofs.Places.{places_stay}
 
 pub body_shape : (geo : Geometry) (v : View) (n : ℕ) (x : Inode) → SameBody geo (v.inode n) x → SameShape geo v (updated v (SetInode n x))
-body_shape geo v n x b =
-    shape_from geo v w (put_same v.inode n x (λ m (y : Inode). y.mode) b.mode) directories
-    (put_same v.inode n x (λ m y. is_number geo m && is_sound geo y) (ap (λ t. is_number geo n && t) sound)) uses
-    (λ d s. slots_of_uses geo v w d s (directories d) (uses d (s / 16)) (λ a dir low c. refl))
-  where
-    w : View
-    w = updated v (SetInode n x)
-
-    sound : is_sound geo (v.inode n) ≡ is_sound geo x
-    sound = b.sound ∙ sym b.still_sound
-
-    directories : (m : ℕ) → is_directory_at geo v m ≡ is_directory_at geo w m
-    directories = put_same v.inode n x (λ m y. is_number geo m && is_sound geo y && is_directory y) (ap₂ (λ s m. is_number geo n && s && eqb m 2) sound b.mode)
-
-    uses : (m k : ℕ) → use_at geo v m k ≡ use_at geo w m k
-    uses m k =
-        use_at_is geo v m k
-        ∙ ap (λ o. cond (is_number geo m) o None) (put_same v.inode n x (λ j y. record_use geo v y k) (same_fields geo v (v.inode n) x b.sound b.still_sound b.blocks (fields_agree geo (v.inode n) x b.direct b.indirect b.double) k) m
-        ∙ record_uses_agree geo v w (w.inode m) k (λ j t a u d. refl))
-        ∙ sym (use_at_is geo w m k)
-
-records_sound : (geo : Geometry) (v : View) (n : ℕ) (x : Inode) → IsTrue (is_sound geo x) → RecordsAreSound geo v → RecordsAreSound geo (updated v (SetInode n x))
-records_sound geo v n x sound r m h = elim (cases_eq m n) [
-  | inl e ↦ inr (subst (λ k. IsTrue (is_sound geo (put_at v.inode n x k))) (sym e) (ap (is_sound geo) (put_here v.inode n x) ∙ sound))
-  | inr d ↦ subst (λ y. (y.mode ≡ 0) ⊎ IsTrue (is_sound geo y)) (sym (put_there v.inode n m x d)) (r m h)
-]
-
-links_more : (f : ℕ → Inode) (n : ℕ) (x : Inode) → (f n).links ≤ x.links → (i : ℕ) → (f i).links ≤ (put_at f n x i).links
-links_more f n x h i = elim (cases_eq i n) [
-  | inl e ↦ subst (λ k. (f k).links ≤ (put_at f n x k).links) (sym e) (subst (λ (y : Inode). (f n).links ≤ y.links) (sym (put_here f n x)) h)
-  | inr d ↦ subst (λ (y : Inode). (f i).links ≤ y.links) (sym (put_there f n i x d)) (le_refl (f i).links)
-]
+body_shape geo v n x b = record_shape geo v n x b.sound b.still_sound b.mode b.blocks b.direct b.indirect b.double
 
 pub raise_keeps : (geo : Geometry) (disk : View) (q : List Pending) (ghost : Ghost) (after : List Cell) (n : ℕ) (x : Inode)
     → MayRaise geo (users_view disk q) n x → Keeps geo disk q ghost (record { change = SetInode n x; after = after }) ghost
@@ -84,9 +41,9 @@ raise_keeps geo disk q ghost after n x may all =
     let s = body_shape geo view n x body in
     record {
       shape = s;
-      rules = shape_rules geo view (updated view (SetInode n x)) s a.rules (records_sound geo view n x may.body.still_sound a.rules.rule2)
+      rules = shape_rules geo view (updated view (SetInode n x)) s a.rules (records_obey geo view n x (inr may.body.still_sound) a.rules.rule2)
           (λ b m k h. a.rules.rule3.marked m k b h) (λ m h u. a.rules.rule4 m h u)
-          (λ i r. links_more view.inode n x (subst (λ (y : Inode). y.links ≤ x.links) (sym same) may.links) i);
+          (more_links geo view n x (λ r. subst (λ (y : Inode). y.links ≤ x.links) (sym same) may.links));
       keeps = keeps_all geo users ghost set view;
       numbers = numbers_same users users' ghost set (put_same users.inode n x (λ m (y : Inode). y.mode) may.body.mode) a.numbers;
     })
@@ -143,15 +100,15 @@ lower_keeps geo disk q ghost after n x may all =
     let w = updated view (SetInode n x) in
     record {
       shape = s;
-      rules = tree_obeys geo view w s.tree a.rules (records_sound geo view n x may.body.still_sound a.rules.rule2)
-          (shape_claims geo view w s (λ b m k h. a.rules.rule3.marked m k b h) a.rules.rule3)
+      rules = tree_obeys geo view w s.tree a.rules (records_obey geo view n x (inr may.body.still_sound) a.rules.rule2)
+          (uses_obey geo view w s.uses (λ b m k h. a.rules.rule3.marked m k b h) a.rules.rule3)
           (λ m h u. a.rules.rule4 m h (λ z. u (sym (s.modes m) ∙ z)))
           (λ i m r e. let before = reachable_back geo view w s.tree i r in
-          let low = reachable_low geo view w s.tree i before in
-          let old = fewer_entries geo view w s.tree i m low e in
+          let low : 1 ≤ i = omega (arith, number_low geo i (reachable_number geo view i before)) in
+          let old = count_back geo view w s.tree i m low e in
           elim (cases_eq i n) [
             | inl q ↦
-                let inside = entries_within geo view users n (subst (λ k. 1 ≤ k) q low) (only_there geo users ghost after n may.witnesses set view a met own) old.0 (subst (λ k. HasEntries geo view k old.0) q old.1) in
+                let inside = entries_within geo view users n (subst (λ k. 1 ≤ k) q low) (places_stay geo view users n (only_there geo users ghost after n may.witnesses set view a met own)) old.0 (subst (λ k. HasEntries geo view k old.0) q old.1) in
                 let enough = may.links inside.0 inside.1 in
                 let links : (put_at view.inode n x i).links ≡ x.links = ap (λ k. (put_at view.inode n x k).links) q ∙ ap (λ (y : Inode). y.links) (put_here view.inode n x) in
                 omega (arith, enough, inside.2, old.2, links)

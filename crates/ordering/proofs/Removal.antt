@@ -12,6 +12,9 @@ use Rattle.model.specs.Uses.{is_sound}
 use Rattle.model.proofs.Sums.{sum-lt}
 use Rattle.model.proofs.Finite.{reachable_set}
 use Rattle.model.proofs.SlotLemmas.{names_from_number, number_from_names, names_stands, number_low, number_below, directory_number, reachable_directory}
+use Rattle.model.proofs.EntryCounts.{once_le, in_le}
+use Rattle.model.proofs.SlotChange.{slot_before}
+use Rattle.model.proofs.SameReach.{reach_kept, SameReach}
 use Rattle.ordering.specs.Cuts.{Block, Pending, users_view}
 use Rattle.ordering.specs.Places.{HasPlace}
 use Rattle.ordering.specs.Ghosts.{Ghost, Gone}
@@ -19,10 +22,9 @@ use Rattle.ordering.specs.Agrees.{AllAgree}
 use Rattle.ordering.specs.Kinds.{MayLower, settled}
 use Rattle.ordering.specs.OneSlot.{removed, is_gone_at}
 use Rattle.ordering.specs.Remove.{removal, MayRemoveName}
-use Rattle.ordering.proofs.Counts.{place_of, once_le, in_le}
+use Rattle.ordering.proofs.Places.{place_of, slot_change, places_stay}
 use Rattle.ordering.proofs.Bits.{users_obey}
 use Rattle.ordering.proofs.Records.{lower_keeps}
-use Rattle.ordering.proofs.OneSlots.{slot_before, reach_kept, SameReach}
 use Rattle.ordering.proofs.SlotKinds.{remove_keeps, reach, place_was, gone_parts}
 
 -- one place fewer is one entry fewer
@@ -31,12 +33,13 @@ pub entries_less : (geo : Geometry) (v w : View) (i d s : ℕ) → 1 ≤ i → (
 entries_less geo v w i d s low within there then names gone m h =
     let other = reachable_set geo w in
     let at = names_stands geo w d s i names in
+    let stay = places_stay geo v w i within in
     let strict : entries_in geo v i d < entries_in geo w i d =
-    sum-lt (slot_count geo) (names_once geo v i d) (names_once geo w i d) s (λ t b. once_le geo v w i low within d t there) at.place.below once_lt in
+    sum-lt (slot_count geo) (names_once geo v i d) (names_once geo w i d) s (λ t b. once_le geo v w i low stay d t there) at.place.below once_lt in
     let mine : cond (h.0 d) (entries_in geo v i d) 0 ≡ entries_in geo v i d = ap (λ b. cond b (entries_in geo v i d) 0) ((h.1 d).1 there) in
     let yours : cond (other.0 d) (entries_in geo w i d) 0 ≡ entries_in geo w i d = ap (λ b. cond b (entries_in geo w i d) 0) ((other.1 d).1 then) in
     let less = sum-lt (inode_count geo) (λ e. cond (h.0 e) (entries_in geo v i e) 0) (λ e. cond (other.0 e) (entries_in geo w i e) 0) d
-    (λ e b. in_le geo v w i low within h.0 other.0 h.1 other.1 e) (number_below geo d (directory_number geo w d (reachable_directory geo w d then)))
+    (λ e b. in_le geo v w i low stay h.0 other.0 h.1 other.1 e) (number_below geo d (directory_number geo w d (reachable_directory geo w d then)))
     (omega (arith, strict, mine, yours)) in
     (entries_of geo w other.0 i, (other.0, other.1, refl), omega (arith, less, h.2))
   where
@@ -65,13 +68,13 @@ removal_keeps geo disk q ghost safe block bytes d s i name fewer none may all =
     rules = users_obey geo disk q ghost all
 
     names : Names geo u0 d s i
-    names = (name, slot_before geo u0 block bytes d s (Good i name) Empty may.remove.change.slot rules.rule3)
+    names = (name, slot_before geo u0 block bytes d s (Good i name) Empty (slot_change may.remove.change.slot) rules.rule3)
 
     same : SameReach geo u0 u1
     same = reach geo disk q ghost [] block bytes d s i name safe may.remove rules
 
     was : (j e t c : ℕ) → HasPlace geo u1 j e t c → HasPlace geo u0 j e t c × ((e ≡ d) × (t ≡ s) → ⊥)
-    was = place_was geo disk q ghost [] block bytes d s i name safe may.remove rules u0 may.remove.change.slot rules.rule3 same
+    was = place_was geo disk q ghost [] block bytes d s i name safe may.remove rules u0 (slot_change may.remove.change.slot) rules.rule3 same
 
     lower : MayLower geo u1 (removed i d s block safe ghost) (Block block ∷ []) i fewer
     lower = record {

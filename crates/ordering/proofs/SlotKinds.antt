@@ -14,19 +14,21 @@ use Rattle.model.proofs.SlotLemmas.{reachable_directory, slot_content}
 use Rattle.model.proofs.Slots.{slot_claimed}
 use Rattle.model.proofs.UseLemmas.{claim_parts}
 use Rattle.model.proofs.Uses.{above_table, uses_agree}
+use Rattle.model.proofs.SameTree.{reachable_kept}
+use Rattle.model.proofs.SameShape.{SameShape, shape_rules}
+use Rattle.model.proofs.SlotChange.{slot_uses, slot_before, slot_now, slot_others, at_or_not, names_there, names_then, the_block, SlotChange, names_at_slot, names_at_slot_now}
+use Rattle.model.proofs.SameReach.{SameReach, reach_kept, reach_back}
 use Rattle.ordering.specs.Cuts.{Cell, Record, NumberBit, BlockBit, Block, Pending, users_view, without, AreIn, SameAt}
 use Rattle.ordering.specs.Places.{HasPlace}
 use Rattle.ordering.specs.Ghosts.{Ghost, Gone}
 use Rattle.ordering.specs.Agrees.{Agrees, TreeAgrees}
 use Rattle.ordering.specs.Kinds.{Keeps}
-use Rattle.ordering.specs.OneSlot.{OneSlot, MayRemove, is_gone_at, removed, IsKnown, ArePointersKnown, AreGrounds}
+use Rattle.ordering.specs.OneSlot.{MayRemove, is_gone_at, removed, IsKnown, ArePointersKnown, AreGrounds}
 use Rattle.ordering.proofs.CutLemmas.{was_fresh, is_other, still_fresh}
-use Rattle.ordering.proofs.Trees.{place_back, reachable_kept}
-use Rattle.ordering.proofs.Frames.{SameShape, shape_rules}
+use Rattle.ordering.proofs.Places.{place_back, place_to, place_from, slot_change}
 use Rattle.ordering.proofs.Claims.{decide_claim}
 use Rattle.ordering.proofs.Bits.{users_obey, claim_sound, claim_used}
 use Rattle.ordering.proofs.Data.{bytes_shape, directory_mode}
-use Rattle.ordering.proofs.OneSlots.{slot_uses, slot_before, slot_now, slot_others, at_slot, names_there, names_then, the_block, names_at_slot, names_at_slot_now, SameReach, reach_kept, reach_back, place_to, place_from}
 use Rattle.ordering.proofs.SlotSteps.{SlotTaken, slot_step}
 
 pub directory_from : (geo : Geometry) (v : View) (d k b : ℕ) → IsClaim geo v d k b → (v.inode d).mode ≡ 2 → IsTrue (is_directory_at geo v d)
@@ -35,9 +37,9 @@ directory_from geo v d k b c two =
     and_from (is_sound_at geo v d) (is_directory (v.inode d)) (and_from (is_number geo d) (is_sound geo (v.inode d)) at.0 at.1) (eq-eqb (v.inode d).mode 2 two)
 
 -- a directory's block in a cut that has its last bytes: nobody claims it, or the directory does at the same position
-pub two_cases : (geo : Geometry) (users : View) (ghost : Ghost) (block : ℕ) (bytes : List ℕ) (d s : ℕ) (old new : Slot) → OneSlot geo users block bytes d s old new
+pub two_cases : (geo : Geometry) (users : View) (ghost : Ghost) (block : ℕ) (bytes : List ℕ) (d s : ℕ) (old new : Slot) → SlotChange geo users block bytes d s old new
     → (set : Cell → Bool) (view : View) → Agrees geo users ghost set view → IsTrue (set (Block block))
-    → ((n k : ℕ) → IsClaim geo view n k block → ⊥) ⊎ (OneSlot geo view block bytes d s old new × IsTrue (set (NumberBit d)))
+    → ((n k : ℕ) → IsClaim geo view n k block → ⊥) ⊎ (SlotChange geo view block bytes d s old new × IsTrue (set (NumberBit d)))
 two_cases geo users ghost block bytes d s old new h set view a own = elim (decide_claim geo view d (s / 16) block h.claim.1) [
   | inr none ↦ inl (λ n k c. let e = a.blocks.claimed block d (s / 16) n k bit h.claim c in
       none (subst (λ x. IsClaim geo view x (s / 16) block) e.0 (subst (λ x. IsClaim geo view n x block) e.1 c)))
@@ -138,11 +140,14 @@ module _ (geo : Geometry) (disk : View) (q : List Pending) (ghost : Ghost) (afte
   abbrev ghost' : Ghost
   ghost' = removed i d s block safe ghost
 
+  h_users : SlotChange geo users block bytes d s (Good i name) Empty
+  h_users = slot_change may.change.slot
+
   module _ (rules : ObeysRules geo users) where
-    removed_reach : (v : View) → OneSlot geo v block bytes d s (Good i name) Empty → UsesAreClaims geo v → (IsTrue (is_directory_at geo v i) → ⊥) → SameReach geo v (updated v (SetBytes block bytes))
+    removed_reach : (v : View) → SlotChange geo v block bytes d s (Good i name) Empty → UsesAreClaims geo v → (IsTrue (is_directory_at geo v i) → ⊥) → SameReach geo v (updated v (SetBytes block bytes))
     removed_reach v h u file = record {
       directories = λ j. refl;
-      names = λ e t j dir. elim (at_slot geo v block bytes d s (Good i name) Empty h u e t) [
+      names = λ e t j dir. elim (at_or_not d s e t) [
         | inr other ↦ (names_there geo v block bytes d s (Good i name) Empty h u e t j other, names_then geo v block bytes d s (Good i name) Empty h u e t j other)
         | inl at ↦ (
           (λ n. absurd (let k = names_at_slot geo v block bytes d s (Good i name) Empty h u e t j at n in let same : Good i name ≡ Good j k.0 = k.1 in let ij : j ≡ i = cc in file (subst (λ x. IsTrue (is_directory_at geo v x)) ij dir))),
@@ -155,21 +160,21 @@ module _ (geo : Geometry) (disk : View) (q : List Pending) (ghost : Ghost) (afte
     users_file = no_file_directory geo users i may.file
 
     pub reach : SameReach geo users users'
-    reach = removed_reach users may.change.slot rules.rule3 users_file
+    reach = removed_reach users h_users rules.rule3 users_file
 
     place_goes : (j e t c : ℕ) → HasPlace geo users j e t c → ((j ≡ i) × (e ≡ d) × (t ≡ s) × (c ≡ block)) ⊎ HasPlace geo users' j e t c
-    place_goes j e t c p = elim (at_slot geo users block bytes d s (Good i name) Empty may.change.slot rules.rule3 e t) [
-      | inr other ↦ inr (place_to geo users block bytes d s (Good i name) Empty may.change.slot rules.rule3 reach j e t c other p)
+    place_goes j e t c p = elim (at_or_not d s e t) [
+      | inr other ↦ inr (place_to geo users block bytes d s (Good i name) Empty h_users rules.rule3 reach j e t c other p)
       | inl at ↦ inl (
-          let k = names_at_slot geo users block bytes d s (Good i name) Empty may.change.slot rules.rule3 e t j at p.names in
+          let k = names_at_slot geo users block bytes d s (Good i name) Empty h_users rules.rule3 e t j at p.names in
           let same : Good i name ≡ Good j k.0 = k.1 in
           let ij : j ≡ i = cc in
-          (ij, at.0, at.1, the_block geo users block bytes d s (Good i name) Empty may.change.slot rules.rule3 e t c at p.block))
+          (ij, at.0, at.1, the_block geo users block bytes d s (Good i name) Empty h_users rules.rule3 e t c at p.block))
     ]
 
-    pub place_was : (v : View) (h : OneSlot geo v block bytes d s (Good i name) Empty) (u : UsesAreClaims geo v) → SameReach geo v (updated v (SetBytes block bytes))
+    pub place_was : (v : View) (h : SlotChange geo v block bytes d s (Good i name) Empty) (u : UsesAreClaims geo v) → SameReach geo v (updated v (SetBytes block bytes))
         → (j e t c : ℕ) → HasPlace geo (updated v (SetBytes block bytes)) j e t c → HasPlace geo v j e t c × ((e ≡ d) × (t ≡ s) → ⊥)
-    place_was v h u r j e t c p = elim (at_slot geo v block bytes d s (Good i name) Empty h u e t) [
+    place_was v h u r j e t c p = elim (at_or_not d s e t) [
       | inr other ↦ (place_from geo v block bytes d s (Good i name) Empty h u r j e t c other p, other)
       | inl at ↦ absurd (let k = names_at_slot_now geo v block bytes d s (Good i name) Empty h u e t j at p.names in let same : Empty ≡ Good j k.0 = k.1 in cc)
     ]
@@ -197,7 +202,7 @@ module _ (geo : Geometry) (disk : View) (q : List Pending) (ghost : Ghost) (afte
               | inr y ↦ both_ways (ghost.entering i) may.not_entering (subst (λ k. IsTrue (ghost.entering k)) at.0 y)
             ])
           ];
-      numbers = λ j e t c low p f. number j (a.tree.numbers j e t c low (place_was users may.change.slot rules.rule3 reach j e t c p).0 (fewer (Block c) f));
+      numbers = λ j e t c low p f. number j (a.tree.numbers j e t c low (place_was users h_users rules.rule3 reach j e t c p).0 (fewer (Block c) f));
       removed = λ g y f p. elim (or_cases (is_gone_at g i d s block) (ghost.gone g) y) [
         | inr old ↦ a.tree.removed g old (fewer (Block g.witness) f) (before g.number g.directory g.slot g.block p)
         | inl here ↦ let k = gone_parts g i d s block here in
@@ -207,7 +212,7 @@ module _ (geo : Geometry) (disk : View) (q : List Pending) (ghost : Ghost) (afte
 
     removed_take : (set : Cell → Bool) (view : View) → Agrees geo users ghost set view → IsTrue (set (Block block)) → AreIn after set
         → SlotTaken geo disk q ghost (λ g. is_gone_at g i d s block || ghost.gone g) ghost.entering safe after block bytes set view
-    removed_take set view a own met = elim (two_cases geo users ghost block bytes d s (Good i name) Empty may.change.slot set view a own) [
+    removed_take set view a own met = elim (two_cases geo users ghost block bytes d s (Good i name) Empty h_users set view a own) [
       | inl none ↦
           let shape = unclaimed_shape geo view block bytes none in
           record {
@@ -222,7 +227,7 @@ module _ (geo : Geometry) (disk : View) (q : List Pending) (ghost : Ghost) (afte
           let h = there.0 in
           let bit : IsTrue (set (NumberBit i)) = a.tree.numbers i d s block may.change.after_dots (record {
             reachable = may.change.reachable;
-            names = (name, slot_before geo users block bytes d s (Good i name) Empty may.change.slot rules.rule3);
+            names = (name, slot_before geo users block bytes d s (Good i name) Empty h_users rules.rule3);
             block = may.change.slot.claim;
           }) own in
           let file : IsTrue (is_directory_at geo view i) → ⊥ = λ t.
@@ -238,7 +243,7 @@ module _ (geo : Geometry) (disk : View) (q : List Pending) (ghost : Ghost) (afte
               number_marked = λ j. refl;
               block_marked = λ b. refl;
               uses = slot_uses geo view block bytes d s (Good i name) Empty h a.rules.rule3;
-              slots = λ e t. elim (at_slot geo view block bytes d s (Good i name) Empty h a.rules.rule3 e t) [
+              slots = λ e t. elim (at_or_not d s e t) [
                 | inr other ↦ inl (slot_others geo view block bytes d s (Good i name) Empty h a.rules.rule3 e t other)
                 | inl at ↦ inr (
                   subst (λ x. slot geo view' x t ≡ Empty) (sym at.0) (subst (λ x. slot geo view' d x ≡ Empty) (sym at.1) (slot_now geo view block bytes d s (Good i name) Empty h a.rules.rule3)),
@@ -264,7 +269,7 @@ module _ (geo : Geometry) (disk : View) (q : List Pending) (ghost : Ghost) (afte
                     (λ b c. let e : b ≡ o.other = same_claim o.directory (o.slot / 16) b o.other c o.claim in inl (subst (λ x. Contains after (Block x)) (sym e) o.known)) in
                     let entry : IsEntry geo view o.directory o.slot f = record { reachable = p; after_dots = o.after_dots; names = subst (λ x. Names geo view o.directory o.slot x) (sym fi) names } in
                     entry_kept view h a.rules.rule3 r f o.directory o.slot entry
-                    (λ at. o.differs (the_block geo users block bytes d s (Good i name) Empty may.change.slot rules.rule3 o.directory o.slot o.other at o.claim))
+                    (λ at. o.differs (the_block geo users block bytes d s (Good i name) Empty h_users rules.rule3 o.directory o.slot o.other at o.claim))
               ])
             ];
           }
@@ -283,7 +288,7 @@ module _ (geo : Geometry) (disk : View) (q : List Pending) (ghost : Ghost) (afte
         known_same set view a own met c (inl k) = a.same c (met c k)
         known_same set view a own met c (inr e) = a.same c (subst (λ x. IsTrue (set x)) (sym e) own)
 
-        entry_kept : (v : View) (h : OneSlot geo v block bytes d s (Good i name) Empty) (u : UsesAreClaims geo v) → SameReach geo v (updated v (SetBytes block bytes))
+        entry_kept : (v : View) (h : SlotChange geo v block bytes d s (Good i name) Empty) (u : UsesAreClaims geo v) → SameReach geo v (updated v (SetBytes block bytes))
             → (j e t : ℕ) → IsEntry geo v e t j → ((e ≡ d) × (t ≡ s) → ⊥) → (e' : ℕ) × (t' : ℕ) × IsEntry geo (updated v (SetBytes block bytes)) e' t' j
         entry_kept v h u r j e t x other = (e, t, record { reachable = reach_kept geo v (updated v (SetBytes block bytes)) r e x.reachable; after_dots = x.after_dots; names = names_there geo v block bytes d s (Good i name) Empty h u e t j other x.names })
 
@@ -291,7 +296,7 @@ module _ (geo : Geometry) (disk : View) (q : List Pending) (ghost : Ghost) (afte
   remove_keeps all =
       let rules = users_obey geo disk q ghost all in
       slot_step geo disk q ghost (λ g. is_gone_at g i d s block || ghost.gone g) ghost.entering safe after block bytes
-      may.fewer_safe (slot_uses geo users block bytes d s (Good i name) Empty may.change.slot rules.rule3)
+      may.fewer_safe (slot_uses geo users block bytes d s (Good i name) Empty h_users rules.rule3)
       (λ set view a. removed_tree rules set (without set (Block block)) view view a
       (λ c f. was_fresh set (Block block) c f) (λ n f. still_fresh set (Block block) (NumberBit n) f (λ e. cc))
       (λ j e t c p. p)

@@ -5,7 +5,7 @@ use Rattle.model.specs.View.{View}
 use Rattle.model.specs.Cells.{SetBytes, updated}
 use Rattle.model.specs.Uses.{use_at}
 use Rattle.model.specs.Reach.{IsReachable}
-use Rattle.model.specs.Rules.{ObeysRules, UsesAreClaims}
+use Rattle.model.specs.Rules.{ObeysRules}
 use Rattle.ordering.specs.Cuts.{Cell, Record, NumberBit, BlockBit, Block, Pending, users_view, EachCut, without, AreIn}
 use Rattle.ordering.specs.Ghosts.{Ghost, Gone}
 use Rattle.ordering.specs.Agrees.{Agrees, AllAgree, BlocksAgree, TreeAgrees}
@@ -14,14 +14,6 @@ use Rattle.ordering.proofs.Claims.{claims_frame}
 
 abbrev pub with_tree : (Gone → Bool) → (ℕ → Bool) → (ℕ → Bool) → Ghost → Ghost
 with_tree gone entering safe ghost = record ghost { gone = gone; entering = entering; safe = safe }
-
--- the third rule, where uses and bits stay
-pub uses_obey : (geo : Geometry) (v w : View) → ((n k : ℕ) → use_at geo v n k ≡ use_at geo w n k) → ((b : ℕ) → v.block_marked b ≡ w.block_marked b) → UsesAreClaims geo v → UsesAreClaims geo w
-uses_obey geo v w uses bits u = record {
-  claims = λ n k b h. u.claims n k b (uses n k ∙ h);
-  marked = λ n k b c. sym (bits b) ∙ u.marked n k b (uses n k ∙ c.0, c.1);
-  once = λ n k m l b c d. u.once n k m l b (uses n k ∙ c.0, c.1) (uses m l ∙ d.0, d.1);
-}
 
 module _ (geo : Geometry) (disk : View) (q : List Pending) (ghost : Ghost) (gone : Gone → Bool) (entering : ℕ → Bool) (stay_safe : ℕ → Bool) (after : List Cell) (block : ℕ) (bytes : List ℕ) where
   abbrev pub users : View

@@ -15,14 +15,15 @@ use Rattle.model.proofs.Shape.{table_is_table}
 use Rattle.model.proofs.SlotLemmas.{reachable_directory}
 use Rattle.model.proofs.Slots.{slots_of_uses}
 use Rattle.model.proofs.Uses.{above_table, bytes_leave_uses, elsewhere, other_uses_stay, table_bytes_move, uses_agree}
+use Rattle.model.proofs.SameTree.{SameTree, same_tree, tree_obeys, links_cover, reachable_kept}
+use Rattle.model.proofs.SameShape.{SameShape, shape_from}
 use Rattle.ordering.specs.Cuts.{Cell, Record, NumberBit, BlockBit, Block, Pending, users_view, EachCut, without, AreIn}
 use Rattle.ordering.specs.Ghosts.{Ghost}
 use Rattle.ordering.specs.Agrees.{Agrees}
 use Rattle.ordering.specs.Kinds.{Keeps, IsFree}
 use Rattle.ordering.specs.Rewrites.{MayAppendSlot, MayMoveSlot, moved}
 use Rattle.ordering.proofs.CutLemmas.{was_fresh, still_fresh, each_step, same_skip, same_take}
-use Rattle.ordering.proofs.Trees.{SameTree, same_tree, tree_obeys, links_cover, reachable_kept}
-use Rattle.ordering.proofs.Frames.{SameShape, shape_from, numbers_without, numbers_same}
+use Rattle.ordering.proofs.Frames.{numbers_without, numbers_same}
 use Rattle.ordering.proofs.Claims.{ClaimsMove, claims_frame, claims_obey, decide_claim}
 use Rattle.ordering.proofs.Bits.{users_obey}
 use Rattle.ordering.proofs.Data.{plain_write, directory_mode}

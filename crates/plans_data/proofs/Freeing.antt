@@ -8,6 +8,8 @@ use Rattle.model.specs.Cells.{SetInode, SetNumber, updated, updated_all}
 use Rattle.model.specs.Uses.{has_position}
 use Rattle.model.specs.Rules.{ObeysRules}
 use Rattle.model.proofs.Shape.{reach_parts}
+use Rattle.model.proofs.SameShape.{claim_back}
+use Rattle.model.proofs.Places.{put_here}
 use Rattle.machine.specs.State.{State, is_kept}
 use Rattle.machine.specs.Cells.{claims}
 use Rattle.machine.specs.Effects.{lets_go}
@@ -18,8 +20,6 @@ use Rattle.ordering.specs.Kinds.{number_cleared}
 use Rattle.ordering.specs.Rewrites.{freed}
 use Rattle.ordering.specs.Histories.{Frees, ClearsNumber}
 use Rattle.ordering.proofs.Bits.{users_obey, number_bit_shape}
-use Rattle.ordering.proofs.Frames.{claim_back}
-use Rattle.ordering.proofs.Records.{put_here}
 use Rattle.plans_data.specs.Issues.{Issues}
 use Rattle.plans_data.specs.Now.{now, becomes}
 use Rattle.plans_data.specs.Freeing.{MayFreeing, held_with, within, but_of, freeing}

@@ -9,12 +9,12 @@ use Rattle.model.specs.Shape.{most_blocks, top, field_at}
 use Rattle.model.specs.Slots.{Empty, slot_in}
 use Rattle.model.specs.Uses.{is_sound, has_position, record_use, IsUse, IsClaim}
 use Rattle.model.proofs.Uses.{use_number, number_use, use_has, record_uses_agree, same_field}
+use Rattle.model.proofs.NewRecord.{other_use}
+use Rattle.model.proofs.Places.{put_here}
 use Rattle.ordering.specs.Cuts.{Cell, Pending, users_view}
 use Rattle.ordering.specs.Ghosts.{Ghost}
 use Rattle.ordering.specs.Histories.{Step, RewritesFile, GrowsDirectory}
 use Rattle.ordering.specs.Rewrites.{Stays, Comes, Rewrites}
-use Rattle.ordering.proofs.Outside.{other_use}
-use Rattle.ordering.proofs.Records.{put_here}
 
 pub record Grows (geo : Geometry) (disk : View) (q : List Pending) (ghost : Ghost) (after : List Cell) (n : ℕ) (old new : Inode) : Type 0 where
   pub number : IsTrue (is_number geo n)

@@ -5,11 +5,11 @@ use Rattle.model.specs.Layout.{Geometry}
 use Rattle.model.specs.View.{View}
 use Rattle.model.specs.Cells.{put_at}
 use Rattle.model.specs.Uses.{IsClaim}
+use Rattle.model.proofs.Places.{put_here, put_there}
 use Rattle.machine.specs.State.{State}
 use Rattle.ordering.specs.Cuts.{Pending, users_view}
 use Rattle.ordering.specs.Ghosts.{Ghost}
 use Rattle.ordering.specs.Agrees.{AllAgree}
-use Rattle.ordering.proofs.Records.{put_here, put_there}
 use Rattle.plans_data.specs.Now.{becomes}
 use Rattle.plans_data.specs.Append.{Holder, MayAppend, appended}
 use Rattle.plans_data.specs.Held.{HeldAreRight}

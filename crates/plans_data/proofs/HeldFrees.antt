@@ -6,6 +6,8 @@ use Rattle.model.specs.View.{View, Inode}
 use Rattle.model.specs.Cells.{SetInode, SetNumber, SetBlock, updated}
 use Rattle.model.specs.Uses.{is_sound}
 use Rattle.model.specs.Rules.{ObeysRules}
+use Rattle.model.proofs.SameShape.{claim_back}
+use Rattle.model.proofs.Places.{put_there}
 use Rattle.findings.specs.declared.repair.Repair.{Repair}
 use Rattle.findings.specs.declared.repair.Repair.TheVariants.{DropInode, LowerCount, FreeBlock, FreeNumber}
 use Rattle.machine.specs.State.{State, is_open}
@@ -14,8 +16,7 @@ use Rattle.ordering.specs.Cuts.{Pending, users_view}
 use Rattle.ordering.specs.Ghosts.{at_rest}
 use Rattle.ordering.specs.Agrees.{AllAgree}
 use Rattle.ordering.proofs.Bits.{users_obey, number_bit_shape, block_bit_shape}
-use Rattle.ordering.proofs.Frames.{claim_back}
-use Rattle.ordering.proofs.Records.{body_shape, put_there}
+use Rattle.ordering.proofs.Records.{body_shape}
 use Rattle.plans_data.specs.Now.{now, becomes}
 use Rattle.plans_data.specs.Append.{sized}
 use Rattle.plans_data.specs.Freeing.{held_with, freeing}

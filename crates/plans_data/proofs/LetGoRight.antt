@@ -7,10 +7,10 @@ use Rattle.model.specs.Uses.{use_at, IsClaim}
 use Rattle.model.specs.Rules.{ObeysRules}
 use Rattle.model.proofs.Slots.{slots_of_uses}
 use Rattle.model.proofs.Uses.{uses_agree}
+use Rattle.model.proofs.SameShape.{claim_back, SameShape, shape_from}
 use Rattle.machine.specs.State.{State}
 use Rattle.ordering.specs.Cuts.{Cell, Record, Pending, users_view}
 use Rattle.ordering.proofs.Bits.{number_bit_shape}
-use Rattle.ordering.proofs.Frames.{claim_back, SameShape, shape_from}
 use Rattle.plans_data.specs.Now.{now, becomes}
 use Rattle.plans_data.specs.Freeing.{AreGivenUp, held_with, cleared, freeing}
 use Rattle.plans_data.specs.Held.{HeldAreRight}

@@ -10,6 +10,7 @@ use Rattle.model.specs.Shape.{most_blocks, position_count, place_in_table, point
 use Rattle.model.specs.Uses.{has_position, use_at, IsClaim}
 use Rattle.model.specs.Rules.{ObeysRules}
 use Rattle.model.proofs.Shape.{table_is_table, table_inside, place_inside, one_position}
+use Rattle.model.proofs.Places.{put_there}
 use Rattle.machine.specs.Cells.{with_pointer}
 use Rattle.machine.specs.Room.{IsFreeBlock}
 use Rattle.machine.specs.Whole.{HasWholeBlocks}
@@ -21,7 +22,6 @@ use Rattle.ordering.specs.Rewrites.{MayAppendSlot}
 use Rattle.ordering.specs.Histories.{AppendsSlot}
 use Rattle.ordering.proofs.Bits.{users_obey}
 use Rattle.ordering.proofs.CutLemmas.{after_kept}
-use Rattle.ordering.proofs.Records.{put_there}
 use Rattle.ordering.proofs.Tables.{append_uses}
 use Rattle.plans_data.specs.Append.{Holder, KeptInRecord, KeptInTable, KeptInNew, IsSpare, IsNoneOf, AreApart, IsKeptIn, new_blocks, linked, pointer_after}
 use Rattle.plans_data.proofs.Chains.{Goes, step}

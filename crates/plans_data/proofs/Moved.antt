@@ -12,6 +12,8 @@ use Rattle.model.specs.Uses.{blocks_of, is_sound, is_sound_at, has_position, rec
 use Rattle.model.proofs.Fields.{other_field}
 use Rattle.model.proofs.Shape.{table_cases, shallow, place_inside, one_position, reach_parts, top_none, top_step, top_inside, top_stands, above_is}
 use Rattle.model.proofs.Uses.{use_number, number_use, OfRecord, OfTable, pointer_at, record_uses_agree, same_fields, below_has, bytes_leave_uses, above_table}
+use Rattle.model.proofs.NewRecord.{other_use}
+use Rattle.model.proofs.Places.{put_here, put_there}
 use Rattle.machine.specs.State.{State}
 use Rattle.machine.specs.Cells.{block_of, with_pointer}
 use Rattle.machine.specs.Room.{IsFreeBlock}
@@ -24,8 +26,6 @@ use Rattle.ordering.specs.Kinds.{IsFree}
 use Rattle.ordering.specs.Rewrites.{Comes}
 use Rattle.ordering.specs.Histories.{RewritesFile, MovesSlot}
 use Rattle.ordering.proofs.Bits.{users_obey}
-use Rattle.ordering.proofs.Outside.{other_use}
-use Rattle.ordering.proofs.Records.{put_here, put_there}
 use Rattle.plans_data.specs.Now.{now}
 use Rattle.plans_data.specs.Append.{Holder, KeptInRecord, KeptInTable, KeptInNew, IsWhole, IsNoneOf, IsKeptIn, new_blocks, filled, linked, pointed, pointer_after, known, sized}
 use Rattle.plans_data.specs.Write.{held_besides, relocated}

@@ -10,6 +10,7 @@ use Rattle.model.specs.Shape.{most_blocks, position_count, IsAbove, Next, Furthe
 use Rattle.model.specs.Uses.{blocks_of, is_sound, is_sound_at, has_position, record_use, IsClaim}
 use Rattle.model.proofs.Shape.{more_reach, some_table}
 use Rattle.model.proofs.Uses.{use_number, number_use, above_more, above_table}
+use Rattle.model.proofs.Places.{put_here, put_there}
 use Rattle.machine.specs.Cells.{Points, LeavesMark}
 use Rattle.machine.specs.Room.{IsFreeBlock}
 use Rattle.machine.proofs.Pointing.{IsLike, IsNew, Before, HoldsTables, Leaves, Comes as ComesAt, pointed_like, leaves, placed_use, kept_use, new_use, came_use, came_once, comes, new_free, all_new, still_marked}
@@ -17,7 +18,6 @@ use Rattle.machine.proofs.Placements.{updated_append}
 use Rattle.ordering.specs.Cuts.{Block, Pending, users_view}
 use Rattle.ordering.specs.Ghosts.{Ghost}
 use Rattle.ordering.specs.Rewrites.{Comes}
-use Rattle.ordering.proofs.Records.{put_here, put_there}
 use Rattle.plans_data.specs.Append.{Holder, IsWhole, IsNoneOf, IsKeptIn, new_blocks, cells_of, filled, linked, pointed, known, sized}
 use Rattle.plans_data.proofs.Holders.{kept_points, knows_block, knows_new, knows_way, new_listed, leaves_mark, linked_view}
 use Rattle.plans_data.proofs.Linking.{IsFilled, Linked}

@@ -6,6 +6,7 @@ use Rattle.model.specs.Layout.{Geometry}
 use Rattle.model.specs.View.{View}
 use Rattle.model.specs.Cells.{SetBlock, updated}
 use Rattle.model.specs.Uses.{IsClaimed}
+use Rattle.model.proofs.SameShape.{claim_back}
 use Rattle.machine.specs.Standing.{others, ended}
 use Rattle.machine.specs.State.{State, keeps}
 use Rattle.machine.specs.Snapshot.{released, held_still}
@@ -16,7 +17,6 @@ use Rattle.ordering.specs.Agrees.{AllAgree}
 use Rattle.ordering.specs.Histories.{Comes_to, Begins, ClearsBlock}
 use Rattle.ordering.proofs.Bits.{block_bit_shape}
 use Rattle.ordering.proofs.Flushes.{base_agrees}
-use Rattle.ordering.proofs.Frames.{claim_back}
 use Rattle.ordering.proofs.HistoryLemmas.{comes_to_agrees}
 use Rattle.plans_data.specs.Issues.{Issues}
 use Rattle.plans_data.specs.Now.{now, becomes}

@@ -8,6 +8,7 @@ use Rattle.model.specs.Uses.{is_sound}
 use Rattle.model.specs.Reach.{HasEntries}
 use Rattle.model.specs.Rules.{ObeysRules}
 use Rattle.model.proofs.Finite.{entries_exist}
+use Rattle.model.proofs.Places.{put_here}
 use Rattle.machine.specs.State.{State, is_open}
 use Rattle.machine.specs.Effects.{swept, relinked, with_links, closed}
 use Rattle.machine.specs.Causes.{file_of}
@@ -19,7 +20,6 @@ use Rattle.ordering.specs.Places.{HasPlace}
 use Rattle.ordering.specs.Agrees.{AllAgree}
 use Rattle.ordering.specs.Histories.{Lowers}
 use Rattle.ordering.proofs.Bits.{users_obey}
-use Rattle.ordering.proofs.Records.{put_here}
 use Rattle.plans_data.specs.Issues.{Issues}
 use Rattle.plans_data.specs.Now.{now, becomes}
 use Rattle.plans_data.specs.Freeing.{MayFreeing, freeing}

@@ -6,16 +6,16 @@ use Rattle.model.specs.Cells.{put_at}
 use Rattle.model.specs.Reach.{IsReachable}
 use Rattle.model.specs.Rules.{ObeysRules}
 use Rattle.model.proofs.ReachLemmas.{reachable_sound}
+use Rattle.model.proofs.Places.{put_same, put_there}
 use Rattle.ordering.specs.Cuts.{Pending, users_view}
 use Rattle.ordering.specs.Places.{HasPlace}
 use Rattle.ordering.specs.Ghosts.{Ghost}
 use Rattle.ordering.specs.Agrees.{AllAgree}
 use Rattle.ordering.specs.Histories.{Step, SetsBlock, SetsNumber, ClearsNumber, ClearsBlock, Fills, Writes, Raises, Lowers, RewritesFile, GrowsDirectory, CreatesFile, CreatesDirectory, Frees, AppendsSlot, MovesSlot, Removes, Enters, Renames, RemovesDirectory, EntersDirectory}
 use Rattle.ordering.proofs.Bits.{users_obey, sound_used}
-use Rattle.ordering.proofs.Counts.{place_of}
+use Rattle.ordering.proofs.Places.{place_of}
 use Rattle.ordering.proofs.CutLemmas.{users_cut}
 use Rattle.ordering.proofs.HistoryLemmas.{step_safe}
-use Rattle.ordering.proofs.Records.{put_same, put_there}
 use Rattle.machine.proofs.Decisions.{sound_parts}
 use Rattle.plans_data.specs.Issues.{Issues, Nothing, Then}
 use Rattle.plans_data.proofs.Chains.{issues_agree}

@@ -7,14 +7,15 @@ use Rattle.model.specs.View.{View, Inode, free_inode}
 use Rattle.model.specs.Cells.{SetInode, SetNumber, updated, updated_all, put_at}
 use Rattle.model.specs.Uses.{record_use}
 use Rattle.model.proofs.Steps.{use_at_is}
+use Rattle.model.proofs.NewRecord.{record_uses}
+use Rattle.model.proofs.Places.{put_here}
 use Rattle.machine.specs.State.{State, is_kept, is_open}
 use Rattle.machine.specs.Cells.{claims}
 use Rattle.machine.specs.Effects.{lets_go, swept, relinked, with_links}
 use Rattle.ordering.specs.Cuts.{Cell, Pending, users_view}
 use Rattle.ordering.specs.Ghosts.{Gone}
 use Rattle.ordering.specs.Agrees.{AllAgree}
-use Rattle.machine.proofs.Records.{links_uses, record_uses}
-use Rattle.ordering.proofs.Records.{put_here}
+use Rattle.machine.proofs.Records.{links_uses}
 use Rattle.plans_data.specs.Now.{now, becomes}
 use Rattle.plans_data.specs.Freeing.{held_with, within, freeing, MayFreeing}
 use Rattle.plans_data.proofs.Freeing.{freeing_lets_go}

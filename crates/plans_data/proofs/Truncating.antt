@@ -9,6 +9,7 @@ use Rattle.model.specs.Uses.{blocks_of, is_sound, has_position}
 use Rattle.model.specs.Rules.{ObeysRules}
 use Rattle.model.proofs.Shape.{more_reach}
 use Rattle.model.proofs.Uses.{sound_few, number_use, same_field}
+use Rattle.model.proofs.Places.{put_here}
 use Rattle.machine.specs.State.{State}
 use Rattle.machine.specs.Effects.{truncated}
 use Rattle.ordering.specs.Cuts.{Pending, users_view}
@@ -17,7 +18,6 @@ use Rattle.ordering.specs.Agrees.{AllAgree}
 use Rattle.ordering.specs.Rewrites.{Comes, moved}
 use Rattle.ordering.specs.Histories.{RewritesFile}
 use Rattle.ordering.proofs.Bits.{users_obey}
-use Rattle.ordering.proofs.Records.{put_here}
 use Rattle.plans_data.specs.Issues.{Issues}
 use Rattle.plans_data.specs.Now.{now, becomes}
 use Rattle.plans_data.specs.Append.{sized}

@@ -9,13 +9,13 @@ use Rattle.model.specs.Uses.{is_sound, is_directory_at, direct_positions}
 use Rattle.model.specs.Rules.{ObeysRules}
 use Rattle.model.proofs.SlotLemmas.{reachable_directory, directory_sound, number_low}
 use Rattle.model.proofs.Uses.{new_file_sound}
+use Rattle.model.proofs.Places.{put_here, put_there}
 use Rattle.ordering.specs.Cuts.{Cell, Pending, users_view}
 use Rattle.ordering.specs.Ghosts.{Ghost, at_rest}
 use Rattle.ordering.specs.Agrees.{AllAgree}
 use Rattle.ordering.specs.Histories as histories
 use Rattle.ordering.proofs.Bits.{users_obey, sound_used}
-use Rattle.ordering.proofs.Records.{put_here, put_there}
-use Rattle.ordering.proofs.Trees.{place_back}
+use Rattle.ordering.proofs.Places.{place_back}
 use Rattle.machine.specs.State.{State}
 use Rattle.machine.specs.Cells.{with_slot, Enters}
 use Rattle.machine.specs.Paths.{holder, name_in}

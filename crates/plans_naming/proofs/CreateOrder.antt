@@ -9,6 +9,7 @@ use Rattle.model.specs.Slots.{Empty, Good}
 use Rattle.model.specs.Rules.{ObeysRules}
 use Rattle.model.proofs.SlotLemmas.{reachable_directory, number_low}
 use Rattle.model.proofs.Uses.{new_file_sound}
+use Rattle.model.proofs.Places.{put_here}
 use Rattle.machine.specs.Effects.{file_with}
 use Rattle.ordering.specs.Cuts.{Cell, NumberBit, Pending, users_view}
 use Rattle.ordering.specs.Ghosts.{Ghost, at_rest}
@@ -16,7 +17,6 @@ use Rattle.ordering.specs.Agrees.{AllAgree}
 use Rattle.ordering.specs.Rewrites.{MayCreate}
 use Rattle.ordering.specs.Histories.{SetsNumber, CreatesFile, Enters}
 use Rattle.ordering.proofs.Bits.{users_obey, claim_used}
-use Rattle.ordering.proofs.Records.{put_here}
 use Rattle.machine.specs.Cells.{with_slot}
 use Rattle.machine.proofs.NewFile.{new_has_none}
 use Rattle.plans_data.specs.Issues.{Issues, Nothing, Then}

@@ -10,13 +10,14 @@ use Rattle.model.specs.Reach.{IsReachableDirectory}
 use Rattle.ordering.specs.Cuts.{Cell}
 use Rattle.ordering.specs.Kinds.{SameBody}
 use Rattle.ordering.specs.OneSlot.{ChangesSlot, IsNewName}
-use Rattle.ordering.proofs.Trees.{SameTree, kept, names_kept}
 use Rattle.ordering.proofs.Data.{bytes_shape}
 use Rattle.model.proofs.CellLemmas.{slot_stays}
 use Rattle.ordering.proofs.Bits.{number_bit_shape, block_bit_shape}
 use Rattle.model.proofs.Slots.{slots_of_uses}
-use Rattle.ordering.proofs.Records.{body_shape, put_there}
-use Rattle.ordering.proofs.Outside.{other_directory, other_use}
+use Rattle.model.proofs.SameTree.{SameTree, kept, names_kept}
+use Rattle.model.proofs.Places.{put_there}
+use Rattle.model.proofs.NewRecord.{other_directory, other_use}
+use Rattle.ordering.proofs.Records.{body_shape}
 use Rattle.plans_naming.specs.Entries.{StandsAt, TakesName, HasBlocks}
 
 pub record SameFolder (geo : Geometry) (v w : View) (d : ℕ) : Type 0 where

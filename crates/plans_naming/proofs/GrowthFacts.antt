@@ -9,12 +9,12 @@ use Rattle.model.specs.Shape.{most_blocks, position_count, place_in_table, point
 use Rattle.model.specs.Uses.{blocks_of, is_directory, is_sound, has_position, IsClaim}
 use Rattle.model.specs.Rules.{ObeysRules, UsesAreClaims}
 use Rattle.model.proofs.Shape.{table_is_table, table_inside, place_inside, one_position}
+use Rattle.model.proofs.SameShape.{SameShape}
+use Rattle.model.proofs.Places.{put_there}
+use Rattle.model.proofs.SameTree.{SameTree, kept}
 use Rattle.ordering.specs.Cuts.{Record}
 use Rattle.ordering.specs.Rewrites.{MayAppendSlot}
-use Rattle.ordering.proofs.Frames.{SameShape}
-use Rattle.ordering.proofs.Records.{put_there}
 use Rattle.ordering.proofs.Tables.{append_shape, table_slot}
-use Rattle.ordering.proofs.Trees.{SameTree, kept}
 use Rattle.machine.specs.Cells.{with_pointer}
 use Rattle.machine.specs.Whole.{HasWholeBlocks}
 use Rattle.machine.proofs.Pointing.{still_marked}

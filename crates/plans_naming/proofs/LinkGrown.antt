@@ -8,6 +8,8 @@ use Rattle.model.specs.Uses.{is_sound, direct_positions}
 use Rattle.model.specs.Slots.{Empty, Good}
 use Rattle.model.specs.Rules.{ObeysRules}
 use Rattle.model.proofs.SlotLemmas.{reachable_directory, number_low}
+use Rattle.model.proofs.Places.{put_here, put_there}
+use Rattle.model.proofs.SameTree.{count_back}
 use Rattle.ordering.specs.Cuts.{Cell, Pending, users_view}
 use Rattle.ordering.specs.Ghosts.{Ghost, at_rest}
 use Rattle.ordering.specs.Agrees.{AllAgree}
@@ -16,8 +18,7 @@ use Rattle.ordering.specs.OneSlot.{ChangesSlot}
 use Rattle.ordering.specs.Histories as histories
 use Rattle.ordering.proofs.Bits.{users_obey}
 use Rattle.ordering.proofs.Data.{directory_mode}
-use Rattle.ordering.proofs.Records.{put_here, put_there, body_shape}
-use Rattle.ordering.proofs.Trees.{fewer_entries}
+use Rattle.ordering.proofs.Records.{body_shape}
 use Rattle.machine.specs.State.{State}
 use Rattle.machine.specs.Cells.{with_slot, Enters}
 use Rattle.machine.specs.Paths.{holder, name_in, number_at}
@@ -131,8 +132,8 @@ module _ (geo : Geometry) (disk : View) (q : List Pending) (held safe : ℕ → 
       (new_name geo w d s b name after (room.takes name (takes_there geo users mid d folder name can.enter.takes)) (room.others after (blocks_there geo users mid d folder after can.enter.blocks_first)))
       (ap (λ (y : Inode). y.mode) record_is ∙ can.file) parts.0 (and_from (is_number geo i) (is_sound geo (w.inode i)) parts.0 (ap (is_sound geo) record_is ∙ parts.1)) can.record_first
       (λ m h.
-      let then = fewer_entries geo mid w room.tree i m (omega (arith, low)) h in
-      let was = fewer_entries geo users mid (body_shape geo users i more body).tree i then.0 (omega (arith, low)) then.1 in
+      let then = count_back geo mid w room.tree i m (omega (arith, low)) h in
+      let was = count_back geo users mid (body_shape geo users i more body).tree i then.0 (omega (arith, low)) then.1 in
       let enough = o.rule8 i was.0 can.reachable was.1 in
       omega (arith, then.2, was.2, enough, links))))
 

@@ -9,14 +9,15 @@ use Rattle.model.specs.Slots.{Empty, Good}
 use Rattle.model.specs.Reach.{IsReachable}
 use Rattle.model.proofs.SlotLemmas.{number_low}
 use Rattle.model.proofs.ReachLemmas.{reachable_sound}
+use Rattle.model.proofs.Places.{put_here}
+use Rattle.model.proofs.SameTree.{count_back}
 use Rattle.ordering.specs.Cuts.{Cell, Pending, users_view}
 use Rattle.ordering.specs.Ghosts.{Ghost, at_rest}
 use Rattle.ordering.specs.Agrees.{AllAgree}
 use Rattle.ordering.specs.Kinds.{SameBody}
 use Rattle.ordering.specs.Histories.{Raises, Enters}
 use Rattle.ordering.proofs.Bits.{users_obey}
-use Rattle.ordering.proofs.Records.{put_here, body_shape}
-use Rattle.ordering.proofs.Trees.{fewer_entries}
+use Rattle.ordering.proofs.Records.{body_shape}
 use Rattle.machine.specs.State.{State}
 use Rattle.machine.specs.Cells.{with_slot}
 use Rattle.machine.specs.Paths.{holder, name_in, number_at}
@@ -98,6 +99,6 @@ module _ (geo : Geometry) (disk : View) (q : List Pending) (held safe : ℕ → 
       (may_enter geo mid ghost after block (with_slot (before.bytes block) s entry) d s i name (users_obey geo disk (raised i x q) ghost all1) (λ g. refl) change fresh_name
       (ap (λ (y : Inode). y.mode) here ∙ can.file) parts.0 (and_from (is_number geo i) (is_sound geo (put_at before.inode i now i)) parts.0 (ap (is_sound geo) here ∙ parts.1)) can.record_first
       (λ m h.
-      let was = fewer_entries geo before mid (body_shape geo before i now body).tree i m (omega (arith, number_low geo i parts.0)) h in
+      let was = count_back geo before mid (body_shape geo before i now body).tree i m (omega (arith, number_low geo i parts.0)) h in
       let enough = o.rule8 i was.0 can.reachable was.1 in
       omega (arith, was.2, enough, links))))

@@ -10,6 +10,8 @@ use Rattle.model.specs.Image.{IsBlock}
 use Rattle.model.specs.Uses.{blocks_of, IsClaim, direct_positions}
 use Rattle.model.specs.Rules.{ObeysRules}
 use Rattle.model.proofs.SlotLemmas.{number_low, directory_number, reachable_directory}
+use Rattle.model.proofs.Places.{put_here, put_there}
+use Rattle.model.proofs.SameTree.{count_back}
 use Rattle.ordering.specs.Cuts.{Cell, Record, Block, Pending, users_view, IsAfter}
 use Rattle.ordering.specs.Ghosts.{Ghost, at_rest}
 use Rattle.ordering.specs.Agrees.{AllAgree}
@@ -17,8 +19,7 @@ use Rattle.ordering.specs.Rewrites.{entered}
 use Rattle.ordering.specs.OneSlot.{now_entered}
 use Rattle.ordering.specs.Histories.{EntersDirectory}
 use Rattle.ordering.proofs.Bits.{users_obey}
-use Rattle.ordering.proofs.Records.{put_here, put_there}
-use Rattle.ordering.proofs.Trees.{fewer_entries, place_back}
+use Rattle.ordering.proofs.Places.{place_back}
 use Rattle.machine.specs.Cells.{with_slot, Enters}
 use Rattle.machine.specs.Whole.{HasWholeBlocks}
 use Rattle.machine.specs.Effects.{with_links, new_directory, AreDots}
@@ -200,8 +201,8 @@ module _ (geo : Geometry) (disk : View) (q : List Pending) (held safe : ℕ → 
       (λ g. refl) (or_left (eqb i i) false (eq-eqb i i refl)) can.record_first still_before
       (λ cut closed f g c. grows.credit cut closed g d (s / 16) c)
       (λ m h.
-      let then = fewer_entries geo mid w2 room.tree d m (omega (arith, low)) h in
-      let was = fewer_entries geo users mid (made_tree geo users o i a d words dots can.make can.enter.reachable) d then.0 (omega (arith, low)) then.1 in
+      let then = count_back geo mid w2 room.tree d m (omega (arith, low)) h in
+      let was = count_back geo users mid (made_tree geo users o i a d words dots can.make can.enter.reachable) d then.0 (omega (arith, low)) then.1 in
       let enough = o.rule8 d was.0 (inl can.enter.reachable) was.1 in
       omega (arith, then.2, was.2, enough, links)) in
       subst (λ g. Issues geo disk q ghost (making_grown geo i a words dots d x b kept s entry after q) g) (entered_again geo disk q held safe i a words dots d s b name entry after)

@@ -8,6 +8,7 @@ use Rattle.model.specs.Cells.{SetInode, SetNumber, SetBlock, SetBytes, updated}
 use Rattle.model.specs.Slots.{Empty, Good}
 use Rattle.model.specs.Rules.{ObeysRules}
 use Rattle.model.proofs.SlotLemmas.{number_low, directory_number, reachable_directory}
+use Rattle.model.proofs.SameTree.{count_back}
 use Rattle.ordering.specs.Cuts.{Cell, Pending, users_view}
 use Rattle.ordering.specs.Ghosts.{Ghost, at_rest}
 use Rattle.ordering.specs.Agrees.{AllAgree}
@@ -15,7 +16,6 @@ use Rattle.ordering.specs.Rewrites.{entered}
 use Rattle.ordering.specs.OneSlot.{now_entered}
 use Rattle.ordering.specs.Histories.{EntersDirectory}
 use Rattle.ordering.proofs.Bits.{users_obey}
-use Rattle.ordering.proofs.Trees.{fewer_entries}
 use Rattle.machine.specs.State.{State}
 use Rattle.machine.specs.Cells.{with_slot}
 use Rattle.machine.specs.Paths.{holder, name_in}
@@ -97,7 +97,7 @@ module _ (geo : Geometry) (disk : View) (q : List Pending) (held safe : ℕ → 
       (λ g. refl) (or_left (eqb i i) false (eq-eqb i i refl)) can.record_first (dots_before geo disk q held safe i b d words dots can.make r not_held all)
       (λ cut closed f g c. link_before geo disk q held safe i b d words dots can.make r not_held all cut closed f)
       (λ n h.
-      let was = fewer_entries geo users w (made_tree geo users o i b d words dots can.make r) d n (omega (arith, number_low geo d (directory_number geo users d (reachable_directory geo users d r)))) h in
+      let was = count_back geo users w (made_tree geo users o i b d words dots can.make r) d n (omega (arith, number_low geo d (directory_number geo users d (reachable_directory geo users d r)))) h in
       let enough = o.rule8 d was.0 (inl r) was.1 in
       omega (arith, was.2, enough, links)) in
       subst (λ g. Issues geo disk q ghost (making i b words dots d x block (users.bytes block) s entry after q) g) entered_again

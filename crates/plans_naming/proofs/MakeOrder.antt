@@ -7,6 +7,8 @@ use Rattle.model.specs.Shape.{IsAbove}
 use Rattle.model.specs.Uses.{has_position, record_use}
 use Rattle.model.specs.Reach.{IsReachableDirectory}
 use Rattle.model.specs.Rules.{ObeysRules}
+use Rattle.model.proofs.SameShape.{claim_back}
+use Rattle.model.proofs.Places.{put_here}
 use Rattle.ordering.specs.Cuts.{Record, NumberBit, BlockBit, Block, Pending, users_view, IsAfter}
 use Rattle.ordering.specs.Ghosts.{Ghost, at_rest}
 use Rattle.ordering.specs.Agrees.{AllAgree}
@@ -15,8 +17,6 @@ use Rattle.ordering.specs.Rewrites.{Comes, MayCreate, entered}
 use Rattle.ordering.specs.Histories.{SetsNumber, SetsBlock, Raises, Fills, CreatesDirectory}
 use Rattle.ordering.proofs.CutLemmas.{after_own, after_through}
 use Rattle.ordering.proofs.Bits.{users_obey, claim_used}
-use Rattle.ordering.proofs.Frames.{claim_back}
-use Rattle.ordering.proofs.Records.{put_here}
 use Rattle.machine.specs.Effects.{with_links, new_directory}
 use Rattle.machine.proofs.Records.{new_directory_sound, new_directory_first}
 use Rattle.plans_data.specs.Issues.{Issues, Nothing, Then}

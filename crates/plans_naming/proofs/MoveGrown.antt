@@ -7,14 +7,15 @@ use Rattle.model.specs.Cells.{SetInode, SetBytes, updated}
 use Rattle.model.specs.Uses.{blocks_of, is_sound, IsClaim}
 use Rattle.model.specs.Slots.{Empty, Good}
 use Rattle.model.specs.Rules.{ObeysRules}
+use Rattle.model.proofs.SlotChange.{slot_uses, slot_now}
 use Rattle.ordering.specs.Cuts.{Cell, Pending, users_view}
 use Rattle.ordering.specs.Ghosts.{Ghost, at_rest}
 use Rattle.ordering.specs.Agrees.{AllAgree}
 use Rattle.ordering.specs.Kinds.{SameBody}
 use Rattle.ordering.specs.OneSlot.{ChangesSlot, HasOtherName, ArePointersKnown}
 use Rattle.ordering.proofs.Bits.{users_obey}
-use Rattle.ordering.proofs.OneSlots.{slot_uses, slot_now}
 use Rattle.ordering.proofs.SlotKinds.{no_file_directory}
+use Rattle.ordering.proofs.Places.{slot_change}
 use Rattle.machine.specs.Cells.{with_slot}
 use Rattle.machine.specs.Effects.{with_links}
 use Rattle.plans_data.specs.Issues.{Issues}
@@ -126,7 +127,7 @@ module _ (geo : Geometry) (disk : View) (q : List Pending) (held safe : ℕ → 
 
   folder : SameFolder geo users users3 d
   folder = folder_on geo users users1 users3 d (body_folder geo users i more d its_body) (folder_on geo users1 users2 users3 d (room.folder d can.apart)
-      (entry_folder geo users2 b bytes' d' s' i name' enters.slot o2.rule3 (no_file_directory geo users2 i file2) d can.apart))
+      (entry_folder geo users2 b bytes' d' s' i name' (slot_change enters.slot) o2.rule3 (no_file_directory geo users2 i file2) d can.apart))
 
   goes : ChangesSlot geo users3 block zeroed d s (Good i name) Empty
   goes = change_there geo users users3 d folder block zeroed s (Good i name) Empty (empties_slot geo users d s block (Good i name) can.from)
@@ -144,7 +145,7 @@ module _ (geo : Geometry) (disk : View) (q : List Pending) (held safe : ℕ → 
   to_grown = room_grounds geo after block users1 users2 d' b s' room tables_known
 
   to_entered : SameGrounds geo after block users2 users3
-  to_entered = entry_grounds geo after block users2 b bytes' d' s' (Good i name') enters.slot o2.rule3
+  to_entered = entry_grounds geo after block users2 b bytes' d' s' (Good i name') (slot_change enters.slot) o2.rule3
 
   unclaimed : (n j : ℕ) → IsClaim geo users n j b → ⊥
   unclaimed n j c = both_ways (users.block_marked b) ((can.to.enter).grow.free).unmarked (o.rule3.marked n j b c)
@@ -161,9 +162,9 @@ module _ (geo : Geometry) (disk : View) (q : List Pending) (held safe : ℕ → 
         grounds = grounds_on geo after block users2 users3 to_entered g.steps d' p2 (grounds_on geo after block users1 users2 to_grown g.steps d' p1 (grounds_on geo after block users users1 to_raised g.steps d' g.path g.grounds));
         slot = s';
         after_dots = enters.after_dots;
-        names = (name', slot_now geo users2 b bytes' d' s' Empty (Good i name') enters.slot o2.rule3);
+        names = (name', slot_now geo users2 b bytes' d' s' Empty (Good i name') (slot_change enters.slot) o2.rule3);
         other = b;
-        claim = (sym (slot_uses geo users2 b bytes' d' s' Empty (Good i name') enters.slot o2.rule3 d' (s' / 16)) ∙ enters.slot.claim.0, enters.slot.claim.1);
+        claim = (sym (slot_uses geo users2 b bytes' d' s' Empty (Good i name') (slot_change enters.slot) o2.rule3 d' (s' / 16)) ∙ enters.slot.claim.0, enters.slot.claim.1);
         differs = λ e. unclaimed d (s / 16) (subst (λ c. IsClaim geo users d (s / 16) c) (sym e) can.from.claim);
         known = can.entry_first;
       }

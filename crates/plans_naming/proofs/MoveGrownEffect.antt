@@ -7,13 +7,13 @@ use Rattle.model.specs.View.{View, Inode}
 use Rattle.model.specs.Cells.{SetInode, SetBlock, SetBytes, updated, updated_all, put_at}
 use Rattle.model.specs.Uses.{blocks_of}
 use Rattle.model.specs.Slots.{Good}
-use Rattle.model.proofs.Places.{same_view}
+use Rattle.model.proofs.Places.{same_view, put_here, put_there}
 use Rattle.ordering.specs.Cuts.{Cell, Pending, users_view}
 use Rattle.ordering.specs.Ghosts.{Ghost, at_rest}
 use Rattle.ordering.specs.Agrees.{AllAgree}
 use Rattle.ordering.proofs.Bits.{users_obey}
-use Rattle.ordering.proofs.Records.{put_here, put_there}
 use Rattle.ordering.proofs.SlotKinds.{no_file_directory}
+use Rattle.ordering.proofs.Places.{slot_change}
 use Rattle.machine.specs.State.{State}
 use Rattle.machine.specs.Cells.{with_slot, with_entry, Enters}
 use Rattle.machine.specs.Paths.{holder, name_in, number_at, slot_at}
@@ -103,7 +103,7 @@ module _ (geo : Geometry) (disk : View) (q : List Pending) (held safe : ℕ → 
 
   folder : SameFolder geo users entered d
   folder = folder_on geo users roomy entered d ((grows.room).folder d can.apart)
-      (entry_folder geo roomy b bytes' d' s' i name' (fills_slot geo users roomy d' b s' i name' entry grows.room (can.to.enter).takes (reachable_parts geo users i can.to.reachable).0 can.to.says).slot
+      (entry_folder geo roomy b bytes' d' s' i name' (slot_change (fills_slot geo users roomy d' b s' i name' entry grows.room (can.to.enter).takes (reachable_parts geo users i can.to.reachable).0 can.to.says).slot)
       (users_obey geo disk (grown geo d' parent b kept q) ghost (issues_agree geo disk q ghost (grown geo d' parent b kept q) ghost grows.issues all)).rule3
       (no_file_directory geo roomy i (ap (λ (y : Inode). y.mode) ((grows.room).records i (λ e. parent_apart (sym e))) ∙ can.to.file)) d can.apart)
 

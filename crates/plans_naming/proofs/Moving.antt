@@ -6,15 +6,16 @@ use Rattle.model.specs.Cells.{SetInode, SetBytes, updated, put_at}
 use Rattle.model.specs.Uses.{is_sound, IsClaim}
 use Rattle.model.specs.Slots.{Empty, Good}
 use Rattle.model.specs.Rules.{ObeysRules}
+use Rattle.model.proofs.Places.{put_here}
+use Rattle.model.proofs.SlotChange.{slot_uses, slot_now}
 use Rattle.ordering.specs.Cuts.{Cell, Pending, users_view}
 use Rattle.ordering.specs.Ghosts.{Ghost, at_rest}
 use Rattle.ordering.specs.Agrees.{AllAgree}
 use Rattle.ordering.specs.Kinds.{SameBody}
 use Rattle.ordering.specs.OneSlot.{ChangesSlot, HasOtherName}
 use Rattle.ordering.proofs.Bits.{users_obey}
-use Rattle.ordering.proofs.Records.{put_here}
-use Rattle.ordering.proofs.OneSlots.{slot_uses, slot_now}
 use Rattle.ordering.proofs.SlotKinds.{no_file_directory}
+use Rattle.ordering.proofs.Places.{slot_change}
 use Rattle.machine.specs.Cells.{with_slot}
 use Rattle.machine.specs.Effects.{with_links}
 use Rattle.plans_data.specs.Issues.{Issues}
@@ -82,7 +83,7 @@ module _ (geo : Geometry) (disk : View) (q : List Pending) (held safe : ℕ → 
 
   folder : SameFolder geo users users2 d
   folder = folder_on geo users users1 users2 d (body_folder geo users i more d body)
-      (entry_folder geo users1 block' bytes' d' s' i name' enters.slot o1.rule3 (no_file_directory geo users1 i file1) d can.apart)
+      (entry_folder geo users1 block' bytes' d' s' i name' (slot_change enters.slot) o1.rule3 (no_file_directory geo users1 i file1) d can.apart)
 
   goes : ChangesSlot geo users2 block zeroed d s (Good i name) Empty
   goes = change_there geo users users2 d folder block zeroed s (Good i name) Empty (empties_slot geo users d s block (Good i name) can.from)
@@ -91,7 +92,7 @@ module _ (geo : Geometry) (disk : View) (q : List Pending) (held safe : ℕ → 
   to_raised = body_grounds geo after block users i more body
 
   to_entered : SameGrounds geo after block users1 users2
-  to_entered = entry_grounds geo after block users1 block' bytes' d' s' (Good i name') enters.slot o1.rule3
+  to_entered = entry_grounds geo after block users1 block' bytes' d' s' (Good i name') (slot_change enters.slot) o1.rule3
 
   other_name : HasOtherName geo users2 after block i
   other_name =
@@ -104,9 +105,9 @@ module _ (geo : Geometry) (disk : View) (q : List Pending) (held safe : ℕ → 
         grounds = grounds_on geo after block users1 users2 to_entered g.steps d' p1 (grounds_on geo after block users users1 to_raised g.steps d' g.path g.grounds);
         slot = s';
         after_dots = can.to.place.after_dots;
-        names = (name', slot_now geo users1 block' bytes' d' s' Empty (Good i name') enters.slot o1.rule3);
+        names = (name', slot_now geo users1 block' bytes' d' s' Empty (Good i name') (slot_change enters.slot) o1.rule3);
         other = block';
-        claim = (sym (slot_uses geo users1 block' bytes' d' s' Empty (Good i name') enters.slot o1.rule3 d' (s' / 16)) ∙ enters.slot.claim.0, enters.slot.claim.1);
+        claim = (sym (slot_uses geo users1 block' bytes' d' s' Empty (Good i name') (slot_change enters.slot) o1.rule3 d' (s' / 16)) ∙ enters.slot.claim.0, enters.slot.claim.1);
         differs = λ e. can.apart (sym (o.rule3.once d' (s' / 16) d (s / 16) block (subst (λ b. IsClaim geo users d' (s' / 16) b) e can.to.place.claim) can.from.claim).0);
         known = can.entry_first;
       }

@@ -10,6 +10,8 @@ use Rattle.model.specs.Slots.{Empty, Good, Names}
 use Rattle.model.specs.Reach.{HasEntries, IsReachable}
 use Rattle.model.specs.Rules.{ObeysRules}
 use Rattle.model.proofs.SlotLemmas.{number_low, names_stands}
+use Rattle.model.proofs.SameReach.{reach_kept, SameReach}
+use Rattle.model.proofs.SlotChange.{slot_before}
 use Rattle.ordering.specs.Cuts.{Cell, Block, Pending, users_view}
 use Rattle.ordering.specs.Places.{HasPlace}
 use Rattle.ordering.specs.Ghosts.{Ghost, Gone, at_rest}
@@ -18,8 +20,7 @@ use Rattle.ordering.specs.Kinds.{SameBody, MayLower, settled}
 use Rattle.ordering.specs.OneSlot.{ChangesSlot, MayRemove, HasOtherName, removed, is_gone_at}
 use Rattle.ordering.specs.Histories.{Removes, Lowers}
 use Rattle.ordering.proofs.Bits.{users_obey}
-use Rattle.ordering.proofs.Counts.{place_of}
-use Rattle.ordering.proofs.OneSlots.{reach_kept, SameReach, slot_before}
+use Rattle.ordering.proofs.Places.{place_of, slot_change}
 use Rattle.ordering.proofs.SlotKinds.{reach, place_was, gone_parts}
 use Rattle.ordering.proofs.Removal.{entries_less}
 use Rattle.plans_data.specs.Issues.{Issues, Nothing, Then}
@@ -55,7 +56,7 @@ module _ (geo : Geometry) (disk : View) (q : List Pending) (held safe : ℕ → 
   removed_leads = Then (record { change = SetBytes block bytes; after = after }) gone Nothing (Removes after block bytes d s i name safe' remove)
 
   names_it : Names geo users d s i
-  names_it = (name, slot_before geo users block bytes d s (Good i name) Empty change.slot o.rule3)
+  names_it = (name, slot_before geo users block bytes d s (Good i name) Empty (slot_change change.slot) o.rule3)
 
   pub it_number : IsTrue (is_number geo i)
   it_number = (names_stands geo users d s i names_it).number
@@ -70,7 +71,7 @@ module _ (geo : Geometry) (disk : View) (q : List Pending) (held safe : ℕ → 
   same = reach geo disk q ghost after block bytes d s i name safe' remove o
 
   pub was : (j e t c : ℕ) → HasPlace geo users1 j e t c → HasPlace geo users j e t c × ((e ≡ d) × (t ≡ s) → ⊥)
-  was = place_was geo disk q ghost after block bytes d s i name safe' remove o users change.slot o.rule3 same
+  was = place_was geo disk q ghost after block bytes d s i name safe' remove o users (slot_change change.slot) o.rule3 same
 
   -- it has an entry fewer
   pub fewer_left : (m : ℕ) → HasEntries geo users1 i m → m + 1 ≤ (users.inode i).links

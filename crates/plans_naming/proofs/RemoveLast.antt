@@ -9,6 +9,10 @@ use Rattle.model.specs.Uses.{use_at}
 use Rattle.model.specs.Slots.{Empty, Good}
 use Rattle.model.proofs.Finite.{entries_exist}
 use Rattle.model.proofs.SlotLemmas.{number_low, directory_sound, reachable_directory}
+use Rattle.model.proofs.SlotChange.{slot_uses}
+use Rattle.model.proofs.NewRecord.{outside_tree}
+use Rattle.model.proofs.Places.{put_there}
+use Rattle.model.proofs.SameTree.{SameTree, count_back}
 use Rattle.ordering.specs.Cuts.{Cell, Record, Block, Pending, users_view}
 use Rattle.ordering.specs.Places.{HasPlace}
 use Rattle.ordering.specs.Ghosts.{Ghost, at_rest}
@@ -16,11 +20,7 @@ use Rattle.ordering.specs.Agrees.{AllAgree}
 use Rattle.ordering.specs.Kinds.{SameBody, MayLower, settled}
 use Rattle.ordering.specs.Histories.{Lowers}
 use Rattle.ordering.proofs.Bits.{users_obey, number_bit_shape}
-use Rattle.ordering.proofs.Counts.{place_of}
-use Rattle.ordering.proofs.OneSlots.{slot_uses}
-use Rattle.ordering.proofs.Outside.{outside_tree}
-use Rattle.ordering.proofs.Records.{put_there}
-use Rattle.ordering.proofs.Trees.{SameTree, fewer_entries}
+use Rattle.ordering.proofs.Places.{slot_change, unnamed}
 use Rattle.machine.specs.State.{State}
 use Rattle.machine.specs.Cells.{with_slot}
 use Rattle.machine.specs.Paths.{holder, number_at, slot_at}
@@ -88,7 +88,7 @@ module _ (geo : Geometry) (disk : View) (q : List Pending) (st : State) (i b d s
 
   uses_kept : (n k : ℕ) → use_at geo users n k ≡ use_at geo users1 n k
   uses_kept = slot_uses geo users block (with_slot (users.bytes block) s no_entry) d s (Good i name) Empty
-      (change geo disk q st.held safe i b d s block name after can not_safe all).slot
+      (slot_change (change geo disk q st.held safe i b d s block name after can not_safe all).slot)
       (o geo disk q st.held safe i b d s block name after can not_safe all).rule3
 
   no_place : (e t c : ℕ) → HasPlace geo users1 i e t c → ⊥
@@ -125,7 +125,7 @@ module _ (geo : Geometry) (disk : View) (q : List Pending) (st : State) (i b d s
       (tree_on geo users1 (updated users1 (SetInode i free_inode)) (record freed { block_marked = users2.block_marked })
       (outside_tree geo users1 i free_inode (users_obey geo disk q1 gone all1).rule1
       (pruned_now geo disk q st.held safe i b d s block name after can not_safe all)
-      (λ e t r h. absurd (let p = place_of geo users1 i e t r h in no_place e t p.0 p.1)))
+      (λ e t r h. absurd (unnamed geo users1 i no_place e t r h)))
       (tree_on geo (updated users1 (SetInode i free_inode)) freed (record freed { block_marked = users2.block_marked }) (number_bit_shape geo (updated users1 (SetInode i free_inode)) i false).tree (marks_tree geo freed users2.block_marked)))
 
   pub parent_there : users2.inode d ≡ y
@@ -136,7 +136,7 @@ module _ (geo : Geometry) (disk : View) (q : List Pending) (st : State) (i b d s
     body = subst (λ r. SameBody geo r less) (sym parent_there) (same_body geo y (y.links - 1) (directory_sound geo users d (reachable_directory geo users d can.place.reachable)));
     witnesses = λ g t e. gone_first geo disk q st.held safe i b d s block name after can not_safe all g (and_parts (gone.gone g) (not (eqb g.number i)) t).0;
     links = λ m h.
-        let was = fewer_entries geo users1 users2 tree d m (omega (arith, number_low geo d (parent_number geo disk q st.held safe i b d s block name after can not_safe all))) h in
+        let was = count_back geo users1 users2 tree d m (omega (arith, number_low geo d (parent_number geo disk q st.held safe i b d s block name after can not_safe all))) h in
         let few = fewer_of_parent geo disk q st.held safe i b d s block name after can not_safe all was.0 was.1 in
         omega (arith, was.2, few);
   }

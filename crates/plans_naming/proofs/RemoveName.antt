@@ -7,13 +7,14 @@ use Rattle.model.specs.View.{View, Inode}
 use Rattle.model.specs.Cells.{SetInode, SetBytes, updated, put_at}
 use Rattle.model.specs.Slots.{Good}
 use Rattle.model.proofs.SlotLemmas.{number_low, directory_sound, reachable_directory}
+use Rattle.model.proofs.Places.{put_here, put_there}
+use Rattle.model.proofs.SameTree.{count_back}
 use Rattle.ordering.specs.Cuts.{Cell, Block, Pending, users_view}
 use Rattle.ordering.specs.Ghosts.{Ghost, at_rest}
 use Rattle.ordering.specs.Agrees.{AllAgree}
 use Rattle.ordering.specs.Kinds.{SameBody, MayLower, settled}
 use Rattle.ordering.specs.Histories.{Lowers}
-use Rattle.ordering.proofs.Records.{put_here, put_there, body_shape}
-use Rattle.ordering.proofs.Trees.{fewer_entries}
+use Rattle.ordering.proofs.Records.{body_shape}
 use Rattle.machine.specs.State.{State, is_open}
 use Rattle.machine.specs.Cells.{with_slot, with_entry}
 use Rattle.machine.specs.Paths.{holder, number_at, slot_at}
@@ -77,7 +78,7 @@ module _ (geo : Geometry) (disk : View) (q : List Pending) (held safe : ℕ → 
     body = subst (λ r. SameBody geo r less) (sym parent_there) (same_body geo y (y.links - 1) (directory_sound geo users d (reachable_directory geo users d can.place.reachable)));
     witnesses = λ g t e. gone_first geo disk q held safe i b d s block name after can not_safe all g (and_parts (gone.gone g) (not (eqb g.number i)) t).0;
     links = λ m h.
-        let was = fewer_entries geo users1 users2 (body_shape geo users1 i fewer body).tree d m (omega (arith, number_low geo d (parent_number geo disk q held safe i b d s block name after can not_safe all))) h in
+        let was = count_back geo users1 users2 (body_shape geo users1 i fewer body).tree d m (omega (arith, number_low geo d (parent_number geo disk q held safe i b d s block name after can not_safe all))) h in
         let few = fewer_of_parent geo disk q held safe i b d s block name after can not_safe all was.0 was.1 in
         omega (arith, was.2, few);
   }

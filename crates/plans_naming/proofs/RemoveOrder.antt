@@ -8,6 +8,8 @@ use Rattle.model.proofs.Finite.{entries_exist}
 use Rattle.model.specs.Reach.{HasEntries, IsReachableDirectory, IsEntry}
 use Rattle.model.specs.Rules.{ObeysRules}
 use Rattle.model.proofs.SlotLemmas.{number_low, directory_number, reachable_directory}
+use Rattle.model.proofs.SlotChange.{slot_now}
+use Rattle.model.proofs.Prune.{pruned}
 use Rattle.ordering.specs.Cuts.{Cell, Block, Pending, users_view}
 use Rattle.ordering.specs.Places.{HasPlace}
 use Rattle.ordering.specs.Ghosts.{Ghost, Gone, at_rest}
@@ -15,9 +17,8 @@ use Rattle.ordering.specs.Agrees.{AllAgree}
 use Rattle.ordering.specs.OneSlot.{ChangesSlot, MayRemoveDirectory, removed_directory, same_gone}
 use Rattle.ordering.specs.Histories.{RemovesDirectory}
 use Rattle.ordering.proofs.Bits.{users_obey}
-use Rattle.ordering.proofs.Counts.{place_of}
-use Rattle.ordering.proofs.OneSlots.{slot_now}
-use Rattle.ordering.proofs.Prune.{pruned, prune_place_back}
+use Rattle.ordering.proofs.Places.{place_of, slot_change}
+use Rattle.ordering.proofs.Prune.{prune_place_back}
 use Rattle.machine.specs.Cells.{with_slot}
 use Rattle.plans_data.specs.Issues.{Issues, Nothing, Then}
 use Rattle.plans_naming.specs.Entries.{no_entry, slot_written}
@@ -71,10 +72,10 @@ module _ (geo : Geometry) (disk : View) (q : List Pending) (held safe : ℕ → 
   reached = (suc can.place.reachable.0, (d, s, can.place.reachable.1, can.place.after_dots, the_entry.names, can.directory))
 
   pub pruned_now : IsReachableDirectory geo users1 i → ⊥
-  pruned_now = pruned geo users block zeroed d s i name change.slot o can.place.after_dots not_root only_entry can.empty
+  pruned_now = pruned geo users block zeroed d s i name (slot_change change.slot) o can.place.after_dots not_root only_entry can.empty
 
   pub places_back : (j e t c : ℕ) → HasPlace geo users1 j e t c → HasPlace geo users j e t c
-  places_back = prune_place_back geo users block zeroed d s i name change.slot o can.place.after_dots not_root only_entry can.empty
+  places_back = prune_place_back geo users block zeroed d s i name (slot_change change.slot) o can.place.after_dots not_root only_entry can.empty
 
   pub apart : d ≡ i → ⊥
   apart e = can.empty s i can.place.after_dots (subst (λ k. Names geo users k s i) e the_entry.names)
@@ -95,7 +96,7 @@ module _ (geo : Geometry) (disk : View) (q : List Pending) (held safe : ℕ → 
   place_up = record { reachable = reached; names = up; block = can.first }
 
   gone_entry : (c : ℕ) → HasPlace geo users1 i d s c → ⊥
-  gone_entry c p = let now : slot geo users1 d s ≡ Empty = slot_now geo users block zeroed d s (Good i name) Empty change.slot o.rule3 in
+  gone_entry c p = let now : slot geo users1 d s ≡ Empty = slot_now geo users block zeroed d s (Good i name) Empty (slot_change change.slot) o.rule3 in
       let n : slot geo users1 d s ≡ Good i p.names.0 = p.names.1 in cc
 
   pub its_number : IsTrue (is_number geo i)

@@ -12,6 +12,8 @@ use Rattle.model.specs.Reach.{IsReachableDirectory, slot_count}
 use Rattle.model.specs.Rules.{ObeysRules}
 use Rattle.model.proofs.Uses.{number_use, record_uses_agree, use_number}
 use Rattle.model.proofs.SlotLemmas.{directory_sound, directory_number, reachable_directory}
+use Rattle.model.proofs.Places.{put_here, put_there}
+use Rattle.model.proofs.SameTree.{SameTree}
 use Rattle.ordering.specs.Cuts.{Cell, Record, BlockBit, Block, Pending, users_view, EachCut, IsAfter}
 use Rattle.ordering.proofs.CutLemmas.{after_kept}
 use Rattle.ordering.specs.Ghosts.{Ghost}
@@ -19,8 +21,6 @@ use Rattle.ordering.specs.Agrees.{AllAgree}
 use Rattle.ordering.specs.OneSlot.{ChangesSlot}
 use Rattle.ordering.proofs.Bits.{users_obey}
 use Rattle.ordering.proofs.Data.{directory_mode}
-use Rattle.ordering.proofs.Records.{put_here, put_there}
-use Rattle.ordering.proofs.Trees.{SameTree}
 use Rattle.machine.specs.Cells.{block_of, with_slot, with_pointer, IsEntryFor, Enters, Places}
 use Rattle.machine.specs.Room.{is_empty}
 use Rattle.machine.specs.Whole.{HasWholeBlocks}

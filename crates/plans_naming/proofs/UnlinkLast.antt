@@ -10,13 +10,14 @@ use Rattle.model.specs.Uses.{use_at}
 use Rattle.model.specs.Rules.{ObeysRules}
 use Rattle.model.proofs.Finite.{entries_exist}
 use Rattle.model.proofs.SlotLemmas.{number_low}
+use Rattle.model.proofs.SlotChange.{slot_uses}
 use Rattle.ordering.specs.Cuts.{Block, Pending, users_view}
 use Rattle.ordering.specs.Ghosts.{Ghost, at_rest}
 use Rattle.ordering.specs.Agrees.{AllAgree}
 use Rattle.ordering.specs.OneSlot.{ChangesSlot, is_gone_at}
 use Rattle.ordering.proofs.Bits.{users_obey}
-use Rattle.ordering.proofs.OneSlots.{slot_uses}
 use Rattle.ordering.proofs.SlotKinds.{gone_parts}
+use Rattle.ordering.proofs.Places.{slot_change}
 use Rattle.machine.specs.State.{State}
 use Rattle.machine.specs.Cells.{with_slot}
 use Rattle.machine.specs.Paths.{holder, number_at, slot_at}
@@ -77,7 +78,7 @@ module _ (geo : Geometry) (disk : View) (q : List Pending) (st : State) (i d s b
   rules = users_obey geo disk q ghost all
 
   uses_kept : (n k : ℕ) → use_at geo users n k ≡ use_at geo (users_view disk after_name) n k
-  uses_kept = slot_uses geo users block zeroed d s (Good i name) Empty change.slot rules.rule3
+  uses_kept = slot_uses geo users block zeroed d s (Good i name) Empty (slot_change change.slot) rules.rule3
 
   may : MayFreeing geo (now disk after_name st) with_gone.gone i blocks (Block block ∷ [])
   may = record {

@@ -5,10 +5,10 @@ use Rattle.model.specs.Layout.{Geometry}
 use Rattle.model.specs.View.{View, Inode}
 use Rattle.model.specs.Cells.{SetInode, SetBytes, updated}
 use Rattle.model.specs.Slots.{Good}
+use Rattle.model.proofs.Places.{put_here}
 use Rattle.ordering.specs.Cuts.{Pending, users_view}
 use Rattle.ordering.specs.Ghosts.{at_rest}
 use Rattle.ordering.specs.Agrees.{AllAgree}
-use Rattle.ordering.proofs.Records.{put_here}
 use Rattle.machine.specs.State.{State, is_open}
 use Rattle.machine.specs.Cells.{with_slot, with_entry}
 use Rattle.machine.specs.Paths.{holder, number_at, slot_at}

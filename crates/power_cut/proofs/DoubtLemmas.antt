@@ -2,7 +2,7 @@
 use Rattle.std.proofs.Common.{◌≡◌, ℕ, Bool, true, false, List, [], ◌∷◌, ◌⊎◌, inl, inr, refl, sym, ap, ◌∙◌, Contains, eqb, eq-eqb}
 use Rattle.std.proofs.lemmas.Bool.{cases_eq, cond-true}
 use mathlib.Core.Path.{fun_ext}
-use Rattle.ordering.proofs.Records.{put_there}
+use Rattle.model.proofs.Places.{put_there}
 use Rattle.queue_model.proofs.Lists.{contains_head, contains_tail, contains_cases, contains_none}
 use Rattle.device.specs.Media.{chosen}
 use Rattle.power_cut.specs.Epochs.{Put, blocks_with}

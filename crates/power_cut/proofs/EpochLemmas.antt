@@ -4,11 +4,11 @@ use Rattle.std.proofs.lemmas.Bool.{cases_eq}
 use Rattle.model.specs.Layout.{Geometry}
 use Rattle.model.specs.View.{View, view_of}
 use Rattle.model.specs.Cells.{put_at}
+use Rattle.model.proofs.Places.{put_there}
 use Rattle.ordering.specs.Cuts.{Cell, Pending, IsClosed, SameAt, cell_of, seen}
 use Rattle.ordering.specs.ClosedSets.{pending_at, takes}
 use Rattle.ordering.specs.Ghosts.{Ghost}
 use Rattle.ordering.specs.Histories.{Comes_to, IsSafeCut}
-use Rattle.ordering.proofs.Records.{put_there}
 use Rattle.ordering.proofs.HistoryLemmas.{each_cut_is_safe}
 use Rattle.queue_model.specs.History.{Holds}
 use Rattle.queue_model.specs.Flush.{ready, IsOfBlock}

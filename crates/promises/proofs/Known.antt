@@ -1,5 +1,5 @@
--- What a closed cut shows of single cells.
-use Rattle.std.proofs.Common.{◌≡◌, ℕ, zero, suc, Bool, true, false, List, [], ◌∷◌, ◌⊎◌, inl, inr, refl, sym, ap, ◌∙◌, subst}
+-- What a closed cut shows of single cells, and a stop.
+use Rattle.std.proofs.Common.{◌≡◌, ℕ, zero, suc, Bool, true, false, List, [], ◌∷◌, ◌⊎◌, inl, inr, refl, sym, ap, ◌∙◌, subst, length, replicate}
 use Rattle.std.specs.List.{All}
 use Rattle.std.proofs.lemmas.Bool.{cases_eq}
 use Rattle.std.proofs.lemmas.List.Elements.{All-head, All-tail}
@@ -8,12 +8,14 @@ use Rattle.model.specs.Image.{image_view}
 use Rattle.model.specs.View.{Inode, View}
 use Rattle.model.specs.Cells.{Update, SetInode, SetNumber, SetBlock, SetBytes, put_at, updated}
 use Rattle.model.proofs.Places.{put_here, put_there}
-use Rattle.device.specs.Media.{Medium}
+use Rattle.device.specs.Media.{MayBeLeft, Medium, chosen, image_of}
+use Rattle.device.specs.Writes.{image_after}
 use Rattle.ordering.specs.Cuts.{Cell, Pending, seen}
 use Rattle.ordering.specs.ClosedSets.{pending_at}
+use Rattle.machine.specs.Looks.{looks}
 use Rattle.queue_model.specs.Files.{Written, IsFileBlock, updates}
-use Rattle.snapshot.specs.Durable.{HasSizeIn, IsSizeIn, LeavesShown}
-use Rattle.promises.specs.Known.{LeavesKnown, LeavesSizes}
+use Rattle.snapshot.specs.Durable.{WritesLooksOf, LooksAsIn, LeavesShown}
+use Rattle.promises.specs.Known.{LeavesKnown, LeavesLooks}
 
 abbrev IsKnown : View → List Pending → ℕ → Inode → Type 0
 IsKnown view us n there = (there ≡ view.inode n) ⊎ ((i : ℕ) × ((pending_at us i).change ≡ SetInode n there))
@@ -50,15 +52,24 @@ leaves_known geo view written safe m shown image may =
       ],
     )
 
--- ---- sizes
+-- ---- how inodes look
 
-sized_at : (views : List View) (written : List Written) → All (HasSizeIn views) written → (i n : ℕ) (x : Inode) → (pending_at (updates written) i).change ≡ SetInode n x → IsSizeIn views n x.size
-sized_at views [] sized i n x is = cc
-sized_at views (w ∷ written) sized zero n x is = All-head (HasSizeIn views) w written sized n x is
-sized_at views (w ∷ written) sized (suc i) n x is = sized_at views written (All-tail (HasSizeIn views) w written sized) i n x is
+looks_at : (views : List View) (written : List Written) → All (WritesLooksOf views) written → (i n : ℕ) (x : Inode) → (pending_at (updates written) i).change ≡ SetInode n x → LooksAsIn views n (looks x)
+looks_at views [] sized i n x is = cc
+looks_at views (w ∷ written) sized zero n x is = All-head (WritesLooksOf views) w written sized n x is
+looks_at views (w ∷ written) sized (suc i) n x is = looks_at views written (All-tail (WritesLooksOf views) w written sized) i n x is
 
-pub leaves_sizes : (geo : Geometry) (view : View) (written : List Written) (safe : ℕ → Bool) (m : Medium) (views : List View) → All (HasSizeIn views) written → LeavesShown geo view written safe m → LeavesSizes geo view views m
-leaves_sizes geo view written safe m views sized shown image may n = elim ((leaves_known geo view written safe m shown image may).0 n) [
-  | inl same ↦ inl (ap (λ (x : Inode). x.size) same)
-  | inr one ↦ inr (sized_at views written sized one.0 n ((image_view geo image).inode n) one.1)
+pub leaves_looks : (geo : Geometry) (view : View) (written : List Written) (safe : ℕ → Bool) (m : Medium) (views : List View) → All (WritesLooksOf views) written → LeavesShown geo view written safe m → LeavesLooks geo view views m
+leaves_looks geo view written safe m views sized shown image may n = elim ((leaves_known geo view written safe m shown image may).0 n) [
+  | inl same ↦ inl (ap looks same)
+  | inr one ↦ inr (looks_at views written sized one.0 n ((image_view geo image).inode n) one.1)
 ]
+
+-- ---- what a stop leaves is what a loss of power may leave that loses nothing
+
+all_chosen : {A : Type 0} (xs : List A) → xs ≡ chosen xs (replicate (length xs) true)
+all_chosen [] = refl
+all_chosen (x ∷ xs) = ap (λ l. x ∷ l) (all_chosen xs)
+
+pub all_left : (m : Medium) → MayBeLeft m (image_of m)
+all_left m = (replicate (length m.loose) true, ap (image_after m.durable) (all_chosen m.loose))

@@ -6,8 +6,9 @@ use Rattle.model.specs.View.{View}
 use Rattle.model.specs.Cells.{SetBytes, SetInode}
 use Rattle.device.specs.Media.{MayBeLeft, Medium}
 use Rattle.ordering.specs.ClosedSets.{pending_at}
+use Rattle.machine.specs.Looks.{looks}
 use Rattle.queue_model.specs.Files.{Written, IsFileBlock, file_at, updates}
-use Rattle.snapshot.specs.Durable.{IsSizeIn, LeavesOwn, Piece, Put, PutAlong}
+use Rattle.snapshot.specs.Durable.{LooksAsIn, LeavesOwn, Piece, Put, PutAlong}
 
 -- Each record, with its size, is as it was in a view, or as one of these updates made it.
 abbrev pub RecordsAreKnown : View → List Written → View → Type 0
@@ -22,13 +23,17 @@ BlocksAreOwn geo view written image = (n k b : ℕ) → IsFileBlock geo image n 
 abbrev pub LeavesKnown : Geometry → View → List Written → Medium → Type 0
 LeavesKnown geo view written m = (image : List (List ℕ)) → MayBeLeft m image → RecordsAreKnown view written (image_view geo image) × BlocksAreOwn geo view written (image_view geo image)
 
--- Each number has the size that it had in a view, or that which users saw of it in one of these.
-abbrev pub SizesAreKnown : View → List View → View → Type 0
-SizesAreKnown view views image = (n : ℕ) → ((image.inode n).size ≡ (view.inode n).size) ⊎ IsSizeIn views n (image.inode n).size
+-- Each number has the mode, the size and the attributes that it had in a view, or those which users saw of it in one of these.
+abbrev pub LooksAreKnown : View → List View → View → Type 0
+LooksAreKnown view views image = (n : ℕ) → (looks (image.inode n) ≡ looks (view.inode n)) ⊎ LooksAsIn views n (looks (image.inode n))
+
+-- So it is in an image.
+abbrev pub ShowsLooks : Geometry → View → List View → List (List ℕ) → Type 0
+ShowsLooks geo view views image = LooksAreKnown view views (image_view geo image)
 
 -- So it is in whatever a loss of power leaves of a medium.
-abbrev pub LeavesSizes : Geometry → View → List View → Medium → Type 0
-LeavesSizes geo view views m = (image : List (List ℕ)) → MayBeLeft m image → SizesAreKnown view views (image_view geo image)
+abbrev pub LeavesLooks : Geometry → View → List View → Medium → Type 0
+LeavesLooks geo view views m = (image : List (List ℕ)) → MayBeLeft m image → ShowsLooks geo view views image
 
 -- Whatever a loss of power leaves of a medium has in each block of a file the file's own bytes: zeroes, those that it had there in a view, or those of one of these pieces, which was written there into this very file, as this number was then.
 pub record LeavesOwnBytes (geo : Geometry) (view : View) (written : List Written) (asked : List Piece) (m : Medium) : Type 0 where

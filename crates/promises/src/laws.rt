@@ -20,7 +20,7 @@ ghost use Rattle.snapshot.specs.Synced.{HasFile, IsSynced, KeepsFiles};
 ghost use Rattle.shared.specs.Traces.{HasHistory, asked_by, now_at};
 ghost use Rattle.shared.specs.declared.counts.Counts.{Counts};
 ghost use Rattle.shared.specs.declared.entry.Entry.{Entry};
-ghost use Rattle.promises.specs.Known.{LeavesKnown, LeavesOwnBytes, LeavesSizes};
+ghost use Rattle.promises.specs.Known.{LeavesKnown, LeavesLooks, LeavesOwnBytes, ShowsLooks};
 ghost use Rattle.promises.specs.Leaky.{IsOnlyLeaky, LeavesLeaky};
 
 use device::Device;
@@ -36,10 +36,15 @@ pub fn the_check_is_right()
 }
 
 /// Every image that the device held is only leaky, whatever calls were made and wherever they stopped: it can be mounted, a
-/// check finds only what repairs give back, and they leave an exact volume.
+/// check finds only what repairs give back, and they leave an exact volume (`leaky`). And each image that it held since a sync shows each
+/// number with the mode, the size and the attributes that users saw of it at the sync, or those that they saw of it before or behind a
+/// later command: all three of one moment (`looks`).
 pub fn every_stop_is_only_leaky<D: Device>()
-    ensures { (s t : Stage D) (commands : List Command) (replies : List Reply) → StandsAt s → LeadsTo s commands replies t
+    ensures leaky { (s t : Stage D) (commands : List Command) (replies : List Reply) → StandsAt s → LeadsTo s commands replies t
         → (more : List (List (List ℕ))) × (images_held t.held ≡ images_held s.held ++ more) × All (IsOnlyLeaky (geometry_at s)) more }
+    ensures looks { (t u : Stage D) (files : ℕ → Bool) (more : List Command) (others : List Reply) → (keeps : KeepsFiles t files more others u)
+        → (held : List (List (List ℕ))) × (images_held u.held ≡ images_held t.held ++ held)
+        × All (ShowsLooks (geometry_at t) (disk_of t.image t.volume) (views_in (geometry_at t) (state_at t) more others (state_at u) keeps.run)) held }
 {
     snapshot::each_image_held_is_mountable::<D>();
     findings::rules_hold_where_findings_are_soft();
@@ -54,8 +59,8 @@ pub fn every_stop_is_only_leaky<D: Device>()
 /// the sync, or those that an update since gave it in the name of this very file (`known`). Such updates are what users asked for: each
 /// byte of each block of a file is a zero, one that the file had at this position at the sync, or one of a piece that a later command
 /// wrote at this position through a handle on this number, which counts for the file that the number was when it was put, in the order of
-/// the commands (`own`). And each number has the size that users saw of it at the sync, or one that they saw before or behind a later
-/// command (`sizes`).
+/// the commands (`own`). And each number has the mode, the size and the attributes that users saw of it at the sync, or those that they
+/// saw of it before or behind a later command: all three of one moment (`looks`).
 pub fn every_power_cut_is_only_leaky<D: Device>()
     ensures leaky { (s t : Stage D) (commands : List Command) (replies : List Reply) → StandsAt s → LeadsTo s commands replies t
         → IsSoundOn s.held.now s.volume (λ f. false)
@@ -68,9 +73,9 @@ pub fn every_power_cut_is_only_leaky<D: Device>()
     ensures known { (t u : Stage D) (files : ℕ → Bool) (more : List Command) (others : List Reply) → (keeps : KeepsFiles t files more others u)
         → LeavesKnown (geometry_at t) (disk_of t.image t.volume) [] t.held.now
         × All (LeavesKnown (geometry_at t) (disk_of t.image t.volume) keeps.written) keeps.more }
-    ensures sizes { (t u : Stage D) (files : ℕ → Bool) (more : List Command) (others : List Reply) → (keeps : KeepsFiles t files more others u)
-        → LeavesSizes (geometry_at t) (disk_of t.image t.volume) [] t.held.now
-        × All (LeavesSizes (geometry_at t) (disk_of t.image t.volume) (views_in (geometry_at t) (state_at t) more others (state_at u) keeps.run)) keeps.more }
+    ensures looks { (t u : Stage D) (files : ℕ → Bool) (more : List Command) (others : List Reply) → (keeps : KeepsFiles t files more others u)
+        → LeavesLooks (geometry_at t) (disk_of t.image t.volume) [] t.held.now
+        × All (LeavesLooks (geometry_at t) (disk_of t.image t.volume) (views_in (geometry_at t) (state_at t) more others (state_at u) keeps.run)) keeps.more }
     ensures own { (t u : Stage D) (files : ℕ → Bool) (more : List Command) (others : List Reply) → (keeps : KeepsFiles t files more others u)
         → LeavesOwnBytes (geometry_at t) (disk_of t.image t.volume) [] [] t.held.now
         × All (LeavesOwnBytes (geometry_at t) (disk_of t.image t.volume) keeps.written

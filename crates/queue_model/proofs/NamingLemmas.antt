@@ -11,6 +11,9 @@ use Rattle.model.specs.Rules.{ObeysRules}
 use Rattle.model.specs.Slots.{Slot}
 use Rattle.model.proofs.CellLemmas.{use_stays}
 use Rattle.model.proofs.Uses.{use_parts}
+use Rattle.model.proofs.SameShape.{claim_back}
+use Rattle.model.proofs.Places.{put_here}
+use Rattle.model.proofs.NewRecord.{other_mode}
 use Rattle.ordering.specs.Cuts.{Cell, Block, Pending, cell_of, same_cell, seen, rest, users_view}
 use Rattle.ordering.specs.Ghosts.{Ghost}
 use Rattle.ordering.specs.Kinds.{MayFill, MayWrite, SameBody}
@@ -20,9 +23,7 @@ use Rattle.ordering.specs.Histories.{Step, SetsBlock, SetsNumber, ClearsNumber, 
 use Rattle.ordering.proofs.Bits.{users_obey, sound_used}
 use Rattle.ordering.proofs.Data.{directory_mode}
 use Rattle.ordering.proofs.Flushes.{users_flushed}
-use Rattle.ordering.proofs.Frames.{claim_back}
-use Rattle.ordering.proofs.Records.{body_shape, put_here}
-use Rattle.ordering.proofs.Outside.{other_mode}
+use Rattle.ordering.proofs.Records.{body_shape}
 use Rattle.ordering.proofs.RecordSteps.{use_before}
 use Rattle.ordering.proofs.Tables.{append_uses, move_elsewhere, move_here, moved_table}
 use Rattle.queue_model.specs.Files.{Written, updates, creates, generation, last_writer, IsFileBlock, WroteLast, NamesFiles}

@@ -11,6 +11,9 @@ use Rattle.model.specs.Rules.{ObeysRules}
 use Rattle.model.specs.Slots.{Slot}
 use Rattle.model.proofs.CellLemmas.{use_stays}
 use Rattle.model.proofs.Uses.{use_parts, uses_agree}
+use Rattle.model.proofs.SameShape.{claim_back}
+use Rattle.model.proofs.Places.{put_here}
+use Rattle.model.proofs.NewRecord.{other_mode}
 use Rattle.ordering.specs.Cuts.{Cell, Record, NumberBit, BlockBit, Block, Pending, users_view, AreIn, cell_of}
 use Rattle.ordering.specs.Ghosts.{Ghost}
 use Rattle.ordering.specs.Agrees.{Agrees, AllAgree}
@@ -20,9 +23,7 @@ use Rattle.ordering.specs.OneSlot.{ChangesSlot}
 use Rattle.ordering.specs.Histories.{Step, SetsBlock, SetsNumber, ClearsNumber, ClearsBlock, Fills, Writes, Raises, Lowers, RewritesFile, GrowsDirectory, CreatesFile, CreatesDirectory, Frees, AppendsSlot, MovesSlot, Removes, Enters, Renames, RemovesDirectory, EntersDirectory}
 use Rattle.ordering.proofs.Bits.{users_obey, sound_used, claim_used}
 use Rattle.ordering.proofs.Data.{directory_mode}
-use Rattle.ordering.proofs.Frames.{claim_back}
-use Rattle.ordering.proofs.Records.{body_shape, put_here}
-use Rattle.ordering.proofs.Outside.{other_mode}
+use Rattle.ordering.proofs.Records.{body_shape}
 use Rattle.ordering.proofs.RecordSteps.{use_before, new_claim}
 use Rattle.ordering.proofs.Tables.{append_alone, append_uses_cut, move_elsewhere, move_here, moved_table, view_claim}
 use Rattle.queue_model.specs.Files.{IsFileBlock}

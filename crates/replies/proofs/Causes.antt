@@ -10,7 +10,7 @@ use Rattle.layout.specs.declared.refusal.Refusal.TheVariants.{Device, ForeignPla
 use Rattle.machine.specs.State.{State, snapshot_at}
 use Rattle.machine.specs.Below.{when, first_of}
 use Rattle.machine.specs.Paths.{walk, target, lookup, last_part, parts}
-use Rattle.machine.specs.Command.{Command, Create, Mkdir, Link, Unlink, Rmdir, Rename, Open, Close, Read, Write, Truncate, ListNames, Stat, Freeze, SnapRead, Release, Install, RepairAt, Flush, Sync, SetAttributes}
+use Rattle.machine.specs.Command.{Command, Create, Mkdir, Link, Unlink, Rmdir, Rename, Open, Close, Read, Write, Truncate, ListNames, Stat, Freeze, SnapRead, Release, Install, RepairAt, Flush, Sync, SetAttributes, ReadAttributes}
 use Rattle.machine.specs.Causes.{FirstRefusal, causes, only, no_way, missing}
 use Rattle.machine.specs.Step.{Step}
 
@@ -156,6 +156,7 @@ all_inner geo old (Read h k) = (tested _ _ refl, (tested _ _ refl, tt))
 all_inner geo old (Write h k piece) = (tested _ _ refl, (tested _ _ refl, (tested _ _ refl, (tested _ _ refl, (tested _ _ refl, tt)))))
 all_inner geo old (Truncate h n) = (tested _ _ refl, (tested _ _ refl, tt))
 all_inner geo old (SetAttributes i words) = (tested _ _ refl, tt)
+all_inner geo old (ReadAttributes i) = (tested _ _ refl, tt)
 all_inner geo old (ListNames p) = (tested _ _ refl, (inner_missing geo old.view p, (tested _ _ refl, tt)))
 all_inner geo old (Stat p) = (tested _ _ refl, (inner_missing geo old.view p, tt))
 all_inner geo old Freeze = (tested _ _ refl, tt)

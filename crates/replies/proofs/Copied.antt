@@ -6,7 +6,7 @@ use Rattle.model.specs.View.{View}
 use Rattle.ordering.specs.Cuts.{Pending}
 use Rattle.machine.specs.State.{State}
 use Rattle.machine.specs.Causes.{Accepts}
-use Rattle.machine.specs.Command.{Command, Read, ListNames, Stat, Freeze, SnapRead, Answer, Done, Number, Bytes, Listed, Status, Image, Reply}
+use Rattle.machine.specs.Command.{Command, Read, ListNames, Stat, ReadAttributes, Freeze, SnapRead, Answer, Done, Number, Bytes, Listed, Attributes, Status, Image, Reply}
 use Rattle.machine.specs.Step.{Run, Step}
 use Rattle.courses.specs.Done.{IsDoneBy, CreatesInSlot, CreatesInNewBlock, MakesInSlot, MakesInNewBlock, LinksInSlot, LinksInNewBlock, RenamesInSlot, MovesToSlot, MovesToNewBlock, UnlinksName, UnlinksFile, RemovesName, RemovesDirectory, WritesInPlace, WritesBehind, WritesElsewhere, TruncatesFile, ClosesHandle, CarriesOutRepair, SetsItsAttributes}
 use Rattle.courses.specs.Serves.{Serves, ByPlan, Quietly, FlushesNone, FlushesSome, SyncsAll, Freezes, Releases, Service, Starts, CarriesOut, Refuses, Flushed}
@@ -17,12 +17,15 @@ copied_keeps geo old new command (Ok Done) c s = absurd c
 copied_keeps geo old new command (Ok (Number n)) c s = absurd c
 copied_keeps geo old new command (Ok (Status i mode links size)) c s = absurd c
 copied_keeps geo old new command (Ok (Image n view)) c s = absurd c
+copied_keeps geo old new command (Ok (Attributes words)) c s = absurd c
 copied_keeps geo old new command (Err r) c s = absurd c
 copied_keeps geo old new (Read h k) (Ok (Bytes bytes)) c s = s.1.1
 copied_keeps geo old new (SnapRead n i k) (Ok (Bytes bytes)) c s = s.1.3
 copied_keeps geo old new (Stat p) (Ok (Bytes bytes)) c s = s.1.1
+copied_keeps geo old new (ReadAttributes i) (Ok (Bytes bytes)) c s = s.1.1
 copied_keeps geo old new (ListNames p) (Ok (Listed names)) c s = s.1.1
 copied_keeps geo old new (Stat p) (Ok (Listed names)) c s = s.1.1
+copied_keeps geo old new (ReadAttributes i) (Ok (Listed names)) c s = s.1.1
 copied_keeps geo old new Freeze (Ok (Bytes bytes)) c s = let e = s.1.0 in cc
 copied_keeps geo old new Freeze (Ok (Listed names)) c s = let e = s.1.0 in cc
 copied_keeps geo old new _ (Ok (Bytes bytes)) c s = absurd s.1

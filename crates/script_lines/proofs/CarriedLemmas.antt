@@ -14,6 +14,10 @@ pub always : {T E : Type 0} (P : Type 0) (r : Result T E) → P → OnOk r P
 always P (Ok t) p = p
 always P (Err e) p = tt
 
+pub on_ok : {T E P Q : Type 0} (r : Result T E) → (P → Q) → OnOk r P → OnOk r Q
+on_ok (Ok t) give p = give p
+on_ok (Err e) give p = tt
+
 pub both_if_ok : {T E : Type 0} (P R : T → Type 0) (Q : Type 0) (r : Result T E) → ((t : T) → P t → Q → R t) → IfOk r P → OnOk r Q → IfOk r R
 both_if_ok P R Q (Ok t) give p q = give t p q
 both_if_ok P R Q (Err e) give p q = tt

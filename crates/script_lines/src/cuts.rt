@@ -21,7 +21,7 @@ use std::alloc::{AllocError, Global};
 use std::rt::Files;
 use std::thread::Threads;
 use user_scripts::{Commands, UserLine};
-use workers::OpenGate;
+use workers::{OpenGate, Workers};
 
 /// What the line asks for: what a loss of power at each moment of a script on an image may leave, and which of it is looked at.
 #[derive(Clone, Copy)]
@@ -175,6 +175,6 @@ impl Judge for Checks {
 
     fn judge<R: Threads + Sync>(&mut self, rt: &R, device: MemDevice) -> Result<Verdict, Refusal> {
         let mut device = device;
-        Ok(check(rt, self.alloc, &mut device, 1, &OpenGate)?.verdict())
+        Ok(check(rt, self.alloc, &mut device, Workers::nearest(1), &OpenGate)?.verdict())
     }
 }

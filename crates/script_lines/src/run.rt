@@ -3,7 +3,7 @@ ghost use Rattle.std.specs.Prelude.{◌≡◌, Err, IfOk, IsFalse};
 ghost use Rattle.failures.specs.Status.{plain};
 ghost use Rattle.layout.specs.declared.refusal.Refusal.TheVariants.{BadWorkers};
 ghost use Rattle.loaders.specs.Readers.{Show};
-ghost use Rattle.workers.specs.Workers.{may_work};
+ghost use Rattle.worker_counts.specs.Workers.{may_work};
 
 use crate::scripts::{lines_of_file, of_script};
 use clap::{ArgMatches, Command};
@@ -11,7 +11,6 @@ use command_line::{Answer, Failure, arguments, others_of};
 use command_text::write_reply;
 use device::Device;
 use file_device::FileDevice;
-use image_lines::check::allow_workers;
 use image_lines::mounting::mount;
 use image_lines::repair::write_repairs;
 use layout::Refusal;
@@ -24,7 +23,7 @@ use std::sync::Wait;
 use std::thread::Threads;
 use user_scripts::{Commands, UserLine};
 use users::{Answered, Mended, Ran};
-use workers::OpenGate;
+use workers::{OpenGate, Workers};
 
 /// What the line asks for: what the users of a script are answered, while the image is checked by this many workers and mended.
 #[derive(Clone, Copy)]
@@ -64,11 +63,9 @@ where
     ensures status { IfOk result (λ answer. answer.status ≡ 0) }
     ensures workers { IsFalse (may_work line.now.workers) → result ≡ Err (plain BadWorkers) }
 {
-    allow_workers(line.workers)?;
+    let workers = Workers::new(line.workers)?;
     let lines = lines_of_file(rt, line.script, Commands::OfUsers)?;
-    run_on_file(rt, line.image, lines, line.workers).map_err(|failure| failure.on_image(
-        rt, line.image,
-    ))
+    run_on_file(rt, line.image, lines, workers).map_err(|failure| failure.on_image(rt, line.image))
 }
 
 /// Carries out the lines of a script on the volume of a file's image.
@@ -76,7 +73,7 @@ fn run_on_file<R: Files + AllocGlobal + Threads + Wait + Sync>(
     rt: &R,
     image: &str,
     script: Vec<UserLine>,
-    workers: u32,
+    workers: Workers,
 ) -> Result<Answer, Failure>
 where
     R::File: FileExt + Send,
@@ -98,13 +95,11 @@ pub fn run<D: Device + Drop + Send>(
     device: D,
     others: Vec<D>,
     script: Vec<UserLine>,
-    workers: u32,
+    workers: Workers,
 ) -> Result<Answer, Refusal>
     requires { Show D.image (D.image device) others.items }
-    ensures status { IfOk result (λ answer. answer.status ≡ 0) }
-    ensures workers { IsFalse (may_work workers) → result ≡ Err BadWorkers }
+    ensures { IfOk result (λ answer. answer.status ≡ 0) }
 {
-    allow_workers(workers)?;
     let volume = Volume::new(mount(rt, alloc, device, others, workers, &OpenGate)?);
     let Ran {
         answered,

@@ -11,12 +11,12 @@ use image_changes::mount;
 use image_lines::check::check;
 use layout::Refusal;
 use recording::{Recording, Written};
-use snapshot::{Command, Volume};
+use snapshot::{Command, Reply, Volume};
 use std::alloc::{AllocError, Global};
 use std::rt::Files;
 use std::thread::Threads;
-use user_scripts::{Commands, Handles, MOST_USERS, UserLine};
-use workers::OpenGate;
+use user_scripts::{Commands, Handles, MOST_USERS, Then, UserLine};
+use workers::{OpenGate, Workers};
 
 /// What the line asks for: the stops of a script on an image.
 #[derive(Clone, Copy)]
@@ -111,7 +111,7 @@ pub(crate) fn carry_out<D: Device>(
     for line in script {
         let user = usize::from(line.user) - 1;
         if let Some(handles) = handles.get_mut(user) {
-            carry_out_line(alloc, volume, handles, line.command)?;
+            carry_out_line(alloc, volume, handles, line.command, line.then)?;
         }
     }
     Ok(())
@@ -132,6 +132,7 @@ fn carry_out_line<D: Device>(
     volume: &mut Volume<D>,
     handles: &mut Handles,
     command: Command,
+    then: Then,
 ) -> Result<(), Refusal>
     ensures ran { OnOk result (D.honest volume.new.device
         → RunsOn (D.held volume.old.device) (D.image volume.old.device) volume.old (D.held volume.new.device) (D.image volume.new.device) volume.new) }
@@ -142,8 +143,30 @@ fn carry_out_line<D: Device>(
     };
     let reply = volume.apply(alloc, &command);
     handles.note(&command, &reply)?;
+    carry_out_then(alloc, volume, then, &reply)
+}
+
+/// Carries out what a line asks for behind the command that had this reply.
+fn carry_out_then<D: Device>(
+    alloc: Global,
+    volume: &mut Volume<D>,
+    then: Then,
+    reply: &Reply,
+) -> Result<(), Refusal>
+    ensures ran { OnOk result (D.honest volume.new.device
+        → RunsOn (D.held volume.old.device) (D.image volume.old.device) volume.old (D.held volume.new.device) (D.image volume.new.device) volume.new) }
+    ensures honest { D.honest volume.new.device → D.honest volume.old.device }
+{
+    match then.command(reply) {
+        Some(next) => passed_over(&volume.apply(alloc, &next)),
+        None => passed_over(reply),
+    }
+}
+
+/// What a volume refuses is passed over, but for `NoMemory` and `Device`.
+fn passed_over(reply: &Reply) -> Result<(), Refusal> {
     match reply {
-        Err(refusal @ (Refusal::NoMemory | Refusal::Device)) => Err(refusal),
+        Err(refusal @ (Refusal::NoMemory | Refusal::Device)) => Err(*refusal),
         _ => Ok(()),
     }
 }
@@ -177,7 +200,7 @@ fn write_stop(
     device: &mut MemDevice,
     writes: usize,
 ) -> Result<bool, Refusal> {
-    let checked = check(rt, alloc, device, 1, &OpenGate)?;
+    let checked = check(rt, alloc, device, Workers::nearest(1), &OpenGate)?;
     let verdict = checked.verdict();
     let findings = checked.findings().len();
     writeln!(text, "stop {writes} verdict {verdict} findings {findings}")?;

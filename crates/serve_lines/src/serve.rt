@@ -1,5 +1,5 @@
 //! The line `serve`: the volume of an image, mounted by Linux, whose connection is standard input and output.
-ghost use Rattle.std.specs.Prelude.{◌≡◌, ◌⊎◌, [], IfErr, IfOk, OnOk};
+ghost use Rattle.std.specs.Prelude.{◌≡◌, ◌⊎◌, ◌<◌, ◌↔◌, [], IfErr, IfNone, IfOk, IfSome, IsErrOf, IsOkUnless, OnOk};
 ghost use Rattle.fuse_loop.specs.Sessions.{EndsWell};
 ghost use Rattle.serve_lines.specs.Ends.{MayEndService};
 
@@ -20,7 +20,7 @@ use std::rt::Files;
 use std::sync::Wait;
 use std::thread::Threads;
 use std::time::Clock;
-use workers::MOST_WORKERS;
+use workers::Workers;
 
 /// What the line asks for: the volume of this image.
 #[derive(Clone, Copy)]
@@ -36,8 +36,37 @@ pub struct ServeLine<'a> {
 pub enum Access {
     /// It is read alone.
     Read,
-    /// It is changed by these rules, and mended and flushed by this plan.
-    Write(Rules, Plan),
+    /// It is changed by these rules, and mended and flushed beside that.
+    Write(Rules, Beside),
+}
+
+/// What is to be done beside the service.
+#[derive(Clone, Copy, Debug, PartialEq, Eq)]
+pub struct Beside {
+    /// How many workers check the volume once it is mounted, 1 to 64; with 0 it is not checked.
+    pub workers: u32,
+    /// After how many seconds what is pending is on the medium; with 0 it waits for a sync or the end.
+    pub seconds: u32,
+}
+
+impl Beside {
+    /// The plan for it. `BadWorkers` is refused where there are more than 64 workers.
+    fn plan(self) -> Result<Plan, Refusal>
+        ensures unchecked { IfOk result (λ plan. IfNone plan.workers (self.workers ≡ 0)) }
+        ensures workers { IfOk result (λ plan. IfSome plan.workers (λ workers. workers.count ≡ self.workers)) }
+        ensures seconds { IfOk result (λ plan. plan.seconds ≡ self.seconds) }
+        ensures bad_workers { IsErrOf result Refusal.BadWorkers ↔ (64 < self.workers) }
+        ensures error { IsOkUnless result Refusal.BadWorkers }
+    {
+        let workers = match self.workers {
+            0 => None,
+            count => Some(Workers::new(count)?),
+        };
+        Ok(Plan {
+            workers,
+            seconds: self.seconds,
+        })
+    }
 }
 
 /// How many workers check the volume where no number is given, and how many seconds what is pending may wait.
@@ -136,11 +165,11 @@ fn access_of<'a>(options: &ArgMatches<'a>) -> Access {
         fills: !options.get_flag("strict-size"),
         replaces: !options.get_flag("strict-names"),
     };
-    let plan = Plan {
+    let beside = Beside {
         workers: options.get_one("check").unwrap_or(WORKERS),
         seconds: options.get_one("seconds").unwrap_or(SECONDS),
     };
-    Access::Write(rules, plan)
+    Access::Write(rules, beside)
 }
 
 /// Answers the messages of a channel from a file's image, until its volume is unmounted, and prints nothing. A volume that may be
@@ -185,19 +214,11 @@ where
 {
     match access {
         Access::Read => viewed::serve_file(rt, image, owner, channel),
-        Access::Write(rules, plan) => {
-            allow(plan)?;
+        Access::Write(rules, beside) => {
+            let plan = beside.plan()?;
             written::serve_file(rt, image, owner, rules, plan, channel)
         }
     }
-}
-
-/// Refuses more workers than there may be.
-fn allow(plan: Plan) -> Result<(), Failure> {
-    if plan.workers as usize > MOST_WORKERS {
-        return Err(Failure::from(Refusal::BadWorkers));
-    }
-    Ok(())
 }
 
 /// Why the line ends where a desk is left before the volume is unmounted.

@@ -7,7 +7,7 @@ use Rattle.layout.specs.declared.refusal.Refusal.{Refusal}
 use Rattle.layout.specs.declared.refusal.Refusal.TheVariants.{Device, NoMemory, NoSnapshot, TooManySnapshots, TraceFull}
 use Rattle.model.specs.Layout.{Geometry}
 use Rattle.device.specs.Media.{Held, image_of as shown_by}
-use Rattle.machine.specs.Command.{Command as Request, Reply as Response, Write as WriteOf, Done as IsDone, Number as IsNumber, Bytes as AreBytes, Listed, Status as IsStatus, Image as IsImage}
+use Rattle.machine.specs.Command.{Command as Request, Reply as Response, Write as WriteOf, Done as IsDone, Number as IsNumber, Bytes as AreBytes, Listed, Status as IsStatus, Attributes as AreAttributes, Image as IsImage}
 use Rattle.machine.specs.State.{State}
 use Rattle.machine.specs.Step.{Run}
 use Rattle.replies.specs.Replies.{IsCopied}
@@ -18,9 +18,9 @@ use Rattle.snapshot.specs.Alive.{Alive, disk_of, state_of}
 use Rattle.live_states.specs.Holdings.{Beside}
 use Rattle.snapshot.specs.declared.command.Command.{Command}
 use Rattle.snapshot.specs.declared.answer.Answer.{Answer}
-use Rattle.snapshot.specs.declared.answer.Answer.TheVariants.{Done, Number, Bytes, Names, Status, Image}
+use Rattle.snapshot.specs.declared.answer.Answer.TheVariants.{Done, Number, Bytes, Names, Status, Attributes, Image}
 use Rattle.snapshot.specs.Asked.{HasBytesOrNames, IsReply, asked, mode_of}
-use Rattle.snapshot.specs.declared.command.Command.TheVariants.{Create, Mkdir, Link, Unlink, Rmdir, Rename, Open, Close, Read, Write, Truncate, List as ListOf, Stat, Freeze, SnapRead, Release, Install, Repair, Flush, Sync, SetAttributes}
+use Rattle.snapshot.specs.declared.command.Command.TheVariants.{Create, Mkdir, Link, Unlink, Rmdir, Rename, Open, Close, Read, Write, Truncate, List as ListOf, Stat, Freeze, SnapRead, Release, Install, Repair, Flush, Sync, SetAttributes, ReadAttributes}
 use Rattle.snapshot.specs.Durable.{GoesSoundly}
 use Rattle.snapshot.specs.Goes.{Applies, Goes, HasBeside, pieces_in, views_in}
 use Rattle.snapshot.specs.Stages.{Stage}
@@ -48,6 +48,7 @@ noted_so (Ok Done) noted (Ok answer) n is = subst (λ a. IsNoted noted (Ok a)) (
 noted_so (Ok (Number k)) noted (Ok answer) n is = subst (λ a. IsNoted noted (Ok a)) (sym is) (subst (λ x. IsReply x (Ok (IsNumber k))) (sym n) refl)
 noted_so (Ok (Status status)) noted (Ok answer) n is =
     subst (λ a. IsNoted noted (Ok a)) (sym is) (subst (λ x. IsReply x (Ok (IsStatus status.number (mode_of status.kind) status.links status.size))) (sym n) refl)
+noted_so (Ok (Attributes words)) noted (Ok answer) n is = subst (λ a. IsNoted noted (Ok a)) (sym is) (subst (λ x. IsReply x (Ok (AreAttributes words))) (sym n) refl)
 noted_so (Ok (Bytes bytes)) (Ok (Bytes copy)) (Ok answer) n is = subst (λ a. IsNoted (Ok (Bytes copy)) (Ok a)) (sym is) (ap AreBytes (sym n))
 noted_so (Ok (Names names)) (Ok (Names copy)) (Ok answer) n is = subst (λ a. IsNoted (Ok (Names copy)) (Ok a)) (sym is) (ap Listed (sym n))
 noted_so (Ok (Image number frozen)) noted (Ok (IsImage k view)) n is = subst (λ x. IsReply x (Ok (IsNumber k))) (sym n) (ap IsNumber is.0)
@@ -68,6 +69,7 @@ noted_ok X (Err r) noted n x = subst (λ o. IfOk o (λ answer. X)) (sym n) tt
 noted_ok X (Ok Done) noted n x = subst (λ o. IfOk o (λ answer. X)) (sym n) x
 noted_ok X (Ok (Number k)) noted n x = subst (λ o. IfOk o (λ answer. X)) (sym n) x
 noted_ok X (Ok (Status status)) noted n x = subst (λ o. IfOk o (λ answer. X)) (sym n) x
+noted_ok X (Ok (Attributes words)) noted n x = subst (λ o. IfOk o (λ answer. X)) (sym n) x
 noted_ok X (Ok (Image number frozen)) noted n x = subst (λ o. IfOk o (λ answer. X)) (sym n) x
 noted_ok X (Ok (Bytes bytes)) (Ok answer) n x = x
 noted_ok X (Ok (Names names)) (Ok answer) n x = x
@@ -154,6 +156,7 @@ module _ {D : Type 0} (honest : D → Type 0) (held_of : D → Held) (image_of :
   copied_writes (Write handle index piece) reply c w = w
   copied_writes (Truncate handle size) reply c w = w
   copied_writes (SetAttributes inode attributes) reply c w = w
+  copied_writes (ReadAttributes inode) reply c w = w
   copied_writes (ListOf path) reply c w = w
   copied_writes (Stat path) reply c w = w
   copied_writes Freeze reply c w = (w.0, λ e. let bad : Err NoMemory ≡ Err TooManySnapshots = e in cc)
@@ -231,6 +234,7 @@ asks_so geo (Read handle index) = refl
 asks_so geo (Write handle index piece) = refl
 asks_so geo (Truncate handle size) = refl
 asks_so geo (SetAttributes inode attributes) = refl
+asks_so geo (ReadAttributes inode) = refl
 asks_so geo (ListOf path) = refl
 asks_so geo (Stat path) = refl
 asks_so geo Freeze = refl

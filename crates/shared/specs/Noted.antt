@@ -1,11 +1,11 @@
 -- What a trace notes of a call.
 use Rattle.std.specs.Prelude.{◌≡◌, List, [], ◌∷◌, ◌++◌, map, Ok, Err, Result}
 use Rattle.layout.specs.declared.refusal.Refusal.{Refusal}
-use Rattle.machine.specs.Command.{Reply as Response, Done as IsDone, Number as IsNumber, Bytes as AreBytes, Listed, Status as IsStatus, Image as IsImage}
+use Rattle.machine.specs.Command.{Reply as Response, Done as IsDone, Number as IsNumber, Bytes as AreBytes, Listed, Status as IsStatus, Attributes as AreAttributes, Image as IsImage}
 use Rattle.live_paths.specs.Listed.{name_of}
 use Rattle.snapshot.specs.declared.command.Command.{Command}
 use Rattle.snapshot.specs.declared.answer.Answer.{Answer}
-use Rattle.snapshot.specs.declared.answer.Answer.TheVariants.{Done, Number, Bytes, Names, Status, Image}
+use Rattle.snapshot.specs.declared.answer.Answer.TheVariants.{Done, Number, Bytes, Names, Status, Attributes, Image}
 use Rattle.snapshot.specs.Asked.{IsReply}
 use Rattle.shared.specs.declared.entry.Entry.{Entry}
 
@@ -17,6 +17,7 @@ Notes (Ok (Image number frozen)) noted = noted ≡ Ok (Number number)
 Notes (Ok Done) noted = noted ≡ Ok Done
 Notes (Ok (Number n)) noted = noted ≡ Ok (Number n)
 Notes (Ok (Status status)) noted = noted ≡ Ok (Status status)
+Notes (Ok (Attributes words)) noted = noted ≡ Ok (Attributes words)
 Notes (Err r) noted = noted ≡ Err r
 Notes _ _ = ⊥
 
@@ -28,6 +29,7 @@ noted_of (Ok (IsNumber n)) = Ok (IsNumber n)
 noted_of (Ok (AreBytes bytes)) = Ok (AreBytes bytes)
 noted_of (Ok (Listed names)) = Ok (Listed names)
 noted_of (Ok (IsStatus i mode links size)) = Ok (IsStatus i mode links size)
+noted_of (Ok (AreAttributes words)) = Ok (AreAttributes words)
 noted_of (Err r) = Err r
 
 abbrev pub IsNoted : Result Answer Refusal → Response → Type 0

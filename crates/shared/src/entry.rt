@@ -27,6 +27,7 @@ pub(crate) fn note(alloc: Global, reply: &Reply) -> Result<Reply, AllocError>
         Ok(Answer::Bytes(bytes)) => Ok(Answer::Bytes(bytes.clone()?)),
         Ok(Answer::Names(names)) => Ok(Answer::Names(copied(alloc, names.as_slice())?)),
         Ok(Answer::Status(status)) => Ok(Answer::Status(*status)),
+        Ok(Answer::Attributes(words)) => Ok(Answer::Attributes(*words)),
         Err(refusal) => Err(*refusal),
     })
 }

@@ -96,7 +96,7 @@ pub fn each_power_cut_of_a_trace_is_safe<D: Device>()
 /// sound on the medium of its device, take any sync of the trace that was answered, and any files that were there then: whatever a loss
 /// of power left of the medium has them, with the bytes that users saw; and whatever it leaves of each medium since has those of
 /// which no unlink behind the sync took a name, with their bytes of then or those that a later command of the trace wrote to them, and
-/// with sizes that users saw.
+/// looking as users saw them.
 pub fn what_a_sync_of_a_trace_has_seen_outlives_power_cuts<D: Device, L: Sharing>()
     ensures { (before : Counts) (trace : List Entry) (now : Alive D) → (h : HasHistory D.held D.image L.opens before trace now)
         → IsSoundOn (D.held h.past.first.device).now h.past.first (λ f. false)

@@ -171,7 +171,7 @@ pub stays_still : {D T : Type 0} (held held' : Held) (old new : Alive D) (H : Ty
 stays_still held held' old new H (Ok t) same left = λ h safe. goes_still held held' old new same left.0 (ap (λ (k : Kept). k.geometry) left.1) (ap held_by left.2) safe
 stays_still held held' old new H (Err e) same left = tt
 
--- and what writes no record may have any sizes
+-- and what writes no record may look as it likes
 pub sees_any : {D T : Type 0} (held held' : Held) (old new : Alive D) (H : Type 0) (views : List View) (r : Result T Refusal) → OnOk r (H → StaysSafe held old held' new)
     → OnOk r (H → (safe : ℕ → Bool) → GoesSoundly held old held' new safe safe [] views)
 sees_any held held' old new H views (Ok t) stays = λ h safe. goes_seen held held' old new safe safe [] views (stays h safe)

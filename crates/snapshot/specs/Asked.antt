@@ -7,15 +7,15 @@ use Rattle.model.specs.Layout.{Geometry}
 use Rattle.model.specs.View.{View, free_inode}
 use Rattle.frozen.specs.Kept.{frozen_view}
 use Rattle.fsck.specs.Checked.{CheckedImage}
-use Rattle.machine.specs.Command.{Check, Command as Request, Reply as Response, Create as AsksCreate, Mkdir as AsksMkdir, Link as AsksLink, Unlink as AsksUnlink, Rmdir as AsksRmdir, Rename as AsksRename, Open as AsksOpen, Close as AsksClose, Read as AsksRead, Write as AsksWrite, Truncate as AsksTruncate, ListNames, Stat as AsksStat, Freeze as AsksFreeze, SnapRead as AsksSnapRead, Release as AsksRelease, Install as AsksInstall, RepairAt, Flush as AsksFlush, Sync as AsksSync, SetAttributes as AsksSetAttributes}
-use Rattle.machine.specs.Command.{Answer as Answered, Done as IsDone, Number as IsNumber, Bytes as AreBytes, Listed, Status as IsStatus, Image as IsImage}
+use Rattle.machine.specs.Command.{Check, Command as Request, Reply as Response, Create as AsksCreate, Mkdir as AsksMkdir, Link as AsksLink, Unlink as AsksUnlink, Rmdir as AsksRmdir, Rename as AsksRename, Open as AsksOpen, Close as AsksClose, Read as AsksRead, Write as AsksWrite, Truncate as AsksTruncate, ListNames, Stat as AsksStat, Freeze as AsksFreeze, SnapRead as AsksSnapRead, Release as AsksRelease, Install as AsksInstall, RepairAt, Flush as AsksFlush, Sync as AsksSync, SetAttributes as AsksSetAttributes, ReadAttributes as AsksReadAttributes}
+use Rattle.machine.specs.Command.{Answer as Answered, Done as IsDone, Number as IsNumber, Bytes as AreBytes, Listed, Status as IsStatus, Attributes as AreAttributes, Image as IsImage}
 use Rattle.metadata.specs.Shown.{Shows}
 use Rattle.live_paths.specs.Listed.{name_of}
 pub use Rattle.live.specs.Kinds.{mode_of}
 use Rattle.snapshot.specs.declared.command.Command.{Command}
-use Rattle.snapshot.specs.declared.command.Command.TheVariants.{Create, Mkdir, Link, Unlink, Rmdir, Rename, Open, Close, Read, Write, Truncate, List as ListOf, Stat, Freeze, SnapRead, Release, Install, Repair, Flush, Sync, SetAttributes}
+use Rattle.snapshot.specs.declared.command.Command.TheVariants.{Create, Mkdir, Link, Unlink, Rmdir, Rename, Open, Close, Read, Write, Truncate, List as ListOf, Stat, Freeze, SnapRead, Release, Install, Repair, Flush, Sync, SetAttributes, ReadAttributes}
 use Rattle.snapshot.specs.declared.answer.Answer.{Answer}
-use Rattle.snapshot.specs.declared.answer.Answer.TheVariants.{Done, Number, Bytes, Names, Status, Image}
+use Rattle.snapshot.specs.declared.answer.Answer.TheVariants.{Done, Number, Bytes, Names, Status, Attributes, Image}
 
 -- what no image has: records without pointers
 abbrev pub no_image : View
@@ -51,6 +51,7 @@ asked geo (Read handle index) = AsksRead handle index
 asked geo (Write handle index piece) = AsksWrite handle index piece.items
 asked geo (Truncate handle size) = AsksTruncate handle size
 asked geo (SetAttributes inode attributes) = AsksSetAttributes inode attributes
+asked geo (ReadAttributes inode) = AsksReadAttributes inode
 asked geo (ListOf path) = ListNames path.items
 asked geo (Stat path) = AsksStat path.items
 asked geo Freeze = AsksFreeze
@@ -68,6 +69,7 @@ StandsFor (Number n) answer = answer ≡ IsNumber n
 StandsFor (Bytes bytes) answer = answer ≡ AreBytes bytes.items
 StandsFor (Names names) answer = answer ≡ Listed (map name_of names.items)
 StandsFor (Status status) answer = answer ≡ IsStatus status.number (mode_of status.kind) status.links status.size
+StandsFor (Attributes words) answer = answer ≡ AreAttributes words
 StandsFor (Image number frozen) (IsImage n view) = (n ≡ number) × Shows (arc_value frozen) view
 StandsFor (Image number frozen) _ = ⊥
 

@@ -66,7 +66,7 @@ pub record Goes {D : Type 0} (beside : Beside) (held : Held) (image : List (List
       → (safe' : ℕ → Bool) × Service old.kept.geometry (disk_of image old) (pending_of old.queue) (state_of image old beside) safe (disk_of image' new) (pending_of new.queue) (state_of image' new beside') safe' commands replies later × GoesSoundly held old held' new safe safe'
       (pieces_in old.kept.geometry (state_of image old beside) commands replies (state_of image' new beside') run) (views_in old.kept.geometry (state_of image old beside) commands replies (state_of image' new beside') run)
 
--- a volume stays sound on its medium by a command, but for the file of which it took a name, and for what it writes, with sizes that users see before or behind it
+-- a volume stays sound on its medium by a command, but for the file of which it took a name, and for what it writes, looking as users see before or behind it
 abbrev pub GoesSafely : {D : Type 0} → Held → List (List ℕ) → Alive D → Command → Held → List (List ℕ) → Alive D → Type 0
 GoesSafely held image old command held' image' new =
     (safe : ℕ → Bool) → GoesSoundly held old held' new safe (safe_after old.kept.geometry (users_view (disk_of image old) (pending_of old.queue)) command safe) (pieces_of (opened_by old.holdings) command)

@@ -9,7 +9,7 @@ use Rattle.queue_model.specs.Files.{Written}
 use Rattle.courses.specs.Serves.{IsSpared}
 use Rattle.softdep.specs.Queued.{unsynced_of}
 use Rattle.live.specs.Alive.{disk_of}
-use Rattle.live.specs.Durable.{HasSizeIn, HeldSafely, LeavesOwn, LeavesShown, Put, PutAlong}
+use Rattle.live.specs.Durable.{WritesLooksOf, HeldSafely, LeavesOwn, LeavesShown, Put, PutAlong}
 use Rattle.snapshot.specs.Goes.{pieces_in, views_in}
 use Rattle.snapshot.specs.Stages.{ServesTo, Stage, geometry_at, state_at}
 
@@ -41,5 +41,5 @@ pub record KeepsFiles {D : Type 0} (t : Stage D) (files : ℕ → Bool) (command
   pub along : PutAlong (disk_of t.image t.volume) [] written puts
   pub own_now : LeavesOwn (geometry_at t) (disk_of t.image t.volume) [] [] t.held.now
   pub own : All (LeavesOwn (geometry_at t) (disk_of t.image t.volume) written puts) more
-  -- each record that was written since has a size that users saw of it before or behind one of these commands
-  pub sizes : All (HasSizeIn (views_in (geometry_at t) (state_at t) commands replies (state_at u) run)) written
+  -- each record that was written since looks as users saw it before or behind one of these commands
+  pub looking : All (WritesLooksOf (views_in (geometry_at t) (state_at t) commands replies (state_at u) run)) written

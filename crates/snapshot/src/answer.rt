@@ -2,6 +2,7 @@
 ghost use Rattle.std.specs.Prelude.{◌≡◌, MatchResult, Ok, Err};
 
 use frozen::Frozen;
+use inode::ATTRIBUTES;
 use layout::Refusal;
 use live::Status;
 use live_paths::Named;
@@ -20,6 +21,8 @@ pub enum Answer {
     Names(Vec<Named>),
     /// What an inode is.
     Status(Status),
+    /// The attributes of an inode.
+    Attributes([u32; ATTRIBUTES]),
     /// The number of a snapshot that began, and the metadata of its image.
     Image(u64, Arc<Frozen>),
 }
@@ -67,6 +70,16 @@ pub(crate) fn status(outcome: Result<Status, Refusal>) -> Reply
     ensures { MatchResult outcome (λ status. result ≡ Ok (Answer.Status status)) (λ refusal. result ≡ Err refusal) }
 {
     outcome.map(|status| Answer::Status(status))
+}
+
+/// The reply that has the attributes of an inode.
+pub(crate) fn attributes(outcome: Result<[u32; ATTRIBUTES], Refusal>) -> Reply
+    ensures { MatchResult outcome (λ words. result ≡ Ok (Answer.Attributes words)) (λ refusal. result ≡ Err refusal) }
+{
+    match outcome {
+        Ok(words) => Ok(Answer::Attributes(words)),
+        Err(refusal) => Err(refusal),
+    }
 }
 
 /// The reply that has the number of a snapshot and the metadata of its image.

@@ -56,6 +56,8 @@ pub enum Command {
         inode: u32,
         attributes: [u32; ATTRIBUTES],
     },
+    /// The attributes that the inode of this number has.
+    ReadAttributes(u32),
     /// The names in a directory.
     List(Vec<u8>),
     /// What a path leads to.

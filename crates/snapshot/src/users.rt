@@ -7,7 +7,7 @@ ghost use Rattle.snapshot.specs.Between.{RepliedSo, could_go};
 ghost use Rattle.snapshot.specs.Refusing.{IsCause};
 ghost use Rattle.snapshot.specs.Writes.{Writes};
 
-use crate::answer::{bytes, count, done, names, number, status};
+use crate::answer::{attributes, bytes, count, done, names, number, status};
 use crate::{Answer, Command, Reply};
 use device::Device;
 use layout::Refusal;
@@ -47,6 +47,7 @@ pub(crate) fn user_reply<D: Device>(live: &mut Live<D>, alloc: Global, command: 
         Command::SetAttributes { inode, attributes } => {
             done(live.set_attributes(alloc, *inode, attributes))
         }
+        Command::ReadAttributes(inode) => attributes(live.attributes(*inode)),
         Command::List(path) => names(live.list(alloc, path)),
         Command::Stat(path) => status(live.stat(path)),
         Command::Flush(address) => count(live.flush(*address)),

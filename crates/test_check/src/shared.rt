@@ -4,7 +4,7 @@ use crate::image::{Change, VERSIONS, changed};
 use fsck::check;
 use layout::Geometry;
 use std::test::Fail;
-use workers::OpenGate;
+use workers::{OpenGate, Workers};
 
 /// Changes of a fresh image of two groups of 16 blocks and 16 inodes: a file of each group has block 25, which is one of
 /// the second group.
@@ -27,7 +27,8 @@ fn a_claim_of_another_group_is_a_duplicate(rt: HostRuntime) -> Result<(), Fail> 
     for version in VERSIONS {
         let geometry = Geometry::new(2, 16, 16)?.with_version(version)?;
         let frozen = changed(alloc, &geometry, ONE_BLOCK_OF_TWO_FILES)?;
-        for workers in [1, 2, 3, 64] {
+        for count in [1, 2, 3, 64] {
+            let workers = Workers::new(count)?;
             let checked = check(&rt, alloc, &frozen, workers, &OpenGate)?;
             same(&rt, workers, checked.report(), REPORT.as_bytes());
             same(&rt, workers, checked.report().len(), 170);

@@ -7,6 +7,7 @@ use std::alloc::{AllocError, Global};
 use std::process::Abort;
 use std::test::Fail;
 use std::thread::Threads;
+use workers::Workers;
 
 /// How many bytes a small image has.
 const SMALL: usize = 17_408;
@@ -36,7 +37,7 @@ fn all_marked_report(alloc: Global) -> Result<String, AllocError> {
 fn expect_report<R: Threads + AllocGlobal + Abort + Sync>(
     rt: &R,
     bytes: &[u8],
-    workers: u32,
+    workers: Workers,
     wanted: &str,
 ) -> Result<(), Refusal> {
     let checked = checked_by(rt, bytes, workers)?;
@@ -53,8 +54,8 @@ fn an_image_with_all_bits_set_has_25_findings(rt: HostRuntime) -> Result<(), Fai
     let marks: &[Put] = &[(1_056, b"\xff\xff"), (1_184, b"\xff\x1f")];
     let bytes = changed_bytes(rt.alloc(), &small()?, marks)?;
     let wanted = all_marked_report(rt.alloc())?;
-    for workers in [1, 2, 3, 64] {
-        expect_report(&rt, bytes.as_slice(), workers, wanted.as_str())?;
+    for count in [1, 2, 3, 64] {
+        expect_report(&rt, bytes.as_slice(), Workers::new(count)?, wanted.as_str())?;
     }
     Ok(())
 }
@@ -64,7 +65,7 @@ fn expect_refused<R: Threads + AllocGlobal + Abort + Sync>(
     rt: &R,
     name: &str,
     bytes: &[u8],
-    workers: u32,
+    workers: Workers,
     wanted: Refusal,
 ) {
     let refusal = checked_by(rt, bytes, workers).err();
@@ -191,7 +192,8 @@ fn bytes_of(alloc: Global, broken: &Broken) -> Result<Vec<u8>, Refusal> {
 fn a_broken_frame_is_refused(rt: HostRuntime) -> Result<(), Fail> {
     for broken in BROKEN {
         let bytes = bytes_of(rt.alloc(), broken)?;
-        for workers in [1, 3] {
+        for count in [1, 3] {
+            let workers = Workers::new(count)?;
             expect_refused(&rt, broken.name, bytes.as_slice(), workers, broken.refusal);
         }
     }
@@ -207,7 +209,7 @@ fn the_least_broken_group_is_named(rt: HostRuntime) -> Result<(), Fail> {
             put(bytes.as_mut_slice(), 1_024 + 16_384 * group, b"\0");
         }
         let wanted = Refusal::BadGroup(least);
-        expect_refused(&rt, "a group", bytes.as_slice(), 1, wanted);
+        expect_refused(&rt, "a group", bytes.as_slice(), Workers::new(1)?, wanted);
     }
     Ok(())
 }
@@ -259,7 +261,13 @@ fn numbers_past_a_limit_are_no_geometry(rt: HostRuntime) -> Result<(), Fail> {
         let refused = Geometry::new(groups, blocks, inodes).err();
         same(&rt, *numbers, refused, Some(Refusal::BadGeometry));
         let bytes = numbered(rt.alloc(), numbers)?;
-        expect_refused(&rt, "no geometry", bytes.as_slice(), 1, Refusal::BadSuper);
+        expect_refused(
+            &rt,
+            "no geometry",
+            bytes.as_slice(),
+            Workers::new(1)?,
+            Refusal::BadSuper,
+        );
     }
     Ok(())
 }
@@ -268,7 +276,7 @@ fn numbers_past_a_limit_are_no_geometry(rt: HostRuntime) -> Result<(), Fail> {
 fn expect_clean<R: Threads + AllocGlobal + Abort + Sync>(
     rt: &R,
     bytes: &[u8],
-    workers: u32,
+    workers: Workers,
 ) -> Result<(), Refusal> {
     let checked = checked_by(rt, bytes, workers)?;
     same(rt, workers, checked.report().len(), 133);
@@ -284,11 +292,17 @@ fn expect_whole<R: Threads + AllocGlobal + Abort + Sync>(
     let mut bytes = fresh_bytes(rt.alloc(), &Geometry::new(groups, blocks, inodes)?)?;
     let count = 1 + groups as usize * blocks as usize;
     same(rt, *numbers, bytes.len(), count * BLOCK_BYTES);
-    for workers in [1, 64] {
-        expect_clean(rt, bytes.as_slice(), workers)?;
+    for count in [1, 64] {
+        expect_clean(rt, bytes.as_slice(), Workers::new(count)?)?;
     }
     bytes.truncate(bytes.len().saturating_sub(BLOCK_BYTES));
-    expect_refused(rt, "a block fewer", bytes.as_slice(), 1, Refusal::BadLength);
+    expect_refused(
+        rt,
+        "a block fewer",
+        bytes.as_slice(),
+        Workers::new(1)?,
+        Refusal::BadLength,
+    );
     Ok(())
 }
 
@@ -296,21 +310,6 @@ fn expect_whole<R: Threads + AllocGlobal + Abort + Sync>(
 fn numbers_at_a_limit_are_a_geometry(rt: HostRuntime) -> Result<(), Fail> {
     for numbers in GEOMETRIES {
         expect_whole(&rt, numbers)?;
-    }
-    Ok(())
-}
-
-#[test]
-fn other_than_1_to_64_workers_are_refused(rt: HostRuntime) -> Result<(), Fail> {
-    let bytes = fresh_bytes(rt.alloc(), &small()?)?;
-    for workers in [0, 65, 4_294_967_295] {
-        expect_refused(
-            &rt,
-            "workers",
-            bytes.as_slice(),
-            workers,
-            Refusal::BadWorkers,
-        );
     }
     Ok(())
 }

@@ -6,7 +6,7 @@ use layout::{BLOCK_BYTES, Block, Geometry, Refusal, fresh_block};
 use std::alloc::Global;
 use std::sync::Arc;
 use std::thread::Threads;
-use workers::OpenGate;
+use workers::{OpenGate, Workers};
 
 /// Bytes that an image has in place of a fresh one's: where the first one stands, and what they are.
 pub(crate) type Put = (usize, &'static [u8]);
@@ -48,7 +48,7 @@ pub(crate) fn changed_bytes(
 pub(crate) fn checked_by<R: Threads + AllocGlobal + Sync>(
     rt: &R,
     bytes: &[u8],
-    workers: u32,
+    workers: Workers,
 ) -> Result<Checked, Refusal> {
     let alloc = rt.alloc();
     let mut device = MemDevice::from_bytes(alloc, bytes)?;
@@ -61,7 +61,7 @@ pub(crate) fn found<R: Threads + AllocGlobal + Sync>(
     rt: &R,
     bytes: &[u8],
 ) -> Result<String, Refusal> {
-    let checked = checked_by(rt, bytes, 1)?;
+    let checked = checked_by(rt, bytes, Workers::new(1)?)?;
     let mut lines = String::new(rt.alloc());
     for finding in checked.findings() {
         writeln!(lines, "{finding}")?;

@@ -10,6 +10,7 @@ use std::process::Abort;
 use std::test::Fail;
 use std::thread::Threads;
 use test_noise::Noise;
+use workers::Workers;
 
 /// The geometries that they have in turn.
 const GEOMETRIES: &[[u32; 3]] = &[
@@ -181,9 +182,9 @@ enum Checks {
 
 /// Checks an image of these bytes by 1, 2 and 64 workers.
 fn check_by_all<R: Threads + AllocGlobal + Sync>(rt: &R, bytes: &[u8]) -> Result<Checks, Refusal> {
-    let alone = checked_by(rt, bytes, 1)?;
-    for workers in [2, 64] {
-        if let Some(what) = difference(rt, bytes, workers, &alone)? {
+    let alone = checked_by(rt, bytes, Workers::new(1)?)?;
+    for count in [2, 64] {
+        if let Some(what) = difference(rt, bytes, Workers::new(count)?, &alone)? {
             return Ok(Checks::Differ(what));
         }
     }
@@ -198,7 +199,7 @@ fn check_by_all<R: Threads + AllocGlobal + Sync>(rt: &R, bytes: &[u8]) -> Result
 fn difference<R: Threads + AllocGlobal + Sync>(
     rt: &R,
     bytes: &[u8],
-    workers: u32,
+    workers: Workers,
     alone: &Checked,
 ) -> Result<Option<&'static str>, Refusal> {
     let checked = checked_by(rt, bytes, workers)?;

@@ -9,7 +9,7 @@ use sets::Members;
 use std::alloc::Global;
 use std::process::Abort;
 use std::test::Fail;
-use workers::OpenGate;
+use workers::{OpenGate, Workers};
 
 /// Expects these inodes to be reached.
 fn expect_reached<R: AllocGlobal + Abort>(
@@ -45,23 +45,13 @@ fn a_cycle_that_is_not_reachable_is_lost(rt: HostRuntime) -> Result<(), Fail> {
 }
 
 #[test]
-fn one_to_64_workers_may_be_at_it(rt: HostRuntime) -> Result<(), Fail> {
-    let frozen = image_with(rt.alloc(), TREE)?;
-    let pieces = pieces(rt.alloc(), &frozen)?;
-    for workers in [0, 65] {
-        let refused = rounds(&rt, rt.alloc(), &frozen, &pieces, workers, &OpenGate).err();
-        same(&rt, workers, refused, Some(Refusal::BadWorkers));
-    }
-    Ok(())
-}
-
-#[test]
 fn many_workers_reach_what_one_reaches(rt: HostRuntime) -> Result<(), Fail> {
     let frozen = image_with(rt.alloc(), TREE)?;
     let pieces = pieces(rt.alloc(), &frozen)?;
-    for workers in [1, 2, 3, 64] {
+    for count in [1, 2, 3, 64] {
+        let workers = Workers::new(count)?;
         let reached = rounds(&rt, rt.alloc(), &frozen, &pieces, workers, &OpenGate)?;
-        expect_reached(&rt, workers, &reached)?;
+        expect_reached(&rt, count, &reached)?;
     }
     Ok(())
 }

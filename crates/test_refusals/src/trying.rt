@@ -11,7 +11,7 @@ use std::thread::Threads;
 use test_trials::{
     Seen, Step, Told, Trial, beginning_of, behind_name, carry_out, steps_of, write_told,
 };
-use workers::OpenGate;
+use workers::{OpenGate, Workers};
 
 /// What a call gives, which is made once more where memory was refused in it.
 macro_rules! twice {
@@ -46,9 +46,9 @@ fn report_image<R: Threads + Sync>(
     image: &MemDevice,
     outcome: &mut Outcome,
 ) -> Result<(), Refusal> {
-    let report = twice!(report_of(rt, alloc, image, 1))?;
+    let report = twice!(report_of(rt, alloc, image, Workers::new(1)?))?;
     outcome.add(report.as_str())?;
-    let by_three = twice!(report_of(rt, alloc, image, 3))?;
+    let by_three = twice!(report_of(rt, alloc, image, Workers::new(3)?))?;
     if report != by_three {
         outcome.add_wrong("another report by 3 workers\n")?;
     }
@@ -71,7 +71,7 @@ fn report_of(
     rt: &(impl Threads + Sync),
     alloc: Global,
     device: &MemDevice,
-    workers: u32,
+    workers: Workers,
 ) -> Result<String, Refusal> {
     let mut copy = device.image_after(alloc, device.writes())?;
     let frozen = Arc::new(alloc, load(alloc, &mut copy)?)?;
@@ -152,7 +152,7 @@ fn report_end<R: Threads + Sync>(
 ) -> Result<(), Refusal> {
     let line = twice!(end_line(alloc, name, steps, device))?;
     outcome.add(line.as_str())?;
-    let report = twice!(report_of(rt, alloc, device, 1))?;
+    let report = twice!(report_of(rt, alloc, device, Workers::new(1)?))?;
     Ok(outcome.add(report.as_str())?)
 }
 

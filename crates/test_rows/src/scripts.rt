@@ -223,6 +223,11 @@ const STOPS: &[[&str; 2]] = &[
         // Both bits, the record without bytes, the entry, the bytes, and the record with them.
         "stop 0 verdict clean findings 0\nstop 1 verdict soft findings 2\nstop 2 verdict soft findings 2\nstop 3 verdict soft findings 1\nstop 4 verdict soft findings 1\nstop 5 verdict clean findings 0\n",
     ],
+    [
+        "1 create /a\n1 sync\n1 attr /a 46534131a4810000e803000064000000050000000600000000000000feffffffffffffff0a0000000b0000000c0000000d0000000e0000000f00000000000080\n1 attrs /a\n1 attr /b 46534131a4810000e803000064000000050000000600000000000000feffffffffffffff0a0000000b0000000c0000000d0000000e0000000f00000000000080\n",
+        // The bit, the record, the entry, and the record with its attributes.
+        "stop 0 verdict clean findings 0\nstop 1 verdict soft findings 1\nstop 2 verdict soft findings 1\nstop 3 verdict clean findings 0\nstop 4 verdict clean findings 0\n",
+    ],
 ];
 
 #[test]
@@ -303,6 +308,11 @@ const CUTS: &[(&str, &str, &str)] = &[
     ),
     ("cuts", "1 create /a\n", CREATED),
     ("cuts --most 2 --seed 7", "1 create /a\n", CREATED),
+    (
+        "cuts",
+        "1 attr / 46534131a4810000e803000064000000050000000600000000000000feffffffffffffff0a0000000b0000000c0000000d0000000e0000000f00000000000080\n",
+        "cut 0 loose 0 images 1 verdict clean\ncut 1 loose 1 images 2 verdict clean\ncut 2 loose 0 images 1 verdict clean\n",
+    ),
 ];
 
 /// A bit, a record and an entry, each of which waits until the one before it is on the medium.

@@ -4,7 +4,7 @@ use crate::expect::{holds, same};
 use command_text::write_reply;
 use device::{Byte, MemDevice};
 use findings::Repair;
-use layout::{Refusal, SINGLE};
+use layout::Refusal;
 use scripts::{SCRIPTS, Worked};
 use std::alloc::{AllocError, Global};
 use std::process::Abort;
@@ -14,6 +14,7 @@ use std::thread::Threads;
 use test_mounted::{VERSIONS, found_on, mounted_of};
 use user_scripts::{Commands, UserLine, parse};
 use users::{Answered, Ran, run};
+use workers::Workers;
 
 /// The lines of a script, which may take and end snapshots.
 fn lines_of(alloc: Global, script: &[u8]) -> Result<Vec<UserLine>, Refusal> {
@@ -31,7 +32,7 @@ fn ran<R: Threads + Wait + Sync>(
     version: u32,
     bytes: &[Byte],
     script: &[u8],
-    workers: u32,
+    workers: Workers,
 ) -> Result<Ran<MemDevice>, Refusal> {
     let lines = lines_of(alloc, script)?;
     let volume = mounted_of(alloc, version, 1, 16, bytes)?;
@@ -108,7 +109,7 @@ fn expect_run_of<R: Threads + Wait + AllocGlobal + Abort + Sync>(
     versions: &[u32],
     bytes: &[Byte],
     script: &[u8],
-    workers: u32,
+    workers: Workers,
     lines: &[u8],
     repairs: &[Repair],
 ) -> Result<(), Refusal> {
@@ -126,7 +127,7 @@ fn expect_run<R: Threads + Wait + AllocGlobal + Abort + Sync>(
     rt: &R,
     bytes: &[Byte],
     script: &[u8],
-    workers: u32,
+    workers: Workers,
     lines: &[u8],
     repairs: &[Repair],
 ) -> Result<(), Refusal> {
@@ -138,8 +139,8 @@ fn a_user_reads_what_it_wrote(rt: HostRuntime) -> Result<(), Fail> {
     let script = b"1 create /x\n1 open /x\n1 write 0 0 abc\n1 read 0 0\n1 stat /x\n";
     let wanted =
         b"1 create /x -> ok 3\n1 open /x -> ok 0\n1 write 0 0 abc -> ok\n1 read 0 0 -> ok 616263\n1 stat /x -> ok number 3 file links 1 size 3\n";
-    for workers in [1, 2, 4] {
-        expect_run(&rt, &[], script, workers, wanted, &[])?;
+    for count in [1, 2, 4] {
+        expect_run(&rt, &[], script, Workers::new(count)?, wanted, &[])?;
     }
     Ok(())
 }
@@ -189,7 +190,8 @@ fn expect_replies(
 fn a_users_snapshots_are_its_own(rt: HostRuntime) -> Result<(), Fail> {
     let script = script_of(rt.alloc(), OF_SNAPSHOTS)?;
     for version in VERSIONS {
-        for workers in [1, 2, 4] {
+        for count in [1, 2, 4] {
+            let workers = Workers::new(count)?;
             let ran = ran(&rt, rt.alloc(), version, &[], script.as_slice(), workers)?;
             let outcome = expect_replies(&rt, ran.answered.as_slice(), OF_SNAPSHOTS);
             drop(ran);
@@ -208,7 +210,7 @@ fn the_check_waits_until_it_may_freeze_the_volume(rt: HostRuntime) -> Result<(),
     let bytes = [(1, 160, 0b10_0001)];
     for version in VERSIONS {
         for _time in 0..20 {
-            let ran = ran(&rt, rt.alloc(), version, &bytes, TOO_MANY, 2)?;
+            let ran = ran(&rt, rt.alloc(), version, &bytes, TOO_MANY, Workers::new(2)?)?;
             let outcome = expect_done_or_left(&rt, &ran, &[Repair::FreeBlock(9)]);
             drop(ran);
             outcome?;
@@ -223,30 +225,29 @@ fn what_leaked_is_given_back_while_users_go_on(rt: HostRuntime) -> Result<(), Fa
     let script = b"1 mkdir /d\n2 stat /q\n";
     let wanted = b"1 mkdir /d -> ok 3\n2 stat /q -> refused 7 NotFound\n";
     for _time in 0..20 {
-        expect_run(&rt, &bytes, script, 2, wanted, &[Repair::FreeBlock(9)])?;
+        expect_run(
+            &rt,
+            &bytes,
+            script,
+            Workers::new(2)?,
+            wanted,
+            &[Repair::FreeBlock(9)],
+        )?;
     }
     Ok(())
 }
 
 #[test]
 fn an_empty_script_has_no_user(rt: HostRuntime) -> Result<(), Fail> {
-    expect_run(&rt, &[], b"", 1, b"", &[])?;
-    Ok(())
-}
-
-#[test]
-fn so_many_workers_there_may_be(rt: HostRuntime) -> Result<(), Fail> {
-    for workers in [0, 65] {
-        let refused = ran(&rt, rt.alloc(), SINGLE, &[], b"", workers).err();
-        same(&rt, workers, refused, Some(Refusal::BadWorkers));
-    }
+    expect_run(&rt, &[], b"", Workers::new(1)?, b"", &[])?;
     Ok(())
 }
 
 #[test]
 fn users_are_answered_as_worked_out(rt: HostRuntime) -> Result<(), Fail> {
     for worked in SCRIPTS {
-        for workers in [1, 4] {
+        for count in [1, 4] {
+            let workers = Workers::new(count)?;
             let Worked {
                 versions,
                 script,

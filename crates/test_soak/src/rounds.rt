@@ -17,6 +17,7 @@ use test_noise::Noise;
 use test_trials::{bytes_of, fault_of, mount};
 use user_scripts::{Commands, UserLine, parse};
 use users::{Answered, Mended, Ran, run};
+use workers::Workers;
 
 /// How many groups the volume of version 1 has, and how many blocks and inodes each has: few, so that they run out.
 const NUMBERS: [u32; 3] = [3, 48, 24];
@@ -28,7 +29,7 @@ const LEAST_ROUNDS: u64 = 3;
 const STOPS: u64 = 4;
 
 /// How many workers check.
-const WORKERS: u32 = 2;
+const WORKERS: usize = 2;
 
 /// What was done, and what went wrong.
 #[derive(Clone, Copy)]
@@ -134,7 +135,7 @@ fn ran<R: Threads + Wait + Sync>(
 ) -> Result<Ran<MemDevice>> {
     let script = script_of(alloc, noise, version)?;
     let volume = Volume::new(mount(alloc, image)?);
-    Ok(run(rt, alloc, volume, script, WORKERS)?)
+    Ok(run(rt, alloc, volume, script, Workers::nearest(WORKERS))?)
 }
 
 /// Looks at random stops, and gives what the last one of them left.

@@ -12,7 +12,7 @@ use snapshot::Volume;
 use std::alloc::Global;
 use std::sync::Arc;
 use std::thread::Threads;
-use workers::OpenGate;
+use workers::{OpenGate, Workers};
 
 /// What no stop may leave, and no loss of power.
 #[derive(Clone, Copy, Debug, PartialEq, Eq)]
@@ -143,6 +143,6 @@ fn mended_volume<D: Device + Drop>(
     device: D,
 ) -> Result<Volume<D>, Refusal> {
     let mut volume = Volume::new(mount(alloc, device)?);
-    mend(rt, alloc, &mut volume, 1, &OpenGate)?;
+    mend(rt, alloc, &mut volume, Workers::new(1)?, &OpenGate)?;
     Ok(volume)
 }

@@ -67,15 +67,15 @@ const READ: &[(&str, &str)] = &[
     ),
     (
         "serve a.img",
-        "serve \"a.img\" None Write(Rules { keeps_attributes: true, fills: true, replaces: true }, Plan { workers: 2, seconds: 5 })",
+        "serve \"a.img\" None Write(Rules { keeps_attributes: true, fills: true, replaces: true }, Beside { workers: 2, seconds: 5 })",
     ),
     (
         "serve --check 0 a.img --seconds=30 --strict-names",
-        "serve \"a.img\" None Write(Rules { keeps_attributes: true, fills: true, replaces: false }, Plan { workers: 0, seconds: 30 })",
+        "serve \"a.img\" None Write(Rules { keeps_attributes: true, fills: true, replaces: false }, Beside { workers: 0, seconds: 30 })",
     ),
     (
         "serve --strict-attributes --strict-size a.img --check=65 --owner 1:2",
-        "serve \"a.img\" Some(\"1:2\") Write(Rules { keeps_attributes: false, fills: false, replaces: true }, Plan { workers: 65, seconds: 5 })",
+        "serve \"a.img\" Some(\"1:2\") Write(Rules { keeps_attributes: false, fills: false, replaces: true }, Beside { workers: 65, seconds: 5 })",
     ),
     ("serve --read-only a.img", "serve \"a.img\" None Read"),
     (

@@ -13,7 +13,7 @@ use snapshot::{Answer, Command};
 use std::alloc::Global;
 use std::sync::Arc;
 use std::thread::Threads;
-use workers::Gate;
+use workers::{Gate, Workers};
 
 /// The check of a snapshot, and how many of its repairs were carried out.
 #[derive(Drop)]
@@ -22,16 +22,16 @@ pub struct Mended {
     pub repaired: u32,
 }
 
-/// Mends a volume while it is used: freezes it, checks the snapshot with 1 to 64 workers, which pass the gate as in `fsck::check`,
+/// Mends a volume while it is used: freezes it, checks the snapshot with several workers, which pass the gate as in `fsck::check`,
 /// installs the check, carries out each of its repairs, and ends the snapshot. One that was carried out already is passed over. If
 /// another one froze the volume before the check was installed, there is none; if one did later, the repairs that are left are dropped.
-/// Refused by the first call that is refused otherwise, with `BadWorkers` unless there are 1 to 64, and with `NoMemory`. A snapshot that
+/// Refused by the first call that is refused otherwise, and with `NoMemory`. A snapshot that
 /// was taken is ended in any case.
 pub fn mend<A: Asked, G: Gate>(
     rt: &(impl Threads + Sync),
     alloc: Global,
     asked: &mut A,
-    workers: u32,
+    workers: Workers,
     gate: &G,
 ) -> Result<Option<Mended>, Refusal>
     // Between a freeze and a release the check of the snapshot was installed and its repairs were asked, of which so many were carried out.
@@ -66,7 +66,7 @@ fn mend_frozen<A: Asked, G: Gate>(
     alloc: Global,
     asked: &mut A,
     frozen: &Arc<Frozen>,
-    workers: u32,
+    workers: Workers,
     gate: &G,
 ) -> Result<Option<Mended>, Refusal>
     ensures repaired { IfOk result (λ found. IfSome found (λ mended.

@@ -1,6 +1,7 @@
 ghost use Rattle.std.specs.Prelude.{◌≡◌, ◌≤◌};
 ghost use Rattle.user_scripts.specs.declared.lines.BadScript.TheVariants as bad;
 
+use crate::Then;
 use command_text::Command;
 use std::alloc::{AllocError, AllocFailed};
 use thiserror::Error;
@@ -25,6 +26,8 @@ pub struct UserLine {
     pub text: Vec<u8>,
     /// What the user asks for, with a handle or the number of a snapshot as it stands in the line.
     pub command: Command,
+    /// What is asked for behind it.
+    pub then: Then,
     ghost from_one: { 1 ≤ user },
     ghost to_eight: { user ≤ 8 },
 }

@@ -2,8 +2,10 @@
 ghost use Rattle.std.specs.Prelude.{◌≡◌, ◌≤◌, All, IfErr, IfOk, IfSome};
 ghost use Rattle.user_scripts.specs.Script.{BreaksAt, IsBeginning, IsWhole, IsOfUser, script_of};
 
-use crate::{BadScript, Commands, UserLine};
-use command_text::{Command, first_part, first_word, number, parse_command};
+use crate::{BadScript, Commands, Then, UserLine};
+use command_text::{
+    Command, attributes, first_part, first_word, is_one_word, number, parse_command,
+};
 use std::alloc::{AllocError, Global};
 
 /// How many users a script may have: their numbers are 1 to 8.
@@ -55,14 +57,37 @@ fn line_of(alloc: Global, text: &[u8], which: Commands) -> Result<Option<UserLin
     let Some((user, words)) = user_and_words(text) else {
         return Ok(None);
     };
-    match parse_command(alloc, words)? {
-        Some(command) if may_stand(&command, which) => Ok(Some(UserLine {
+    match asked_by(alloc, words)? {
+        Some((command, then)) if may_stand(&command, which) => Ok(Some(UserLine {
             user,
             text: text.to_vec(alloc)?,
             command,
+            then,
         })),
         _ => Ok(None),
     }
+}
+
+/// The command that the words of a line ask for, and what they ask for behind it; `None` where they are of another form.
+fn asked_by(alloc: Global, words: &[u8]) -> Result<Option<(Command, Then)>, AllocError> {
+    let (name, behind) = first_word(words);
+    let then = match (name, behind) {
+        (b"attrs", Some(path)) if is_one_word(path) => Some((path, Then::ReadAttributes)),
+        (b"attr", Some(behind)) => set_by(behind),
+        _ => None,
+    };
+    if let Some((path, then)) = then {
+        return Ok(Some((Command::Stat(path.to_vec(alloc)?), then)));
+    }
+    let command = parse_command(alloc, words)?;
+    Ok(command.map(|command| (command, Then::Nothing)))
+}
+
+/// The path behind `attr`, and the attributes that are to be set of it.
+fn set_by(words: &[u8]) -> Option<(&[u8], Then)> {
+    let (path, digits) = first_word(words);
+    let given = attributes(digits?)?;
+    Some((path, Then::SetAttributes(given)))
 }
 
 /// The user of a line, and the words behind, unless a part of the line is empty.
@@ -102,6 +127,7 @@ fn may_stand(command: &Command, which: Commands) -> bool {
         | Command::Write { .. }
         | Command::Truncate { .. }
         | Command::SetAttributes { .. }
+        | Command::ReadAttributes(_)
         | Command::List(_)
         | Command::Stat(_) => true,
         Command::Flush(_) | Command::Sync => which == Commands::OfUsersAndFlushes,

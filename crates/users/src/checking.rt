@@ -11,7 +11,7 @@ use std::sync::atomic::{AtomicU64, Ordering};
 use std::sync::ledger::Ledger;
 use std::thread::{Threads, yield_now};
 use upkeep::{Asked, Mended};
-use workers::OpenGate;
+use workers::{OpenGate, Workers};
 
 /// A user of a shared volume, as it is asked to mend.
 #[derive(Drop)]
@@ -40,7 +40,7 @@ pub fn mend<D: Device + Drop, L: Rotating, M: Ledger, R: Threads + Wait + Sync>(
     alloc: Global,
     shared: &Shared<D, L, M>,
     seat: &mut Seat<L, M>,
-    workers: u32,
+    workers: Workers,
 ) -> Result<Mended, Refusal> {
     for _ in rt.forever() {
         let mut caller = Caller {
@@ -64,7 +64,7 @@ pub(crate) fn mend_beside<D: Device + Drop, L: Rotating, M: Ledger, R: Threads +
     alloc: Global,
     shared: &Shared<D, L, M>,
     seat: &mut Seat<L, M>,
-    workers: u32,
+    workers: Workers,
     ended: &AtomicU64,
 ) -> Result<Mended, Refusal> {
     for _ in rt.forever() {

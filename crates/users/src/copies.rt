@@ -49,6 +49,7 @@ pub(crate) fn copy_of(alloc: Global, command: &Command) -> Result<Command, Alloc
             inode: *inode,
             attributes: *attributes,
         },
+        Command::ReadAttributes(inode) => Command::ReadAttributes(*inode),
         Command::List(path) => Command::List(path.to_vec(alloc)?),
         Command::Stat(path) => Command::Stat(path.to_vec(alloc)?),
         Command::Freeze => Command::Freeze,

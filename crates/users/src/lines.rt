@@ -6,7 +6,7 @@ use snapshot::{Command, Reply};
 use std::alloc::{AllocError, Global};
 use std::sync::Wait;
 use std::sync::ledger::Ledger;
-use user_scripts::{Handles, UserLine};
+use user_scripts::{Handles, Then, UserLine};
 
 /// A line of a user, and the reply to it.
 #[derive(Drop)]
@@ -31,15 +31,17 @@ pub(crate) fn carry_out<D: Device + Drop, L: Rotating, M: Ledger, R: Wait>(
             user: _,
             text,
             command,
+            then,
         } = line;
-        let reply = reply_to(rt, alloc, shared, seat, &mut handles, command);
+        let reply = reply_to(rt, alloc, shared, seat, &mut handles, command, then);
         answered.push(Answered { text, reply })?;
     }
     Ok(answered)
 }
 
 /// The reply to a command of a user, whose handles and snapshots are the user's. One of a handle that the user has not open,
-/// or of a snapshot that the user has not standing, is refused without a call.
+/// or of a snapshot that the user has not standing, is refused without a call. Where the line asks for more of what was found, the
+/// reply is that of the second call.
 fn reply_to<D: Device + Drop, L: Rotating, M: Ledger, R: Wait>(
     rt: &R,
     alloc: Global,
@@ -47,9 +49,13 @@ fn reply_to<D: Device + Drop, L: Rotating, M: Ledger, R: Wait>(
     seat: &mut Seat<L, M>,
     handles: &mut Handles,
     command: Command,
+    then: Then,
 ) -> Reply {
     let command = handles.command_for(command)?;
     let reply = call(rt, alloc, shared, seat, &command);
     handles.note(&command, &reply)?;
-    reply
+    match then.command(&reply) {
+        Some(next) => call(rt, alloc, shared, seat, &next),
+        None => reply,
+    }
 }

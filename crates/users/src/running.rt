@@ -19,6 +19,7 @@ use std::sync::ledger::{Blank, Ledger};
 use std::thread::{Threads, join, map_vec};
 use upkeep::Mended;
 use user_scripts::UserLine;
+use workers::Workers;
 
 /// How many calls the trace has room for before it is emptied.
 const TRACE_LIMIT: u32 = 100_000;
@@ -57,7 +58,7 @@ pub fn run<D: Device + Drop + Send, R: Threads + Wait + Sync>(
     alloc: Global,
     volume: Volume<D>,
     script: Vec<UserLine>,
-    workers: u32,
+    workers: Workers,
 ) -> Result<Ran<D>, Refusal> {
     let (users, volume) = with(users_of(alloc, script), volume)?;
     let (users, seats) = users;
@@ -153,7 +154,7 @@ fn run_on<
     alloc: Global,
     volume: Volume<D>,
     users: Vec<Vec<UserLine>>,
-    workers: u32,
+    workers: Workers,
     seats: u32,
     repairs: Blank,
     others: Blank,
@@ -189,7 +190,7 @@ fn work_on<
     shared: &Shared<D, L, M>,
     mut seats: Vec<Seat<L, M>>,
     users: Vec<Vec<UserLine>>,
-    workers: u32,
+    workers: Workers,
 ) -> Result<(Vec<Seat<L, M>>, Result<Told, Refusal>), Refusal>
     requires { vec_len users + 2 ≡ vec_len seats }
     ensures { IfOk result (λ ended. vec_len ended.0 ≡ vec_len seats) }
@@ -260,7 +261,7 @@ fn work_all<
     posts: Vec<Post<L, M>>,
     checker: Seat<L, M>,
     flusher: Seat<L, M>,
-    workers: u32,
+    workers: Workers,
 ) -> AllWork<L, M>
     ensures { IfOk result.0 (λ left. vec_len left ≡ vec_len posts) }
 {

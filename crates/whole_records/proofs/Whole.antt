@@ -3,8 +3,8 @@ use Rattle.std.proofs.Common.{◌≡◌, ◌≤◌, ◌+◌, ℕ, zero, suc, Boo
 use Rattle.std.proofs.lemmas.Bool.{cases_eq}
 use Rattle.model.specs.View.{View, Inode}
 use Rattle.model.specs.Cells.{Update, SetInode, SetNumber, SetBlock, SetBytes, updated, put_at}
+use Rattle.model.proofs.Places.{put_here, put_there}
 use Rattle.ordering.specs.Cuts.{Pending, seen, users_view}
-use Rattle.ordering.proofs.Records.{put_here, put_there}
 
 -- an update gives record n a value, whatever the view, or leaves it
 pub data Gives (u : Update) (n : ℕ) : Type 0 where

@@ -4,7 +4,7 @@
 
 ghost use Rattle.std.specs.Prelude.{◌≡◌, ◌↔◌, ◌<◌, ◌∷◌, [], IfOk, IsErrOf, IsFalse, IsOkUnless, IsTrue, vec_len};
 ghost use Rattle.workers.specs.Turns.{AreDone};
-ghost use Rattle.workers.specs.Workers.{may_work};
+ghost use Rattle.worker_counts.specs.Workers.{may_work};
 
 mod interface;
 mod merging;
@@ -17,9 +17,7 @@ use merging::{Apart, in_order, settled};
 use std::alloc::Global;
 use std::thread::Threads;
 use turns::{run_all, seated};
-
-/// The most workers that a phase may have.
-pub const MOST_WORKERS: usize = 64;
+pub use worker_counts::Workers;
 
 /// The parts of the units 0 to `units - 1`, in this order, and the workers, in the order in which they came.
 ///
@@ -40,11 +38,8 @@ pub fn each_group<W: Work, G: Gate>(
     ensures bad_workers { IsErrOf result Refusal.BadWorkers ↔ IsFalse (may_work (vec_len works)) }
     ensures error { IsTrue (may_work (vec_len works)) → IsOkUnless result Refusal.NoMemory }
 {
-    let workers = works.len();
-    if workers == 0 || workers > MOST_WORKERS {
-        return Err(Refusal::BadWorkers);
-    }
-    let (claims, seats) = Claims::of_units(alloc, units, workers as u32)?;
+    let workers = Workers::for_each(works.as_slice())?;
+    let (claims, seats) = Claims::of_units(alloc, units, workers.count())?;
     let hands = seated(alloc, &claims, seats, works)?;
     let turns = run_all(rt, alloc, phase, &claims, hands, gate)?;
     let Apart {

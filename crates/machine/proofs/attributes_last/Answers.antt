@@ -1,11 +1,11 @@
-use Rattle.std.proofs.Common.{◌∷◌, [], ◌+◌, true, sym, ap, ◌∙◌}
+use Rattle.std.proofs.Common.{◌∷◌, [], ◌+◌, true, ap, ◌∙◌}
 use Rattle.model.specs.Cells.{SetInode, SetNumber, SetBlock, SetBytes, updated_all}
 use Rattle.model.specs.View.{Inode, View, with_attributes}
+use Rattle.model.proofs.Places.{put_here}
 use Rattle.machine.specs.Effects.{file_with, new_directory, with_links}
 use Rattle.machine.specs.Paths.{holder, name_in}
 use Rattle.machine.specs.State.{State}
 use Rattle.machine.proofs.AttributesLast.{enters_same, step_last}
-use Rattle.machine.proofs.Shapes.{put_here}
 use Rattle.machine.proofs.attributes_last.Goals as goal
 
 pub returns : goal.returns

@@ -17,7 +17,7 @@ use std::alloc::{AllocError, Global};
 use std::sync::Wait;
 use std::thread::Threads;
 use users::Ran;
-use workers::OpenGate;
+use workers::{OpenGate, Workers};
 
 /// All parts of the story.
 pub(crate) fn story(rt: &(impl Threads + Wait + Sync), alloc: Global) -> Result<Vec<u8>, Refusal> {
@@ -70,7 +70,7 @@ fn verdict_of(
     alloc: Global,
     device: &mut MemDevice,
 ) -> Result<Verdict, Refusal> {
-    let checked = check(rt, alloc, device, WORKERS, &OpenGate)?;
+    let checked = check(rt, alloc, device, Workers::nearest(WORKERS), &OpenGate)?;
     Ok(checked.verdict())
 }
 
@@ -101,7 +101,7 @@ fn tell_report(
     text: &mut Vec<u8>,
     device: &mut MemDevice,
 ) -> Result<(), Refusal> {
-    let checked = check(rt, alloc, device, WORKERS, &OpenGate)?;
+    let checked = check(rt, alloc, device, Workers::nearest(WORKERS), &OpenGate)?;
     show(text, checked.report())?;
     Ok(())
 }

@@ -28,7 +28,7 @@ pub(crate) const USERS_SCRIPT: &str =
     "1 open /old/a\n1 write 0 0 hello\n1 read 0 0\n1 close 0\n2 rename /old/b /old/d\n2 list /old\n2 stat /old/d\n";
 
 /// How many workers check, as `ANSWERED` says.
-pub(crate) const WORKERS: u32 = 2;
+pub(crate) const WORKERS: usize = 2;
 
 /// Before the answers of the users, the report and the repairs.
 pub(crate) const ANSWERED: &str =

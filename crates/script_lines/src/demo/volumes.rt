@@ -13,7 +13,7 @@ use std::sync::Wait;
 use std::thread::Threads;
 use user_scripts::{BadScript, Commands, UserLine, parse};
 use users::{Ran, run};
-use workers::OpenGate;
+use workers::{OpenGate, Workers};
 
 /// The bytes of a fresh image of one group with 16 blocks and 16 inodes.
 pub(crate) fn fresh_bytes(alloc: Global) -> Result<Vec<u8>, Refusal> {
@@ -65,16 +65,17 @@ pub(crate) fn run_of_users(
     alloc: Global,
     device: MemDevice,
 ) -> Result<Ran<Joint<MemDevice>>, Refusal> {
+    let workers = Workers::nearest(WORKERS);
     let volume = Volume::new(mount_by_workers(
         rt,
         alloc,
         device,
         Vec::new(alloc),
-        WORKERS,
+        workers,
         &OpenGate,
     )?);
     let (script, volume) = with(lines_of(alloc, USERS_SCRIPT, Commands::OfUsers), volume)?;
-    run(rt, alloc, volume, script, WORKERS)
+    run(rt, alloc, volume, script, workers)
 }
 
 /// What the device of a volume holds.

@@ -18,7 +18,7 @@ use std::thread;
 use std::thread::{Threads, join};
 use std::time::{Clock, Duration};
 use test_mounted::{Asked, command_of, mounted};
-use workers::Gate;
+use workers::{Gate, Workers};
 
 /// How often a gate looks, at most, and a millisecond lies between.
 const TURNS: u32 = 10_000;
@@ -168,9 +168,10 @@ fn check_at<L: Sharing + Send + Sync, M: Ledger + Send + Sync, R: Threads + Wait
         places,
         answered: &answered,
     };
+    let workers = Workers::nearest(2);
     join(
         rt,
-        || check(rt, alloc, frozen, 2, &gate),
+        || check(rt, alloc, frozen, workers, &gate),
         || make_and_take_away(rt, alloc, shared, user, &answered),
     )
 }

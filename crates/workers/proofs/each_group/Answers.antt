@@ -1,5 +1,5 @@
 -- Each worker's turns are its calls for the units that it drew.
-use Rattle.std.proofs.Common.{◌≡◌, ℕ, ◌<◌, length, Some, slice_get, sym, ◌∙◌, arith}
+use Rattle.std.proofs.Common.{◌≡◌, ℕ, ◌<◌, length, Some, slice_get, sym, ap, ◌∙◌, arith}
 use Rattle.claims.specs.Seats.{new_seat}
 use Rattle.workers.specs.Turns.{HasDone}
 use Rattle.workers.proofs.GroupLemmas.{all_own, all_rising, each_once, all_done}
@@ -29,7 +29,7 @@ in_order-requires-clause-once g c =
     let m : length c.in_ok-lists.field-0.lists.items ≡ length c.args.works.items = sym c.in_ok-lists.field-0.lists.ok.0 ∙ c.in_ok-lists.ensures.lists ∙ many in
     let n : length c.in_ok-lists.field-0.seats.items ≡ length c.args.works.items = sym c.in_ok-lists.field-0.seats.ok.0 ∙ c.in_ok-lists.ensures.seats ∙ many in
     let o : length c.in_ok-lists.field-0.works.items ≡ length c.args.works.items = sym c.in_ok-lists.field-0.works.ok.0 ∙ c.in_ok-lists.ensures.works ∙ many in
-    let someone : 0 < length c.args.works.items = omega (arith, c.if-workers-eq0.false, c.len-workers.ensures, c.args.works.ok.0) in
+    let someone : 0 < length c.args.works.items = omega (arith, c.count.ensures.some, c.count.ensures.count, c.in_ok-workers.ensures.made, ap length c.as_slice.ensures.value) in
     each_once g.W.Work.gives c.in_ok-claims.claims c.args.works.items c.in_ok-lists.field-0.lists.items c.in_ok-lists.field-0.seats.items c.in_ok-lists.field-0.works.items m n o hand_at c.args.units someone c.in_ok-gather.ensures.back c.in_ok-claims.ensures.units
 
 pub in_order-requires-clause-rising : goal.in_order-requires-clause-rising
@@ -56,5 +56,5 @@ returns-clause-done g c =
     let m : length c.in_ok-lists.field-0.lists.items ≡ length c.args.works.items = sym c.in_ok-lists.field-0.lists.ok.0 ∙ c.in_ok-lists.ensures.lists ∙ many in
     let n : length c.in_ok-lists.field-0.seats.items ≡ length c.args.works.items = sym c.in_ok-lists.field-0.seats.ok.0 ∙ c.in_ok-lists.ensures.seats ∙ many in
     let o : length c.in_ok-lists.field-0.works.items ≡ length c.args.works.items = sym c.in_ok-lists.field-0.works.ok.0 ∙ c.in_ok-lists.ensures.works ∙ many in
-    let someone : 0 < length c.args.works.items = omega (arith, c.if-workers-eq0.false, c.len-workers.ensures, c.args.works.ok.0) in
+    let someone : 0 < length c.args.works.items = omega (arith, c.count.ensures.some, c.count.ensures.count, c.in_ok-workers.ensures.made, ap length c.as_slice.ensures.value) in
     all_done g.W.Work.gives c.in_ok-claims.claims c.args.works.items c.in_ok-lists.field-0.lists.items c.in_ok-lists.field-0.seats.items c.in_ok-lists.field-0.works.items m n o hand_at c.args.units c.in_ok-in_order.field-0.items someone (sym c.in_ok-in_order.field-0.ok.0 ∙ c.in_ok-in_order.ensures.units) c.in_ok-in_order.ensures.dealt

@@ -10,8 +10,8 @@ use Rattle.connectivity.proofs.asking.ask.Goals.{else-is_given-via-then-is_given
 
 pub returns-then-is_directory_at-clause-asked : goal.returns-then-is_directory_at-clause-asked
 returns-then-is_directory_at-clause-asked c =
-    let geo = c.args.frozen.now.geometry in
-    let view = frozen_view c.args.frozen.now in
+    let geo = c.args.walk.now.frozen.now.geometry in
+    let view = frozen_view c.args.walk.now.frozen.now in
     let n = c.args.number in
     let sound : IsTrue (is_sound_at geo view n) = search rules in
     let dir : IsTrue (is_directory_at geo view n) = search rules in
@@ -23,8 +23,8 @@ returns-then-is_directory_at-clause-asked c =
 
 pub returns-else-is_given-clause-asked : goal.returns-else-is_given-clause-asked
 returns-else-is_given-clause-asked c =
-    let geo = c.args.frozen.now.geometry in
-    let view = frozen_view c.args.frozen.now in
+    let geo = c.args.walk.now.frozen.now.geometry in
+    let view = frozen_view c.args.walk.now.frozen.now in
     let n = c.args.number in
     let sound : IsTrue (is_sound_at geo view n) = search rules in
     let same = sym c.reserve.ensures.items in

@@ -8,7 +8,7 @@ use Rattle.connectivity.proofs.asking.ask_all.Goals as goal
 
 pub loop-number-preserved : goal.loop-number-preserved
 loop-number-preserved c =
-    let kept = c.args.frozen.now in
+    let kept = c.args.walk.now.frozen.now in
     let numbers = c.args.numbers.now in
     let i = c.loop-number.number-index in
     let low : i < length numbers = search rules in

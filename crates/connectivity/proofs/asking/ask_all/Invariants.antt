@@ -4,4 +4,4 @@ use Rattle.connectivity.specs.Asked.{Asks}
 use Rattle.connectivity.proofs.asking.ask_all.Given as goal
 
 abbrev pub invariant-loop-number : goal.invariant-loop-number
-invariant-loop-number l = Asks l.frozen.geometry (frozen_view l.frozen) (take l.number-index l.numbers) l.fn.seat l.fn.found.items l.seat l.found.items
+invariant-loop-number l = Asks l.walk.frozen.now.geometry (frozen_view l.walk.frozen.now) (take l.number-index l.numbers) l.fn.seat l.fn.found.items l.seat l.found.items

@@ -9,8 +9,8 @@ use Rattle.connectivity.proofs.asking.follow_piece.Goals as goal
 
 pub loop-directory-preserved : goal.loop-directory-preserved
 loop-directory-preserved c =
-    let geo = c.args.frozen.now.geometry in
-    let view = frozen_view c.args.frozen.now in
+    let geo = c.args.walk.now.frozen.now.geometry in
+    let view = frozen_view c.args.walk.now.frozen.now in
     let round = c.args.round.now in
     let i = c.loop-directory.directory-index in
     let d = slice_index_or round i 0 in

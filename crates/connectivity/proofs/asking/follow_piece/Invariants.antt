@@ -5,4 +5,4 @@ use Rattle.connectivity.proofs.asking.follow_piece.Given as goal
 
 abbrev pub invariant-loop-directory : goal.invariant-loop-directory
 invariant-loop-directory l =
-    Asks l.frozen.geometry (frozen_view l.frozen) (round_in l.frozen.geometry (frozen_view l.frozen) (take l.directory-index l.round) l.piece) l.fn.seat l.fn.found.items l.seat l.found.items
+    Asks l.walk.frozen.now.geometry (frozen_view l.walk.frozen.now) (round_in l.walk.frozen.now.geometry (frozen_view l.walk.frozen.now) (take l.directory-index l.round) l.piece) l.fn.seat l.fn.found.items l.seat l.found.items

@@ -12,9 +12,9 @@ use Rattle.connectivity.proofs.lone_round.follow_pieces.Goals as goal
 
 pub loop-unit-preserved : goal.loop-unit-preserved
 loop-unit-preserved g c =
-    let geo = c.args.frozen.now.geometry in
-    let view = frozen_view c.args.frozen.now in
-    let round : Round = in_pieces c.args.round.now c.args.pieces.now in
+    let geo = c.args.walk.now.frozen.now.geometry in
+    let view = frozen_view c.args.walk.now.frozen.now in
+    let round : Round = in_pieces c.args.round.now c.args.walk.now.pieces.now in
     let unit = c.loop-unit.unit in
     subst (λ (xs : List ℕ). Asks geo view xs c.args.seat.now [] c.follow.new.seat c.follow.new.found.items) (sym (asked_more geo view round unit))
     (asks_append geo view (asked_below geo view round unit) (asked_of geo view round unit) c.args.seat.now []
@@ -22,9 +22,9 @@ loop-unit-preserved g c =
 
 pub returns-clause-asked : goal.returns-clause-asked
 returns-clause-asked g c =
-    let geo = c.args.frozen.now.geometry in
-    let view = frozen_view c.args.frozen.now in
-    let round : Round = in_pieces c.args.round.now c.args.pieces.now in
+    let geo = c.args.walk.now.frozen.now.geometry in
+    let view = frozen_view c.args.walk.now.frozen.now in
+    let round : Round = in_pieces c.args.round.now c.args.walk.now.pieces.now in
     asked_alone geo view round c.loop-unit.unit c.args.seat.now c.loop-unit.seat c.loop-unit.found.items
     (λ d i there named.
     let dir = All-contains (λ (d : ℕ). IsTrue (is_directory_at geo view d)) round.0 d c.requires.directories there in

@@ -6,4 +6,4 @@ use Rattle.connectivity.proofs.lone_round.follow_pieces.Given as goal
 
 abbrev pub invariant-loop-unit : goal.invariant-loop-unit
 invariant-loop-unit g l =
-    Asks l.frozen.geometry (frozen_view l.frozen) (asked_below l.frozen.geometry (frozen_view l.frozen) (in_pieces l.round l.pieces) l.unit) l.fn.seat [] l.seat l.found.items
+    Asks l.walk.frozen.now.geometry (frozen_view l.walk.frozen.now) (asked_below l.walk.frozen.now.geometry (frozen_view l.walk.frozen.now) (in_pieces l.round l.walk.pieces.now) l.unit) l.fn.seat [] l.seat l.found.items

@@ -8,9 +8,9 @@ use Rattle.connectivity.proofs.lone_round.lone_round.Goals as goal
 
 pub returns-clause-asked : goal.returns-clause-asked
 returns-clause-asked g c =
-    let geo = c.args.frozen.now.geometry in
-    let view = frozen_view c.args.frozen.now in
-    let round : Round = in_pieces c.args.round.now c.args.pieces.now in
+    let geo = c.args.walk.now.frozen.now.geometry in
+    let view = frozen_view c.args.walk.now.frozen.now in
+    let round : Round = in_pieces c.args.round.now c.args.walk.now.pieces.now in
     let others = c.pop.new.self.items in
     let found = c.in_ok-found.found.items in
     subst (λ (seats : List Seated). HaveAsked geo view round.0 seats c.push.new.self.items found) (sym c.in-Some.ensures.items)

@@ -8,7 +8,7 @@ use Rattle.claims.specs.Seats.{Seated, new_seat}
 use Rattle.frozen.specs.Kept.{frozen_view}
 use Rattle.model.specs.Layout.{inode_count}
 use Rattle.model.specs.Uses.{is_directory_at}
-use Rattle.workers.specs.Workers.{may_work}
+use Rattle.worker_counts.specs.Workers.{may_work}
 use Rattle.connectivity.specs.Asked.{HaveAsked}
 use Rattle.connectivity.proofs.SetLemmas.{all_contained}
 use Rattle.connectivity.proofs.SharedLemmas.{walk_start, walk_round, walk_ended}
@@ -16,11 +16,11 @@ use Rattle.connectivity.proofs.shared_rounds.all_rounds.Goals as goal
 
 pub loop-number-init : goal.loop-number-init
 loop-number-init g c =
-    let kept = c.args.frozen.now in
+    let kept = c.args.walk.now.frozen.now in
     record {
-      own = All-weaker (λ (s : Seated). s ≡ new_seat c.args.claims.now.id c.args.claims.now.units) (λ (s : Seated). s.of ≡ c.args.claims.now.id) (λ s new. ap (λ (t : Seated). t.of) new) c.args.seats.items c.requires.own;
+      own = All-weaker (λ (s : Seated). s ≡ new_seat c.args.walk.now.claims.now.id c.args.walk.now.claims.now.units) (λ (s : Seated). s.of ≡ c.args.walk.now.claims.now.id) (λ s new. ap (λ (t : Seated). t.of) new) c.args.seats.items c.requires.own;
       count = refl;
-      walk = walk_start kept.geometry (frozen_view kept) (new_seat c.args.claims.now.id c.args.claims.now.units) c.args.claims.now.opening c.in_ok-round.round.items c.args.seats.items refl c.requires.own c.requires.opening c.in_ok-round.ensures;
+      walk = walk_start kept.geometry (frozen_view kept) (new_seat c.args.walk.now.claims.now.id c.args.walk.now.claims.now.units) c.args.walk.now.claims.now.opening c.in_ok-round.round.items c.args.seats.items refl c.requires.own c.requires.opening c.in_ok-round.ensures;
     }
 
 pub one_round-requires-clause-seats : goal.one_round-requires-clause-seats
@@ -28,13 +28,13 @@ one_round-requires-clause-seats g c = λ κs lives. subst (λ (n : ℕ). IsTrue 
 
 pub one_round-requires-clause-directories : goal.one_round-requires-clause-directories
 one_round-requires-clause-directories g c = λ κs lives.
-    let kept = c.args.frozen.now in
+    let kept = c.args.walk.now.frozen.now in
     subst (All (λ (d : ℕ). IsTrue (is_directory_at kept.geometry (frozen_view kept) d))) (sym c.as_slice-directories.ensures.value)
     (all_contained (λ (d : ℕ). IsTrue (is_directory_at kept.geometry (frozen_view kept) d)) c.loop-number.round.items (λ d there. (c.loop-number.invariant.walk.to_follow d there).0))
 
 pub loop-number-preserved : goal.loop-number-preserved
 loop-number-preserved g c =
-    let kept = c.args.frozen.now in
+    let kept = c.args.walk.now.frozen.now in
     let inv = c.loop-number.invariant in
     let asked = subst (λ xs. HaveAsked kept.geometry (frozen_view kept) xs c.loop-number.seats.items c.in_ok-back.back.items c.in_ok-back.found.items) c.as_slice-directories.ensures.value c.in_ok-back.ensures.asked in
     let apart : c.loop-number.round.len ≡ 0 → ⊥ = eqb-false c.loop-number.round.len 0 (sym c.is_empty.ensures ∙ c.if-is_empty.false) in
@@ -42,19 +42,19 @@ loop-number-preserved g c =
     record {
       own = c.in_ok-back.ensures.own;
       count = c.in_ok-back.back.ok.0 ∙ asked.seats ∙ sym c.loop-number.seats.ok.0 ∙ inv.count;
-      walk = walk_round kept.geometry (frozen_view kept) c.args.claims.now.opening c.loop-number.seats.items c.loop-number.round.items c.loop-number.number inv.walk c.in_ok-back.back.items c.in_ok-back.found.items asked some;
+      walk = walk_round kept.geometry (frozen_view kept) c.args.walk.now.claims.now.opening c.loop-number.seats.items c.loop-number.round.items c.loop-number.number inv.walk c.in_ok-back.back.items c.in_ok-back.found.items asked some;
     }
 
 pub returns-then-is_empty-clause-walked : goal.returns-then-is_empty-clause-walked
 returns-then-is_empty-clause-walked g c =
-    let kept = c.args.frozen.now in
+    let kept = c.args.walk.now.frozen.now in
     let none : c.loop-number.round.items ≡ [] = nil_from_length c.loop-number.round.items (sym c.loop-number.round.ok.0 ∙ eqb-true c.loop-number.round.len 0 (sym c.is_empty.ensures ∙ c.if-is_empty.true)) in
-    walk_ended kept.geometry (frozen_view kept) c.args.claims.now.opening c.loop-number.seats.items c.loop-number.round.items c.loop-number.number c.loop-number.invariant.walk (inl none)
+    walk_ended kept.geometry (frozen_view kept) c.args.walk.now.claims.now.opening c.loop-number.seats.items c.loop-number.round.items c.loop-number.number c.loop-number.invariant.walk (inl none)
 
 pub returns-clause-walked : goal.returns-clause-walked
 returns-clause-walked g c =
-    let kept = c.args.frozen.now in
-    walk_ended kept.geometry (frozen_view kept) c.args.claims.now.opening c.loop-number.seats.items c.loop-number.round.items c.loop-number.number c.loop-number.invariant.walk
+    let kept = c.args.walk.now.frozen.now in
+    walk_ended kept.geometry (frozen_view kept) c.args.walk.now.claims.now.opening c.loop-number.seats.items c.loop-number.round.items c.loop-number.number c.loop-number.invariant.walk
     (inr (omega (arith, c.loop-number-test.false, c.inodes-inodes.ensures.count, ap inode_count c.geometry.ensures.geometry)))
 
 pub returns-in_err-back-clause-own : goal.returns-in_err-back-clause-own

@@ -5,7 +5,7 @@ use Rattle.connectivity.proofs.shared_rounds.all_rounds.Given as goal
 
 abbrev pub invariant-loop-number : goal.invariant-loop-number
 invariant-loop-number g l = record {
-  own : All (λ seat. seat.of ≡ l.claims.id) l.seats.items;
+  own : All (λ seat. seat.of ≡ l.walk.claims.now.id) l.seats.items;
   count : vec_len l.seats ≡ vec_len l.fn.seats;
-  walk : IsSharedWalk l.frozen.geometry (frozen_view l.frozen) l.claims.opening l.seats.items l.round.items l.number;
+  walk : IsSharedWalk l.walk.frozen.now.geometry (frozen_view l.walk.frozen.now) l.walk.claims.now.opening l.seats.items l.round.items l.number;
 }

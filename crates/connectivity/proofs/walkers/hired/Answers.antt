@@ -15,8 +15,8 @@ loop-seat-preserved c =
     record {
       rest = append_assoc c.loop-seat.yielded (c.in-Some.seat ∷ []) c.next.new.self.rest.items ∙ whole;
       seats = ap (map (λ (w : Walker). w.seat)) added ∙ map-append (λ (w : Walker). w.seat) c.loop-seat.walkers.items (_ ∷ []) ∙ ap (λ (s : List Seated). s ++ c.in-Some.seat ∷ []) inv.seats;
-      left = All-rest (λ (s : Seated). s.of ≡ c.args.claims.now.id) c.in-Some.seat c.next.new.self.rest.items c.loop-seat.seat-iterator.rest.items c.in-Some.ensures.steps.0 inv.left;
-      alike = subst (All (λ (w : Walker). (w.claims.now ≡ c.args.claims.now) × (w.frozen.now ≡ c.args.frozen.now) × (in_pieces w.round.now w.pieces.now ≡ in_pieces c.args.round.now c.args.pieces.now) × (w.found.items ≡ []))) (sym added)
-          (All-push (λ (w : Walker). (w.claims.now ≡ c.args.claims.now) × (w.frozen.now ≡ c.args.frozen.now) × (in_pieces w.round.now w.pieces.now ≡ in_pieces c.args.round.now c.args.pieces.now) × (w.found.items ≡ [])) c.loop-seat.walkers.items _ inv.alike
+      left = All-rest (λ (s : Seated). s.of ≡ c.args.walk.now.claims.now.id) c.in-Some.seat c.next.new.self.rest.items c.loop-seat.seat-iterator.rest.items c.in-Some.ensures.steps.0 inv.left;
+      alike = subst (All (λ (w : Walker). (w.walk.now.claims.now ≡ c.args.walk.now.claims.now) × (w.walk.now.frozen.now ≡ c.args.walk.now.frozen.now) × (in_pieces w.round.now w.walk.now.pieces.now ≡ in_pieces c.args.round.now c.args.walk.now.pieces.now) × (w.found.items ≡ []))) (sym added)
+          (All-push (λ (w : Walker). (w.walk.now.claims.now ≡ c.args.walk.now.claims.now) × (w.walk.now.frozen.now ≡ c.args.walk.now.frozen.now) × (in_pieces w.round.now w.walk.now.pieces.now ≡ in_pieces c.args.round.now c.args.walk.now.pieces.now) × (w.found.items ≡ [])) c.loop-seat.walkers.items _ inv.alike
           (refl, refl, refl, c.new.ensures.items));
     }

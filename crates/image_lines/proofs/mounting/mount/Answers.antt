@@ -27,7 +27,7 @@ returns-in-Err-clause-refused g c =
     (record {
       image_stays = reads.same;
       held_stays = reads.held;
-      refuses = load_refused (honest (record { device = c.check_by-checked.new.device; readers = c.check_by-checked.new.others.items })) (image c.args.device) _ (c.in-Err.ensures.refused c.requires.workers);
+      refuses = load_refused (honest (record { device = c.check_by-checked.new.device; readers = c.check_by-checked.new.others.items })) (image c.args.device) _ c.in-Err.ensures.refused;
       cause = λ e. c.in-Err.ensures.cause (ap Err e);
     })
 

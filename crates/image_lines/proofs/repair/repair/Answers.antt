@@ -1,24 +1,12 @@
-use Rattle.std.proofs.Common.{◌∙◌, Err, IfOk, ap, ap₂, length, subst, sym}
+use Rattle.std.proofs.Common.{◌∙◌, Err, IfOk, ap, length, subst, sym}
 use Rattle.frozen.specs.Kept.{IsKeptOf}
-use Rattle.layout.specs.declared.refusal.Refusal.{Refusal}
 use Rattle.joint_devices.specs.Joined.{AllHonest, Joined, of_device}
 use Rattle.image_changes.proofs.MountLemmas.{both_refused}
 use Rattle.image_lines.specs.Checks.{IsCheckOf}
 use Rattle.image_lines.specs.Repaired.{IsNotRepaired, IsRepaired, device_of, outcome_in}
-use Rattle.image_lines.specs.declared.repair.NotRepaired.{NotRepaired}
 use Rattle.image_lines.specs.declared.repair.Outcome.TheVariants.{Left}
 use Rattle.image_lines.proofs.RepairLemmas.{still_comes, still_refused}
 use Rattle.image_lines.proofs.repair.repair.Goals as goal
-
-pub returns-in-Err-clause-went : goal.returns-in-Err-clause-went
-returns-in-Err-clause-went g c = (ap (λ (joint : Joined g.row.D.Denot). g.D.Device.image joint.device) c.new.ensures, ap (λ (joint : Joined g.row.D.Denot). g.D.Device.held joint.device) c.new.ensures)
-
-pub returns-in-Err-clause-workers : goal.returns-in-Err-clause-workers
-returns-in-Err-clause-workers g c = λ none.
-    ap₂ (λ (cause : Refusal) (joint : Joined g.row.D.Denot). let refused : NotRepaired (Joined g.row.D.Denot) = record { cause = cause; outcome = Left joint } in Err refused) c.in-Err.ensures.error c.new.ensures
-
-pub returns-in-Err-clause-refused : goal.returns-in-Err-clause-refused
-returns-in-Err-clause-refused g c = λ may. absurd (c.in-Err.ensures.allowed may)
 
 pub repair_checked-requires-clause-checked : goal.repair_checked-requires-clause-checked
 repair_checked-requires-clause-checked g c =
@@ -53,7 +41,7 @@ returns-in-Ok-clause-went g c =
     (outcome_in c.repair_checked.result) c.repair_checked.ensures.went
 
 pub returns-in-Ok-clause-refused : goal.returns-in-Ok-clause-refused
-returns-in-Ok-clause-refused g c = λ may.
+returns-in-Ok-clause-refused g c =
     let image = g.D.Device.image in
     let held = g.D.Device.held in
     let reads = c.check_by-checked.ensures.reads in
@@ -62,13 +50,13 @@ returns-in-Ok-clause-refused g c = λ may.
     (ap (λ (joint : Joined g.row.D.Denot). image joint.device) c.new-device.ensures ∙ reads.same) (ap (λ (joint : Joined g.row.D.Denot). held joint.device) c.new-device.ensures ∙ reads.held)
     refused mended is) c.repair_checked.ensures.refused c.repair_checked.ensures.left
 
-pub returns-in-Err-checked-clause-went : goal.returns-in-Err-checked-clause-went
-returns-in-Err-checked-clause-went g c =
+pub returns-in-Err-clause-went : goal.returns-in-Err-clause-went
+returns-in-Err-clause-went g c =
     let reads = c.check_by-checked.ensures.reads in
     (ap (λ (joint : Joined g.row.D.Denot). g.D.Device.image joint.device) c.new-device.ensures ∙ reads.same, ap (λ (joint : Joined g.row.D.Denot). g.D.Device.held joint.device) c.new-device.ensures ∙ reads.held)
 
-pub returns-in-Err-checked-clause-refused : goal.returns-in-Err-checked-clause-refused
-returns-in-Err-checked-clause-refused g c = λ may.
+pub returns-in-Err-clause-refused : goal.returns-in-Err-clause-refused
+returns-in-Err-clause-refused g c =
     let given : Joined g.row.D.Denot = record { device = c.args.device; readers = c.args.others.items } in
-    subst (λ (joint : Joined g.row.D.Denot). IsNotRepaired (AllHonest g.D.Device.honest) (of_device g.D.Device.image) (of_device g.D.Device.held) (of_device g.D.Device.failures) given (record { cause = c.in-Err-checked.cause; outcome = Left joint }))
-    (sym c.new-device.ensures) (record { refuses = λ h. c.in-Err-checked.ensures.refused may; cause = λ e. c.in-Err-checked.ensures.cause (ap Err e) })
+    subst (λ (joint : Joined g.row.D.Denot). IsNotRepaired (AllHonest g.D.Device.honest) (of_device g.D.Device.image) (of_device g.D.Device.held) (of_device g.D.Device.failures) given (record { cause = c.in-Err.cause; outcome = Left joint }))
+    (sym c.new-device.ensures) (record { refuses = λ h. c.in-Err.ensures.refused; cause = λ e. c.in-Err.ensures.cause (ap Err e) })

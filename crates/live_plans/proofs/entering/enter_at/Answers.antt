@@ -20,8 +20,8 @@ bytes_of-bytes-requires-clause-claim c =
     claim_parts kept.geometry (frozen_view kept) d (c.in-Slot.slot / 16) c.in-Slot.block is.stands
 
 -- the directory has a position left, which is a small number
-pub overflow_mul-slot : goal.overflow_mul-slot
-overflow_mul-slot c =
+pub overflow_mul-index : goal.overflow_mul-index
+overflow_mul-index c =
     let kept = c.args.metadata.now in
     let new = c.args.new.now in
     let is : IsNewBlock kept.geometry (frozen_view kept) new.directory c.in-NewBlock.block c.in-NewBlock.tables = subst (IsPlace kept.geometry (frozen_view kept) new.directory) c.in-NewBlock.is c.requires.place in

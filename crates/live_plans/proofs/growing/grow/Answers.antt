@@ -18,31 +18,31 @@ use Rattle.live_plans.proofs.growing.grow.Goals as goal
 pub overflow_add-size : goal.overflow_add-size
 overflow_add-size c =
     let kept = c.args.metadata.now in
-    let few = few_before kept.geometry (frozen_view kept) c.args.directory c.args.parent.now c.requires.parent.0 c.requires.parent.1 c.requires.place.none c.requires.room in
-    let size : c.parent.inside.size ≡ c.args.parent.now.size = ap (λ (n : Inode). n.size) c.parent.view_is in
+    let few = few_before kept.geometry (frozen_view kept) c.args.new.now.directory c.args.new.now.parent c.requires.parent.0 c.requires.parent.1 c.requires.place.none c.requires.room in
+    let size : c.parent.inside.size ≡ c.args.new.now.parent.size = ap (λ (n : Inode). n.size) c.parent.view_is in
     omega (arith, few.1, size)
 
 pub link-requires-clause-position : goal.link-requires-clause-position
 link-requires-clause-position c =
     let kept = c.args.metadata.now in
-    let few = few_before kept.geometry (frozen_view kept) c.args.directory c.args.parent.now c.requires.parent.0 c.requires.parent.1 c.requires.place.none c.requires.room in
+    let few = few_before kept.geometry (frozen_view kept) c.args.new.now.directory c.args.new.now.parent c.requires.parent.0 c.requires.parent.1 c.requires.place.none c.requires.room in
     omega (arith, few.0, c.blocks-2.ensures)
 
 pub link-requires-clause-tables : goal.link-requires-clause-tables
 link-requires-clause-tables c =
     let kept = c.args.metadata.now in
-    subst (λ k. CanLink kept c.args.directory k c.args.tables) (sym c.blocks-2.ensures)
-    (can_grow kept c.args.directory c.args.block c.args.parent.now c.requires.parent.0 c.args.tables c.requires.pointers c.requires.parent.1 c.requires.place c.requires.room)
+    subst (λ k. CanLink kept c.args.new.now.directory k c.args.tables) (sym c.blocks-2.ensures)
+    (can_grow kept c.args.new.now.directory c.args.block c.args.new.now.parent c.requires.parent.0 c.args.tables c.requires.pointers c.requires.parent.1 c.requires.place c.requires.room)
 
 -- the record fits the version of the layout as it did without the pointer
 pub push-requires-clause-fits : goal.push-requires-clause-fits
 push-requires-clause-fits c =
     let kept = c.args.metadata.now in
-    let d = c.args.directory in
+    let d = c.args.new.now.directory in
     let before : Inode = record { mode = c.grown.inside.mode; links = c.grown.inside.links; size = c.grown.inside.size; direct = c.grown.inside.direct; indirect = c.grown.inside.indirect; double = c.grown.inside.double; attributes = c.grown.inside.attributes } in
     let given : Inode = record before { size = c.parent.inside.size + 1024 } in
     let fits : Fits kept.geometry.version given = λ one.
-    ap (λ (n : Inode). n.double) c.grown.view_is ∙ c.in_ok-linked.ensures.links.record_fits (kept_fits kept d c.args.parent.now c.requires.parent.0 c.requires.parent.1) one in
+    ap (λ (n : Inode). n.double) c.grown.view_is ∙ c.in_ok-linked.ensures.links.record_fits (kept_fits kept d c.args.new.now.parent c.requires.parent.0 c.requires.parent.1) one in
     subst (λ (g : Geometry). FitsVolume g (SetInode d given)) (sym (c.in_ok-linked.ensures.geometry ∙ c.in_ok-fill.ensures.geometry ∙ c.requires.geometry)) fits
 
 pub push-requires-clause-after : goal.push-requires-clause-after
@@ -52,9 +52,9 @@ push-requires-clause-after c =
 pub returns-clause-grows : goal.returns-clause-grows
 returns-clause-grows c =
     let kept = c.args.metadata.now in
-    let d = c.args.directory in
+    let d = c.args.new.now.directory in
     let b = c.args.block in
-    let inode = c.args.parent.now in
+    let inode = c.args.new.now.parent in
     let before : Inode = record { mode = c.grown.inside.mode; links = c.grown.inside.links; size = c.grown.inside.size; direct = c.grown.inside.direct; indirect = c.grown.inside.indirect; double = c.grown.inside.double; attributes = c.grown.inside.attributes } in
     let given : Inode = record before { size = c.parent.inside.size + 1024 } in
     let size : c.parent.inside.size ≡ inode.size = ap (λ (n : Inode). n.size) c.parent.view_is in

@@ -3,4 +3,4 @@ use Rattle.live_plans.proofs.linking.+link.Given as goal
 
 -- the tables that are left
 abbrev pub decreases-link : goal.decreases-link
-decreases-link l = length l.tables
+decreases-link l = length l.new.now.tables

@@ -10,13 +10,13 @@ use Rattle.live_renames.proofs.GroundLemmas.{found_claim, found_directory}
 use Rattle.live_renames.proofs.MoveLemmas.{none_cells, renamed_with}
 use Rattle.live_renames.proofs.renaming.rename_in_slot.Goals as goal
 
-pub bytes_of-bytes-requires-clause-directory : goal.bytes_of-bytes-requires-clause-directory
-bytes_of-bytes-requires-clause-directory c =
+pub bytes_of-requires-clause-directory : goal.bytes_of-requires-clause-directory
+bytes_of-requires-clause-directory c =
     let kept = c.args.metadata.now in
     found_directory kept.geometry (frozen_view kept) c.requires.found.0 c.args.found.now c.requires.found.1
 
-pub bytes_of-bytes-requires-clause-claim : goal.bytes_of-bytes-requires-clause-claim
-bytes_of-bytes-requires-clause-claim c =
+pub bytes_of-requires-clause-claim : goal.bytes_of-requires-clause-claim
+bytes_of-requires-clause-claim c =
     let kept = c.args.metadata.now in
     found_claim kept.geometry (frozen_view kept) c.requires.found.0 c.args.found.now c.requires.found.1
 
@@ -34,7 +34,7 @@ put_slot-requires-clause-after c =
 
 pub returns : goal.returns
 returns c =
-    renamed_with c.args.metadata.now c.args.found.now c.args.name.now c.entry-entry.result (map cell c.add_blocks.new.cells.items) c.geometry.result c.bytes_of-bytes.result.now c.new-plan.result c.put_slot.new.plan
+    renamed_with c.args.metadata.now c.args.found.now c.args.name.now c.entry-entry.result (map cell c.add_blocks.new.cells.items) c.geometry.result c.bytes_of.result.now c.new-plan.result c.put_slot.new.plan
     c.new-plan.ensures (c.geometry.ensures.geometry ∙ ap (λ (k : Kept). k.geometry) c.frozen-frozen.ensures.same) c.entry-entry.ensures
     (λ view shows. are_blocks c.args.metadata.now.geometry view c.args.found.now.directory c.new-after.result.items (map cell c.add_blocks.new.cells.items) c.new-after.ensures.items (c.in_ok-add_blocks.ensures.blocks view shows) (c.in_ok-add_blocks.ensures.only view shows))
-    c.bytes_of-bytes.ensures.bytes c.in_ok-put_slot.ensures
+    c.bytes_of.ensures.bytes c.in_ok-put_slot.ensures

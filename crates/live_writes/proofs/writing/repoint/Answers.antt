@@ -34,16 +34,16 @@ pointer_place-requires c =
 -- the record that is kept fits, and with the pointer too
 pub enlarge-requires-clause-fits : goal.enlarge-requires-clause-fits
 enlarge-requires-clause-fits c =
-    let i = c.args.target.now.file in
-    written_fits c.args.metadata.now c.link.new.plan.geometry i c.args.owner.now c.args.owner.now (c.in_ok-linked.ensures.geometry ∙ c.requires.geometry)
+    let i = c.args.new.now.number in
+    written_fits c.args.metadata.now c.link.new.plan.geometry i c.args.new.now.owner c.args.new.now.owner (c.in_ok-linked.ensures.geometry ∙ c.requires.geometry)
     c.requires.owner refl
 
 pub push-requires-clause-fits : goal.push-requires-clause-fits
 push-requires-clause-fits c =
     let kept = c.args.metadata.now in
-    let i = c.args.target.now.file in
+    let i = c.args.new.now.number in
     let same = c.requires.owner in
-    let owner : Fits kept.geometry.version c.args.owner.now = subst (Fits kept.geometry.version) (sym same) (record_fits kept.geometry (kept_bytes kept.blocks) i) in
+    let owner : Fits kept.geometry.version c.args.new.now.owner = subst (Fits kept.geometry.version) (sym same) (record_fits kept.geometry (kept_bytes kept.blocks) i) in
     let before : Inode = record { mode = c.changed.inside.mode; links = c.changed.inside.links; size = c.changed.inside.size; direct = c.changed.inside.direct; indirect = c.changed.inside.indirect; double = c.changed.inside.double; attributes = c.changed.inside.attributes } in
     let given : Inode = record before { size = c.args.size } in
     let fits : Fits kept.geometry.version given = λ one. ap (λ (n : Inode). n.double) c.changed.view_is ∙ c.in_ok-linked.ensures.links.record_fits owner one in
@@ -60,27 +60,27 @@ push-requires-clause-after c =
 pub returns-then-is_some : goal.returns-then-is_some
 returns-then-is_some c =
     let kept = c.args.metadata.now in
-    let i = c.args.target.now.file in
-    let k = c.args.target.now.index in
-    let b = c.args.block in
-    let tables = c.args.tables in
+    let i = c.args.new.now.number in
+    let k = c.args.new.now.position in
+    let b = c.args.new.now.block in
+    let tables = c.args.new.now.tables in
     let same = c.requires.owner in
     let one : is_some (table_of kept.geometry k) ≡ true =
     sym (ap (λ (g : Geometry). is_some (table_of g k)) (c.geometry-geometry.ensures.geometry ∙ ap (λ (f : Kept). f.geometry) c.frozen.ensures.same))
     ∙ ap is_some (sym c.pointer_place.ensures.table) ∙ mapped c.pointer_place.result ∙ sym c.is_some.ensures ∙ c.if-is_some.true in
     let none : not (eqb (length tables) 0) ≡ false = ap not (sym c.is_empty.ensures ∙ c.if-is_empty.true) in
     on_ok_weaker c.enlarge.result
-    (λ sets. in_table kept.geometry i ((frozen_view kept).inode i) k b c.args.size c.args.plan.now c.link.new.plan c.enlarge.new.plan (holder_at kept i k b tables) c.in_ok-linked.linked.record c.args.owner.now
+    (λ sets. in_table kept.geometry i ((frozen_view kept).inode i) k b c.args.size c.args.plan.now c.link.new.plan c.enlarge.new.plan (holder_at kept i k b tables) c.in_ok-linked.linked.record c.args.new.now.owner
     (map cell c.in_ok-linked.linked.after.items) (which_record kept i k b tables c.requires.tables ∙ ap₂ (λ s t. s || not t) none one) same c.in_ok-linked.ensures.links sets)
     c.enlarge.ensures
 
 pub returns : goal.returns
 returns c =
     let kept = c.args.metadata.now in
-    let i = c.args.target.now.file in
-    let k = c.args.target.now.index in
-    let b = c.args.block in
-    let tables = c.args.tables in
+    let i = c.args.new.now.number in
+    let k = c.args.new.now.position in
+    let b = c.args.new.now.block in
+    let tables = c.args.new.now.tables in
     let same = c.requires.owner in
     let before : Inode = record { mode = c.changed.inside.mode; links = c.changed.inside.links; size = c.changed.inside.size; direct = c.changed.inside.direct; indirect = c.changed.inside.indirect; double = c.changed.inside.double; attributes = c.changed.inside.attributes } in
     let given : Inode = record before { size = c.args.size } in
@@ -97,6 +97,6 @@ returns c =
           which_record kept i k b tables c.requires.tables ∙ ap (λ s. s || not (is_some (table_of kept.geometry k))) some
     ] in
     on_ok_weaker c.push.result
-    (λ sets. in_record kept.geometry i ((frozen_view kept).inode i) k b c.args.size c.args.plan.now c.link.new.plan c.push.new.self (holder_at kept i k b tables) c.in_ok-linked.linked.record given c.args.owner.now
+    (λ sets. in_record kept.geometry i ((frozen_view kept).inode i) k b c.args.size c.args.plan.now c.link.new.plan c.push.new.self (holder_at kept i k b tables) c.in_ok-linked.linked.record given c.args.new.now.owner
     (map cell c.in_ok-linked.linked.after.items) of_record same c.in_ok-linked.ensures.links sized_so sets)
     c.push.ensures

@@ -14,7 +14,7 @@ use Rattle.loaders.proofs.by_workers.load_by.Goals as goal
 
 pub returns-clause-ok : goal.returns-clause-ok
 returns-clause-ok g c = λ honest others.
-    let kept : Kept = record { geometry = c.in_ok-geometry.geometry; blocks = shared_blocks c.in-Ok.blocks.items } in
+    let kept : Kept = record { geometry = c.in_ok-geometry.geometry; blocks = shared_blocks c.in-Ok-read_frame.blocks.items } in
     let held = c.in_ok-fill.field-0 in
     let image = g.D.Device.image c.args.device.now in
     let start = c.in_ok-geometry.ensures in
@@ -22,7 +22,7 @@ returns-clause-ok g c = λ honest others.
     let middle = g.D.Device.image c.read_first.new.device in
     let first : c.in_ok-geometry.first ≡ block_at image 0 = start.block (rest.reads.honest honest) in
     let are : AreBlocksOf kept.blocks middle =
-    subst (AreBlocksOf kept.blocks) (sym start.reads.same) (c.in-Ok.ensures.blocks image c.requires others first) in
+    subst (AreBlocksOf kept.blocks) (sym start.reads.same) (c.in-Ok-read_frame.ensures.blocks image c.requires others first) in
     let are_held : AreBlocksOf held.blocks image =
     subst (AreBlocksOf held.blocks) start.reads.same (rest.blocks honest (subst (λ (k : Kept). AreBlocksOf k.blocks middle) (sym c.new-held.ensures) are)) in
     let more : KeepsMore kept held = subst (λ (k : Kept). KeepsMore k held) c.new-held.ensures rest.more in

@@ -5,13 +5,13 @@ use Rattle.machine.specs.State.{mounted}
 use Rattle.machine.specs.Step.{Run}
 use Rattle.model.specs.Image.{image_view}
 use Rattle.snapshot.specs.Alive.{disk_of}
-use Rattle.snapshot.specs.Durable.{HasSizeIn, LeavesOwn, LeavesSafe, LeavesShown, Starts}
+use Rattle.snapshot.specs.Durable.{WritesLooksOf, LeavesOwn, LeavesSafe, LeavesShown, Starts}
 use Rattle.snapshot.specs.Goes.{pieces_in, views_in}
 use Rattle.snapshot.specs.Mounting.{IsMountable}
 use Rattle.snapshot.specs.Stages.{geometry_at, state_at}
-use Rattle.promises.specs.Known.{LeavesKnown, LeavesOwnBytes, LeavesSizes}
+use Rattle.promises.specs.Known.{LeavesKnown, LeavesOwnBytes, LeavesLooks}
 use Rattle.promises.specs.Leaky.{IsOnlyLeaky, LeavesLeaky}
-use Rattle.promises.proofs.Known.{leaves_known, leaves_sizes}
+use Rattle.promises.proofs.Known.{leaves_known, leaves_looks}
 use Rattle.promises.proofs.laws.every_power_cut_is_only_leaky.Goals as goal
 
 pub returns-clause-leaky : goal.returns-clause-leaky
@@ -42,13 +42,13 @@ returns-clause-known g c = λ t u files more others keeps.
       All-weaker (LeavesShown geo view keeps.written keeps.left) (LeavesKnown geo view keeps.written) (λ m shown. leaves_known geo view keeps.written keeps.left m shown) keeps.more keeps.shown,
     )
 
-pub returns-clause-sizes : goal.returns-clause-sizes
-returns-clause-sizes g c = λ t u files more others keeps.
+pub returns-clause-looks : goal.returns-clause-looks
+returns-clause-looks g c = λ t u files more others keeps.
     let geo = geometry_at t in
     let view = disk_of t.image t.volume in
     let views = views_in geo (state_at t) more others (state_at u) keeps.run in (
-      leaves_sizes geo view [] files t.held.now [] (All-nil (HasSizeIn [])) keeps.now,
-      All-weaker (LeavesShown geo view keeps.written keeps.left) (LeavesSizes geo view views) (λ m shown. leaves_sizes geo view keeps.written keeps.left m views keeps.sizes shown) keeps.more keeps.shown,
+      leaves_looks geo view [] files t.held.now [] (All-nil (WritesLooksOf [])) keeps.now,
+      All-weaker (LeavesShown geo view keeps.written keeps.left) (LeavesLooks geo view views) (λ m shown. leaves_looks geo view keeps.written keeps.left m views keeps.looking shown) keeps.more keeps.shown,
     )
 
 pub returns-clause-own : goal.returns-clause-own

@@ -49,6 +49,6 @@ returns g c = λ s t u commands more replies others is leads sound synced files 
         own_now = owned_now t u files later.0 on (later.2.sound on).0 here.mount here.history synced.1 here.owns;
         along = own.2;
         own = own.3;
-        sizes = later.2.sizes on;
+        looking = later.2.looking on;
       },
     )

@@ -1,10 +1,10 @@
 use Rattle.std.proofs.Common.{◌≡◌, ℕ, map, refl, sym, ap, ap₂, ◌∙◌}
-use Rattle.machine.specs.Command.{Create as AsksCreate, Mkdir as AsksMkdir, Link as AsksLink, Unlink as AsksUnlink, Rmdir as AsksRmdir, Rename as AsksRename, Open as AsksOpen, Close as AsksClose, Read as AsksRead, Write as AsksWrite, Truncate as AsksTruncate, ListNames, Stat as AsksStat, Flush as AsksFlush, Sync as AsksSync, SetAttributes as AsksSetAttributes}
-use Rattle.machine.specs.Command.{Number as IsNumber, Bytes as AreBytes, Listed, Status as IsStatus}
+use Rattle.machine.specs.Command.{Create as AsksCreate, Mkdir as AsksMkdir, Link as AsksLink, Unlink as AsksUnlink, Rmdir as AsksRmdir, Rename as AsksRename, Open as AsksOpen, Close as AsksClose, Read as AsksRead, Write as AsksWrite, Truncate as AsksTruncate, ListNames, Stat as AsksStat, Flush as AsksFlush, Sync as AsksSync, SetAttributes as AsksSetAttributes, ReadAttributes as AsksReadAttributes}
+use Rattle.machine.specs.Command.{Number as IsNumber, Bytes as AreBytes, Listed, Status as IsStatus, Attributes as AreAttributes}
 use Rattle.device.specs.Media.{Held}
 use Rattle.softdep.specs.Queued.{pending_of}
 use Rattle.live_paths.specs.Listed.{name_of}
-use Rattle.snapshot.specs.declared.answer.Answer.TheVariants.{Done, Number, Bytes, Names, Status}
+use Rattle.snapshot.specs.declared.answer.Answer.TheVariants.{Done, Number, Bytes, Names, Status, Attributes}
 use Rattle.snapshot.specs.declared.command.Command.TheVariants.{Flush}
 use Rattle.snapshot.specs.Asked.{asked, mode_of}
 use Rattle.snapshot.proofs.AnswerLemmas.{neither}
@@ -97,6 +97,12 @@ returns-in-Stat-clause-replied g c =
     looked g.D.Device.honest g.D.Device.held g.D.Device.image c.args.live.now (asked c.args.live.now.kept.geometry c.args.command.now) (AsksStat c.deref-in-Stat.result.now)
     (ap (asked c.args.live.now.kept.geometry) c.in-Stat.is ∙ ap AsksStat (sym c.deref-in-Stat.ensures.value)) refl (λ view safe. refl)
     Status (λ status. IsStatus status.number (mode_of status.kind) status.links status.size) (λ status. refl) c.stat.result c.status.result c.status.ensures c.stat.ensures.status c.stat.ensures.refused
+
+pub returns-in-ReadAttributes-clause-replied : goal.returns-in-ReadAttributes-clause-replied
+returns-in-ReadAttributes-clause-replied g c =
+    looked g.D.Device.honest g.D.Device.held g.D.Device.image c.args.live.now (asked c.args.live.now.kept.geometry c.args.command.now) (AsksReadAttributes c.in-ReadAttributes.inode)
+    (ap (asked c.args.live.now.kept.geometry) c.in-ReadAttributes.is) refl (λ view safe. refl)
+    Attributes (λ words. AreAttributes words) (λ words. refl) c.attributes.result c.attributes-in-ReadAttributes.result c.attributes-in-ReadAttributes.ensures c.attributes.ensures.attributes c.attributes.ensures.refused
 
 pub returns-in-Flush-clause-replied : goal.returns-in-Flush-clause-replied
 returns-in-Flush-clause-replied g c =
@@ -285,6 +291,18 @@ returns-in-Stat-clause-error g c =
     cause_blamed ⊥ live.kept live.holdings _ (asked live.kept.geometry c.args.command.now) (ap (asked live.kept.geometry) c.in-Stat.is ∙ ap AsksStat (sym c.deref-in-Stat.ensures.value)) c.status.result (replied_so ⊥ live.kept live.holdings _ Status c.stat.result c.status.result c.status.ensures
     (of_first ⊥ live.kept live.holdings (AsksStat c.deref-in-Stat.result.now) c.stat.result c.stat.ensures.cause))
 
+pub returns-in-ReadAttributes-clause-cause : goal.returns-in-ReadAttributes-clause-cause
+returns-in-ReadAttributes-clause-cause g c =
+    let live = c.args.live.now in
+    device_blamed _ live.kept live.holdings _ c.attributes-in-ReadAttributes.result (replied_so _ live.kept live.holdings _ Attributes c.attributes.result c.attributes-in-ReadAttributes.result c.attributes-in-ReadAttributes.ensures
+    (of_first _ live.kept live.holdings (AsksReadAttributes c.in-ReadAttributes.inode) c.attributes.result c.attributes.ensures.cause))
+
+pub returns-in-ReadAttributes-clause-error : goal.returns-in-ReadAttributes-clause-error
+returns-in-ReadAttributes-clause-error g c =
+    let live = c.args.live.now in
+    cause_blamed ⊥ live.kept live.holdings _ (asked live.kept.geometry c.args.command.now) (ap (asked live.kept.geometry) c.in-ReadAttributes.is) c.attributes-in-ReadAttributes.result (replied_so ⊥ live.kept live.holdings _ Attributes c.attributes.result c.attributes-in-ReadAttributes.result c.attributes-in-ReadAttributes.ensures
+    (of_first ⊥ live.kept live.holdings (AsksReadAttributes c.in-ReadAttributes.inode) c.attributes.result c.attributes.ensures.cause))
+
 pub returns-in-Flush-clause-cause : goal.returns-in-Flush-clause-cause
 returns-in-Flush-clause-cause g c =
     let live = c.args.live.now in
@@ -353,6 +371,9 @@ returns-in-List-clause-reading g c = λ _. (refl, refl)
 pub returns-in-Stat-clause-reading : goal.returns-in-Stat-clause-reading
 returns-in-Stat-clause-reading g c = neither Status (λ status has. has) _ c.stat.result c.status.result c.status.ensures
 
+pub returns-in-ReadAttributes-clause-reading : goal.returns-in-ReadAttributes-clause-reading
+returns-in-ReadAttributes-clause-reading g c = neither Attributes (λ words has. has) _ c.attributes.result c.attributes-in-ReadAttributes.result c.attributes-in-ReadAttributes.ensures
+
 pub returns-in-Flush-clause-reading : goal.returns-in-Flush-clause-reading
 returns-in-Flush-clause-reading g c = neither (λ (n : ℕ). Number n) (λ n has. has) _ c.flush.result c.count.result c.count.ensures
 
@@ -402,6 +423,9 @@ returns-in-List-clause-writes g c = rw c.in-List.is (record { image_stays = refl
 
 pub returns-in-Stat-clause-writes : goal.returns-in-Stat-clause-writes
 returns-in-Stat-clause-writes g c = rw c.in-Stat.is (record { image_stays = refl; held_stays = refl })
+
+pub returns-in-ReadAttributes-clause-writes : goal.returns-in-ReadAttributes-clause-writes
+returns-in-ReadAttributes-clause-writes g c = rw c.in-ReadAttributes.is (record { image_stays = refl; held_stays = refl })
 
 pub returns-in-Flush-clause-flushed : goal.returns-in-Flush-clause-flushed
 returns-in-Flush-clause-flushed g c = λ a asks.

@@ -1,23 +1,16 @@
 -- The walk begins with the root, and what is marked in the end is reachable.
 use Rattle.std.proofs.Common.{◌≡◌, ℕ, ◌<◌, ◌≤◌, List, All, IsTrue, refl, sym, ap, ◌∙◌, subst}
-use Rattle.std.specs.Prelude.{nat_le}
-use Rattle.std.proofs.lemmas.Bool.{and_parts, leb-true}
 use Rattle.std.proofs.lemmas.Result.{err_from_is_err_and}
 use Rattle.claims.specs.Counting.{times}
 use Rattle.claims.specs.Seats.{Seated, new_seat}
 use Rattle.frozen.specs.Kept.{frozen_view}
 use Rattle.model.specs.Layout.{Geometry, inode_count}
 use Rattle.model.specs.Reached.{AreReached}
-use Rattle.workers.specs.Workers.{may_work}
+use Rattle.worker_counts.specs.Workers.{may_work}
 use Rattle.connectivity.specs.Asked.{opening_round}
 use Rattle.connectivity.proofs.SharedLemmas.{opening_yes, opening_low, opening_once, walk_reached}
 use Rattle.connectivity.proofs.SetLemmas.{all_standing}
-use Rattle.connectivity.proofs.shared_rounds.shared_walk.Goals as goal
-
-pub new-requires-clause-seats : goal.new-requires-clause-seats
-new-requires-clause-seats g c =
-    let both = and_parts (nat_le 1 c.args.workers) (nat_le c.args.workers 64) c.requires.workers in
-    (leb-true 1 c.args.workers both.0, leb-true c.args.workers 64 both.1)
+use Rattle.connectivity.proofs.shared_rounds.rounds.Goals as goal
 
 pub new-requires-clause-opening : goal.new-requires-clause-opening
 new-requires-clause-opening g c =
@@ -36,10 +29,7 @@ all_rounds-requires-clause-own g c = λ κs lives.
     subst (λ (units : ℕ). All (λ (s : Seated). s ≡ new_seat c.in_ok-claims.claims.id units) c.in_ok-claims.seats.items) (sym c.in_ok-claims.ensures.units) c.in_ok-claims.ensures.fresh
 
 pub all_rounds-requires-clause-seats : goal.all_rounds-requires-clause-seats
-all_rounds-requires-clause-seats g c = λ κs lives. subst (λ (n : ℕ). IsTrue (may_work n)) (sym c.in_ok-claims.ensures.seats.1) c.requires.workers
-
-pub all_rounds-requires-clause-inodes : goal.all_rounds-requires-clause-inodes
-all_rounds-requires-clause-inodes g c = λ κs lives. c.in_ok-claims.ensures.inodes ∙ ap inode_count c.geometry-geometry.ensures.geometry
+all_rounds-requires-clause-seats g c = λ κs lives. subst (λ (n : ℕ). IsTrue (may_work n)) (sym (c.in_ok-claims.ensures.seats.1 ∙ c.count.ensures.count)) c.args.workers.allowed
 
 pub all_rounds-requires-clause-opening : goal.all_rounds-requires-clause-opening
 all_rounds-requires-clause-opening g c = λ κs lives. c.in_ok-claims.ensures.opening ∙ c.in_ok-opening.ensures
@@ -68,3 +58,6 @@ returns-in_err-seats-clause-reached g c =
 pub returns-in_err-seats-clause-error : goal.returns-in_err-seats-clause-error
 returns-in_err-seats-clause-error g c =
     let p = err_from_is_err_and c.from_residual-in_err-seats.result c.from_residual-in_err-seats.ensures.1 in rw (p.1, p.2) c.in_err-seats.ensures.error
+
+pub invariant_of-walk : goal.invariant_of-walk
+invariant_of-walk g c = record { inodes = c.in_ok-claims.ensures.inodes ∙ ap inode_count c.geometry-geometry.ensures.geometry; few = c.requires.few }
