@@ -32,6 +32,16 @@ impl List {
         Ok(())
     }
 
+    /// Adds the update by which a number gets a record.
+    fn set_record(
+        &mut self,
+        number: u32,
+        record: Record,
+        after: &[Cell],
+    ) -> Result<(), AllocError> {
+        self.add(Change::of_record(self.alloc, number, record)?, after)
+    }
+
     /// Adds a block's bytes, which begin with this number and are else zeroes.
     fn put(
         &mut self,
@@ -57,7 +67,7 @@ pub fn creation(alloc: Global, geometry: &Geometry, file: &File) -> Result<Comma
     let mut list = List::new(alloc);
     list.add(Change::SetNumber(number, true), &[])?;
     let record = record_of(geometry, file, 0)?;
-    list.add(Change::SetInode(number, record), &[Cell::NumberBit(number)])?;
+    list.set_record(number, record, &[Cell::NumberBit(number)])?;
     let before = &[Cell::Record(number), Cell::BlockBit(file.entries)];
     list.put(file.entries, number, None, before)?;
     Command::new(geometry, list.updates)
@@ -97,10 +107,7 @@ pub fn growth(
         before_record.push(Cell::BlockBit(table))?;
     }
     let record = record_of(geometry, file, to)?;
-    list.add(
-        Change::SetInode(file.number, record),
-        before_record.as_slice(),
-    )?;
+    list.set_record(file.number, record, before_record.as_slice())?;
     Command::new(geometry, list.updates)
 }
 
@@ -116,10 +123,7 @@ pub fn removal(
     let mut list = List::new(alloc);
     list.put(file.entries, number, None, &[Cell::BlockBit(file.entries)])?;
     let record = empty_record(FREE, 0);
-    list.add(
-        Change::SetInode(number, record),
-        &[Cell::Block(file.entries)],
-    )?;
+    list.set_record(number, record, &[Cell::Block(file.entries)])?;
     list.add(Change::SetNumber(number, false), gone)?;
     for position in 0..blocks {
         let address = file.address(geometry, position)?;

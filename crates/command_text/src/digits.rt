@@ -1,5 +1,5 @@
-//! Attributes as they stand in text: the 64 bytes that stand for them in a record, each in two digits of a hexadecimal number, so the least
-//! byte of each of the 16 numbers first.
+//! Attributes as they stand in text: the 64 bytes that stand for them in a record, each in two digits of a hexadecimal
+//! number, so the least byte of each of the 16 numbers first.
 use inode::ATTRIBUTES;
 use std::alloc::AllocError;
 

@@ -24,7 +24,7 @@ pub(crate) fn is_short(frozen: &Frozen, round: &[u32], workers: usize) -> bool {
     let mut blocks = 0usize;
     for directory in round {
         if frozen.is_directory_at(*directory) {
-            blocks = blocks.saturating_add(frozen.record(*directory).blocks() as usize);
+            blocks = blocks.saturating_add(frozen.blocks(*directory) as usize);
         }
         if blocks >= wanted {
             return false;

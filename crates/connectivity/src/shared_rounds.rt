@@ -24,7 +24,7 @@ use workers::{Gate, Workers, each_group};
 /// The number of the phase, with which the gate is passed.
 pub(crate) const PHASE: u8 = 3;
 
-/// The reachable inodes, by several workers: what `walk` finds.
+/// The reachable inodes, by 1 to 64 workers: what `walk` finds.
 ///
 /// The walk goes in rounds, from the root on. In each the workers draw the pieces that the volume's numbers are cut in, and of a
 /// piece they follow those directories that the round before reached first: they claim each sound inode that an entry names, and

@@ -139,7 +139,7 @@ impl DirectoryBlocks {
 /// How many blocks a directory has, and none where the number is no sound directory's.
 fn blocks_of(frozen: &Frozen, number: u32) -> u32 {
     if frozen.is_directory_at(number) {
-        frozen.record(number).blocks()
+        frozen.blocks(number)
     } else {
         0
     }

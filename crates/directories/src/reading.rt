@@ -75,7 +75,7 @@ fn block_count(frozen: &Frozen, directory: u32) -> u32
     if !frozen.is_directory_at(directory) {
         return 0;
     }
-    frozen.record(directory).blocks()
+    frozen.blocks(directory)
 }
 
 /// Adds what the slots of a directory's block at this position name, from slot `first` on.

@@ -2,8 +2,9 @@ ghost use Rattle.std.specs.Prelude.{◌≡◌, ℕ, ◌/◌, ◌<◌, IfOk, IsTr
 ghost use Rattle.std.specs.Option.{option_copied, option_map_or};
 ghost use Rattle.frozen.specs.Kept.{KeepsFrame, KeepsMetadata, frozen_view, kept_at, kept_bytes};
 ghost use Rattle.model.specs.Layout.{inode_count, group_block, inode_block, is_number};
-ghost use Rattle.model.specs.Uses.{record_use, use_at, claim_at, is_sound_at, is_directory_at};
+ghost use Rattle.model.specs.Uses.{blocks_of, record_use, use_at, claim_at, is_sound_at, is_directory_at};
 ghost use Rattle.model.specs.Slots.{Absent, slot, slot_in};
+ghost use Rattle.inode.specs.Parts.{without_attributes};
 ghost use Rattle.model.specs.Image.{IsGroupBlock};
 ghost use Rattle.std.specs.List.{All};
 ghost use Rattle.frozen.specs.Kinds.{AreKinds};
@@ -116,6 +117,14 @@ impl Frozen {
         self.held.record(number)
     }
 
+    /// The record of an inode but for its attributes, which are 0: they are not read. It uses the same blocks.
+    pub fn without_attributes(&self, number: u32) -> Record
+        requires { IsTrue (is_number self.now.geometry number) }
+        ensures { result ≡ without_attributes ((frozen_view self.now).inode number) }
+    {
+        self.held.without_attributes(number)
+    }
+
     /// The mode of an inode, of whose record nothing else is read.
     pub fn mode(&self, number: u32) -> u16
         requires { IsTrue (is_number self.now.geometry number) }
@@ -124,7 +133,15 @@ impl Frozen {
         self.held.mode(number)
     }
 
-    /// How many links an inode has: of its record the pointers are not read.
+    /// How many blocks the size of an inode takes: of its record only what stands before the pointers is read.
+    pub fn blocks(&self, number: u32) -> u32
+        requires { IsTrue (is_number self.now.geometry number) }
+        ensures { result ≡ blocks_of ((frozen_view self.now).inode number).size }
+    {
+        self.held.blocks(number)
+    }
+
+    /// How many links an inode has: of its record only what stands before the pointers is read.
     pub fn links(&self, number: u32) -> u16
         requires { IsTrue (is_number self.now.geometry number) }
         ensures { result ≡ ((frozen_view self.now).inode number).links }

@@ -7,6 +7,7 @@ ghost use Rattle.model.specs.Layout.{inode_count, group_block, inode_block, is_d
 ghost use Rattle.model.specs.Shape.{pointer_in, table_of};
 ghost use Rattle.model.specs.Uses.{blocks_of, record_use, use_at, claim_at, has_position, is_sound, is_sound_at, is_directory_at};
 ghost use Rattle.model.specs.View.{free_inode, inode_at};
+ghost use Rattle.inode.specs.Parts.{without_attributes};
 ghost use Rattle.model.specs.Image.{IsGroupBlock};
 ghost use Rattle.frozen.specs.Kinds.{IsKind};
 ghost use Rattle.frozen.specs.Installed.{FitsIn, standing, with_block, with_blocks, without_block};
@@ -108,6 +109,14 @@ impl Held {
         Record::read(self.geometry().version(), self.record_bytes(number))
     }
 
+    /// The record of an inode but for its attributes, which are 0.
+    pub(crate) fn without_attributes(&self, number: u32) -> Record
+        requires { IsTrue (is_number self.now.geometry number) }
+        ensures { result ≡ without_attributes ((frozen_view self.now).inode number) }
+    {
+        Record::read_without_attributes(self.geometry().version(), self.record_bytes(number))
+    }
+
     /// The record of an inode with its pointers at 0, of which nothing is read.
     fn head(&self, number: u32) -> Record
         requires { IsTrue (is_number self.now.geometry number) }
@@ -207,7 +216,7 @@ impl Held {
         if self.mode(inode) == FREE {
             return None;
         }
-        self.use_of(&self.record(inode), position)
+        self.use_of(&self.without_attributes(inode), position)
     }
 
     /// The value that a record uses at a position, as `use_at` has it.

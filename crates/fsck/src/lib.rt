@@ -42,7 +42,7 @@ use std::sync::Arc;
 use std::thread::Threads;
 use workers::{ByGroup, Gate, Workers};
 
-/// Checks an image with several workers, which share the groups. Only `NoMemory` is refused. What is found is the same
+/// Checks an image with 1 to 64 workers, which share the groups. Only `NoMemory` is refused. What is found is the same
 /// for every number of workers.
 ///
 /// The workers pass the gate before each group in each phase, with the phase's number from 1 to 5: first all groups in

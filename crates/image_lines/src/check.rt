@@ -133,7 +133,6 @@ pub fn check<D: Device, G: Gate>(
     ensures count { IfOk result (λ checked. length (D.image device.old) ≡ block_count checked.frozen.geometry) }
     ensures refused { IfErr result (λ refusal. LoadRefuses (D.honest device.new) (D.image device.old) refusal) }
     ensures cause { IsErrOf result Refusal.Device → HasFailed (D.failures device.old) (D.failures device.new) }
-
     ensures reads { ReadsOnly D.honest D.image D.held device.old device.new }
 {
     let frozen = load(alloc, device)?;
@@ -159,7 +158,6 @@ pub fn check_by<D: Device + Send + Drop, G: Gate>(
     ensures refused { IfErr result (λ refusal.
         LoadRefuses (D.honest device.new × All D.honest others.new.items) (D.image device.old) refusal) }
     ensures cause { IsErrOf result Refusal.Device → HasFailed (D.failures device.old) (D.failures device.new) }
-
     ensures reads { ReadsOnly D.honest D.image D.held device.old device.new }
     ensures others { OnOk result (AreRead D.honest D.image D.held others.old.items others.new.items) }
     ensures lost { IfErr result (λ refusal. ((refusal ≡ NoMemory) × (others.new.items ≡ [])) ⊎ AreRead D.honest D.image D.held others.old.items others.new.items) }

@@ -10,6 +10,7 @@ ghost use Rattle.layout.specs.Fresh.{put};
 ghost use Rattle.model.specs.Shape.{field_at, position_count, table_of, with_field};
 ghost use Rattle.model.specs.View.{Fits, Inode, IsSpare, free_inode, inode_at, u32s_at};
 ghost use Rattle.model.specs.Uses as uses;
+ghost use Rattle.inode.specs.Parts.{without_attributes};
 
 use byteorder::{ByteOrder, LittleEndian};
 use layout::{DOUBLE, Geometry};
@@ -70,10 +71,18 @@ impl Record {
     pub fn read(version: u32, bytes: &[u8; RECORD_BYTES]) -> Record
         ensures { result ≡ inode_at version bytes.now 0 }
     {
+        let mut record = Record::read_without_attributes(version, bytes);
+        record.attributes = attributes_of(bytes);
+        record
+    }
+
+    /// Reads a record but for its attributes, which it leaves at 0. They are most of the bytes, and nothing that is found or
+    /// planned for an inode's blocks is told by them.
+    pub fn read_without_attributes(version: u32, bytes: &[u8; RECORD_BYTES]) -> Record
+        ensures { result ≡ without_attributes (inode_at version bytes.now 0) }
+    {
         let mut direct = [0; DIRECT_POINTERS];
         LittleEndian::read_u32_into(&bytes[8..56], &mut direct);
-        let mut attributes = [0; ATTRIBUTES];
-        LittleEndian::read_u32_into(&bytes[64..128], &mut attributes);
         Record {
             mode: mode_of(bytes),
             links: LittleEndian::read_u16(&bytes[2..]),
@@ -81,7 +90,7 @@ impl Record {
             direct,
             indirect: LittleEndian::read_u32(&bytes[56..]),
             double: double_of(version, bytes),
-            attributes,
+            attributes: [0; ATTRIBUTES],
         }
     }
 
@@ -214,6 +223,17 @@ fn double_of(version: u32, bytes: &[u8; RECORD_BYTES]) -> u32
     } else {
         0
     }
+}
+
+/// The attributes. They are read one by one: `read_u32_into` stands once in this crate, so that it is compiled in its place.
+fn attributes_of(bytes: &[u8; RECORD_BYTES]) -> [u32; ATTRIBUTES]
+    ensures { (version : ℕ) → result ≡ (inode_at version bytes.now 0).attributes }
+{
+    let mut attributes = [0; ATTRIBUTES];
+    for place in 0..ATTRIBUTES {
+        attributes[place] = LittleEndian::read_u32(&bytes[64 + 4 * place..]);
+    }
+    attributes
 }
 
 /// How many blocks a size in bytes takes: it is rounded up.

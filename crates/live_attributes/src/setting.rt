@@ -11,7 +11,7 @@ use layout::Refusal;
 use live_plans::Plan;
 use metadata::Metadata;
 use std::alloc::{AllocError, Global};
-use updates::{Cells, Change};
+use updates::Cells;
 
 /// The plan by which the inode of this number gets these attributes, and nothing else of it changes. Refused with `NotFound`
 /// where no sound inode has the number. `NoMemory` comes at any time.
@@ -46,6 +46,6 @@ fn attributed(
     let mut record = frozen.record(number);
     let given = *attributes;
     record.attributes = given;
-    plan.push(Change::SetInode(number, record), Cells::new(alloc))?;
+    plan.set_record(alloc, number, record, Cells::new(alloc))?;
     Ok(plan)
 }

@@ -73,7 +73,7 @@ fn created(
         attributes: given,
     };
     let after = smallvec![in alloc; Cell::NumberBit(new.number)]?;
-    plan.push(Change::SetInode(new.number, file), after)?;
+    plan.set_record(alloc, new.number, file, after)?;
     enter(alloc, metadata, &mut plan, new)?;
     Ok(plan)
 }

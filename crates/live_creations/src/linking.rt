@@ -17,7 +17,7 @@ use live_places::choose;
 use live_plans::{NewEntry, Plan, enter};
 use metadata::Metadata;
 use std::alloc::{AllocError, Global};
-use updates::{Cells, Change};
+use updates::Cells;
 
 /// The plan by which the file that a path leads to gets another name.
 ///
@@ -75,7 +75,7 @@ fn linked(alloc: Global, metadata: &Metadata, new: &NewEntry) -> Result<Plan, Al
     let mut plan = Plan::new(alloc, frozen.geometry(), new.number);
     let mut raised = frozen.record(new.number);
     raised.links += 1;
-    plan.push(Change::SetInode(new.number, raised), Cells::new(alloc))?;
+    plan.set_record(alloc, new.number, raised, Cells::new(alloc))?;
     enter(alloc, metadata, &mut plan, new)?;
     Ok(plan)
 }

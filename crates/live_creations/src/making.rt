@@ -82,18 +82,12 @@ fn made(
     let mut plan = Plan::new(alloc, metadata.frozen().geometry(), new.number);
     plan.push(Change::SetNumber(new.number, true), Cells::new(alloc))?;
     plan.push(Change::SetBlock(own, true), Cells::new(alloc))?;
-    plan.push(
-        Change::SetInode(new.directory, new.parent),
-        Cells::new(alloc),
-    )?;
+    plan.set_record(alloc, new.directory, new.parent, Cells::new(alloc))?;
     let dots = Arc::new(alloc, dots(new.number, new.directory))?;
     let after = smallvec![in alloc; Cell::BlockBit(own), Cell::Record(new.directory)]?;
     plan.push(Change::SetBytes(own, dots), after)?;
     let after = smallvec![in alloc; Cell::NumberBit(new.number), Cell::Block(own)]?;
-    plan.push(
-        Change::SetInode(new.number, new_directory(own, attributes)),
-        after,
-    )?;
+    plan.set_record(alloc, new.number, new_directory(own, attributes), after)?;
     enter(alloc, metadata, &mut plan, new)?;
     Ok(plan)
 }

@@ -1,5 +1,6 @@
 ghost use Rattle.std.specs.Prelude.{◌≡◌, ℕ, ◌+◌, ◌*◌, ◌/◌, ◌%◌, ◌<◌, ◌≤◌, ◌==◌, not, IsFalse, IsTrue, IfNone, IfSome};
 ghost use Rattle.std.specs.Option.{option_copied, option_map_or};
+ghost use Rattle.inode.specs.Parts.{without_attributes};
 ghost use Rattle.frozen.specs.Kept.{frozen_view};
 ghost use Rattle.dirent.specs.Seen.{seen};
 ghost use Rattle.machine.specs.Paths as machine;
@@ -48,7 +49,7 @@ pub(crate) fn first(frozen: &Frozen, directory: u32, sought: &Sought) -> Option<
     if !frozen.is_directory_at(directory) {
         return None;
     }
-    let inode = frozen.record(directory);
+    let inode = frozen.without_attributes(directory);
     for position in 0..block_count(frozen, directory) {
         if let Some(entry) = first_in_block(frozen, directory, &inode, position, sought) {
             return Some(entry);
@@ -65,7 +66,7 @@ pub(crate) fn block_count(frozen: &Frozen, directory: u32) -> u32
     if !frozen.is_directory_at(directory) {
         return 0;
     }
-    frozen.record(directory).blocks()
+    frozen.blocks(directory)
 }
 
 /// The block of slots that a directory, of which this is the record, has at a position; `None` where it has none. It is
@@ -77,7 +78,7 @@ fn block_at<'a>(
     position: u32,
 ) -> Option<&'a Block>
     requires directory { IsTrue (is_directory_at frozen.now.geometry (frozen_view frozen.now) directory) }
-    requires inode { (frozen_view frozen.now).inode directory ≡ inode.now }
+    requires inode { without_attributes ((frozen_view frozen.now).inode directory) ≡ inode.now }
     requires position { position < most_blocks frozen.now.geometry }
     ensures slots { (s : ℕ) → s / 16 ≡ position → model.slot frozen.now.geometry (frozen_view frozen.now) directory s
         ≡ option_map_or (λ block. model.slot_in frozen.now.geometry block s) (option_copied result) model.Absent }
@@ -101,7 +102,7 @@ fn first_in_block(
     sought: &Sought,
 ) -> Option<Entry>
     requires directory { IsTrue (is_directory_at frozen.now.geometry (frozen_view frozen.now) directory) }
-    requires inode { (frozen_view frozen.now).inode directory ≡ inode.now }
+    requires inode { without_attributes ((frozen_view frozen.now).inode directory) ≡ inode.now }
     requires position { position < most_blocks frozen.now.geometry }
     ensures found { IfSome result (IsFirst frozen.now directory sought.now (16 * position) (16 * (position + 1))) }
     ensures none { IfNone result (NoneIsSought frozen.now directory sought.now (16 * position) (16 * (position + 1))) }

@@ -33,7 +33,7 @@ pub(crate) fn room_in(frozen: &Frozen, directory: u32) -> Result<Room, Refusal>
         };
     }
     let geometry = frozen.geometry();
-    let blocks = frozen.record(directory).blocks();
+    let blocks = frozen.blocks(directory);
     if blocks >= geometry.most_blocks() {
         return Err(Refusal::TooBig);
     }

@@ -60,7 +60,7 @@ pub(crate) fn grow(
     let linked = link(alloc, metadata, plan, &mut spares, &new_block)?;
     let mut grown = linked.record;
     grown.size = size;
-    plan.push(Change::SetInode(new.directory, grown), linked.after)
+    plan.set_record(alloc, new.directory, grown, linked.after)
 }
 
 /// Adds the updates that mark a block and then fill it.

@@ -1,10 +1,14 @@
-ghost use Rattle.std.specs.Prelude.{◌≡◌, ◌∷◌, [], OnOk, map};
+ghost use Rattle.std.specs.Prelude.{◌≡◌, ◌∷◌, [], IsTrue, OnOk, map};
 ghost use Rattle.std.specs.List.{All};
+ghost use Rattle.model.specs.Cells.{SetInode};
+ghost use Rattle.model.specs.Layout.{is_number};
+ghost use Rattle.model.specs.View.{Fits};
 ghost use Rattle.ordering.specs.Cuts.{cell_of};
 ghost use Rattle.updates.specs.Places.{FitsVolume, IsCell};
 ghost use Rattle.updates.specs.Values.{cell, change as change_of};
 ghost use Rattle.live_states.specs.Drafts.{AreOf, GoesOn};
 
+use inode::Record;
 use layout::Geometry;
 use std::alloc::{AllocError, Global};
 use std::marker::Model;
@@ -61,6 +65,23 @@ impl Plan {
             after,
         })?;
         Ok(())
+    }
+
+    /// Adds one more update, which gives an inode this record, and has to reach the device after the last updates of these
+    /// cells.
+    pub fn set_record(
+        &mut self,
+        alloc: Global,
+        number: u32,
+        inode: Record,
+        after: Cells,
+    ) -> Result<(), AllocError>
+        requires number { IsTrue (is_number self.old.geometry number) }
+        requires fits { Fits self.old.geometry.version inode }
+        requires after { All (IsCell self.old.geometry) (map cell after.items) }
+        ensures { OnOk result (GoesOn self.old self.new (λ q. record { change = SetInode number inode; after = map cell after.items } ∷ q)) }
+    {
+        self.push(Change::of_record(alloc, number, inode)?, after)
     }
 
     /// These updates, with no block that is held.

@@ -69,7 +69,7 @@ pub(crate) fn lower(
     record.links -= fewer;
     let mut after = Cells::new(alloc);
     after.push(Cell::Block(block))?;
-    plan.push(Change::SetInode(number, record), after)
+    plan.set_record(alloc, number, record, after)
 }
 
 /// Adds the updates that free a number, after the last updates of these cells, and then its bit and all blocks that it
@@ -97,7 +97,7 @@ pub fn free(
         double: 0,
         attributes: [0; ATTRIBUTES],
     };
-    plan.push(Change::SetInode(number, free), after)?;
+    plan.set_record(alloc, number, free, after)?;
     plan.push(
         Change::SetNumber(number, false),
         after_record(alloc, number)?,
@@ -122,7 +122,7 @@ pub(crate) fn give_up(
 {
     let mut holds = Vec::new(alloc);
     let geometry = frozen.geometry();
-    let end = frozen.record(number).blocks().min(geometry.most_blocks());
+    let end = frozen.blocks(number).min(geometry.most_blocks());
     let start = left.min(end);
     for position in start..end {
         give_up_at(alloc, frozen, holdings, plan, &mut holds, number, position)?;

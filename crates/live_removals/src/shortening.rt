@@ -17,7 +17,7 @@ use live_holdings::Holdings;
 use live_plans::{Plan, Planned};
 use metadata::Metadata;
 use std::alloc::{AllocError, Global};
-use updates::{Cells, Change};
+use updates::Cells;
 
 /// The plan by which a handle is closed, and with its last one a file that has no names goes; of its blocks those are held
 /// that a snapshot keeps. A file that stays needs no updates. Refused with `BadHandle` where the handle is not open. At
@@ -104,7 +104,7 @@ pub fn shortened(
     let mut plan = Plan::new(alloc, frozen.geometry(), number);
     let mut record = frozen.record(number);
     record.size = size;
-    plan.push(Change::SetInode(number, record), Cells::new(alloc))?;
+    plan.set_record(alloc, number, record, Cells::new(alloc))?;
     let left = blocks_of_size(size);
     let holds = give_up(alloc, frozen, holdings, &mut plan, number, left)?;
     Ok(Planned { plan, holds })

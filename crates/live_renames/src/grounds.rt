@@ -76,7 +76,7 @@ fn add_directory(frozen: &Frozen, directory: u32, cells: &mut Cells) -> Result<(
 {
     cells.push(Cell::Record(directory))?;
     let geometry = frozen.geometry();
-    let end = geometry.tables_end(frozen.record(directory).blocks());
+    let end = geometry.tables_end(frozen.blocks(directory));
     for table in geometry.most_blocks()..end {
         if let Some(block) = frozen.claim_at(directory, table) {
             cells.push(Cell::Block(block))?;

@@ -29,7 +29,7 @@ use live_places::{Place, Tables, choose};
 use live_plans::{Found, NewEntry, Plan, empty_slot, enter};
 use metadata::Metadata;
 use std::alloc::{AllocError, Global};
-use updates::{Cell, Cells, Change};
+use updates::{Cell, Cells};
 
 /// How many links an inode has at most.
 const MOST_LINKS: u16 = 32767;
@@ -112,7 +112,7 @@ fn raise(alloc: Global, metadata: &Metadata, plan: &mut Plan, number: u32) -> Re
 {
     let mut record = metadata.frozen().record(number);
     record.links += 1;
-    plan.push(Change::SetInode(number, record), Cells::new(alloc))
+    plan.set_record(alloc, number, record, Cells::new(alloc))
 }
 
 /// The cells that come before an old name goes: the block of the new entry in this place, and the grounds of its
@@ -170,6 +170,6 @@ fn leave(
     let mut emptied = Cells::new(alloc);
     emptied.push(Cell::Block(found.block))?;
     let record = metadata.frozen().record(found.number);
-    plan.push(Change::SetInode(found.number, record), emptied)?;
+    plan.set_record(alloc, found.number, record, emptied)?;
     Ok(())
 }

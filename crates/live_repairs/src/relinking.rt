@@ -9,7 +9,7 @@ use live_plans::{Plan, Planned};
 use live_removals::free;
 use metadata::Metadata;
 use std::alloc::{AllocError, Global};
-use updates::{Cells, Change};
+use updates::Cells;
 
 /// The plan by which an inode that nothing reaches loses all its links: it is freed, unless it is open.
 pub fn drop_inode(
@@ -64,6 +64,6 @@ fn relink(
     }
     let mut record = frozen.record(number);
     record.links = links;
-    plan.push(Change::SetInode(number, record), after)?;
+    plan.set_record(alloc, number, record, after)?;
     Ok(plan.without_holds(alloc))
 }

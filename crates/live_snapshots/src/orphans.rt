@@ -57,7 +57,7 @@ fn orphan_at(frozen: &Frozen, holdings: &Holdings, handle: u32) -> Option<u32>
 {
     let number = holdings.file_of(handle)?;
     let is_orphan = frozen.is_sound_at(number)
-        && frozen.record(number).links == 0
+        && frozen.links(number) == 0
         && !is_open_before(holdings, number, handle);
     is_orphan.then_some(number)
 }
@@ -84,10 +84,14 @@ fn free(
     requires { IsTrue (is_number frozen.now.geometry number) }
     ensures { OnOk result (FreesToo frozen.now.geometry (λ i. i == number) (claims frozen.now.geometry (frozen_view frozen.now) number) updates.old.items updates.new.items) }
 {
-    push(alloc, updates, Change::SetInode(number, free_record()))?;
+    push(
+        alloc,
+        updates,
+        Change::of_record(alloc, number, free_record())?,
+    )?;
     push(alloc, updates, Change::SetNumber(number, false))?;
     let geometry = frozen.geometry();
-    let end = frozen.record(number).blocks().min(geometry.most_blocks());
+    let end = frozen.blocks(number).min(geometry.most_blocks());
     for position in 0..end {
         free_at(alloc, frozen, number, position, updates)?;
     }

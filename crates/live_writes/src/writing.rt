@@ -145,7 +145,7 @@ fn updates(
         Place::InPlace { block } => {
             replace(alloc, &mut plan, block, bytes)?;
             let after = smallvec![in alloc; Cell::Block(block)]?;
-            enlarge(&mut plan, target.file, &owner, size, after)?;
+            enlarge(alloc, &mut plan, target.file, &owner, size, after)?;
         }
         Place::Behind { block, tables } => {
             fill(alloc, &mut plan, block, bytes)?;
@@ -183,6 +183,7 @@ fn replace(alloc: Global, plan: &mut Plan, block: u32, bytes: Arc<Block>) -> Res
 
 /// Adds the update that gives an inode with this record a larger size, after these cells, where it is larger.
 fn enlarge(
+    alloc: Global,
     plan: &mut Plan,
     number: u32,
     owner: &Record,
@@ -199,7 +200,7 @@ fn enlarge(
     }
     let mut larger = *owner;
     larger.size = size;
-    plan.push(Change::SetInode(number, larger), after)
+    plan.set_record(alloc, number, larger, after)
 }
 
 /// Adds the updates by which a file points to a new block, and gets this size. The pointer goes into the record, into a table
@@ -225,9 +226,9 @@ fn repoint(
     let linked = link(alloc, metadata, plan, spares, new)?;
     let geometry = metadata.frozen().geometry();
     if new.tables.is_empty() && geometry.pointer_place(new.position).is_some() {
-        return enlarge(plan, new.number, &new.owner, size, linked.after);
+        return enlarge(alloc, plan, new.number, &new.owner, size, linked.after);
     }
     let mut changed = linked.record;
     changed.size = size;
-    plan.push(Change::SetInode(new.number, changed), linked.after)
+    plan.set_record(alloc, new.number, changed, linked.after)
 }

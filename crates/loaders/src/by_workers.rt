@@ -46,7 +46,6 @@ pub fn load_by<D: Device + Send + Drop>(
         LoadRefuses (D.honest device.new × All D.honest others.new.items) (D.image device.old) refusal) }
 
     ensures cause { IsErrOf result Refusal.Device → HasFailed (D.failures device.old) (D.failures device.new) }
-
     ensures reads { ReadsOnly D.honest D.image D.held device.old device.new }
     ensures others { OnOk result (AreRead D.honest D.image D.held others.old.items others.new.items) }
     ensures lost { IfErr result (λ refusal. ((refusal ≡ NoMemory) × (others.new.items ≡ [])) ⊎ AreRead D.honest D.image D.held others.old.items others.new.items) }
@@ -72,7 +71,6 @@ fn read_alone<D: Device>(alloc: Global, device: &mut D, refusal: Refusal) -> Res
     ensures stands { IfErr result (λ told. (refusal ≡ Refusal.Device) ⊎ (told ≡ refusal)) }
     ensures refused { IfErr result (λ told. (told ≡ refusal) ⊎ LoadRefuses (D.honest device.new) (D.image device.old) told) }
     ensures cause { IsErrOf result Refusal.Device → HasFailed (D.failures device.old) (D.failures device.new) }
-
     ensures reads { ReadsOnly D.honest D.image D.held device.old device.new }
 {
     match refusal {

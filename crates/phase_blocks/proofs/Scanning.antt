@@ -9,6 +9,8 @@ use Rattle.model.specs.Uses.{IsUse, blocks_of, is_sound, is_sound_at, use_at, re
 use Rattle.findings.specs.declared.finding.Finding.TheVariants.{BadInode}
 use Rattle.findings.specs.Findings.{IsFinding}
 use Rattle.model.specs.Units.{no_unit, only, stands_in}
+use Rattle.inode.specs.Parts.{without_attributes}
+use Rattle.frozen.proofs.PointerLemmas.{uses_without_attributes}
 use Rattle.model.proofs.Ranges.{use_places}
 use Rattle.model.proofs.UseLemmas.{use_of_record}
 use Rattle.model.proofs.Uses.{sound_few, use_number, use_parts}
@@ -17,10 +19,10 @@ use Rattle.phase_blocks.proofs.Claims.{group_of_number, AddsUse, with_use_adds}
 use Rattle.phase_blocks.proofs.Gathering.{tells_inode, tells_same}
 
 -- ---- one use
-pub use_is : (geo : Geometry) (view : View) (i k : ℕ) (inode : Inode) (r o : Option ℕ) → IsTrue (is_number geo i) → inode ≡ view.inode i
+pub use_is : (geo : Geometry) (view : View) (i k : ℕ) (inode : Inode) (r o : Option ℕ) → IsTrue (is_number geo i) → inode ≡ without_attributes (view.inode i)
     → r ≡ record_use geo view inode k → r ≡ o → use_at geo view i k ≡ o
 use_is geo view i k inode r o number is_inode told e =
-    use_of_record geo view i k number ∙ ap (λ n. record_use geo view n k) (sym is_inode) ∙ sym told ∙ e
+    use_of_record geo view i k number ∙ sym (uses_without_attributes geo view (view.inode i) k) ∙ ap (λ n. record_use geo view n k) (sym is_inode) ∙ sym told ∙ e
 
 pub unused : (geo : Geometry) (view : View) (n : Inodes) (s : Uses) (i k : ℕ) (g : Gathered) → use_at geo view i k ≡ None
     → Tells geo view n s g → Tells geo view n (with_use s i k) g

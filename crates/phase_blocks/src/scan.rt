@@ -2,6 +2,7 @@ ghost use Rattle.std.specs.Prelude.{◌≡◌, ◌<◌, ◌≤◌, IfOk, OnOk, I
 ghost use Rattle.model.specs.Layout.{is_number};
 ghost use Rattle.model.specs.Units.{only};
 ghost use Rattle.model.specs.Uses.{is_sound};
+ghost use Rattle.inode.specs.Parts.{without_attributes};
 ghost use Rattle.frozen.specs.Kept.{frozen_view};
 ghost use Rattle.phase_blocks.specs.Parts.{Inodes, Uses, Tells, IsPart, nothing_gathered, with_inode, with_use, with_uses};
 
@@ -37,13 +38,14 @@ fn look_at_inode(part: &mut Part, frozen: &Frozen, number: u32) -> Result<(), Re
         → Tells frozen.now.geometry (frozen_view frozen.now) (with_inode inodes number) (with_uses uses number) part.new) }
     ensures error { IsOkUnless result Refusal.NoMemory }
 {
-    let record = frozen.record(number);
+    if frozen.mode(number) == FREE {
+        return Ok(());
+    }
+    let record = frozen.without_attributes(number);
     if record.is_sound(&frozen.geometry()) {
         look_at_uses(part, frozen, number, &record)
-    } else if record.mode != FREE {
-        part.add_finding(Finding::BadInode(number))
     } else {
-        Ok(())
+        part.add_finding(Finding::BadInode(number))
     }
 }
 
@@ -55,7 +57,7 @@ fn look_at_uses(
     inode: &Record,
 ) -> Result<(), Refusal>
     requires number { IsTrue (is_number frozen.now.geometry number) }
-    requires inode { inode.now ≡ (frozen_view frozen.now).inode number }
+    requires inode { inode.now ≡ without_attributes ((frozen_view frozen.now).inode number) }
     requires sound { IsTrue (is_sound frozen.now.geometry inode.now) }
     ensures looked { OnOk result ((inodes : Inodes) (uses : Uses) → Tells frozen.now.geometry (frozen_view frozen.now) inodes uses part.old
         → Tells frozen.now.geometry (frozen_view frozen.now) inodes (with_uses uses number) part.new) }
@@ -80,7 +82,7 @@ fn look_at_use(
     position: u32,
 ) -> Result<(), Refusal>
     requires number { IsTrue (is_number frozen.now.geometry number) }
-    requires inode { inode.now ≡ (frozen_view frozen.now).inode number }
+    requires inode { inode.now ≡ without_attributes ((frozen_view frozen.now).inode number) }
     ensures looked { OnOk result ((inodes : Inodes) (uses : Uses) → Tells frozen.now.geometry (frozen_view frozen.now) inodes uses part.old
         → Tells frozen.now.geometry (frozen_view frozen.now) inodes (with_use uses number position) part.new) }
     ensures error { IsOkUnless result Refusal.NoMemory }

@@ -178,7 +178,7 @@ pub(crate) fn look_at(alloc: Global, frozen: &Frozen, directory: u32) -> Result<
     ensures error { IsOkUnless result Refusal.NoMemory }
 {
     let mut walk = Walk::begin(alloc, frozen, directory)?;
-    for position in 0..frozen.record(directory).blocks() {
+    for position in 0..frozen.blocks(directory) {
         walk.add_position(frozen, directory, position)?;
     }
     let Walk {

@@ -61,7 +61,7 @@ fn claim_all(cells: &mut Vec<Use>, frozen: &Frozen, number: u32)
     if !frozen.is_sound_at(number) {
         return;
     }
-    let blocks = frozen.record(number).blocks();
+    let blocks = frozen.blocks(number);
     for position in 0..blocks {
         claim(cells, frozen, number, position);
     }

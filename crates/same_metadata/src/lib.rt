@@ -128,7 +128,7 @@ fn has_same_tables(one: &Frozen, other: &Frozen, number: u32) -> bool
         return true;
     }
     let geometry = one.geometry();
-    for position in geometry.most_blocks()..geometry.tables_end(one.record(number).blocks()) {
+    for position in geometry.most_blocks()..geometry.tables_end(one.blocks(number)) {
         if !has_same_claim(one, other, number, position) {
             return false;
         }
@@ -145,7 +145,7 @@ fn has_same_directory(one: &Frozen, other: &Frozen, number: u32) -> bool
     if !one.is_directory_at(number) {
         return true;
     }
-    for position in 0..one.record(number).blocks() {
+    for position in 0..one.blocks(number) {
         if !has_same_claim(one, other, number, position) {
             return false;
         }

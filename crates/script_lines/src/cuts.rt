@@ -175,6 +175,6 @@ impl Judge for Checks {
 
     fn judge<R: Threads + Sync>(&mut self, rt: &R, device: MemDevice) -> Result<Verdict, Refusal> {
         let mut device = device;
-        Ok(check(rt, self.alloc, &mut device, Workers::nearest(1), &OpenGate)?.verdict())
+        Ok(check(rt, self.alloc, &mut device, Workers::ONE, &OpenGate)?.verdict())
     }
 }

@@ -200,7 +200,7 @@ fn write_stop(
     device: &mut MemDevice,
     writes: usize,
 ) -> Result<bool, Refusal> {
-    let checked = check(rt, alloc, device, Workers::nearest(1), &OpenGate)?;
+    let checked = check(rt, alloc, device, Workers::ONE, &OpenGate)?;
     let verdict = checked.verdict();
     let findings = checked.findings().len();
     writeln!(text, "stop {writes} verdict {verdict} findings {findings}")?;

@@ -143,7 +143,7 @@ fn marks(update: &Update, address: u32) -> bool {
 /// Whether an update of file 9 gives an inode this record, after these cells.
 fn sets(update: &Update, number: u32, record: &Record, after: &[Cell]) -> bool {
     match &update.change {
-        Change::SetInode(set, new) if *set == number && *new == *record => {
+        Change::SetInode(set, new) if *set == number && **new == *record => {
             update.file == Some(9) && update.after.as_slice() == after
         }
         _ => false,

@@ -1,4 +1,6 @@
 ghost use Rattle.std.specs.Prelude.{◌≡◌};
+ghost use Rattle.model.specs.Cells.{SetInode};
+ghost use Rattle.updates.specs.Values.{change};
 
 use crate::expect::{holds, same};
 use inode::{ATTRIBUTES, DIRECT_POINTERS, FILE, RECORD_BYTES, Record};
@@ -103,10 +105,17 @@ fn block_with_record() -> Block {
     block
 }
 
+/// The change that gives number 9 this record.
+fn of_record_9<R: AllocGlobal + Abort>(rt: &R, inode: Record) -> Change
+    ensures { change result ≡ SetInode 9 inode }
+{
+    Change::of_record(rt.alloc(), 9, inode).expect(rt, "memory")
+}
+
 #[test]
 fn a_record_is_put_among_its_neighbours(rt: HostRuntime) {
     let mut block = [0xaa; BLOCK_BYTES];
-    Change::SetInode(9, record()).put(&small(&rt), &mut block);
+    of_record_9(&rt, record()).put(&small(&rt), &mut block);
     holds(
         &rt,
         "the block of inodes 8 to 15",
@@ -127,7 +136,7 @@ fn a_record_is_read_where_it_was_put(rt: HostRuntime) {
     same(
         &rt,
         "its cell",
-        Change::SetInode(9, record()).cell(),
+        of_record_9(&rt, record()).cell(),
         Cell::Record(9),
     );
 }
@@ -140,7 +149,7 @@ fn a_record_of_version_2_is_put_with_its_double_pointer(rt: HostRuntime) {
         double: 7,
         ..record()
     };
-    Change::SetInode(9, record).put(&geometry, &mut block);
+    of_record_9(&rt, record).put(&geometry, &mut block);
     let mut wanted = block_with_record();
     wanted[128 + 60..128 + 64].copy_from_slice(&[7, 0, 0, 0]);
     holds(&rt, "the block of inodes 8 to 15", block == wanted);

@@ -123,7 +123,7 @@ fn block_of(byte: u8) -> Block {
 /// The change that puts a value.
 fn change_of(alloc: Global, put: Put) -> Result<Change, Refusal> {
     Ok(match put {
-        Put::Record(number, links) => Change::SetInode(number, record_of(links)),
+        Put::Record(number, links) => Change::of_record(alloc, number, record_of(links))?,
         Put::Number(number, marked) => Change::SetNumber(number, marked),
         Put::Bit(address, marked) => Change::SetBlock(address, marked),
         Put::Bytes(address, byte) => { Change::SetBytes(address, Arc::new(alloc, block_of(byte))?) }

@@ -17,7 +17,7 @@ cell (BlockBit a) = cuts.BlockBit a
 cell (Block a) = cuts.Block a
 
 abbrev pub change : Change → model.Update
-change (SetInode n inode) = model.SetInode n inode
+change (SetInode n inode) = model.SetInode n inode.value
 change (SetNumber n marked) = model.SetNumber n marked
 change (SetBlock a marked) = model.SetBlock a marked
 change (SetBytes a bytes) = model.SetBytes a (arc_value bytes)

@@ -1,9 +1,9 @@
 ghost use Rattle.std.specs.Arc.{arc_value};
-ghost use Rattle.std.specs.Prelude.{◌≡◌, ◌≢◌, ◌<◌, ◌*◌, ◌↔◌, ℕ, IfSome, IsTrue, List, length, replicate, slice_index};
+ghost use Rattle.std.specs.Prelude.{◌≡◌, ◌≢◌, ◌<◌, ◌*◌, ◌↔◌, ℕ, IfOk, IfSome, IsTrue, List, length, replicate, slice_index};
 ghost use Rattle.model.specs.View.{Fits, IsSpare, free_inode, inode_at, view_of};
 ghost use Rattle.model.specs.Image.{IsGroupBlock};
 ghost use Rattle.model.specs.Layout.{Geometry as Numbers, IsGeometry, group_block};
-ghost use Rattle.model.specs.Cells.{put_at, updated};
+ghost use Rattle.model.specs.Cells.{SetInode, put_at, updated};
 ghost use Rattle.ordering.specs.Cuts.{cell_of};
 ghost use Rattle.queue_model.specs.Blocks.{home_of};
 ghost use Rattle.updates.specs.Values.{cell, change};
@@ -15,6 +15,7 @@ use cgmaps::{Map, put_bit};
 use inode::{ATTRIBUTES, DIRECT_POINTERS, FREE, RECORD_BYTES, Record};
 use layout::{Block, Geometry, INODES_PER_BLOCK};
 use smallvec::SmallVec;
+use std::alloc::{AllocError, Global};
 use std::sync::Arc;
 
 /// A list of cells, which takes memory of its own only for more than three: an update that comes after more is one of a directory.
@@ -34,8 +35,8 @@ const FREED: Record = Record {
 /// A cell and its new value.
 #[derive(Debug, Drop)]
 pub enum Change {
-    /// The record of an inode, by its number.
-    SetInode(u32, Record),
+    /// The record of an inode, by its number. It stands in memory of its own, so that no other change is as large as a record.
+    SetInode(u32, Box<Record>),
     /// Whether an inode number is marked.
     SetNumber(u32, bool),
     /// Whether a data block is marked, by its address.
@@ -56,6 +57,13 @@ pub struct Update {
 }
 
 impl Change {
+    /// The record of an inode, by its number, as a change. Takes memory for it.
+    pub fn of_record(alloc: Global, number: u32, inode: Record) -> Result<Change, AllocError>
+        ensures { IfOk result (λ made. change made ≡ SetInode number inode) }
+    {
+        Ok(Change::SetInode(number, Box::new(alloc, inode)?))
+    }
+
     /// The cell whose value it is.
     pub fn cell(&self) -> Cell
         ensures { cell result ≡ cell_of (change self.now) }
@@ -141,5 +149,5 @@ fn write_record(inode: &Record, geometry: &Geometry, bytes: &mut [u8])
 fn is_freed(inode: &Record) -> bool
     ensures { IsTrue result ↔ (inode.now ≡ free_inode) }
 {
-    *inode == FREED
+    inode.mode == FREE && *inode == FREED
 }

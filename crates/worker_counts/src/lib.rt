@@ -17,6 +17,9 @@ pub struct Workers {
 }
 
 impl Workers {
+    /// One alone.
+    pub const ONE: Workers = Workers { count: 1 };
+
     /// So many workers. `BadWorkers` is refused where these are not 1 to 64.
     pub fn new(count: u32) -> Result<Workers, Refusal>
         ensures made { IfOk result (λ workers. workers.count ≡ count) }

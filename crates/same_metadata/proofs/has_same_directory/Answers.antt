@@ -1,6 +1,5 @@
 use Rattle.std.proofs.Common.{◌<◌, inl, inr, sym, ◌∙◌, subst, arith}
 use Rattle.std.proofs.lemmas.Bool.{both_ways, cases_eq}
-use Rattle.model.specs.View.{Inode}
 use Rattle.model.specs.Uses.{blocks_of}
 use Rattle.frozen.specs.Kept.{frozen_view}
 use Rattle.same_metadata.specs.Same.{HasSameClaim}
@@ -11,7 +10,7 @@ pub returns-then-not-has_same_claim : goal.returns-then-not-has_same_claim
 returns-then-not-has_same_claim c =
     let k = c.loop-position.position in
     let low : k < blocks_of ((frozen_view c.args.one.now).inode c.args.number).size =
-    subst (λ (r : Inode). k < blocks_of r.size) c.record.ensures (subst (λ n. k < n) c.blocks-position-end.ensures c.loop-position-test.true) in
+    subst (λ n. k < n) c.blocks-position-end.ensures c.loop-position-test.true in
     told_not (λ h. both_ways c.has_same_claim.result c.if-not-has_same_claim.true
     (c.has_same_claim.ensures.1 (h (sym c.is_directory_at.ensures ∙ c.if-not-is_directory_at.false) k low)))
 

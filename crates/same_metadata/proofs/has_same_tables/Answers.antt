@@ -1,8 +1,6 @@
 use Rattle.std.proofs.Common.{◌≡◌, ◌+◌, IsTrue, inl, inr, refl, sym, ap, ap₂, ◌∙◌, subst, arith}
 use Rattle.std.proofs.lemmas.Bool.{both_ways, cases_eq, le-leb}
 use Rattle.model.specs.Shape.{is_table, most_blocks, tables}
-use Rattle.model.specs.Uses.{blocks_of}
-use Rattle.model.specs.View.{Inode}
 use Rattle.frozen.specs.Kept.{frozen_view}
 use Rattle.same_metadata.specs.Same.{HasSameClaim}
 use Rattle.same_metadata.proofs.BlockLemmas.{told_not}
@@ -33,7 +31,6 @@ pub returns : goal.returns
 returns c =
     let geo = c.args.one.now.geometry in
     let last : c.loop-position.position ≡ c.tables_end-position-end.result = omega arith in
-    let blocks = c.blocks-2.ensures ∙ ap (λ (r : Inode). blocks_of r.size) c.record.ensures in
-    let end = last ∙ c.tables_end-position-end.ensures.end ∙ ap₂ (λ geo n. most_blocks geo + tables n) c.geometry-geometry.ensures.geometry blocks in
+    let end = last ∙ c.tables_end-position-end.ensures.end ∙ ap₂ (λ geo n. most_blocks geo + tables n) c.geometry-geometry.ensures.geometry c.blocks-2.ensures in
     let all = all_tables geo (frozen_view c.args.one.now) (frozen_view c.args.other.now) c.args.number c.loop-position.position end c.loop-position.invariant in
     ((λ yes. all), (λ h. refl))

@@ -12,7 +12,7 @@ use std::test::Fail;
 fn of_record_9(alloc: Global, record: Record) -> Result<Vec<Update>, Refusal> {
     let mut updates = Vec::new(alloc);
     updates.push(Update {
-        change: Change::SetInode(9, record),
+        change: Change::of_record(alloc, 9, record)?,
         file: None,
         after: Cells::new(alloc),
     })?;

@@ -1,7 +1,5 @@
-use Rattle.std.proofs.Common.{◌≡◌, ◌≤◌, ◌*◌, sym, ap, ◌∙◌, subst}
+use Rattle.std.proofs.Common.{◌≤◌, ◌*◌, sym, ◌∙◌, subst}
 use Rattle.frozen.specs.Kept.{frozen_view}
-use Rattle.model.specs.Uses.{blocks_of}
-use Rattle.model.specs.View.{Inode}
 use Rattle.model.proofs.NamedLemmas.{no_directory_no_slot, no_slot_past}
 use Rattle.directories.proofs.reading.block_count.Goals as goal
 
@@ -12,5 +10,4 @@ returns-then-not-is_directory_at-clause-past c = λ s from.
 pub returns-clause-past : goal.returns-clause-past
 returns-clause-past c = λ s from.
     let view = frozen_view c.args.frozen.now in
-    let count : c.blocks-2.result ≡ blocks_of (view.inode c.args.directory).size = c.blocks-2.ensures ∙ ap (λ (n : Inode). blocks_of n.size) c.record.ensures in
-    no_slot_past c.args.frozen.now.geometry view c.args.directory s (subst (λ n. 16 * n ≤ s) count from)
+    no_slot_past c.args.frozen.now.geometry view c.args.directory s (subst (λ n. 16 * n ≤ s) c.blocks-2.ensures from)

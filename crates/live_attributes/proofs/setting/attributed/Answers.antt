@@ -11,8 +11,8 @@ use Rattle.live_plans.proofs.DraftLemmas.{goes_as}
 use Rattle.live_plans.proofs.Fitting.{written_fits}
 use Rattle.live_attributes.proofs.setting.attributed.Goals as goal
 
-pub push-requires-clause-fits : goal.push-requires-clause-fits
-push-requires-clause-fits c =
+pub set_record-requires-clause-fits : goal.set_record-requires-clause-fits
+set_record-requires-clause-fits c =
     let kept = c.args.metadata.now in
     let same = c.frozen-frozen.ensures.same in
     let was : Inode = record { mode = c.record.inside.mode; links = c.record.inside.links; size = c.record.inside.size; direct = c.record.inside.direct; indirect = c.record.inside.indirect; double = c.record.inside.double; attributes = c.record.inside.attributes } in
@@ -32,6 +32,6 @@ returns c = λ view shows.
     let was : Inode = record { mode = c.record.inside.mode; links = c.record.inside.links; size = c.record.inside.size; direct = c.record.inside.direct; indirect = c.record.inside.indirect; double = c.record.inside.double; attributes = c.record.inside.attributes } in
     let is : was ≡ view.inode n =
     c.record.view_is ∙ c.record-record.ensures ∙ ap (λ (k : Kept). (frozen_view k).inode n) same ∙ shows.inode n in
-    goes_as none c.push.new.self (λ q. record { change = SetInode n (with_attributes was words); after = map cell c.new.result.items } ∷ q) (attributing n (view.inode n) words)
+    goes_as none c.set_record.new.self (λ q. record { change = SetInode n (with_attributes was words); after = map cell c.new.result.items } ∷ q) (attributing n (view.inode n) words)
     (λ q. ap₂ (λ (i : Inode) (cs : List Cell). record { change = SetInode n (with_attributes i words); after = cs } ∷ q) is (ap (map cell) c.new.ensures.items))
-    (subst (λ (d : Draft). GoesOn d c.push.new.self (λ q. record { change = SetInode n (with_attributes was words); after = map cell c.new.result.items } ∷ q)) start c.in_ok-push.ensures)
+    (subst (λ (d : Draft). GoesOn d c.set_record.new.self (λ q. record { change = SetInode n (with_attributes was words); after = map cell c.new.result.items } ∷ q)) start c.in_ok-set_record.ensures)

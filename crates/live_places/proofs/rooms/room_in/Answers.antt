@@ -1,8 +1,6 @@
 use Rattle.std.proofs.Common.{length, refl, sym, ap, ap₂, ◌∙◌, arith}
 use Rattle.frozen.specs.Kept.{frozen_view}
-use Rattle.model.specs.View.{Inode}
 use Rattle.model.specs.Shape.{most_blocks, new_tables}
-use Rattle.model.specs.Uses.{blocks_of}
 use Rattle.live_places.proofs.RoomLemmas.{empty_claims, full_with}
 use Rattle.live_places.proofs.ShownLemmas.{self_shown}
 use Rattle.live_places.proofs.rooms.room_in.Goals as goal
@@ -16,7 +14,7 @@ unreachable-requires c =
 pub returns-then-blocks-most_blocks-clause-full : goal.returns-then-blocks-most_blocks-clause-full
 returns-then-blocks-most_blocks-clause-full c =
     let kept = c.args.frozen.now in
-    let size = c.blocks-blocks.ensures ∙ ap (λ (n : Inode). blocks_of n.size) c.record.ensures in
+    let size = c.blocks-blocks.ensures in
     let most = c.most_blocks.ensures.count ∙ ap most_blocks c.geometry-geometry.ensures.geometry in
     (refl, full_with kept.geometry (frozen_view kept) c.args.directory (c.in_default.ensures.found (frozen_view kept) (self_shown kept)) (omega (arith, size, most, c.if-blocks-most_blocks.true)))
 
@@ -27,7 +25,7 @@ new_tables-tables-requires c = omega (arith, c.most_blocks.ensures.count, c.if-b
 pub returns-clause-room : goal.returns-clause-room
 returns-clause-room c =
     let kept = c.args.frozen.now in
-    let size = c.blocks-blocks.ensures ∙ ap (λ (n : Inode). blocks_of n.size) c.record.ensures in
+    let size = c.blocks-blocks.ensures in
     let most = c.most_blocks.ensures.count ∙ ap most_blocks c.geometry-geometry.ensures.geometry in
     record {
       none = c.in_default.ensures.found (frozen_view kept) (self_shown kept);

@@ -2,7 +2,6 @@
 use Rattle.std.proofs.Common.{◌≡◌, ◌<◌, ◌≤◌, ◌⊎◌, ◌+◌, ◌++◌, ℕ, List, [], inl, inr, sym, ap, ◌∙◌, arith}
 use Rattle.std.proofs.lemmas.Bool.{cases_lt}
 use Rattle.model.specs.Shape.{most_blocks, position_count, tables}
-use Rattle.model.specs.View.{Inode}
 use Rattle.model.specs.Uses.{blocks_of}
 use Rattle.frozen.specs.Kept.{frozen_view}
 use Rattle.live_states.specs.Holdings.{is_kept_by}
@@ -67,9 +66,8 @@ loop-table-init c =
     let inside : end ≤ most_blocks geo = omega (arith, c.min-end.ensures, most) in
     let few : start ≤ most_blocks geo = omega (arith, c.min-start.ensures, inside) in
     let at : p ≡ end = omega (arith, c.loop-position-test.false, inv.3) in
-    let size = ap (λ (i : Inode). i.size) c.record.ensures in
     let all : (blocks_of (view.inode n).size ≤ end) ⊎ (most_blocks geo ≤ end) = elim (cases_lt end (most_blocks geo)) [
-      | inl short ↦ inl (omega (arith, short, c.min-end.ensures, most, c.blocks-2.ensures, size))
+      | inl short ↦ inl (omega (arith, short, c.min-end.ensures, most, c.blocks-2.ensures))
       | inr full ↦ inr full
     ] in
     let fewer = fewer_tables geo start end (omega (arith, c.min-start.ensures)) inside in (
@@ -122,9 +120,8 @@ returns c =
     let most : c.most_blocks.result ≡ most_blocks geo = c.most_blocks.ensures.count ∙ ap most_blocks c.geometry-geometry.ensures.geometry in
     let last : c.tables_end-last.result ≡ most_blocks geo + tables end = c.tables_end-last.ensures.end ∙ ap (λ g. most_blocks g + tables end) c.geometry-geometry.ensures.geometry in
     let inside : end ≤ most_blocks geo = omega (arith, c.min-end.ensures, most) in
-    let size = ap (λ (i : Inode). i.size) c.record.ensures in
     let all : (blocks_of (view.inode n).size ≤ end) ⊎ (most_blocks geo ≤ end) = elim (cases_lt end (most_blocks geo)) [
-      | inl short ↦ inl (omega (arith, short, c.min-end.ensures, most, c.blocks-2.ensures, size))
+      | inl short ↦ inl (omega (arith, short, c.min-end.ensures, most, c.blocks-2.ensures))
       | inr full ↦ inr full
     ] in
     let positions = ap position_count c.geometry-geometry.ensures.geometry in

@@ -11,8 +11,8 @@ use Rattle.live_plans.proofs.Fitting.{written_fits}
 use Rattle.live_removals.proofs.Showing.{lowers}
 use Rattle.live_removals.proofs.freeing.lower.Goals as goal
 
-pub push-requires-2-clause-fits : goal.push-requires-2-clause-fits
-push-requires-2-clause-fits c =
+pub set_record-requires-clause-fits : goal.set_record-requires-clause-fits
+set_record-requires-clause-fits c =
     let kept = c.args.metadata.now in
     let was : Inode = record { mode = c.record.inside.mode; links = c.record.inside.links; size = c.record.inside.size; direct = c.record.inside.direct; indirect = c.record.inside.indirect; double = c.record.inside.double; attributes = c.record.inside.attributes } in
     written_fits kept c.args.plan.now.geometry c.args.number (record was { links = was.links - c.args.fewer }) was c.requires.geometry
@@ -26,4 +26,4 @@ returns c =
     c.record.view_is ∙ c.record-record.ensures ∙ ap (λ (k : Kept). (frozen_view k).inode n) c.frozen.ensures.same in
     let after : map cell c.push.new.self.items ≡ Block c.args.block ∷ [] =
     ap (map cell) (c.in_ok-push.ensures.ok ∙ ap (λ (xs : List Cell). xs ++ cells.Block c.args.block ∷ []) c.new-after.ensures.items) in
-    on_ok_weaker c.push-2.result (lowers n c.args.fewer c.args.block _ ((frozen_view kept).inode n) (map cell c.push.new.self.items) c.args.plan.now c.push-2.new.self is after) c.push-2.ensures
+    on_ok_weaker c.set_record.result (lowers n c.args.fewer c.args.block _ ((frozen_view kept).inode n) (map cell c.push.new.self.items) c.args.plan.now c.set_record.new.self is after) c.set_record.ensures

@@ -18,8 +18,8 @@ use Rattle.live_removals.specs.Removed.{no_updates}
 use Rattle.live_removals.proofs.Showing.{gone_shown, resizes}
 use Rattle.live_removals.proofs.shortening.shortened.Goals as goal
 
-pub push-requires-clause-fits : goal.push-requires-clause-fits
-push-requires-clause-fits c =
+pub set_record-requires-clause-fits : goal.set_record-requires-clause-fits
+set_record-requires-clause-fits c =
     let kept = c.args.metadata.now in
     let same = c.frozen-frozen.ensures.same in
     let was : Inode = record { mode = c.record.inside.mode; links = c.record.inside.links; size = c.record.inside.size; direct = c.record.inside.direct; indirect = c.record.inside.indirect; double = c.record.inside.double; attributes = c.record.inside.attributes } in
@@ -40,12 +40,12 @@ returns c = λ view shows.
     c.new-plan.ensures ∙ ap (λ (g : Geometry). no_updates g c.args.number) (c.geometry.ensures.geometry ∙ ap (λ (k : Kept). k.geometry) same) in
     let is : (record { mode = c.record.inside.mode; links = c.record.inside.links; size = c.record.inside.size; direct = c.record.inside.direct; indirect = c.record.inside.indirect; double = c.record.inside.double; attributes = c.record.inside.attributes }) ≡ view.inode n =
     c.record.view_is ∙ c.record-record.ensures ∙ ap (λ (k : Kept). (frozen_view k).inode n) same ∙ shows.inode n in
-    let resized = resizes n size _ (view.inode n) (map cell c.new.result.items) c.new-plan.result c.push.new.self is (ap (map cell) c.new.ensures.items) c.in_ok-push.ensures in
-    let gives : GoesOn c.push.new.self c.give_up.new.plan (cleared n (freed kept.geometry view holdings n (blocks_of size))) =
-    subst (λ bs. GoesOn c.push.new.self c.give_up.new.plan (cleared n bs))
+    let resized = resizes n size _ (view.inode n) (map cell c.new.result.items) c.new-plan.result c.set_record.new.self is (ap (map cell) c.new.ensures.items) c.in_ok-set_record.ensures in
+    let gives : GoesOn c.set_record.new.self c.give_up.new.plan (cleared n (freed kept.geometry view holdings n (blocks_of size))) =
+    subst (λ bs. GoesOn c.set_record.new.self c.give_up.new.plan (cleared n bs))
     (gone_shown kept view keeps shows (is_loose holdings) f same n c.blocks_of_size-left.result ∙ ap (λ left. freed kept.geometry view holdings n left) blocks) c.in_ok-holds.ensures.plan in
     record {
       updates = subst (λ (d : Draft). GoesOn d c.give_up.new.plan (truncation n (view.inode n) size (freed kept.geometry view holdings n (blocks_of size)))) start
-          (goes_then c.new-plan.result c.push.new.self c.give_up.new.plan (λ q. record { change = SetInode n (sized (view.inode n) size); after = [] } ∷ q) (cleared n (freed kept.geometry view holdings n (blocks_of size))) resized gives);
+          (goes_then c.new-plan.result c.set_record.new.self c.give_up.new.plan (λ q. record { change = SetInode n (sized (view.inode n) size); after = [] } ∷ q) (cleared n (freed kept.geometry view holdings n (blocks_of size))) resized gives);
       held = c.in_ok-holds.ensures.holds ∙ gone_shown kept view keeps shows (is_kept_by holdings) f same n c.blocks_of_size-left.result ∙ ap (λ left. held_back kept.geometry view holdings n left) blocks;
     }

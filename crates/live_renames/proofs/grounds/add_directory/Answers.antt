@@ -5,7 +5,6 @@ use Rattle.frozen.specs.Kept.{frozen_view}
 use Rattle.model.specs.Layout.{is_number}
 use Rattle.model.specs.Shape.{is_table, most_blocks, tables}
 use Rattle.model.specs.Uses.{blocks_of, is_directory, is_sound, is_sound_at}
-use Rattle.model.specs.View.{Inode}
 use Rattle.model.proofs.SlotLemmas.{directory_number}
 use Rattle.model.proofs.Uses.{sound_few}
 use Rattle.updates.specs.Values.{cell}
@@ -49,7 +48,7 @@ returns c =
     let view = frozen_view c.args.frozen.now in
     let d = c.args.directory in
     let inv = c.loop-table.invariant in
-    let blocks : c.blocks-2.result ≡ blocks_of (view.inode d).size = c.blocks-2.ensures ∙ ap (λ (i : Inode). blocks_of i.size) c.record.ensures in
+    let blocks : c.blocks-2.result ≡ blocks_of (view.inode d).size = c.blocks-2.ensures in
     let end : c.tables_end-end.result ≡ most_blocks geo + tables (blocks_of (view.inode d).size) =
     c.tables_end-end.ensures.end ∙ ap (λ g. most_blocks g + tables c.blocks-2.result) c.geometry-geometry.ensures.geometry ∙ ap (λ n. most_blocks geo + tables n) blocks in
     let at : c.loop-table.table ≡ most_blocks geo + tables (blocks_of (view.inode d).size) = omega (arith, c.loop-table-test.false, inv.2, end) in
@@ -67,6 +66,6 @@ tables_end-end-requires c =
     let d = c.args.directory in
     let sound = (and_parts (is_sound_at geo view d) (is_directory (view.inode d)) c.requires).0 in
     let few = sound_few geo (view.inode d) (and_parts (is_number geo d) (is_sound geo (view.inode d)) sound).1 in
-    let blocks : c.blocks-2.result ≡ blocks_of (view.inode d).size = c.blocks-2.ensures ∙ ap (λ (i : Inode). blocks_of i.size) c.record.ensures in
+    let blocks : c.blocks-2.result ≡ blocks_of (view.inode d).size = c.blocks-2.ensures in
     let most = ap most_blocks c.geometry-geometry.ensures.geometry in
     omega (arith, few, blocks, most)

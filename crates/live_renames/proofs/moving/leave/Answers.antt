@@ -27,20 +27,20 @@ record-record-requires c =
     let kept = c.args.metadata.now in
     subst (λ (k : Kept). IsTrue (is_number k.geometry c.args.found.now.number)) (sym c.frozen.ensures.same) (found_number kept.geometry (frozen_view kept) c.requires.found.0 c.args.found.now c.requires.found.1)
 
-pub push-requires-2-clause-changed : goal.push-requires-2-clause-changed
-push-requires-2-clause-changed c =
+pub set_record-requires-clause-number : goal.set_record-requires-clause-number
+set_record-requires-clause-number c =
     let kept = c.args.metadata.now in
     subst (λ geo. IsTrue (is_number geo c.args.found.now.number)) (sym (c.in_ok-empty_slot.ensures.geometry ∙ c.requires.geometry)) (found_number kept.geometry (frozen_view kept) c.requires.found.0 c.args.found.now c.requires.found.1)
 
-pub push-requires-2-clause-fits : goal.push-requires-2-clause-fits
-push-requires-2-clause-fits c =
+pub set_record-requires-clause-fits : goal.set_record-requires-clause-fits
+set_record-requires-clause-fits c =
     let kept = c.args.metadata.now in
     let n = c.args.found.now.number in
     written_fits kept c.empty_slot.new.plan.geometry n c.record-record.result c.record-record.result (c.in_ok-empty_slot.ensures.geometry ∙ c.requires.geometry)
     (c.record-record.ensures ∙ record_there c.frozen.result.now kept n c.frozen.ensures.same) refl
 
-pub push-requires-2-clause-after : goal.push-requires-2-clause-after
-push-requires-2-clause-after c =
+pub set_record-requires-clause-after : goal.set_record-requires-clause-after
+set_record-requires-clause-after c =
     let kept = c.args.metadata.now in
     let geo = c.empty_slot.new.plan.geometry in
     let address = subst (λ g. IsTrue (is_data_address g c.args.found.now.block)) (sym (c.in_ok-empty_slot.ensures.geometry ∙ c.requires.geometry)) (found_claim kept.geometry (frozen_view kept) c.requires.found.0 c.args.found.now c.requires.found.1).1 in
@@ -50,7 +50,7 @@ pub returns : goal.returns
 returns c = λ view shows.
     let kept = c.args.metadata.now in
     let found = c.args.found.now in
-    left_goes_on c.args.plan.now c.empty_slot.new.plan c.push-2.new.self found.number found.block found.slot (view.inode found.number) c.record-record.result (view.bytes found.block) (map cell c.args.after.items) (map cell c.push.new.self.items)
+    left_goes_on c.args.plan.now c.empty_slot.new.plan c.set_record.new.self found.number found.block found.slot (view.inode found.number) c.record-record.result (view.bytes found.block) (map cell c.args.after.items) (map cell c.push.new.self.items)
     (c.record-record.ensures ∙ record_there c.frozen.result.now kept found.number c.frozen.ensures.same ∙ shows.inode found.number)
     (ap (map cell) (c.in_ok-push.ensures.ok ∙ ap (λ xs. xs ++ Block found.block ∷ []) c.new-emptied.ensures.items))
-    (c.in_ok-empty_slot.ensures.emptied view shows) c.in_ok-push-2.ensures
+    (c.in_ok-empty_slot.ensures.emptied view shows) c.in_ok-set_record.ensures

@@ -8,8 +8,8 @@ use Rattle.live_plans.proofs.Fitting.{written_fits}
 use Rattle.live_renames.proofs.MoveLemmas.{raises, record_there}
 use Rattle.live_renames.proofs.moving.raise.Goals as goal
 
-pub push-requires-clause-fits : goal.push-requires-clause-fits
-push-requires-clause-fits c =
+pub set_record-requires-clause-fits : goal.set_record-requires-clause-fits
+set_record-requires-clause-fits c =
     let kept = c.args.metadata.now in
     let n = c.args.number in
     let was : Inode = record { mode = c.record.inside.mode; links = c.record.inside.links; size = c.record.inside.size; direct = c.record.inside.direct; indirect = c.record.inside.indirect; double = c.record.inside.double; attributes = c.record.inside.attributes } in
@@ -22,4 +22,4 @@ returns c =
     let n = c.args.number in
     let is : (record { mode = c.record.inside.mode; links = c.record.inside.links; size = c.record.inside.size; direct = c.record.inside.direct; indirect = c.record.inside.indirect; double = c.record.inside.double; attributes = c.record.inside.attributes }) ≡ (frozen_view kept).inode n =
     c.record.view_is ∙ c.record-record.ensures ∙ record_there c.frozen.result.now kept n c.frozen.ensures.same in
-    on_ok_weaker c.push.result (raises n _ ((frozen_view kept).inode n) (map cell c.new.result.items) c.args.plan.now c.push.new.self is (ap (map cell) c.new.ensures.items)) c.push.ensures
+    on_ok_weaker c.set_record.result (raises n _ ((frozen_view kept).inode n) (map cell c.new.result.items) c.args.plan.now c.set_record.new.self is (ap (map cell) c.new.ensures.items)) c.set_record.ensures

@@ -25,8 +25,8 @@ returns-then-not-is_open c = λ view shows.
     (map cell c.new-after.result.items) (ap (map cell) c.new-after.ensures.items) c.frozen-frozen.ensures.metadata c.frozen-frozen.result.now same
     c.if-links-eq0.true (sym c.is_open.ensures ∙ c.if-not-is_open.true) c.in_ok-holds.ensures.plan c.in_ok-holds.ensures.holds
 
-pub push-requires-clause-fits : goal.push-requires-clause-fits
-push-requires-clause-fits c =
+pub set_record-requires-clause-fits : goal.set_record-requires-clause-fits
+set_record-requires-clause-fits c =
     let kept = c.args.metadata.now in
     let same = c.frozen-frozen.ensures.same in
     let was : Inode = record { mode = c.record.inside.mode; links = c.record.inside.links; size = c.record.inside.size; direct = c.record.inside.direct; indirect = c.record.inside.indirect; double = c.record.inside.double; attributes = c.record.inside.attributes } in
@@ -51,5 +51,5 @@ returns c = λ view shows.
     ] in
     relink_stays kept view shows c.args.holdings.now n links c.new-plan.result c.without_holds.result.plan c.without_holds.result.holds.items start
     (map cell c.new-after.result.items) (ap (map cell) c.new-after.ensures.items) why was is
-    (subst (λ (d : Draft). GoesOn c.new-plan.result d (λ q. record { change = SetInode n (with_links was links); after = map cell c.new-after.result.items } ∷ q)) (sym c.without_holds.ensures.plan) c.in_ok-push.ensures)
+    (subst (λ (d : Draft). GoesOn c.new-plan.result d (λ q. record { change = SetInode n (with_links was links); after = map cell c.new-after.result.items } ∷ q)) (sym c.without_holds.ensures.plan) c.in_ok-set_record.ensures)
     c.without_holds.ensures.holds

@@ -4,7 +4,7 @@ use Rattle.std.proofs.lemmas.Bool.{cases_lt}
 use Rattle.model.specs.Shape.{most_blocks, position_count, tables}
 use Rattle.model.specs.Uses.{blocks_of}
 use Rattle.model.specs.View.{Inode}
-use Rattle.model.specs.Cells.{SetInode}
+use Rattle.model.specs.Cells.{SetInode, Update}
 use Rattle.frozen.specs.Kept.{frozen_view}
 use Rattle.live_snapshots.specs.Orphans.{Adds, FreesToo, is_claimed_below}
 use Rattle.live_snapshots.proofs.Freeing.{all_go, goes_on, number_goes, to_tables}
@@ -15,7 +15,7 @@ loop-position-init c =
     let geo = c.args.frozen.now.geometry in
     let view = frozen_view c.args.frozen.now in (
       number_goes geo view c.args.number c.args.updates.now.items c.push.new.updates.items c.push-2.new.updates.items c.requires
-          (subst (λ (r : Inode). Adds (SetInode c.args.number r) c.args.updates.now.items c.push.new.updates.items) c.free_record.ensures c.in_ok-push.ensures) c.in_ok-push-2.ensures,
+          (subst (λ (r : Inode). Adds (SetInode c.args.number r) c.args.updates.now.items c.push.new.updates.items) c.free_record.ensures (subst (λ (u : Update). Adds u c.args.updates.now.items c.push.new.updates.items) c.in_ok-of_record.ensures c.in_ok-push.ensures)) c.in_ok-push-2.ensures,
       omega arith,
     )
 
@@ -43,9 +43,8 @@ loop-table-init c =
     let last : c.tables_end-last.result ≡ most_blocks geo + tables end = c.tables_end-last.ensures.end ∙ ap (λ g. most_blocks g + tables end) c.geometry-geometry.ensures.geometry in
     let inside : end ≤ most_blocks geo = omega (arith, c.min-end.ensures, most) in
     let at : c.loop-position.position ≡ end = omega (arith, c.loop-position-test.false, c.loop-position.invariant.1) in
-    let size = ap (λ (i : Inode). i.size) c.record.ensures in
     let all : (blocks_of (view.inode n).size ≤ end) ⊎ (most_blocks geo ≤ end) = elim (cases_lt end (most_blocks geo)) [
-      | inl short ↦ inl (omega (arith, short, c.min-end.ensures, most, c.blocks-2.ensures, size))
+      | inl short ↦ inl (omega (arith, short, c.min-end.ensures, most, c.blocks-2.ensures))
       | inr full ↦ inr full
     ] in (
       subst (λ m. FreesToo geo (λ i. eqb i n) (is_claimed_below geo view n m) old c.loop-position.updates.items) (sym first)
@@ -76,9 +75,8 @@ returns c =
     let most : c.most_blocks.result ≡ most_blocks geo = c.most_blocks.ensures.count ∙ ap most_blocks c.geometry-geometry.ensures.geometry in
     let last : c.tables_end-last.result ≡ most_blocks geo + tables end = c.tables_end-last.ensures.end ∙ ap (λ g. most_blocks g + tables end) c.geometry-geometry.ensures.geometry in
     let inside : end ≤ most_blocks geo = omega (arith, c.min-end.ensures, most) in
-    let size = ap (λ (i : Inode). i.size) c.record.ensures in
     let all : (blocks_of (view.inode n).size ≤ end) ⊎ (most_blocks geo ≤ end) = elim (cases_lt end (most_blocks geo)) [
-      | inl short ↦ inl (omega (arith, short, c.min-end.ensures, most, c.blocks-2.ensures, size))
+      | inl short ↦ inl (omega (arith, short, c.min-end.ensures, most, c.blocks-2.ensures))
       | inr full ↦ inr full
     ] in
     let positions = ap position_count c.geometry-geometry.ensures.geometry in

@@ -38,8 +38,8 @@ enlarge-requires-clause-fits c =
     written_fits c.args.metadata.now c.link.new.plan.geometry i c.args.new.now.owner c.args.new.now.owner (c.in_ok-linked.ensures.geometry ∙ c.requires.geometry)
     c.requires.owner refl
 
-pub push-requires-clause-fits : goal.push-requires-clause-fits
-push-requires-clause-fits c =
+pub set_record-requires-clause-fits : goal.set_record-requires-clause-fits
+set_record-requires-clause-fits c =
     let kept = c.args.metadata.now in
     let i = c.args.new.now.number in
     let same = c.requires.owner in
@@ -53,8 +53,8 @@ pub enlarge-requires-clause-after : goal.enlarge-requires-clause-after
 enlarge-requires-clause-after c =
     subst (λ (g : Geometry). All (IsCell g) (map cell c.in_ok-linked.linked.after.items)) (sym (c.in_ok-linked.ensures.geometry ∙ c.requires.geometry)) c.in_ok-linked.ensures.links.cells
 
-pub push-requires-clause-after : goal.push-requires-clause-after
-push-requires-clause-after c =
+pub set_record-requires-clause-after : goal.set_record-requires-clause-after
+set_record-requires-clause-after c =
     subst (λ (g : Geometry). All (IsCell g) (map cell c.in_ok-linked.linked.after.items)) (sym (c.in_ok-linked.ensures.geometry ∙ c.requires.geometry)) c.in_ok-linked.ensures.links.cells
 
 pub returns-then-is_some : goal.returns-then-is_some
@@ -96,7 +96,7 @@ returns c =
           let some : not (eqb (length tables) 0) ≡ true = ap not (sym c.is_empty.ensures ∙ w.if-is_empty.false) in
           which_record kept i k b tables c.requires.tables ∙ ap (λ s. s || not (is_some (table_of kept.geometry k))) some
     ] in
-    on_ok_weaker c.push.result
-    (λ sets. in_record kept.geometry i ((frozen_view kept).inode i) k b c.args.size c.args.plan.now c.link.new.plan c.push.new.self (holder_at kept i k b tables) c.in_ok-linked.linked.record given c.args.new.now.owner
+    on_ok_weaker c.set_record.result
+    (λ sets. in_record kept.geometry i ((frozen_view kept).inode i) k b c.args.size c.args.plan.now c.link.new.plan c.set_record.new.self (holder_at kept i k b tables) c.in_ok-linked.linked.record given c.args.new.now.owner
     (map cell c.in_ok-linked.linked.after.items) of_record same c.in_ok-linked.ensures.links sized_so sets)
-    c.push.ensures
+    c.set_record.ensures

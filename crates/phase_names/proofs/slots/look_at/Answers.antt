@@ -1,7 +1,6 @@
 -- No slot stands past the last block.
 use Rattle.std.proofs.Common.{◌≡◌, ◌*◌, ap, ◌∙◌, arith}
 use Rattle.frozen.specs.Kept.{frozen_view}
-use Rattle.model.specs.View.{Inode}
 use Rattle.model.specs.Uses.{blocks_of}
 use Rattle.model.proofs.NamedLemmas.{no_slot_past}
 use Rattle.phase_names.specs.Told.{Told}
@@ -14,7 +13,7 @@ returns-clause-told c =
     let geo = c.args.frozen.now.geometry in
     let view = frozen_view c.args.frozen.now in
     let d = c.args.directory in
-    let blocks : c.blocks-position-end.result ≡ blocks_of (view.inode d).size = c.blocks-position-end.ensures ∙ ap (λ (n : Inode). blocks_of n.size) c.record.ensures in
+    let blocks = c.blocks-position-end.ensures in
     let few = few_blocks geo view d c.requires in
     let at_end : c.loop-position.position ≡ blocks_of (view.inode d).size = omega arith in
     walked_told geo view d (16 * c.loop-position.position) (λ q from. no_slot_past geo view d q (omega (arith, from, at_end))) c.loop-position.walk c.new.result

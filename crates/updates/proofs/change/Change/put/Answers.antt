@@ -1,5 +1,7 @@
 use Rattle.std.proofs.Common.{◌%◌, List, ℕ, sym, ap, subst, rules, arith}
 use Rattle.std.specs.Arc.{arc_value}
+use Rattle.model.specs.Cells.{SetInode}
+use Rattle.model.specs.View.{Inode}
 use Rattle.ordering.specs.Cuts.{cell_of}
 use Rattle.cgmaps.specs.Maps.{ChangesBit}
 use Rattle.updates.specs.declared.change.Change.{Change}
@@ -11,7 +13,8 @@ use Rattle.updates.proofs.CellPuts.{PutsCell, record_put, number_put, block_put,
 use Rattle.updates.proofs.change.Change.put.Goals as goal
 
 pub put_record-requires-clause-fits : goal.put_record-requires-clause-fits
-put_record-requires-clause-fits c = subst (λ s. FitsVolume c.args.geometry.now (change s)) c.in-SetInode.is c.requires.fits
+put_record-requires-clause-fits c =
+    subst (λ (r : Inode). FitsVolume c.args.geometry.now (SetInode c.in-SetInode.number r)) (sym c.deref.ensures) (subst (λ s. FitsVolume c.args.geometry.now (change s)) c.in-SetInode.is c.requires.fits)
 
 pub returns-in-SetInode-clause-view : goal.returns-in-SetInode-clause-view
 returns-in-SetInode-clause-view c =
@@ -20,7 +23,8 @@ returns-in-SetInode-clause-view c =
     let new = c.put_record.new.block in
     let P : Change → Type 0 = λ s. IsCell geo (cell_of (change s)) → PutsCell geo old new (change s) in
     subst P (sym c.in-SetInode.is)
-    (λ t. record_put geo c.inodes_a_group-inodes.ensures.geometry old new c.in-SetInode.number c.in-SetInode.record t c.put_record.ensures.written c.put_record.ensures.others)
+    (λ t. subst (λ (r : Inode). PutsCell geo old new (SetInode c.in-SetInode.number r)) c.deref.ensures
+    (record_put geo c.inodes_a_group-inodes.ensures.geometry old new c.in-SetInode.number c.deref.result.now t c.put_record.ensures.written c.put_record.ensures.others))
     c.requires.cell
 
 pub returns-in-SetNumber-clause-view : goal.returns-in-SetNumber-clause-view
@@ -57,7 +61,7 @@ returns-in-SetBytes-clause-view c =
     let bytes = arc_value c.in-SetBytes.bytes in
     let P : Change → Type 0 = λ s. IsCell geo (cell_of (change s)) → PutsCell geo old bytes (change s) in
     let Q : List ℕ → Type 0 = λ new. PutsCell geo old new (change c.args.self.now) in
-    subst Q (sym c.deref.ensures)
+    subst Q (sym c.deref-in-SetBytes.ensures)
     (subst P (sym c.in-SetBytes.is) (λ t. bytes_put geo c.inodes_a_group-inodes.ensures.geometry old bytes a t) c.requires.cell)
 
 pub returns-in-SetInode-clause-group_block : goal.returns-in-SetInode-clause-group_block
@@ -77,5 +81,5 @@ returns-in-Some-clause-group_block c =
 
 pub returns-in-SetBytes-clause-group_block : goal.returns-in-SetBytes-clause-group_block
 returns-in-SetBytes-clause-group_block c =
-    let alone : ChangesAlone c.args.geometry.now (change c.args.self.now) c.args.block.now c.deref.result.now = first_of (search rules, grind (arith, common_steps)) in
-    group_block_kept c.args.geometry.now c.inodes_a_group-inodes.ensures.geometry c.args.block.now c.deref.result.now (change c.args.self.now) c.requires.cell alone
+    let alone : ChangesAlone c.args.geometry.now (change c.args.self.now) c.args.block.now c.deref-in-SetBytes.result.now = first_of (search rules, grind (arith, common_steps)) in
+    group_block_kept c.args.geometry.now c.inodes_a_group-inodes.ensures.geometry c.args.block.now c.deref-in-SetBytes.result.now (change c.args.self.now) c.requires.cell alone
