@@ -1,4 +1,4 @@
-"""Mounts volumes by bin/fsvol-mount, and other file systems beside them, for bench/mounted and bench/kills. All of it needs root."""
+"""Mounts volumes by bin/fsvol-mount, and other file systems beside them, for bench/mounted, bench/stressed and bench/kills. All of it needs root."""
 import os
 import subprocess
 import sys
@@ -72,6 +72,39 @@ class Volume:
         status = self.script.wait(SECONDS)
         self.told.close()
         return status
+
+
+class Kind:
+    """A file system that is measured: `fsvol`, `fuse2fs`, or the kernel's own of this name, such as ext4. The last two have images of 256 MiB in
+    the kernel's layout, with blocks of 1 KiB."""
+
+    def __init__(self, name, program, folder, geometry, own):
+        self.name, self.program, self.own, self.volume, self.child = name, program, own, None, None
+        self.image, self.place = os.path.join(folder, 'image'), os.path.join(folder, 'place')
+        os.makedirs(self.place)
+        if name == 'fsvol':
+            run([program, 'mkfs', self.image, *geometry])
+        else:
+            run(['truncate', '-s', '256M', self.image])
+            run(['mkfs.' + own, '-q', '-b', '1024', '-N', '65536', self.image])
+
+    def mount(self):
+        if self.name == 'fsvol':
+            self.volume = Volume(self.program, self.image, self.place)
+        elif self.name == self.own:
+            run(['mount', '-o', 'loop', '-t', self.own, self.image, self.place])
+        else:
+            self.child = subprocess.Popen(['fuse2fs', '-f', '-o', 'rw', self.image, self.place], stdin=subprocess.DEVNULL, stdout=subprocess.DEVNULL,
+                                          stderr=subprocess.DEVNULL)
+            until('fuse2fs', lambda: os.path.ismount(self.place))
+
+    def leave(self):
+        if self.volume:
+            self.volume.leave()
+        else:
+            run(['umount', self.place])
+            if self.child:
+                self.child.wait(60)
 
 
 def is_mounted(folder):
