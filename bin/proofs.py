@@ -7,13 +7,13 @@ import sys
 import tempfile
 import threading
 
-from toolchain import copy_crates, count_memory_as_seen
+from toolchain import copy_crates, count_memory_as_seen, look_once
 
 
 @contextlib.contextmanager
 def in_copy(rt, top):
     """Goes into a copy of the repository, so that what other commands of the toolchain left in the crates' folders stays; checks run side by side there as memory bears it."""
-    rt.rtlib.Crate.below = functools.cache(rt.rtlib.Crate.below)
+    look_once(rt)
     count_memory_as_seen(rt)
     rt.Crate.cuts_libraries = True
     rt.rtlib.guarded()

@@ -1,4 +1,5 @@
 """The toolchain's command `rt` as a module, and what of it is not in each kit."""
+import functools
 import importlib.machinery
 import importlib.util
 import inspect
@@ -16,6 +17,15 @@ def toolchain():
     sys.modules['rtmain'] = rt
     loader.exec_module(rt)
     return rt
+
+
+def look_once(rt):
+    """Has the toolchain look once at what stands below a crate and at the sum of its files, and not along each path that leads to it: to the
+    highest crates there are 900,000."""
+    crate = rt.rtlib.Crate
+    crate.below = functools.cache(crate.below)
+    if hasattr(crate, 'stamp'):
+        crate.stamp = functools.cache(crate.stamp)
 
 
 class NothingKept:
