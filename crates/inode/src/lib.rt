@@ -76,7 +76,7 @@ impl Record {
         record
     }
 
-    /// Reads a record but for its attributes, which it leaves at 0. They are most of the bytes, and nothing that is found or
+    /// Reads a record but for its attributes, which it leaves at 0. They are half of the bytes, and nothing that is found or
     /// planned for an inode's blocks is told by them.
     pub fn read_without_attributes(version: u32, bytes: &[u8; RECORD_BYTES]) -> Record
         ensures { result ≡ without_attributes (inode_at version bytes.now 0) }

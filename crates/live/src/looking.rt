@@ -71,10 +71,10 @@ impl<D: Device> Live<D> {
 }
 
 /// The kind of a sound record.
-fn kind_of(record: &Record) -> Kind
-    ensures { result ≡ kind_of record.now }
+fn kind_of(inode: &Record) -> Kind
+    ensures { result ≡ kind_of inode.now }
 {
-    if record.is_directory() {
+    if inode.is_directory() {
         Kind::Directory
     } else {
         Kind::File
