@@ -3,8 +3,8 @@
 //! those of a record of zeroes, say that none were kept. No call takes memory.
 #![tactic(auto)]
 
-ghost use Rattle.std.specs.Prelude.{◌≡◌, ◌<◌, ◌/◌, ◌%◌, ◌^◌, ◌≤◌, MatchOption, length, replicate, slice_index};
-ghost use Rattle.attributes.specs.Words.{Fits, words_of};
+ghost use Rattle.std.specs.Prelude.{◌≡◌, ◌<◌, ◌+◌, ◌*◌, ◌/◌, ◌%◌, ◌^◌, ◌≤◌, MatchOption, Some, length, replicate, slice_index};
+ghost use Rattle.attributes.specs.Words.{Fits, attributes_in, words_of};
 ghost use Rattle.attributes.specs.Kinds as kinds;
 
 use inode::ATTRIBUTES;
@@ -44,7 +44,8 @@ pub struct Attributes {
 impl Attributes {
     /// The attributes that these numbers are; none where no attributes were kept.
     pub fn read(words: &[u32; ATTRIBUTES]) -> Option<Attributes>
-        ensures { MatchOption result ((a : Attributes) → Fits a → words_of a ≡ words.now → ⊥) (λ a. Fits a × (words_of a ≡ words.now)) }
+        ensures value { result ≡ attributes_in words.now }
+        ensures same { MatchOption result ((a : Attributes) → Fits a → words_of a ≡ words.now → ⊥) (λ a. Fits a × (words_of a ≡ words.now)) }
     {
         let [mark, mode, user, group, device, generation, spare, ..] = *words;
         if mark != MARK || spare != 0 || mode > u32::from(u16::MAX) {
@@ -95,7 +96,7 @@ impl Attributes {
 }
 
 /// The kind of an inode of which this mode is kept.
-fn kind_of(is_directory: bool, mode: u16) -> u16
+pub fn kind_of(is_directory: bool, mode: u16) -> u16
     ensures kind { result ≡ kinds.kind_of is_directory mode }
     ensures low { result < 16 }
 {
@@ -131,6 +132,7 @@ fn time_of(lower: u32, upper: u32, nanoseconds: u32) -> Time
     ensures lower { result.seconds % 2 ^ 32 ≡ lower }
     ensures upper { result.seconds / 2 ^ 32 ≡ upper }
     ensures nanoseconds { result.nanoseconds ≡ nanoseconds }
+    ensures whole { result ≡ record { seconds = upper * 2 ^ 32 + lower; nanoseconds = nanoseconds } }
 {
     Time {
         seconds: u64::from(upper) * HALF + u64::from(lower),
@@ -138,8 +140,10 @@ fn time_of(lower: u32, upper: u32, nanoseconds: u32) -> Time
     }
 }
 
-/// Attributes are read back as they were written (`same`), and a record of zeroes keeps none (`none`): a law.
+/// Attributes are read back as they were written (`back`), so no two are written alike (`same`), and a record of zeroes keeps none
+/// (`none`): a law.
 pub fn attributes_are_read_back()
+    ensures back { (a : Attributes) → Fits a → attributes_in (words_of a) ≡ Some a }
     ensures same { (a b : Attributes) → words_of a ≡ words_of b → a ≡ b }
     ensures none { (a : Attributes) → words_of a ≡ replicate 16 0 → ⊥ }
     ensures long { (a : Attributes) → length (words_of a) ≡ 16 }

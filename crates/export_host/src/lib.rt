@@ -3,5 +3,6 @@
 #![tactic(auto)]
 
 mod getting;
+mod making;
 
-pub use getting::{Copies, get, get_from_file};
+pub use getting::{Contents, Copies, get, get_from_file};

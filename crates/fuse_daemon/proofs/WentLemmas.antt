@@ -2,6 +2,8 @@
 use Rattle.std.proofs.Common.{◌≡◌, ℕ, List, [], ◌∷◌, ◌++◌, map, IfOk, Option, Some, None, Result, Ok, Err, refl, sym, ap, subst, ◌∙◌}
 use Rattle.std.proofs.lemmas.List.{map-append}
 use Rattle.std.specs.List.{AllZip}
+use Rattle.std.specs.Prelude.{unwrap_or}
+use Rattle.attributes.specs.declared.Time.{Time}
 use Rattle.device.specs.Media.{Held}
 use Rattle.layout.specs.declared.refusal.Refusal.{Refusal}
 use Rattle.shared.specs.Opened.{Opened, opened_of}
@@ -13,12 +15,12 @@ use Rattle.snapshot.specs.Goes.{Goes, Runs}
 use Rattle.snapshot.specs.declared.answer.Answer.{Answer}
 use Rattle.snapshot.specs.declared.command.Command.{Command}
 use Rattle.fuse_writer.specs.Turns.{Call, GoesBy}
-use Rattle.fuse_daemon.specs.Services.{Begins, ByTurn, IsPart, More, Parts, TurnsSome, Unread, Went}
+use Rattle.fuse_daemon.specs.Services.{Begins, ByTurn, IsPart, More, Parts, TurnsAt, TurnsSome, Unread, Went, timed}
 use Rattle.fuse_loop.specs.Tended.{TurnsTended}
 use Rattle.fuse_wire.specs.declared.requests.Head.{Head}
 use Rattle.fuse_wire.specs.Requests.{Asked, decode}
 use Rattle.fuse_writer.specs.Answers.{IsTurn}
-use Rattle.fuse_writer.specs.Desks.{AtDesk, begun, ended}
+use Rattle.fuse_writer.specs.Desks.{AtDesk, at_time, begun, ended}
 use Rattle.fuse_reader.specs.declared.desk.Turned.{Turned}
 
 zip_append : {A B : Type 0} (R : A → B → Type 0) (xs xs' : List A) (ys ys' : List B) → AllZip R xs ys → AllZip R xs' ys' → AllZip R (xs ++ xs') (ys ++ ys')
@@ -78,17 +80,31 @@ module _ {D : Type 0} (honest : D → Type 0) (held_of : D → Held) (image_of :
   }
 
   -- a turn from a desk of which this is known
-  pub turns_some : {E : Type 0} (begins : Opened → Type 0) (old new : AtDesk D) (message reply : List ℕ) (outcome : Result Turned E) → Went honest held_of image_of begins old
-      → IfOk outcome (λ turned. TurnsTended honest held_of image_of old message turned reply new)
+  pub turns_at : {E : Type 0} (begins : Opened → Type 0) (time : Option Time) (old new : AtDesk D) (message reply : List ℕ) (outcome : Result Turned E)
+      → Went honest held_of image_of begins old
+      → IfOk outcome (λ turned. TurnsTended honest held_of image_of (timed (unwrap_or time old.session.time) old) message turned reply new)
+      → IfOk outcome (λ turned. TurnsAt honest held_of image_of begins time message turned reply)
+  turns_at begins time old new message reply (Ok turned) went turn = record { old = old; new = new; went = went; turn = turn }
+  turns_at begins time old new message reply (Err e) went turn = tt
+
+  pub at_some_time : {E : Type 0} (begins : Opened → Type 0) (time : Option Time) (message reply : List ℕ) (outcome : Result Turned E)
+      → IfOk outcome (λ turned. TurnsAt honest held_of image_of begins time message turned reply)
       → IfOk outcome (λ turned. TurnsSome honest held_of image_of begins message turned reply)
-  turns_some begins old new message reply (Ok turned) went turn = record { old = old; new = new; went = went; turn = turn }
-  turns_some begins old new message reply (Err e) went turn = tt
+  at_some_time begins time message reply (Ok turned) turn = (time, turn)
+  at_some_time begins time message reply (Err e) turn = tt
+
+-- the time of a turn: the one that was told, or else that of the turn before
+pub time_told : {D : Type 0} (time : Option Time) (at own : Time) (old now : AtDesk D) → at ≡ unwrap_or time own → own ≡ now.session.time → now ≡ old
+    → at ≡ unwrap_or time old.session.time
+time_told {D = D} time at own old now e f same = e ∙ ap (unwrap_or time) (f ∙ ap (λ (desk : AtDesk D). desk.session.time) same)
 
 -- what is done by a turn, whatever it came to
-pub part_of_turn : {D T E : Type 0} (old new : AtDesk D) (message reply : List ℕ) (outcome : Result T E) → (decode message ≡ None → new.session ≡ old.session)
-    → ((head : Head) (asked : Asked) → decode message ≡ Some (head, asked) → IsTurn head asked (begun old) old.session outcome reply (ended new) new.session) → IsPart old new
-part_of_turn old new message reply outcome idle turn = go (decode message) refl
+pub part_of_turn : {D T E : Type 0} (old new : AtDesk D) (time : Time) (message reply : List ℕ) (outcome : Result T E)
+    → (decode message ≡ None → new.session ≡ at_time time old.session)
+    → ((head : Head) (asked : Asked) → decode message ≡ Some (head, asked) → IsTurn head asked (begun old) (at_time time old.session) outcome reply (ended new) new.session)
+    → IsPart old new
+part_of_turn old new time message reply outcome idle turn = go (decode message) refl
   where
     go : (o : Option (Head × Asked)) → decode message ≡ o → IsPart old new
-    go None e = Unread message e (idle e)
-    go (Some p) e = let t = turn p.0 p.1 e in ByTurn message p.0 p.1 t.said e t.comes
+    go None e = Unread message time e (idle e)
+    go (Some p) e = let t = turn p.0 p.1 e in ByTurn message time p.0 p.1 t.said e t.comes

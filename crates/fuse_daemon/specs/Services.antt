@@ -1,5 +1,6 @@
 -- What a volume goes through while it is served.
-use Rattle.std.specs.Prelude.{◌≡◌, ℕ, Bool, true, false, List, [], ◌∷◌, ◌++◌, length, Option, Some, None, Result}
+use Rattle.std.specs.Prelude.{◌≡◌, ℕ, Bool, true, false, List, [], ◌∷◌, ◌++◌, length, unwrap_or, Option, Some, None, Result}
+use Rattle.attributes.specs.declared.Time.{Time}
 use Rattle.device.specs.Media.{Held}
 use Rattle.fsck.specs.Checked.{CheckedImage}
 use Rattle.fuse_daemon.specs.declared.mending.Mended.{Mended}
@@ -15,9 +16,9 @@ use Rattle.snapshot.specs.declared.answer.Answer.{Answer}
 use Rattle.snapshot.specs.declared.command.Command.{Command}
 use Rattle.snapshot.specs.declared.command.Command.TheVariants.{Flush, Freeze, Install, Release, Repair, Sync}
 use Rattle.fuse_writer.specs.Answers.{doing_of}
-use Rattle.fuse_writer.specs.Desks.{AtDesk, begun, ended}
+use Rattle.fuse_writer.specs.Desks.{AtDesk, at_time, begun, ended, with_links}
 use Rattle.fuse_writer.specs.Doings.{Does}
-use Rattle.fuse_writer.specs.Requests.{ends}
+use Rattle.fuse_writer.specs.Requests.{ends, settles_some}
 use Rattle.fuse_writer.specs.Turns.{Call, GoesBy}
 use Rattle.fuse_reader.specs.Said.{Said}
 use Rattle.fuse_reader.specs.declared.desk.Turned.{Turned}
@@ -32,14 +33,20 @@ is_upkeep (Flush address) = true
 is_upkeep Sync = true
 is_upkeep _ = false
 
--- What is done to a desk at one go: a turn does what the request of its message leads to; a command of upkeep is carried out between two turns; or all is
--- closed and written at the end of the service, as by DESTROY.
+-- What is done to a desk at one go: a turn does what the request of its message leads to; a command of upkeep is carried out between two turns, or some
+-- records get what is ahead of them, or the kernel may keep attributes for longer from now on; or all is closed and written at the end of the service, as by DESTROY.
 pub data IsPart {D : Type 0} (old new : AtDesk D) : Type 0 where
-  ByTurn : (message : List ℕ) (head : Head) (asked : Asked) (said : Said) → decode message ≡ Some (head, asked)
-      → Does (doing_of old.volume.kept old.session head.node asked) (begun old) old.session said (ended new) new.session → IsPart old new
-  Unread : (message : List ℕ) → decode message ≡ None → new.session ≡ old.session → IsPart old new
+  ByTurn : (message : List ℕ) (time : Time) (head : Head) (asked : Asked) (said : Said) → decode message ≡ Some (head, asked)
+      → Does (doing_of old.volume.kept (at_time time old.session) head asked) (begun old) (at_time time old.session) said (ended new) new.session → IsPart old new
+  Unread : (message : List ℕ) (time : Time) → decode message ≡ None → new.session ≡ at_time time old.session → IsPart old new
   Between : (command : Command) (reply : Result Answer Refusal) → is_upkeep command ≡ true → new.calls ≡ (command, reply) ∷ [] → new.session ≡ old.session → IsPart old new
+  Settled : (from count : ℕ) (said : Said) → Does (settles_some old.session from count) (begun old) old.session said (ended new) new.session → IsPart old new
+  LinksStay : new.calls ≡ [] → new.session ≡ with_links old.session → IsPart old new
   AtEnd : (said : Said) → Does (ends old.volume.kept old.session) (begun old) old.session said (ended new) new.session → IsPart old new
+
+-- so many records from one on get what is ahead of them, up to the first that is refused
+abbrev pub SettlesSome : {D : Type 0} → AtDesk D → ℕ → ℕ → AtDesk D → Type 0
+SettlesSome old from count new = (said : Said) × Does (settles_some old.session from count) (begun old) old.session said (ended new) new.session
 
 -- Parts led from one desk to the other, one after another, with these calls. The calls of each led from one volume to the next, and nothing else was done
 -- to it.
@@ -56,13 +63,22 @@ pub record Went {D : Type 0} (honest : D → Type 0) (held_of : D → Held) (ima
   pub parts : Parts honest held_of image_of first calls now
   pub goes : GoesBy honest held_of image_of first.volume calls now.volume
 
--- By this message a turn came to this, with this reply, from a desk of this service to another one.
-pub record TurnsSome {D : Type 0} (honest : D → Type 0) (held_of : D → Held) (image_of : D → List (List ℕ)) (begins : Opened → Type 0)
-    (message : List ℕ) (turned : Turned) (reply : List ℕ) : Type 0 where
+-- the desk, at this time
+abbrev pub timed : {D : Type 0} → Time → AtDesk D → AtDesk D
+timed time desk = record desk { session = at_time time desk.session }
+
+-- By this message a turn came to this, with this reply, from a desk of this service to another one: at this time, or where none was told at that of the
+-- turn before.
+pub record TurnsAt {D : Type 0} (honest : D → Type 0) (held_of : D → Held) (image_of : D → List (List ℕ)) (begins : Opened → Type 0)
+    (time : Option Time) (message : List ℕ) (turned : Turned) (reply : List ℕ) : Type 0 where
   pub old : AtDesk D
   pub new : AtDesk D
   pub went : Went honest held_of image_of begins old
-  pub turn : TurnsTended honest held_of image_of old message turned reply new
+  pub turn : TurnsTended honest held_of image_of (timed (unwrap_or time old.session.time) old) message turned reply new
+
+-- the same at some time
+abbrev pub TurnsSome : {D : Type 0} → (D → Type 0) → (D → Held) → (D → List (List ℕ)) → (Opened → Type 0) → List ℕ → Turned → List ℕ → Type 0
+TurnsSome honest held_of image_of begins message turned reply = (time : Option Time) × TurnsAt honest held_of image_of begins time message turned reply
 
 -- the same of a desk of which nothing else is told
 abbrev pub some_turn : {D : Type 0} → (D → Type 0) → (D → Held) → (D → List (List ℕ)) → (Opened → Type 0) → Turning (Unit {0})

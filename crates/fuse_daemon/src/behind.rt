@@ -4,6 +4,7 @@ ghost use Rattle.fuse_daemon.specs.Services.{TurnsSome};
 ghost use Rattle.fuse_loop.specs.Sessions.{IsDestroy};
 
 use crate::beginning::Beginning;
+use crate::clocked::time_of;
 use crate::locked::{Locked, Right};
 use device::Device;
 use fuse_loop::Answering;
@@ -11,6 +12,7 @@ use fuse_reader::Turned;
 use fuse_wire::Request;
 use std::alloc::AllocError;
 use std::sync::Wait;
+use std::time::Clock;
 
 /// A desk of which another thread asks too, until the one that serves has the right to.
 #[derive(Drop)]
@@ -39,22 +41,23 @@ impl<'a, D: Device + Drop, B: Beginning, R: Wait> Behind<'a, D, B, R> {
     }
 }
 
-impl<D: Device + Drop, B: Beginning, R: Wait> Answering for Behind<'_, D, B, R> {
+impl<D: Device + Drop, B: Beginning, R: Wait + Clock> Answering for Behind<'_, D, B, R> {
     ghost turns = { λ _ message turned reply _. TurnsSome D.honest D.held D.image B.begins message turned reply };
 
     ghost fails = { λ _ _ _. Unit {0} };
 
-    /// Answers a message under the lock. The last one waits before until the other thread is at its end, so that its turn writes
-    /// all, and nothing is changed behind its reply.
+    /// Answers a message under the lock, at the time that it is before. The last one waits before until the other thread is at its
+    /// end, so that its turn writes all, and nothing is changed behind its reply.
     fn turn(&mut self, message: &[u8], reply: &mut Vec<u8>) -> Result<Turned, AllocError> {
+        let time = time_of(self.rt);
         if !is_last(message) {
-            return self.locked.turn(self.rt, message, reply);
+            return self.locked.turn(self.rt, message, time, reply);
         }
         let right = match self.right.take() {
             Some(right) => right,
             None => self.locked.end(self.rt),
         };
-        let turned = self.locked.last_turn(self.rt, &right, message, reply);
+        let turned = self.locked.last_turn(self.rt, &right, message, time, reply);
         self.right = Some(right);
         turned
     }

@@ -1,5 +1,8 @@
 //! What is pending is written while the volume is served, a part of it each second.
-ghost use Rattle.std.specs.Prelude.{◌≡◌, None, IfOk, IfSome};
+ghost use Rattle.std.specs.Prelude.{◌≡◌, ◌↔◌, ◌<◌, ◌+◌, ◌-◌, min, IsTrue, None, IfOk, IfSome};
+ghost use Rattle.model.specs.Layout.{inode_count};
+ghost use Rattle.fuse_daemon.specs.Services.{SettlesSome};
+ghost use Rattle.fuse_writer.specs.Turns.{GoesBy};
 
 use crate::beginning::Beginning;
 use crate::going::Going;
@@ -14,6 +17,9 @@ use std::time::{Clock, Duration};
 
 /// How many blocks are flushed for each taking of the lock.
 const BLOCKS_AT_ONCE: u32 = 16;
+
+/// Of how many numbers of inodes the records are settled for each taking of the lock.
+const NUMBERS_AT_ONCE: u32 = 4096;
 
 /// How often one part goes over all blocks, at the most. What waits for many writes, one behind the other, is written in later
 /// ones.
@@ -40,6 +46,7 @@ pub(crate) fn flush_until_end<'a, D: Device + Drop, B: Beginning, F: OpenFile, R
         if let Some(token) = locked.rest(rt, Duration::from_secs(1)) {
             return Ok(Some(token));
         }
+        settle_all(rt, locked, right);
         if left > 1 {
             from = flush_share(rt, locked, right, medium, from, left)?;
             left -= 1;
@@ -49,6 +56,37 @@ pub(crate) fn flush_until_end<'a, D: Device + Drop, B: Beginning, F: OpenFile, R
         }
     }
     unreachable!()
+}
+
+/// Gives the records of all inodes what is ahead of them. What is refused is tried again the next time.
+fn settle_all<D: Device + Drop, B: Beginning, R: Wait>(
+    rt: &R,
+    locked: &Locked<D, B>,
+    right: &Right,
+) {
+    for part in 0..u32::MAX / NUMBERS_AT_ONCE {
+        let from = part * NUMBERS_AT_ONCE;
+        if !locked.settle_some(rt, right, from, NUMBERS_AT_ONCE) {
+            return;
+        }
+    }
+}
+
+/// Gives the records of so many inodes from this number on what is ahead of them, up to the first that is refused. Tells whether there
+/// are more behind.
+pub(crate) fn settle_some<D: Device + Drop, B: Beginning>(
+    going: &mut Going<D, B>,
+    from: u32,
+    count: u32,
+) -> bool
+    ensures more { IsTrue result ↔ (from + count < inode_count going.old.volume.kept.geometry) }
+    ensures does { SettlesSome going.old from (min (inode_count going.old.volume.kept.geometry - from) count) going.new }
+    ensures goes { GoesBy D.honest D.held D.image going.old.volume going.new.calls going.new.volume }
+{
+    let inodes = going.desk().volume().live().metadata().geometry().inodes();
+    let behind = inodes.saturating_sub(from);
+    let _ = going.settle(from, behind.min(count));
+    count < behind
 }
 
 /// Flushes a share of the blocks that may be written, those from this one on first, and gives the one to go on with.

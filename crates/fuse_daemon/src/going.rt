@@ -1,16 +1,22 @@
 //! The desk of a service, whose volume goes on by turns and by upkeep alone.
-ghost use Rattle.std.specs.Prelude.{◌≡◌, ◌↔◌, ◌∷◌, [], true, None, Some, IfOk};
-ghost use Rattle.fuse_daemon.specs.Services.{Went, is_upkeep};
+ghost use Rattle.std.specs.Prelude.{◌≡◌, ◌↔◌, ◌∷◌, ◌+◌, ◌<◌, ◌^◌, [], true, None, Some, IfOk};
+ghost use Rattle.fuse_daemon.specs.Services.{Went, is_upkeep, timed};
 ghost use Rattle.fuse_wire.specs.declared.requests.Head.{Head};
 ghost use Rattle.fuse_wire.specs.Requests.{Asked, decode};
 ghost use Rattle.fuse_loop.specs.Tended.{TurnsTended};
 ghost use Rattle.shared.specs.Opened.{opened_of};
+ghost use Rattle.fuse_writer.specs.Desks.{begun, ended, with_links};
+ghost use Rattle.fuse_writer.specs.Doings.{Does};
+ghost use Rattle.fuse_writer.specs.Requests.{settles_some};
+ghost use Rattle.fuse_writer.specs.Saying.{said_done};
 ghost use Rattle.fuse_writer.specs.Turns.{GoesBy};
 ghost use Rattle.fuse_reader.specs.Desks.{turned_of};
 
 use crate::beginning::Beginning;
+use attributes::Time;
 use device::Device;
 use fuse_reader::Turned;
+use fuse_wire::Errno;
 use fuse_writer::Desk;
 use snapshot::{Command, Reply};
 use std::alloc::AllocError;
@@ -46,14 +52,37 @@ impl<D: Device + Drop, B: Beginning> Going<D, B> {
         }
     }
 
-    /// Answers a message by a turn of the desk.
-    pub(crate) fn turn(&mut self, message: &[u8], reply: &mut Vec<u8>) -> Result<Turned, AllocError>
+    /// Answers a message by a turn of the desk at this time.
+    pub(crate) fn turn(
+        &mut self,
+        message: &[u8],
+        time: Time,
+        reply: &mut Vec<u8>,
+    ) -> Result<Turned, AllocError>
         ensures known { Went D.honest D.held D.image B.begins self.old }
         ensures unread { IfOk result (λ turned. (turned ≡ Turned.Unread) ↔ (decode message.now ≡ None)) }
         ensures turned { IfOk result (λ turned. (head : Head) (asked : Asked) → decode message.now ≡ Some (head, asked) → turned ≡ turned_of asked) }
-        ensures turn { IfOk result (λ turned. TurnsTended D.honest D.held D.image self.old message.now turned reply.new.items self.new) }
+        ensures turn { IfOk result (λ turned. TurnsTended D.honest D.held D.image (timed time self.old) message.now turned reply.new.items self.new) }
     {
-        self.desk.turn(message, reply)
+        self.desk.turn(message, time, reply)
+    }
+
+    /// Gives the records of so many inodes from this number on what is ahead of them, between two turns.
+    pub(crate) fn settle(&mut self, from: u32, count: u32) -> Result<(), Errno>
+        requires { from + count < 2 ^ 32 }
+        ensures goes { GoesBy D.honest D.held D.image self.old.volume self.new.calls self.new.volume }
+        ensures does { Does (settles_some self.old.session from count) (begun self.old) self.old.session (said_done result)
+            (ended self.new) self.new.session }
+    {
+        self.desk.settle(from, count)
+    }
+
+    /// No repair changes links any more: the kernel may keep attributes for longer.
+    pub(crate) fn links_stay(&mut self)
+        ensures goes { GoesBy D.honest D.held D.image self.old.volume self.new.calls self.new.volume }
+        ensures session { self.new.session ≡ with_links self.old.session }
+    {
+        self.desk.links_stay();
     }
 
     /// Carries out a command of upkeep between two turns.

@@ -1,6 +1,6 @@
 //! The lock round a desk, and how two threads wait for each other.
 ghost use Rattle.std.specs.Prelude.{◌≡◌, ◌↔◌, true, None, Some, IfErr, IfOk, IfSome};
-ghost use Rattle.fuse_daemon.specs.Services.{TurnsSome, Went, is_upkeep};
+ghost use Rattle.fuse_daemon.specs.Services.{TurnsAt, Went, is_upkeep};
 ghost use Rattle.fuse_wire.specs.declared.requests.Head.{Head};
 ghost use Rattle.fuse_wire.specs.Requests.{Asked, decode};
 ghost use Rattle.fuse_loop.specs.Sessions.{IsDestroy};
@@ -8,8 +8,9 @@ ghost use Rattle.shared.specs.Opened.{opened_of};
 ghost use Rattle.fuse_reader.specs.Desks.{turned_of};
 
 use crate::beginning::Beginning;
-use crate::flushing::{flush_some, ready_blocks};
+use crate::flushing::{flush_some, ready_blocks, settle_some};
 use crate::going::Going;
+use attributes::Time;
 use device::Device;
 use fuse_reader::Turned;
 use fuse_writer::Desk;
@@ -60,20 +61,22 @@ impl<D: Device + Drop, B: Beginning> Locked<D, B> {
         }
     }
 
-    /// Waits for the lock, and answers a message by a turn of the desk. It is not the last one.
+    /// Waits for the lock, and answers a message by a turn of the desk at this time; where no clock tells it, at that of the turn before.
+    /// It is not the last one.
     pub(crate) fn turn<R: Wait>(
         &self,
         rt: &R,
         message: &[u8],
+        time: Option<Time>,
         reply: &mut Vec<u8>,
     ) -> Result<Turned, AllocError>
         requires { IsDestroy message.now → ⊥ }
         ensures unread { IfOk result (λ turned. (turned ≡ Turned.Unread) ↔ (decode message.now ≡ None)) }
         ensures turned { IfOk result (λ turned. (head : Head) (asked : Asked) → decode message.now ≡ Some (head, asked) → turned ≡ turned_of asked) }
         // It was a turn of a desk of this service. No clause can name which one.
-        ensures some { IfOk result (λ turned. TurnsSome D.honest D.held D.image B.begins message.now turned reply.new.items) }
+        ensures some { IfOk result (λ turned. TurnsAt D.honest D.held D.image B.begins time message.now turned reply.new.items) }
     {
-        self.kept.lock(rt).going.turn(message, reply)
+        turn_at(&mut self.kept.lock(rt).going, message, time, reply)
     }
 
     /// Waits for the lock, and answers a message by a turn of the desk, which may be the last one: who has the right knows that
@@ -83,13 +86,14 @@ impl<D: Device + Drop, B: Beginning> Locked<D, B> {
         rt: &R,
         _right: &Right,
         message: &[u8],
+        time: Option<Time>,
         reply: &mut Vec<u8>,
     ) -> Result<Turned, AllocError>
         ensures unread { IfOk result (λ turned. (turned ≡ Turned.Unread) ↔ (decode message.now ≡ None)) }
         ensures turned { IfOk result (λ turned. (head : Head) (asked : Asked) → decode message.now ≡ Some (head, asked) → turned ≡ turned_of asked) }
-        ensures some { IfOk result (λ turned. TurnsSome D.honest D.held D.image B.begins message.now turned reply.new.items) }
+        ensures some { IfOk result (λ turned. TurnsAt D.honest D.held D.image B.begins time message.now turned reply.new.items) }
     {
-        self.kept.lock(rt).going.turn(message, reply)
+        turn_at(&mut self.kept.lock(rt).going, message, time, reply)
     }
 
     /// Waits for the lock, and carries out a command of upkeep.
@@ -97,6 +101,11 @@ impl<D: Device + Drop, B: Beginning> Locked<D, B> {
         requires { is_upkeep command.now ≡ true }
     {
         self.kept.lock(rt).going.ask(command)
+    }
+
+    /// Waits for the lock, and lets the kernel keep attributes for longer: no repair changes links any more.
+    pub(crate) fn links_stay<R: Wait>(&self, rt: &R, _right: &Right) {
+        self.kept.lock(rt).going.links_stay();
     }
 
     /// Waits for the lock, and counts the blocks that may be written.
@@ -113,6 +122,18 @@ impl<D: Device + Drop, B: Beginning> Locked<D, B> {
         count: u32,
     ) -> Result<u32, Refusal> {
         flush_some(&mut self.kept.lock(rt).going, from, count)
+    }
+
+    /// Waits for the lock, and gives the records of so many inodes from this number on what is ahead of them. Tells whether there are
+    /// more behind. What is refused stays ahead, and is tried again.
+    pub(crate) fn settle_some<R: Wait>(
+        &self,
+        rt: &R,
+        _right: &Right,
+        from: u32,
+        count: u32,
+    ) -> bool {
+        settle_some(&mut self.kept.lock(rt).going, from, count)
     }
 
     /// The thread beside begins to work, and takes the right; or the service is at its end, and what shows that is given.
@@ -187,4 +208,19 @@ impl<D: Device + Drop, B: Beginning> Locked<D, B> {
         } = kept.into_inner();
         going.into_desk()
     }
+}
+
+/// Answers a message by a turn of the desk at this time, or at that of the turn before.
+fn turn_at<D: Device + Drop, B: Beginning>(
+    going: &mut Going<D, B>,
+    message: &[u8],
+    time: Option<Time>,
+    reply: &mut Vec<u8>,
+) -> Result<Turned, AllocError>
+    ensures unread { IfOk result (λ turned. (turned ≡ Turned.Unread) ↔ (decode message.now ≡ None)) }
+    ensures turned { IfOk result (λ turned. (head : Head) (asked : Asked) → decode message.now ≡ Some (head, asked) → turned ≡ turned_of asked) }
+    ensures some { IfOk result (λ turned. TurnsAt D.honest D.held D.image B.begins time message.now turned reply.new.items) }
+{
+    let at = time.unwrap_or(going.desk().time());
+    going.turn(message, at, reply)
 }

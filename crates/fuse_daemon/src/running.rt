@@ -163,7 +163,7 @@ fn serve_beside<
 }
 
 /// Serves the desk behind the lock at a channel, and then tells the thread beside that the service is at its end.
-fn serve_locked<D: Device + Drop, B: Beginning, C: Channel, R: Wait>(
+fn serve_locked<D: Device + Drop, B: Beginning, C: Channel, R: Wait + Clock>(
     rt: &R,
     alloc: Global,
     locked: &Locked<D, B>,
@@ -212,6 +212,7 @@ fn attend<
             Err(refusal) => News::NotMended(refusal),
         });
     }
+    locked.links_stay(rt, &right);
     let flushed = flush_until_end(rt, locked, &right, medium, plan.seconds);
     locked.leave(rt, right);
     match flushed {

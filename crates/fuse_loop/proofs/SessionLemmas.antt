@@ -48,6 +48,8 @@ destroyed (requests.Forgotten a) e = absurd cc
 destroyed (requests.BatchForget a) e = absurd cc
 destroyed (requests.GetAttributes a) e = absurd cc
 destroyed (requests.SetAttributes a) e = absurd cc
+destroyed requests.ReadSymbolicLink e = absurd cc
+destroyed (requests.MakeSymbolicLink a b) e = absurd cc
 destroyed (requests.MakeNode a b c d) e = absurd cc
 destroyed (requests.MakeDirectory a b c) e = absurd cc
 destroyed (requests.Unlink a) e = absurd cc
@@ -70,6 +72,7 @@ destroyed (requests.Create a b c d) e = absurd cc
 destroyed (requests.Interrupt a) e = absurd cc
 destroyed requests.Destroy e = refl
 destroyed requests.SyncVolume e = absurd cc
+destroyed (requests.Allocate a b c d) e = absurd cc
 destroyed (requests.Other a) e = absurd cc
 
 pub is_destroy : {turned : Turned} (message : List ℕ) → (turned ≡ Unread) ↔ (decode message ≡ None)

@@ -13,6 +13,8 @@ impl<D: Device + Drop> Answering for Desk<D> {
     ghost fails = { FailsTended D.honest D.held D.image };
 
     fn turn(&mut self, message: &[u8], reply: &mut Vec<u8>) -> Result<Turned, AllocError> {
-        Desk::turn(self, message, reply)
+        // Without a clock it is the time that was told last.
+        let time = self.time();
+        Desk::turn(self, message, time, reply)
     }
 }

@@ -1,7 +1,10 @@
 -- What is shown of the image is what is shown of what is kept of it.
 use Rattle.std.proofs.Common.{◌≡◌, ◌<◌, ◌≤◌, ◌+◌, ◌*◌, ◌-◌, ◌/◌, ◌%◌, ◌&&◌, ℕ, zero, suc, Bool, true, false, cond, eqb, leb, ltb, min, List, [], ◌∷◌, ◌++◌, length, drop, take, Option, Some, None, Result, Ok, Err, OnErr, OnOk, inl, refl, sym, ap, ap₂, subst, ◌∙◌, arith}
-use Rattle.std.specs.Prelude.{bit_and, is_some, not}
-use Rattle.std.proofs.lemmas.Bool.{le-leb, le-ltb, lt-ltb}
+use Rattle.std.specs.Prelude.{bit_and, is_some, not, option_map, unwrap_or}
+use Rattle.attributes.specs.Kinds.{kind_of as number_of_kind, shown_mode}
+use Rattle.attributes.specs.Words.{attributes_in}
+use Rattle.attributes.specs.declared.Attributes.{Attributes as Own}
+use Rattle.std.proofs.lemmas.Bool.{eq-eqb, le-leb, le-ltb, lt-ltb, ne_eqb}
 use Rattle.census.specs.Census.{count_of}
 use Rattle.census.specs.declared.counting.Counted.TheVariants.{FreeBlocks, FreeNumbers, UsedBlocks, UsedNumbers}
 use Rattle.frozen.specs.Kept.{IsKeptOf, Kept, frozen_view}
@@ -9,7 +12,6 @@ use Rattle.fuse_wire.specs.declared.bodies.Attributes.{Attributes}
 use Rattle.fuse_wire.specs.declared.bodies.Body.TheVariants as bodies
 use Rattle.fuse_wire.specs.declared.bodies.Statistics.{Statistics}
 use Rattle.fuse_wire.specs.declared.entries.Kind.{Kind}
-use Rattle.fuse_wire.specs.declared.entries.Kind.TheVariants as kinds
 use Rattle.fuse_wire.specs.declared.errors.Errno.TheVariants as errors
 use Rattle.fuse_wire.specs.declared.numbers.Unique.{Unique}
 use Rattle.fuse_wire.specs.Fields.{numbers}
@@ -26,11 +28,11 @@ use Rattle.model.specs.Uses.{blocks_of, is_directory_at}
 use Rattle.model.specs.View.{Inode}
 use Rattle.fuse_nodes.specs.Table.{Table, id_of}
 use Rattle.fuse_reader.specs.declared.owner.Owner.{Owner}
-use Rattle.fuse_reader.specs.Listings.{Listing, add_bytes, add_slot, kind_of, listed, listing_from}
+use Rattle.fuse_reader.specs.Listings.{Listing, add_bytes, add_slot, kind_numbered, kind_of, listed, listing_from}
 use Rattle.fuse_reader.specs.Pieces.{lacks_block, piece_blocks, piece_end, piece_of, seen_from}
 use Rattle.fuse_reader.specs.Said.{Said, Refused, Says, Told, spelled, told}
-use Rattle.fuse_reader.specs.Shown.{attributes_of, kept_time, room_of}
-use Rattle.fuse_reader.specs.Turns.{attributes_said, directory_opened, entry_said, is_below_root, listed_said, looked_up, on_inode, opened_said, piece_said, read_said, sized, told_of, told_under}
+use Rattle.fuse_reader.specs.Shown.{attributes_of, default_attributes, kept_time, kind_at, room_of, time_shown}
+use Rattle.fuse_reader.specs.Turns.{attributes_said, directory_opened, entry_said, is_below_root, listed_said, looked_up, on_inode, opened_said, piece_said, read_said, sized, target_said, told_of, told_under}
 use Rattle.fuse_reader.proofs.PieceLemmas.{lacks_none, same_claim, same_inode}
 
 -- ---- clauses
@@ -75,20 +77,27 @@ module _ (kept : Kept) (image : List (List ℕ)) (is : IsKeptOf kept image) wher
 
   same_attributes : (owner : Owner) (i : ℕ) → attributes_of kept.geometry (frozen_view kept) owner i ≡ attributes_of kept.geometry (image_view kept.geometry image) owner i
   same_attributes owner i =
-      let shown : Inode → Bool → Attributes = λ r b. record {
+      let shown : Inode → Bool → Attributes = λ r b.
+      let own = unwrap_or (attributes_in r.attributes) (default_attributes owner b) in
+      record {
         inode = i;
         size = r.size;
         blocks = 2 * blocks_of r.size;
-        accessed = owner.changed;
-        modified = owner.changed;
-        changed = owner.changed;
-        mode = cond b 16877 33188;
+        accessed = time_shown own.accessed;
+        modified = time_shown own.modified;
+        changed = time_shown own.changed;
+        mode = shown_mode b own.mode;
         links = r.links;
-        user = owner.user;
-        group = owner.group;
+        user = own.user;
+        group = own.group;
+        device = own.device;
         block_bytes = 1024;
       } in
       ap₂ shown (same_inode kept image is i) (same_directory i)
+
+  pub same_kind_at : (i : ℕ) → kind_at kept.geometry (frozen_view kept) i ≡ kind_at kept.geometry (image_view kept.geometry image) i
+  same_kind_at i =
+      ap₂ (λ (r : Inode) b. number_of_kind b (unwrap_or (option_map (λ (own : Own). own.mode) (attributes_in r.attributes)) 0)) (same_inode kept image is i) (same_directory i)
 
   pub same_attributes_said : (owner : Owner) (o : Option ℕ)
       → on_inode (attributes_said kept.geometry (frozen_view kept) owner) o ≡ on_inode (attributes_said kept.geometry (image_view kept.geometry image) owner) o
@@ -133,7 +142,7 @@ module _ (kept : Kept) (image : List (List ℕ)) (is : IsKeptOf kept image) wher
   -- ---- listings
 
   same_kind : (i : ℕ) → kind_of kept.geometry (frozen_view kept) i ≡ kind_of kept.geometry (image_view kept.geometry image) i
-  same_kind i = ap (λ b. cond b kinds.Directory kinds.File) (same_directory i)
+  same_kind i = ap kind_numbered (same_kind_at i)
 
   same_added : (room s : ℕ) (x : Slot) (l : Listing) → add_slot kept.geometry (frozen_view kept) room s x l ≡ add_slot kept.geometry (image_view kept.geometry image) room s x l
   same_added room s Absent l = refl
@@ -263,3 +272,19 @@ module _ (kept : Kept) (image : List (List ℕ)) (is : IsKeptOf kept image) wher
       let view = image_view kept.geometry image in
       ap (λ b. cond b (Refused errors.IsDirectory) (piece_said kept.geometry view offset (piece_end view i offset size - offset) (piece_blocks view i offset size) i))
       (sym (same_directory i) ∙ e)
+
+  -- ---- targets
+
+  -- the bytes that are the target of a symbolic link
+  abbrev target : ℕ → Said
+  target i = read_said kept.geometry (image_view kept.geometry image) 0 4095 i
+
+  pub target_of : (i : ℕ) (unique : Unique) (failed : Type 0) (reply : List ℕ) → kind_at kept.geometry (frozen_view kept) i ≡ 10 → Says unique (target i) failed reply
+      → Says unique (target_said kept.geometry (image_view kept.geometry image) i) failed reply
+  target_of i unique failed reply e h =
+      subst (λ x. Says unique x failed reply)
+      (sym (ap (λ b. cond b (target i) (Refused errors.Invalid)) (eq-eqb (kind_at kept.geometry (image_view kept.geometry image) i) 10 (sym (same_kind_at i) ∙ e)))) h
+
+  pub no_target : (i : ℕ) → (kind_at kept.geometry (frozen_view kept) i ≡ 10 → ⊥) → target_said kept.geometry (image_view kept.geometry image) i ≡ Refused errors.Invalid
+  no_target i apart =
+      ap (λ b. cond b (target i) (Refused errors.Invalid)) (ne_eqb (kind_at kept.geometry (image_view kept.geometry image) i) 10 (λ e. apart (same_kind_at i ∙ e)))

@@ -21,7 +21,7 @@ use Rattle.fuse_reader.specs.declared.owner.Owner.{Owner}
 use Rattle.fuse_reader.specs.Desks.{Failed, IsShown, IsTurn, KnowsAfter, NoMemory}
 use Rattle.fuse_reader.specs.Said.{Said, Nothing, Refused, Says, spelled, told}
 use Rattle.fuse_reader.specs.Shown.{room_of}
-use Rattle.fuse_reader.specs.Turns.{agreed, answer, attributes_said, directory_opened, events_of, forgot_by, known_after, listed_said, looked_up, on_inode, opened_said, read_said, sized, told_of}
+use Rattle.fuse_reader.specs.Turns.{agreed, answer, attributes_said, directory_opened, events_of, forgot_by, known_after, listed_said, looked_up, on_inode, opened_said, read_said, sized, taken, target_said, told_of}
 use Rattle.fuse_reader.proofs.SameLemmas.{same_attributes_said, same_directory_opened, same_listed_said, same_looked_up, same_opened, same_room, same_told}
 
 -- ---- the table
@@ -140,6 +140,15 @@ module _ (kept : Kept) (image : List (List ℕ)) (owner : Owner) (t : Table) (he
         subst (λ a. IsTurn kept image owner t head a failed reply t) (sym e)
         (record { said = Refused errors.Device; says = Failed h.0 refl; spells = h.1; nodes = inl refl })
 
+    pub link_turn : (number : Option ℕ) → request ≡ asked.ReadSymbolicLink → number ≡ found t head.node.0
+        → Says head.unique (on_inode (target_said kept.geometry (image_view kept.geometry image)) number) failed reply → IsTurn kept image owner t head request failed reply t
+    unfolding answer events_of
+    link_turn number e f (inl r) =
+        shows request asked.ReadSymbolicLink _ e refl refl (r ∙ ap (λ o. spelled head.unique (on_inode (target_said kept.geometry (image_view kept.geometry image)) o)) f)
+    link_turn number e f (inr h) =
+        subst (λ a. IsTurn kept image owner t head a failed reply t) (sym e)
+        (record { said = Refused errors.Device; says = Failed h.0 refl; spells = h.1; nodes = inl refl })
+
     pub statistics_turn : (room : Statistics) → request ≡ asked.Statistics → room ≡ room_of kept.geometry (frozen_view kept)
         → reply ≡ spelled head.unique (told (bodies.Statistics room)) → IsTurn kept image owner t head request failed reply t
     unfolding answer events_of
@@ -157,9 +166,9 @@ module _ (kept : Kept) (image : List (List ℕ)) (owner : Owner) (t : Table) (he
     unfolding answer events_of
     batch_forget_turn forgets new e r n = shows_more request (asked.BatchForget forgets) Nothing new e refl n r
 
-    pub init_turn : (offer : Offer) → request ≡ asked.Init offer → reply ≡ spelled head.unique (agreed offer) → IsTurn kept image owner t head request failed reply t
+    pub init_turn : (offer : Offer) → request ≡ asked.Init offer → reply ≡ spelled head.unique (agreed taken offer) → IsTurn kept image owner t head request failed reply t
     unfolding answer events_of
-    init_turn offer e r = shows request (asked.Init offer) (agreed offer) e refl refl r
+    init_turn offer e r = shows request (asked.Init offer) (agreed taken offer) e refl refl r
 
     pub interrupt_turn : (unique : Unique) → request ≡ asked.Interrupt unique → reply ≡ [] → IsTurn kept image owner t head request failed reply t
     unfolding answer events_of

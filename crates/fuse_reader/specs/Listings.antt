@@ -1,16 +1,28 @@
 -- The listing of a directory from a slot on.
-use Rattle.std.specs.Prelude.{ℕ, zero, suc, ◌+◌, ◌*◌, ◌-◌, Bool, true, false, nat_le, List, [], ◌∷◌, ◌++◌, length, if◌then◌else◌}
+use Rattle.std.specs.Prelude.{ℕ, zero, suc, ◌+◌, ◌*◌, ◌-◌, ◌==◌, Bool, true, false, nat_le, List, [], ◌∷◌, ◌++◌, length, if◌then◌else◌}
 use Rattle.fuse_wire.specs.declared.entries.Kind.{Kind}
 use Rattle.fuse_wire.specs.declared.entries.Kind.TheVariants as kinds
 use Rattle.fuse_wire.specs.Fields.{numbers}
 use Rattle.fuse_wire.specs.Replies.{kind_number, padded}
 use Rattle.model.specs.Layout.{Geometry}
 use Rattle.model.specs.Slots.{Slot, Absent, Empty, Good, Bad, slot}
-use Rattle.model.specs.Uses.{blocks_of, is_directory_at}
+use Rattle.model.specs.Uses.{blocks_of}
 use Rattle.model.specs.View.{View}
+use Rattle.fuse_reader.specs.Shown.{kind_at}
+
+-- the kind of this number
+abbrev pub kind_numbered : ℕ → Kind
+kind_numbered n =
+    if n == 1 then kinds.Fifo
+    else if n == 2 then kinds.CharacterDevice
+    else if n == 4 then kinds.Directory
+    else if n == 6 then kinds.BlockDevice
+    else if n == 10 then kinds.SymbolicLink
+    else if n == 12 then kinds.Socket
+    else kinds.File
 
 abbrev pub kind_of : Geometry → View → ℕ → Kind
-kind_of geo view i = if is_directory_at geo view i then kinds.Directory else kinds.File
+kind_of geo view i = kind_numbered (kind_at geo view i)
 
 -- The entry of a name in slot s that stands for inode i. The listing goes on from the next slot.
 abbrev pub listed_name : Geometry → View → ℕ → ℕ → List ℕ → List ℕ

@@ -19,7 +19,7 @@ use Rattle.fuse_reader.specs.Listings.{listing_from}
 use Rattle.fuse_reader.specs.Pieces.{lacks_block, piece_blocks, piece_end, piece_of}
 use Rattle.fuse_reader.specs.Said.{Said, Nothing, Refused, told}
 use Rattle.fuse_reader.specs.Said as said
-use Rattle.fuse_reader.specs.Shown.{attributes_of, entry_of, kept_time, room_of}
+use Rattle.fuse_reader.specs.Shown.{attributes_of, entry_of, kept_time, kind_at, room_of}
 
 -- A request on a node acts on the inode that the kernel was told of by this node, or is refused.
 abbrev pub on_inode : (ℕ → Said) → Option ℕ → Said
@@ -31,16 +31,20 @@ on_node t node f = on_inode f (found t node.0)
 
 -- ---- each request
 
--- Version 7.31, and of what the kernel offers: reads side by side (bit 0), writes of more than 4 KiB (bit 5), calls in one
--- directory side by side (bit 18), and requests of up to 256 pages (bit 22). An older kernel is refused.
-abbrev pub agreed : Offer → Said
-agreed offer =
+-- where an image is read alone: reads side by side (bit 0), writes of more than 4 KiB (bit 5), calls in one directory side by side (bit 18), and requests
+-- of up to 256 pages (bit 22)
+abbrev pub taken : ℕ
+taken = 4456481
+
+-- Version 7.31, and this of what the kernel offers. An older kernel is refused.
+abbrev pub agreed : ℕ → Offer → Said
+agreed flags offer =
     if offer.major == 7 && nat_le 31 offer.minor
     then told (bodies.Agreement (record {
       major = 7;
       minor = 31;
       readahead = offer.readahead;
-      flags = bit_and offer.flags 4456481;
+      flags = bit_and offer.flags flags;
       background = 12;
       congestion = 9;
       most_written = 131072;
@@ -92,6 +96,10 @@ read_said geo view offset size i =
     if is_directory_at geo view i then Refused errors.IsDirectory
     else piece_said geo view offset (piece_end view i offset size - offset) (piece_blocks view i offset size) i
 
+-- the target of a symbolic link: its bytes, of which Linux takes 4,095
+abbrev pub target_said : Geometry → View → ℕ → Said
+target_said geo view i = if kind_at geo view i == 10 then read_said geo view 0 4095 i else Refused errors.Invalid
+
 abbrev pub listed_said : Geometry → View → ℕ → ℕ → ℕ → Said
 listed_said geo view offset size d =
     if is_directory_at geo view d then said.Told (listing_from geo view d offset size) else Refused errors.NotDirectory
@@ -100,12 +108,14 @@ listed_said geo view offset size d =
 
 -- What is said to a request on a node. The image is read alone: all that would change it is refused.
 unfoldable pub answer : Geometry → View → Owner → Table → NodeId → Asked → Said
-answer geo view owner t node (asked.Init offer) = agreed offer
+answer geo view owner t node (asked.Init offer) = agreed taken offer
 answer geo view owner t node (asked.Lookup name) = on_node t node (looked_up geo view owner t name)
 answer geo view owner t node (asked.Forgotten lookups) = Nothing
 answer geo view owner t node (asked.BatchForget forgets) = Nothing
 answer geo view owner t node (asked.GetAttributes handle) = on_node t node (attributes_said geo view owner)
 answer geo view owner t node (asked.SetAttributes changes) = Refused errors.ReadOnly
+answer geo view owner t node asked.ReadSymbolicLink = on_node t node (target_said geo view)
+answer geo view owner t node (asked.MakeSymbolicLink name target) = Refused errors.ReadOnly
 answer geo view owner t node (asked.MakeNode mode device umask name) = Refused errors.ReadOnly
 answer geo view owner t node (asked.MakeDirectory mode umask name) = Refused errors.ReadOnly
 answer geo view owner t node (asked.Unlink name) = Refused errors.ReadOnly
@@ -128,6 +138,7 @@ answer geo view owner t node (asked.Create flags mode umask name) = Refused erro
 answer geo view owner t node (asked.Interrupt unique) = Nothing
 answer geo view owner t node asked.Destroy = told bodies.Empty
 answer geo view owner t node asked.SyncVolume = told bodies.Empty
+answer geo view owner t node (asked.Allocate handle offset bytes mode) = Refused errors.ReadOnly
 answer geo view owner t node (asked.Other opcode) = Refused errors.NotImplemented
 
 -- ---- what the kernel then knows

@@ -12,8 +12,8 @@ const MAJOR: u32 = 7;
 
 const MINOR: u32 = 31;
 
-/// What is taken of what the kernel offers.
-const TAKEN: u32 = flags::ASYNC_READ
+/// What is taken of what the kernel offers, where an image is read alone.
+pub const TAKEN: u32 = flags::ASYNC_READ
     | flags::BIG_WRITES
     | flags::PARALLEL_DIROPS
     | flags::MAX_PAGES;
@@ -24,9 +24,14 @@ const MOST_WRITTEN: u32 = 131_072;
 /// The most pages of 4 KiB of one request.
 const PAGES: u16 = 256;
 
-/// Answers the first request.
-pub fn agree(reply: &mut Vec<u8>, unique: Unique, offer: &Offer) -> Result<(), AllocError>
-    ensures { OnOk result (reply.new.items ≡ spelled unique (agreed offer.now)) }
+/// Answers the first request: of what the kernel offers this is taken.
+pub fn agree(
+    reply: &mut Vec<u8>,
+    unique: Unique,
+    offer: &Offer,
+    taken: u32,
+) -> Result<(), AllocError>
+    ensures { OnOk result (reply.new.items ≡ spelled unique (agreed taken offer.now)) }
 {
     if offer.major != MAJOR || offer.minor < MINOR {
         return refuse(reply, unique, Errno::NotSupported);
@@ -35,7 +40,7 @@ pub fn agree(reply: &mut Vec<u8>, unique: Unique, offer: &Offer) -> Result<(), A
         major: MAJOR,
         minor: MINOR,
         readahead: offer.readahead,
-        flags: offer.flags & TAKEN,
+        flags: offer.flags & taken,
         background: 12,
         congestion: 9,
         most_written: MOST_WRITTEN,

@@ -8,9 +8,9 @@ ghost use Rattle.model.specs.Layout.{block_count, inode_count};
 ghost use Rattle.fuse_reader.specs.Desks.{IsTurn, KnowsAfter};
 ghost use Rattle.fuse_reader.specs.Shown.{room_of};
 
-use crate::agreeing::agree;
+use crate::agreeing::{TAKEN, agree};
 use crate::forgetting::forget_all;
-use crate::looking::{list, look_up, open, open_directory, read, tell_attributes};
+use crate::looking::{list, look_up, open, open_directory, read, read_link, tell_attributes};
 use crate::owner::Owner;
 use crate::saying::{refuse, tell};
 use device::Device;
@@ -80,7 +80,7 @@ fn answer<D: Device>(
     let frozen = &volume.frozen;
     let number = nodes.find(head.node);
     match request {
-        Request::Init(offer) => agree(reply, unique, &offer),
+        Request::Init(offer) => agree(reply, unique, &offer, TAKEN),
         Request::Lookup { name } => {
             look_up(reply, unique, frozen, volume.owner, nodes, number, name)
         }
@@ -96,6 +96,9 @@ fn answer<D: Device>(
         }
         Request::GetAttributes { .. } => {
             tell_attributes(reply, unique, frozen, volume.owner, number)
+        }
+        Request::ReadSymbolicLink => {
+            read_link(volume.alloc, reply, unique, frozen, device, number)
         }
         Request::Open { flags } => open(reply, unique, frozen, number, flags),
         Request::OpenDirectory { .. } => open_directory(reply, unique, frozen, number),
@@ -127,6 +130,7 @@ fn answer<D: Device>(
             refuse(reply, unique, Errno::NotImplemented)
         }
         Request::SetAttributes(_)
+        | Request::MakeSymbolicLink { .. }
         | Request::MakeNode { .. }
         | Request::MakeDirectory { .. }
         | Request::Unlink { .. }
@@ -134,6 +138,7 @@ fn answer<D: Device>(
         | Request::Rename { .. }
         | Request::Link { .. }
         | Request::Write { .. }
+        | Request::Allocate { .. }
         | Request::Create { .. } => refuse(reply, unique, Errno::ReadOnly),
     }
 }

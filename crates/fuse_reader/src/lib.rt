@@ -18,13 +18,13 @@ mod piece;
 mod saying;
 mod showing;
 
-pub use agreeing::agree;
+pub use agreeing::{TAKEN, agree};
 pub use desk::{Desk, Turned, turned_of};
 pub use forgetting::forget_all;
 pub use laws::a_request_acts_on_the_inode_that_was_told;
-pub use listing::listing_from;
-pub use looking::{end_of, number_of};
+pub use listing::{entry_in, listing_from};
+pub use looking::{SYMBOLIC_LINK, TARGET_BYTES, end_of, number_of};
 pub use owner::Owner;
 pub use piece::cut;
 pub use saying::{refuse, tell, tell_bytes};
-pub use showing::{attributes_of, room_of};
+pub use showing::{attributes_of, kind_at, own_attributes, room_of, shown_by, time_in};

@@ -4,8 +4,9 @@ ghost use Rattle.std.specs.Option.{option_copied, option_map_or};
 ghost use Rattle.frozen.specs.Kept.{frozen_view};
 ghost use Rattle.dirent.specs.Seen.{seen};
 ghost use Rattle.model.specs.Slots.{Absent, slot};
-ghost use Rattle.fuse_reader.specs.Listings.{add_bytes, add_slot, kind_of, listed_name, listing_from, so_far};
+ghost use Rattle.fuse_reader.specs.Listings.{add_bytes, add_slot, kind_numbered, kind_of, listed_name, listing_from, so_far};
 
+use crate::showing::kind_at;
 use dirent::{SLOTS, Slot, slot_in};
 use frozen::Frozen;
 use fuse_wire::{DirectoryEntry, Kind, push_entry};
@@ -75,23 +76,41 @@ fn push_name(
         ≡ add_bytes room (listed_name frozen.now.geometry (frozen_view frozen.now) place number name.now) (so_far listing.old.items false)) }
     ensures few { OnOk result (length listing.new.items ≤ room) }
 {
-    let entry = DirectoryEntry {
-        inode: number as u64,
-        next: place as u64 + 1,
-        kind: kind_of(frozen, number),
-        name,
-    };
+    let entry = entry_in(frozen, place, number, name);
     let fits = push_entry(listing, room as usize, &entry)?;
     Ok(fits)
+}
+
+/// The entry of a name that stands in a slot for an inode. The listing goes on from the next slot.
+pub fn entry_in<'a>(frozen: &Frozen, place: u32, number: u32, name: &'a [u8]) -> DirectoryEntry<'a>
+    ensures { result ≡ record { inode = number; next = place + 1; kind = kind_of frozen.now.geometry (frozen_view frozen.now) number; name = name.entry } }
+{
+    DirectoryEntry {
+        inode: u64::from(number),
+        next: u64::from(place) + 1,
+        kind: kind_of(frozen, number),
+        name,
+    }
 }
 
 /// What an inode is in a listing.
 fn kind_of(frozen: &Frozen, number: u32) -> Kind
     ensures { result ≡ kind_of frozen.now.geometry (frozen_view frozen.now) number }
 {
-    if frozen.is_directory_at(number) {
-        Kind::Directory
-    } else {
-        Kind::File
+    kind_numbered(kind_at(frozen, number))
+}
+
+/// The kind of this number, which is what the upper four bits of 16 of a mode say.
+fn kind_numbered(number: u16) -> Kind
+    ensures { result ≡ kind_numbered number }
+{
+    match number {
+        1 => Kind::Fifo,
+        2 => Kind::CharacterDevice,
+        4 => Kind::Directory,
+        6 => Kind::BlockDevice,
+        10 => Kind::SymbolicLink,
+        12 => Kind::Socket,
+        _ => Kind::File,
     }
 }

@@ -9,13 +9,13 @@ ghost use Rattle.model.specs.Layout.{block_count, inode_count};
 ghost use Rattle.model.specs.Uses.{blocks_of};
 ghost use Rattle.fuse_nodes.specs.Runs.{after_all};
 ghost use Rattle.fuse_reader.specs.Said.{Says, spelled};
-ghost use Rattle.fuse_reader.specs.Turns.{attributes_said, directory_opened, entry_said, listed_said, looked_up, on_inode, opened_said, piece_said, read_said, sized, told_of, told_under};
+ghost use Rattle.fuse_reader.specs.Turns.{attributes_said, directory_opened, entry_said, listed_said, looked_up, on_inode, opened_said, piece_said, read_said, sized, target_said, told_of, told_under};
 
 use crate::listing::listing_from;
 use crate::owner::Owner;
 use crate::piece::{blocks_from, cut};
 use crate::saying::{refuse, tell, tell_bytes};
-use crate::showing::{KEPT, attributes_of, entry_of};
+use crate::showing::{KEPT, attributes_of, entry_of, kind_at};
 use device::Device;
 use dirent::NAME_BYTES;
 use frozen::Frozen;
@@ -32,6 +32,12 @@ const MOST_BYTES: u32 = 1 << 20;
 
 /// The handle of all that is open: the node tells enough.
 const HANDLE: Handle = Handle(0);
+
+/// The number of what a symbolic link is.
+pub const SYMBOLIC_LINK: u16 = 10;
+
+/// The most bytes of the target of one that Linux takes.
+pub const TARGET_BYTES: u32 = 4095;
 
 /// The bits of an open that tell whether the file is to be written.
 const ACCESS: u32 = 3;
@@ -243,6 +249,41 @@ pub(crate) fn read<D: Device>(
         return tell_bytes(reply, unique, &[]);
     }
     tell_piece(alloc, reply, unique, frozen, device, number, offset, end)
+}
+
+/// Tells the target of a symbolic link.
+pub(crate) fn read_link<D: Device>(
+    alloc: Global,
+    reply: &mut Vec<u8>,
+    unique: Unique,
+    frozen: &Frozen,
+    device: &mut D,
+    number: Option<u32>,
+) -> Result<(), AllocError>
+    requires { length (D.image device.old) ≡ block_count frozen.now.geometry }
+    ensures told { OnOk result (D.honest device.new → IsKeptOf frozen.now (D.image device.old)
+        → Says unique (on_inode (target_said frozen.now.geometry (image_view frozen.now.geometry (D.image device.old))) number)
+        (HasFailed (D.failures device.old) (D.failures device.new)) reply.new.items) }
+    ensures failures { (D.failures device.new ≡ D.failures device.old) ⊎ HasFailed (D.failures device.old) (D.failures device.new) }
+    ensures reads { ReadsOnly D.honest D.image D.held device.old device.new }
+{
+    let Some(link) = number else {
+        return refuse(reply, unique, Errno::Stale);
+    };
+    let kind = kind_at(frozen, link);
+    if kind != SYMBOLIC_LINK {
+        return refuse(reply, unique, Errno::Invalid);
+    }
+    read(
+        alloc,
+        reply,
+        unique,
+        frozen,
+        device,
+        number,
+        0,
+        TARGET_BYTES,
+    )
 }
 
 /// Tells the bytes of a file from an offset to an end, which lies behind it.

@@ -1,8 +1,8 @@
 //! Whose a volume is.
 use fuse_wire::Time;
 
-/// Whose all files and directories of a volume are, and when they were changed. The volume keeps neither, so those of the file of
-/// its image are shown.
+/// Whose the files and directories of a volume are of which no attributes are kept, and when they were changed: those of the file of
+/// its image.
 #[derive(Clone, Copy, Debug, PartialEq, Eq)]
 pub struct Owner {
     pub user: u32,

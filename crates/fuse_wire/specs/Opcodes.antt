@@ -9,6 +9,8 @@ opcode_of n =
     else if n == 2 then opcodes.Forget
     else if n == 3 then opcodes.GetAttributes
     else if n == 4 then opcodes.SetAttributes
+    else if n == 5 then opcodes.ReadSymbolicLink
+    else if n == 6 then opcodes.MakeSymbolicLink
     else if n == 8 then opcodes.MakeNode
     else if n == 9 then opcodes.MakeDirectory
     else if n == 10 then opcodes.Unlink
@@ -31,6 +33,7 @@ opcode_of n =
     else if n == 36 then opcodes.Interrupt
     else if n == 38 then opcodes.Destroy
     else if n == 42 then opcodes.BatchForget
+    else if n == 43 then opcodes.Allocate
     else if n == 44 then opcodes.ReadDirectoryPlus
     else if n == 45 then opcodes.RenameWithFlags
     else if n == 50 then opcodes.SyncVolume

@@ -19,11 +19,11 @@ use Rattle.fuse_wire.specs.Refusals.{number_of}
 
 -- ---- bodies
 
--- attributes: 88 bytes. The device of a node that is one, and flags, are 0
+-- attributes: 88 bytes. The flags, which stand last, are 0
 unfoldable pub attributes_bytes : Attributes → List ℕ
 attributes_bytes a =
     numbers 8 (a.inode ∷ a.size ∷ a.blocks ∷ a.accessed.seconds ∷ a.modified.seconds ∷ a.changed.seconds ∷ [])
-    ++ numbers 4 (a.accessed.nanoseconds ∷ a.modified.nanoseconds ∷ a.changed.nanoseconds ∷ a.mode ∷ a.links ∷ a.user ∷ a.group ∷ 0 ∷ a.block_bytes ∷ 0 ∷ [])
+    ++ numbers 4 (a.accessed.nanoseconds ∷ a.modified.nanoseconds ∷ a.changed.nanoseconds ∷ a.mode ∷ a.links ∷ a.user ∷ a.group ∷ a.device ∷ a.block_bytes ∷ 0 ∷ [])
 
 -- attributes, and how long they may be kept: 104 bytes
 unfoldable pub told_bytes : Time → Attributes → List ℕ
@@ -88,9 +88,15 @@ HasSpelling (Err error) = Unit {0}
 
 -- ---- listings
 
+-- the number of a kind, which is what the upper four bits of 16 of a mode say
 abbrev pub kind_number : Kind → ℕ
-kind_number kinds.File = 8
+kind_number kinds.Fifo = 1
+kind_number kinds.CharacterDevice = 2
 kind_number kinds.Directory = 4
+kind_number kinds.BlockDevice = 6
+kind_number kinds.File = 8
+kind_number kinds.SymbolicLink = 10
+kind_number kinds.Socket = 12
 
 -- how many zeroes stand behind so many bytes, up to a multiple of 8
 abbrev pub padding : ℕ → ℕ

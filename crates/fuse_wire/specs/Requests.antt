@@ -26,6 +26,8 @@ pub data Asked : Type 0 where
   BatchForget : List Forget → Asked
   GetAttributes : Option Handle → Asked
   SetAttributes : Changes → Asked
+  ReadSymbolicLink : Asked
+  MakeSymbolicLink : List ℕ → List ℕ → Asked
   MakeNode : ℕ → ℕ → ℕ → List ℕ → Asked
   MakeDirectory : ℕ → ℕ → List ℕ → Asked
   Unlink : List ℕ → Asked
@@ -48,6 +50,7 @@ pub data Asked : Type 0 where
   Interrupt : Unique → Asked
   Destroy : Asked
   SyncVolume : Asked
+  Allocate : Handle → ℕ → ℕ → ℕ → Asked
   Other : ℕ → Asked
 
 abbrev pub seen : Request → Asked
@@ -57,6 +60,8 @@ seen (requests.Forget lookups) = Forgotten lookups
 seen (requests.BatchForget forgets) = BatchForget (forgets_of forgets)
 seen (requests.GetAttributes handle) = GetAttributes handle
 seen (requests.SetAttributes changes) = SetAttributes changes
+seen requests.ReadSymbolicLink = ReadSymbolicLink
+seen (requests.MakeSymbolicLink name target) = MakeSymbolicLink name.now target.now
 seen (requests.MakeNode mode device umask name) = MakeNode mode device umask name.now
 seen (requests.MakeDirectory mode umask name) = MakeDirectory mode umask name.now
 seen (requests.Unlink name) = Unlink name.now
@@ -79,6 +84,7 @@ seen (requests.Create flags mode umask name) = Create flags mode umask name.now
 seen (requests.Interrupt unique) = Interrupt unique
 seen requests.Destroy = Destroy
 seen requests.SyncVolume = SyncVolume
+seen (requests.Allocate handle offset bytes mode) = Allocate handle offset bytes mode
 seen (requests.Other opcode) = Other opcode
 
 -- ---- fields
@@ -162,6 +168,8 @@ asked_of opcodes.Forget bytes = behind 8 bytes (Some (Forgotten (long_at 0 bytes
 asked_of opcodes.BatchForget bytes = behind 8 bytes (option_map BatchForget (forgotten_of bytes))
 asked_of opcodes.GetAttributes bytes = behind 16 bytes (Some (GetAttributes (chosen (word_at 0 bytes) 1 (handle_at 8 bytes))))
 asked_of opcodes.SetAttributes bytes = behind 88 bytes (Some (SetAttributes (changes_of bytes)))
+asked_of opcodes.ReadSymbolicLink bytes = Some ReadSymbolicLink
+asked_of opcodes.MakeSymbolicLink bytes = option_map (λ x. MakeSymbolicLink x.0 x.1) (names_of bytes)
 asked_of opcodes.MakeNode bytes = behind 16 bytes (option_map (MakeNode (word_at 0 bytes) (word_at 4 bytes) (word_at 8 bytes)) (name_of (drop 16 bytes)))
 asked_of opcodes.MakeDirectory bytes = behind 8 bytes (option_map (MakeDirectory (word_at 0 bytes) (word_at 4 bytes)) (name_of (drop 8 bytes)))
 asked_of opcodes.Unlink bytes = option_map Unlink (name_of bytes)
@@ -185,6 +193,7 @@ asked_of opcodes.Create bytes = behind 16 bytes (option_map (Create (word_at 0 b
 asked_of opcodes.Interrupt bytes = behind 8 bytes (Some (Interrupt (unique_at 0 bytes)))
 asked_of opcodes.Destroy bytes = Some Destroy
 asked_of opcodes.SyncVolume bytes = Some SyncVolume
+asked_of opcodes.Allocate bytes = behind 32 bytes (Some (Allocate (handle_at 0 bytes) (long_at 8 bytes) (long_at 16 bytes) (word_at 24 bytes)))
 asked_of (opcodes.Other opcode) bytes = Some (Other opcode)
 
 -- what is asked for by a message that has a head

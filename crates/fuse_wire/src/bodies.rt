@@ -38,6 +38,8 @@ pub struct Attributes {
     pub links: u32,
     pub user: u32,
     pub group: u32,
+    /// The number of a device, if it is one.
+    pub device: u32,
     /// How many bytes are best read at once.
     pub block_bytes: u32,
 }

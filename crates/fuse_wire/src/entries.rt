@@ -10,8 +10,13 @@ use std::alloc::AllocError;
 /// What a name in a listing is.
 #[derive(Clone, Copy, Debug, PartialEq, Eq)]
 pub enum Kind {
-    File,
+    Fifo,
+    CharacterDevice,
     Directory,
+    BlockDevice,
+    File,
+    SymbolicLink,
+    Socket,
 }
 
 /// An entry of a directory in a listing.
@@ -61,6 +66,14 @@ pub fn push_entry_plus(
     put_found(listing, found)?;
     put_listed(listing, entry)?;
     Ok(true)
+}
+
+/// Whether an entry has room behind such a listing.
+pub fn fits_plus(listing: &[u8], room: usize, entry: &DirectoryEntry<'_>) -> bool
+    requires { length entry.now.name.now < 2 ^ 32 }
+    ensures { IsTrue result ↔ (length listing.now + (128 + length (listed_bytes entry.now)) ≤ room) }
+{
+    has_room(listing, room, 128 + size_of(entry))
 }
 
 /// Whether so many bytes have room behind a listing.
@@ -155,7 +168,12 @@ fn kind_number(kind: Kind) -> u32
     ensures { result ≡ kind_number kind }
 {
     match kind {
-        Kind::File => 8,
+        Kind::Fifo => 1,
+        Kind::CharacterDevice => 2,
         Kind::Directory => 4,
+        Kind::BlockDevice => 6,
+        Kind::File => 8,
+        Kind::SymbolicLink => 10,
+        Kind::Socket => 12,
     }
 }

@@ -19,7 +19,7 @@ mod requests;
 mod writing;
 
 pub use bodies::{Agreement, Attributes, Body, Entry, Opened, Statistics};
-pub use entries::{DirectoryEntry, Kind, push_entry, push_entry_plus};
+pub use entries::{DirectoryEntry, Kind, fits_plus, push_entry, push_entry_plus};
 pub use errors::Errno;
 pub use laws::a_reply_is_read_back;
 pub use numbers::{Handle, NodeId, Time, Unique};

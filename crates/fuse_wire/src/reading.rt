@@ -60,6 +60,8 @@ fn request_of(opcode: Opcode, fields: &[u8]) -> Option<Request<'_>>
         Opcode::BatchForget => batch_forget(fields),
         Opcode::GetAttributes => get_attributes(fields),
         Opcode::SetAttributes => set_attributes(fields),
+        Opcode::ReadSymbolicLink => Some(Request::ReadSymbolicLink),
+        Opcode::MakeSymbolicLink => make_symbolic_link(fields),
         Opcode::MakeNode => make_node(fields),
         Opcode::MakeDirectory => make_directory(fields),
         Opcode::Unlink => Some(Request::Unlink {
@@ -93,6 +95,7 @@ fn request_of(opcode: Opcode, fields: &[u8]) -> Option<Request<'_>>
         Opcode::Interrupt => interrupt(fields),
         Opcode::Destroy => Some(Request::Destroy),
         Opcode::SyncVolume => Some(Request::SyncVolume),
+        Opcode::Allocate => allocate(fields),
         Opcode::Other(opcode) => Some(Request::Other { opcode }),
     }
 }
@@ -280,6 +283,13 @@ fn time_at(fields: &[u8], seconds: usize, nanoseconds: usize) -> Time
 
 // ---- names
 
+fn make_symbolic_link(fields: &[u8]) -> Option<Request<'_>>
+    ensures { option_map seen result ≡ asked_of Opcode.MakeSymbolicLink fields.now }
+{
+    let (name, target) = names_of(fields)?;
+    Some(Request::MakeSymbolicLink { name, target })
+}
+
 fn make_node(fields: &[u8]) -> Option<Request<'_>>
     ensures { option_map seen result ≡ asked_of Opcode.MakeNode fields.now }
 {
@@ -318,6 +328,20 @@ fn create(fields: &[u8]) -> Option<Request<'_>>
         mode: word_at(fields, 4),
         umask: word_at(fields, 8),
         name: name_of(&fields[16..])?,
+    })
+}
+
+fn allocate(fields: &[u8]) -> Option<Request<'_>>
+    ensures { option_map seen result ≡ asked_of Opcode.Allocate fields.now }
+{
+    if fields.len() < 32 {
+        return None;
+    }
+    Some(Request::Allocate {
+        handle: Handle(long_at(fields, 0)),
+        offset: long_at(fields, 8),
+        bytes: long_at(fields, 16),
+        mode: word_at(fields, 24),
     })
 }
 

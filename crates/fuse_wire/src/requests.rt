@@ -11,6 +11,7 @@ pub struct Head {
     pub unique: Unique,
     /// The inode that the request is about. The first request and the last are about none.
     pub node: NodeId,
+    /// Whose process asks, and the group in which it makes what is new.
     pub user: u32,
     pub group: u32,
     pub process: u32,
@@ -107,7 +108,14 @@ pub enum Request<'a> {
         handle: Option<Handle>,
     },
     SetAttributes(Changes),
-    /// A new file, or a node of another kind.
+    /// The target of a symbolic link.
+    ReadSymbolicLink,
+    /// A new symbolic link, with its target.
+    MakeSymbolicLink {
+        name: &'a [u8],
+        target: &'a [u8],
+    },
+    /// A new file, or a node of another kind. The umask is taken from the mode already.
     MakeNode {
         mode: u32,
         device: u32,
@@ -199,6 +207,13 @@ pub enum Request<'a> {
     /// The volume is unmounted. The kernel waits for the reply.
     Destroy,
     SyncVolume,
+    /// Room for so many bytes of an open file from this place on.
+    Allocate {
+        handle: Handle,
+        offset: u64,
+        bytes: u64,
+        mode: u32,
+    },
     /// A request of another kind.
     Other {
         opcode: u32,

@@ -167,7 +167,7 @@ fn put_attributes(out: &mut Vec<u8>, attributes: &Attributes) -> Result<(), Allo
             attributes.links,
             attributes.user,
             attributes.group,
-            0,
+            attributes.device,
             attributes.block_bytes,
             0,
         ],

@@ -15,46 +15,60 @@ use Rattle.fuse_reader.specs.Pieces.{piece_end}
 use Rattle.fuse_reader.specs.Said as said
 use Rattle.fuse_reader.specs.Said.{Refused}
 use Rattle.fuse_writer.specs.declared.session.Session.{Session}
-use Rattle.fuse_writer.specs.Doings.{Does, Doing, IsBytes, LeadsOn, Says, WasAsked, if_bytes, items_of, refuses, with_memory}
+use Rattle.fuse_writer.specs.Doings.{Does, Doing, IfMemory, IsBytes, LeadsOn, Says, WasAsked, items_of, refuses}
 use Rattle.fuse_writer.specs.Replied.{bytes_in}
-use Rattle.fuse_writer.specs.Requests.{at_handle, at_node, on_handle, part_of, reads, reads_between, reads_blocks, reads_piece}
+use Rattle.fuse_writer.specs.Requests.{at_handle, at_node, if_block, on_handle, part_of, reads, reads_between, reads_blocks, reads_piece, says_bytes}
+use Rattle.fuse_writer.specs.Saying.{said_bytes}
 use Rattle.fuse_writer.specs.Turns.{Turn}
-use Rattle.fuse_writer.proofs.DoingLemmas.{does_ask, does_memory, does_no_memory, does_say}
+use Rattle.fuse_writer.proofs.DoingLemmas.{does_say, on_ask, on_memory, on_no_memory, on_then}
 
 module _ {D V : Type 0} (old mid : Turn D) (s t : Session) (handle from to k : ℕ) (bytes : List ℕ) (items : V → List ℕ) (command : Command) (outcome : Result V Errno)
-    (was : WasAsked old.calls mid.calls command (IsBytes items outcome)) (asks : (geo : Geometry) → asked geo command ≡ Read handle k) (same : t ≡ s) where
-  abbrev goes : ℕ → List ℕ → Doing
-  goes n block = with_memory (reads_blocks handle from to (k + 1) n (bytes ++ part_of k from to block))
+    (was : WasAsked old.calls mid.calls command (IsBytes items outcome)) (asks : (geo : Geometry) → asked geo command ≡ Read handle k) (same : t ≡ s) (n : ℕ)
+    (next : List ℕ → Doing) (refused : Errno → Doing) where
+  abbrev more_with : List ℕ → Doing
+  more_with all = reads_blocks handle from to (k + 1) n all next refused
 
-  pub read_on : (v : V) → outcome ≡ Ok v → (more : List ℕ) → more ≡ bytes ++ part_of k from to (items v) → (n : ℕ)
-      → LeadsOn (reads_blocks handle from to k (suc n) bytes) old s (reads_blocks handle from to (k + 1) n more) mid t
+  abbrev goes : List ℕ → Doing
+  goes block = IfMemory (more_with (bytes ++ part_of k from to block)) (refused errors.NoMemory)
+
+  abbrev reading : Doing
+  reading = reads_blocks handle from to k (suc n) bytes next refused
+
+  asked_block : LeadsOn reading old s (if_block (items_of items outcome) goes refused) mid t
   unfolding reads_blocks
-  read_on v ok more is n said new last does =
-      does_ask old new s last said mid (Read handle k) (λ reply. if_bytes (bytes_in reply) (goes n)) command was.reply was.grew (asks new.volume.kept.geometry)
-      (subst (λ (o : Result (List ℕ) Errno). Does (if_bytes o (goes n)) mid s said new last) (sym (ap (items_of items) ok) ∙ was.is)
-      (does_memory mid new s last said (reads_blocks handle from to (k + 1) n (bytes ++ part_of k from to (items v))) (refuses errors.NoMemory)
-      (subst (λ (xs : List ℕ). Does (reads_blocks handle from to (k + 1) n xs) mid s said new last) is
-      (subst (λ (u : Session). Does (reads_blocks handle from to (k + 1) n more) mid u said new last) same does))))
+  asked_block =
+      subst (λ (o : Result (List ℕ) Errno). LeadsOn reading old s (if_block o goes refused) mid t) (sym was.is)
+      (on_ask old mid s t (Read handle k) (λ reply. if_block (bytes_in reply) goes refused) command was.reply was.grew asks same)
+
+  got : (v : V) → outcome ≡ Ok v → LeadsOn reading old s (goes (items v)) mid t
+  got v ok = subst (λ (o : Result V Errno). LeadsOn reading old s (if_block (items_of items o) goes refused) mid t) ok asked_block
+
+  pub read_on : (v : V) → outcome ≡ Ok v → (more : List ℕ) → more ≡ bytes ++ part_of k from to (items v) → LeadsOn reading old s (more_with more) mid t
+  read_on v ok more is =
+      on_then reading (goes (items v)) (more_with more) old mid mid s t t (got v ok)
+      (subst (λ (xs : List ℕ). LeadsOn (goes (items v)) mid t (more_with xs) mid t) (sym is)
+      (on_memory (more_with (bytes ++ part_of k from to (items v))) (refused errors.NoMemory) mid t))
 
   -- there was no memory for what was read
-  pub read_cut : (v : V) → outcome ≡ Ok v → (n : ℕ) → Does (reads_blocks handle from to k (suc n) bytes) old s (Refused errors.NoMemory) mid t
-  unfolding reads_blocks
-  read_cut v ok n =
-      does_ask old mid s t (Refused errors.NoMemory) mid (Read handle k) (λ reply. if_bytes (bytes_in reply) (goes n)) command was.reply was.grew (asks mid.volume.kept.geometry)
-      (subst (λ (o : Result (List ℕ) Errno). Does (if_bytes o (goes n)) mid s (Refused errors.NoMemory) mid t) (sym (ap (items_of items) ok) ∙ was.is)
-      (does_no_memory mid mid s t (Refused errors.NoMemory) (reads_blocks handle from to (k + 1) n (bytes ++ part_of k from to (items v))) refl refl same))
+  pub read_cut : (v : V) → outcome ≡ Ok v → LeadsOn reading old s (refused errors.NoMemory) mid t
+  read_cut v ok =
+      on_then reading (goes (items v)) (refused errors.NoMemory) old mid mid s t t (got v ok)
+      (on_no_memory (more_with (bytes ++ part_of k from to (items v))) (refused errors.NoMemory) mid t)
 
-  pub read_refused : (e : Errno) → outcome ≡ Err e → (n : ℕ) → Does (reads_blocks handle from to k (suc n) bytes) old s (Refused e) mid t
-  unfolding reads_blocks
-  read_refused e is n =
-      does_ask old mid s t (Refused e) mid (Read handle k) (λ reply. if_bytes (bytes_in reply) (goes n)) command was.reply was.grew (asks mid.volume.kept.geometry)
-      (subst (λ (o : Result (List ℕ) Errno). Does (if_bytes o (goes n)) mid s (Refused e) mid t) (sym (ap (items_of items) is) ∙ was.is)
-      (does_say mid mid s t (Refused e) (λ kept. Refused e) refl refl same))
+  pub read_refused : (e : Errno) → outcome ≡ Err e → LeadsOn reading old s (refused e) mid t
+  read_refused e is = subst (λ (o : Result V Errno). LeadsOn reading old s (if_block (items_of items o) goes refused) mid t) is asked_block
 
-pub read_all : {D : Type 0} (turn : Turn D) (s : Session) (handle from to k n : ℕ) (bytes : List ℕ) → n ≡ 0 → Does (reads_blocks handle from to k n bytes) turn s (said.Told bytes) turn s
+pub read_all : {D : Type 0} (turn : Turn D) (s : Session) (handle from to k n : ℕ) (bytes : List ℕ) (next : List ℕ → Doing) (refused : Errno → Doing) → n ≡ 0
+    → LeadsOn (reads_blocks handle from to k n bytes next refused) turn s (next bytes) turn s
 unfolding reads_blocks
-read_all turn s handle from to k n bytes none =
-    subst (λ m. Does (reads_blocks handle from to k m bytes) turn s (said.Told bytes) turn s) (sym none) (does_say turn turn s s (said.Told bytes) (λ kept. said.Told bytes) refl refl refl)
+read_all turn s handle from to k n bytes next refused none said new last does =
+    subst (λ m. Does (reads_blocks handle from to k m bytes next refused) turn s said new last) (sym none) does
+
+-- the bytes are said, or why they are refused
+pub ends_bytes : {D V : Type 0} (old mid : Turn D) (s t : Session) (items : V → List ℕ) (r : Result V Errno) (doing : Doing)
+    → LeadsOn doing old s (if_block (items_of items r) says_bytes refuses) mid t → Does doing old s (said_bytes items r) mid t
+ends_bytes old mid s t items (Ok v) doing on = on (said.Told (items v)) mid t (does_say mid mid t t (said.Told (items v)) (λ k. said.Told (items v)) refl refl refl)
+ends_bytes old mid s t items (Err e) doing on = on (Refused e) mid t (does_say mid mid t t (Refused e) (λ k. Refused e) refl refl refl)
 
 -- ---- before the first
 
@@ -82,14 +96,14 @@ module _ (kept : Kept) (s : Session) (node : NodeId) (offset size i : ℕ) (at :
   reads_handle small handle has end is = reads_small small ∙ has _ ∙ ap (reads_piece handle offset) (sym is)
 
   pub reads_some : size ≤ 1048576 → (handle : ℕ) → ((next : ℕ → Doing) → at_handle s i next ≡ next handle) → (end : ℕ) → end ≡ piece_end (frozen_view kept) i offset size
-      → offset < end → reads kept s node offset size ≡ reads_between handle offset end
+      → offset < end → reads kept s node offset size ≡ reads_between handle offset end says_bytes refuses
   reads_some small handle has end is some =
-      reads_handle small handle has end is ∙ ap (λ b. cond b (reads_between handle offset end) (Says (λ kept. said.Told []))) (lt-ltb offset end some)
+      reads_handle small handle has end is ∙ ap (λ b. cond b (reads_between handle offset end says_bytes refuses) (says_bytes [])) (lt-ltb offset end some)
 
   pub reads_none : size ≤ 1048576 → (handle : ℕ) → ((next : ℕ → Doing) → at_handle s i next ≡ next handle) → (end : ℕ) → end ≡ piece_end (frozen_view kept) i offset size
-      → end ≤ offset → reads kept s node offset size ≡ Says (λ kept. said.Told [])
+      → end ≤ offset → reads kept s node offset size ≡ says_bytes []
   reads_none small handle has end is none =
-      reads_handle small handle has end is ∙ ap (λ b. cond b (reads_between handle offset end) (Says (λ kept. said.Told []))) (le-ltb offset end none)
+      reads_handle small handle has end is ∙ ap (λ b. cond b (reads_between handle offset end says_bytes refuses) (says_bytes [])) (le-ltb offset end none)
 
 -- ---- how many bytes are read
 

@@ -1,5 +1,6 @@
 -- What a request leads to, step by step.
-use Rattle.std.proofs.Common.{◌≡◌, inl, inr, ℕ, List, [], ◌∷◌, ◌++◌, Ok, Err, Result, refl, sym, ap, ap₂, subst, ◌∙◌, append_assoc}
+use Rattle.std.proofs.Common.{◌≡◌, inl, inr, ℕ, List, [], ◌∷◌, ◌++◌, Ok, Err, Option, Result, refl, sym, ap, ap₂, subst, ◌∙◌, append_assoc}
+use Rattle.attributes.specs.declared.Attributes.{Attributes}
 use Rattle.layout.specs.declared.refusal.Refusal.{Refusal}
 use Rattle.frozen.specs.Kept.{Kept}
 use Rattle.fuse_wire.specs.declared.bodies.Body.{Body}
@@ -14,9 +15,8 @@ use Rattle.snapshot.specs.Asked.{asked}
 use Rattle.snapshot.specs.declared.answer.Answer.{Answer}
 use Rattle.snapshot.specs.declared.command.Command.{Command}
 use Rattle.fuse_reader.specs.Said.{Said, Refused, told}
-use Rattle.fuse_writer.specs.declared.attributes.Set.{Set}
 use Rattle.fuse_writer.specs.declared.session.Session.{Session}
-use Rattle.fuse_writer.specs.Doings.{Change, Does, Doing, IfMemory, IsDone, IsNumber, Leads, LeadsOn, MayGoOn, Notes, Asks, Says, WasAsked, asks_done, asks_number, go_on, go_on_or, if_done, if_done_or, if_number, noted, refuses, said_by, says_done, set_all, with_memory}
+use Rattle.fuse_writer.specs.Doings.{Change, Does, Doing, IfMemory, IsDone, IsNumber, IsSettled, Leads, LeadsOn, MayGoOn, Notes, Asks, Says, WasAsked, asks_done, asks_number, go_on, go_on_at, go_on_or, if_done, if_done_or, if_number, if_settled, noted, refuses, said_by, says_done, set_all, with_memory}
 use Rattle.fuse_writer.specs.Replied.{number_in}
 use Rattle.fuse_writer.specs.Requests.{if_opened, opens_new}
 use Rattle.fuse_writer.specs.Saying.{said_bytes, said_done}
@@ -28,13 +28,24 @@ pub after_more : (es more : List Event) (t : Table) → after_all (es ++ more) t
 after_more [] more t = refl
 after_more (e ∷ es) more t = after_more es more _
 
-set_more : (cs more : List Change) (sets : List Set) → set_all (cs ++ more) sets ≡ set_all more (set_all cs sets)
-set_more [] more sets = refl
-set_more (c ∷ cs) more sets = set_more cs more _
+set_more : (cs more : List Change) (all : List (Option Attributes)) → set_all (cs ++ more) all ≡ set_all more (set_all cs all)
+set_more [] more all = refl
+set_more (c ∷ cs) more all = set_more cs more _
 
 pub noted_more : (es more : List Event) (cs others : List Change) (s : Session) → noted more others (noted es cs s) ≡ noted (es ++ more) (cs ++ others) s
 noted_more es more cs others s =
-    ap₂ (λ (t : Table) (sets : List Set). record s { nodes = t; attributes = sets }) (sym (after_more es more s.nodes)) (sym (set_more cs others s.attributes))
+    ap₂ (λ (t : Table) (all : List (Option Attributes)). record s { nodes = t; ahead = all }) (sym (after_more es more s.nodes)) (sym (set_more cs others s.ahead))
+
+-- one event, and two notes behind it, or three
+pub noted_both : (e : Event) (a b : List Change) (s : Session) → noted [] b (noted [] a (noted (e ∷ []) [] s)) ≡ noted (e ∷ []) (a ++ b) s
+noted_both e a b s = noted_more (e ∷ []) [] a b s
+
+pub noted_three : (e : Event) (a b c : List Change) (s : Session) → noted [] c (noted [] b (noted [] a (noted (e ∷ []) [] s))) ≡ noted (e ∷ []) (a ++ (b ++ c)) s
+noted_three e a b c s = noted_more [] [] b c (noted (e ∷ []) a s) ∙ noted_more (e ∷ []) [] a (b ++ c) s
+
+-- no event, and two notes
+pub noted_pair : (a b : List Change) (s : Session) → noted [] b (noted [] a s) ≡ noted [] (a ++ b) s
+noted_pair a b s = noted_more [] [] a b s
 
 -- ---- what one doing leads to the other may lead to
 
@@ -163,6 +174,14 @@ module _ {D : Type 0} (old mid new : Turn D) (s s' : Session) (said : Said) wher
       (does_done old new s s' said mid request command outcome was asks next
       (subst (λ (o : Result _ Errno). Does (go_on o next) mid s said new s') (sym ok) does))
 
+  pub after_refused : {T : Type 0} (request : Request) (command : Command) (outcome : Result T Errno) (error : Errno) (doing next : Doing)
+      → WasAsked old.calls mid.calls command (IsDone outcome) → asked new.volume.kept.geometry command ≡ request → outcome ≡ Err error → MayGoOn doing (asks_done request next)
+      → Does (refuses error) mid s said new s' → Does doing old s said new s'
+  after_refused request command outcome error doing next was asks is on does =
+      does_on old new s s' said doing (asks_done request next) on
+      (does_done old new s s' said mid request command outcome was asks next
+      (subst (λ (o : Result _ Errno). Does (go_on o next) mid s said new s') (sym is) does))
+
 -- ---- the last command, of which the outcome is handed on
 
 done_last : {D T : Type 0} (old new : Turn D) (s s' : Session) (outcome : Result T Errno) → new.calls ≡ old.calls → s' ≡ s → Does (go_on outcome says_done) old s (said_done outcome) new s'
@@ -233,6 +252,14 @@ module _ {D : Type 0} where
       subst (λ (d : Doing). LeadsOn (Asks request (λ reply. if_done_or reply done refused)) old s d mid t) (was.is done refused)
       (on_ask old mid s t request (λ reply. if_done_or reply done refused) command was.reply was.grew asks same)
 
+  -- the same of one that gives an inode its attributes
+  pub on_settled : {T : Type 0} (old mid : Turn D) (s t : Session) (request : Request) (command : Command) (outcome : Result T Errno) → WasAsked old.calls mid.calls command (IsSettled outcome)
+      → ((geo : Geometry) → asked geo command ≡ request) → t ≡ s → (done : Doing) (refused : Errno → Doing)
+      → LeadsOn (Asks request (λ reply. if_settled reply done refused)) old s (go_on_or outcome done refused) mid t
+  on_settled old mid s t request command outcome was asks same done refused =
+      subst (λ (d : Doing). LeadsOn (Asks request (λ reply. if_settled reply done refused)) old s d mid t) (was.is done refused)
+      (on_ask old mid s t request (λ reply. if_settled reply done refused) command was.reply was.grew asks same)
+
   pub on_number : (old mid : Turn D) (s t : Session) (request : Request) (command : Command) (outcome : Result ℕ Errno) → WasAsked old.calls mid.calls command (IsNumber outcome)
       → ((geo : Geometry) → asked geo command ≡ request) → t ≡ s → (next : ℕ → Doing) → LeadsOn (asks_number request next) old s (if_number outcome next) mid t
   on_number old mid s t request command outcome was asks same next =
@@ -248,6 +275,14 @@ module _ {D : Type 0} where
     pub on_err : {T : Type 0} (outcome : Result T Errno) (error : Errno) (done : Doing) (refused : Errno → Doing) → outcome ≡ Err error → LeadsOn a old s (go_on_or outcome done refused) mid t
         → LeadsOn a old s (refused error) mid t
     on_err outcome error done refused is on = subst (λ (o : Result _ Errno). LeadsOn a old s (go_on_or o done refused) mid t) is on
+
+    pub on_at_ok : {T : Type 0} (outcome : Result T Errno) (x : T) (done : Session → Doing) (refused : Session → Errno → Doing) → outcome ≡ Ok x
+        → LeadsOn a old s (go_on_at outcome done refused t) mid t → LeadsOn a old s (done t) mid t
+    on_at_ok outcome x done refused is on = subst (λ (o : Result _ Errno). LeadsOn a old s (go_on_at o done refused t) mid t) is on
+
+    pub on_at_err : {T : Type 0} (outcome : Result T Errno) (error : Errno) (done : Session → Doing) (refused : Session → Errno → Doing) → outcome ≡ Err error
+        → LeadsOn a old s (go_on_at outcome done refused t) mid t → LeadsOn a old s (refused t error) mid t
+    on_at_err outcome error done refused is on = subst (λ (o : Result _ Errno). LeadsOn a old s (go_on_at o done refused t) mid t) is on
 
     pub on_given : (outcome : Result ℕ Errno) (n : ℕ) (next : ℕ → Doing) → outcome ≡ Ok n → LeadsOn a old s (if_number outcome next) mid t → LeadsOn a old s (next n) mid t
     on_given outcome n next is on = subst (λ (o : Result ℕ Errno). LeadsOn a old s (if_number o next) mid t) is on

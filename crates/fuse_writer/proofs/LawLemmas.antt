@@ -3,14 +3,15 @@ use Rattle.std.proofs.Common.{◌≡◌, ◌<◌, ◌≤◌, ◌-◌, ◌^◌, �
 use Rattle.frozen.specs.Kept.{Kept}
 use Rattle.fuse_wire.specs.declared.errors.Errno.TheVariants as errors
 use Rattle.fuse_nodes.proofs.Runs.{leads}
-use Rattle.fuse_nodes.specs.Table.{found, id_of, known}
+use Rattle.fuse_nodes.specs.Runs.{after_all}
+use Rattle.fuse_nodes.specs.Table.{Event, Table, found, id_of, known}
 use Rattle.fuse_reader.specs.Said.{Said}
 use Rattle.fuse_writer.specs.declared.session.Session.{Session}
 use Rattle.fuse_writer.specs.Answers.{ByTurns, IsNoted, Same, Turned}
 use Rattle.fuse_writer.specs.Doings.{Asks, Does, Doing, IfMemory, Leads, Notes, Says, noted, refuses}
 use Rattle.fuse_writer.specs.Requests.{at_node, on_inode}
 use Rattle.fuse_writer.specs.Turns.{Call, Turn}
-use Rattle.fuse_writer.proofs.DoingLemmas.{noted_more}
+use Rattle.fuse_writer.proofs.DoingLemmas.{after_more, noted_more}
 
 -- ---- each turn notes something
 
@@ -40,17 +41,22 @@ does_noted doing old s said new s' does = leads_noted doing new.volume.kept s do
 
 -- ---- and so do many
 
-turns_noted : {s u : Session} → ByTurns s u → IsNoted s u
-turns_noted {s} Same = noted_none s
-turns_noted {s} (Turned u v before turn) = noted_then s u v (turns_noted before) turn
+-- the table is as these events left it
+turns_told : {s u : Session} → ByTurns s u → (events : List Event) × (u.nodes ≡ after_all events s.nodes)
+turns_told {s} Same = ([], refl)
+turns_told {s} (Turned u v time before turn) =
+    let told = turns_told before in (
+      told.0 ++ turn.events,
+      ap (λ (w : Session). w.nodes) turn.session ∙ ap (after_all turn.events) told.1 ∙ sym (after_more told.0 turn.events s.nodes),
+    )
 
 pub acts_on : (s u : Session) (i : ℕ) (next : ℕ → Doing) → 2 < i → i < length s.nodes → length s.nodes ≤ 2 ^ 32 → (known s.nodes i).generation < 2 ^ 32 - 1 → ByTurns s u
     → (at_node u (record { 0 = id_of s.nodes i }) next ≡ next i) ⊎ (at_node u (record { 0 = id_of s.nodes i }) next ≡ refuses errors.Stale)
 unfolding at_node
 acts_on s u i next no_root within small told turns =
-    let came = turns_noted turns in
+    let came = turns_told turns in
     by (found u.nodes (id_of s.nodes i))
-    (λ m e. (leads s.nodes i m came.events no_root within small told (ap (λ (w : Session). found w.nodes (id_of s.nodes i)) (sym came.session) ∙ e)).0)
+    (λ m e. (leads s.nodes i m came.0 no_root within small told (ap (λ (t : Table). found t (id_of s.nodes i)) (sym came.1) ∙ e)).0)
   where
     by : (o : Option ℕ) → ((m : ℕ) → o ≡ Some m → m ≡ i) → (on_inode o next ≡ next i) ⊎ (on_inode o next ≡ refuses errors.Stale)
     by None h = inr refl

@@ -9,3 +9,8 @@ pub mod WriteLemmas
 pub mod SettingLemmas
 pub mod EndLemmas
 pub mod DoneLemmas
+pub mod LinkLemmas
+pub mod SettledLemmas
+pub mod ShownLemmas
+pub mod PlusLemmas
+pub mod RoomLemmas

@@ -1,7 +1,7 @@
 -- The steps of requests that look at what is known.
-use Rattle.std.proofs.Common.{◌≡◌, ◌≤◌, ◌<◌, ◌^◌, ℕ, Bool, true, false, cond, List, [], ◌∷◌, ◌++◌, ◌||◌, not, eq-eqb, length, Option, Some, None, Result, Ok, Err, option_map, bit_and, refl, sym, ap, ◌∙◌}
+use Rattle.std.proofs.Common.{◌≡◌, ◌≤◌, ◌<◌, ◌^◌, ℕ, Bool, true, false, cond, List, [], ◌∷◌, ◌++◌, ◌||◌, not, eq-eqb, length, Option, Some, None, Result, Ok, Err, option_map, bit_and, refl, sym, ap, ap₂, ◌∙◌}
 use Rattle.std.proofs.lemmas.Bool.{le-leb, le-ltb, lt-leb, lt-ltb, ne_eqb}
-use Rattle.std.specs.Prelude.{◌==◌}
+use Rattle.std.specs.Prelude.{◌==◌, ◌/◌}
 use Rattle.frozen.specs.Kept.{Kept, frozen_view}
 use Rattle.fuse_wire.specs.declared.bodies.Body.{Body}
 use Rattle.fuse_wire.specs.declared.bodies.Body.TheVariants as bodies
@@ -17,9 +17,13 @@ use Rattle.fuse_reader.specs.Listings.{listing_from}
 use Rattle.fuse_reader.specs.Said as said
 use Rattle.fuse_reader.specs.Said.{told}
 use Rattle.fuse_writer.specs.declared.session.Session.{Session}
-use Rattle.fuse_writer.specs.Doings.{Doing, MayGoOn, Notes, Says, asks_done, go_on, noted, refuses, says_done, with_memory}
+use Rattle.fuse_writer.specs.declared.making.New.{New}
+use Rattle.fuse_writer.specs.declared.renaming.Moved.{Moved}
+use Rattle.fuse_writer.specs.Ahead.{marks, notes}
+use Rattle.fuse_writer.specs.Moves.{IsSoAfter, changes_of}
+use Rattle.fuse_writer.specs.Doings.{Change, Doing, MayGoOn, Notes, Says, asks_done, go_on, noted, refuses, says_done, with_memory}
 use Rattle.fuse_writer.proofs.DoingLemmas.{goes_memory, goes_no_memory, goes_same, goes_then}
-use Rattle.fuse_writer.specs.Requests.{file_at, at_directory, at_name, at_node, at_path, closes, crosses, entry_of, if_fits, if_there, is_below_root, is_directory, leading, links, links_at, lists, loses, makes, makes_node, moves, on_inode, on_path, opens, opens_known, path_in, releases, removes_as, renames, renames_at, renames_to, replaces, tells, where_leads}
+use Rattle.fuse_writer.specs.Requests.{at_directory, at_name, at_node, at_path, closes, crosses, entry_of, gains, if_fits, if_there, is_below_root, is_directory, leading, links, links_at, lists, makes, makes_node, may_make, moved, moves, on_inode, on_path, opens, opens_known, path_in, releases, removes_as, renames, renames_at, renames_to, replaces, tells, where_leads}
 
 module _ (s : Session) (node : NodeId) where
   pub node_known : (i : ℕ) → Some i ≡ found s.nodes node.0 → (next : ℕ → Doing) → at_node s node next ≡ next i
@@ -148,45 +152,47 @@ module _ (s : Session) (d : ℕ) (name : List ℕ) (i : ℕ) (body : Entry → B
 
 -- ---- names that become others
 
-module _ (s : Session) (directory : Bool) (i d : ℕ) (old : List ℕ) (e : ℕ) (new : List ℕ) where
+module _ (s : Session) (changes : List Change) (directory : Bool) (i d : ℕ) (old : List ℕ) (e : ℕ) (new : List ℕ) where
   abbrev moving : Doing
   moving =
-      path_in s d old (λ from. path_in s e new (λ to. asks_done (command.Rename from to) (Notes (Lost i (named d old) ∷ []) [] (with_memory (Notes (Got i (named e new) ∷ []) [] says_done)))))
+      path_in s d old (λ from. path_in s e new (λ to. asks_done (command.Rename from to) (Notes (Lost i (named d old) ∷ []) changes (with_memory (Notes (Got i (named e new) ∷ []) [] says_done)))))
 
-  pub moves_on : crosses directory d e ≡ false → moves s directory i d old e new ≡ moving
+  pub moves_on : crosses directory d e ≡ false → moves s changes directory i d old e new ≡ moving
   unfolding moves
   moves_on h = ap (λ b. cond b (refuses errors.CrossDevice) moving) h
 
-  pub moves_across : crosses directory d e ≡ true → moves s directory i d old e new ≡ refuses errors.CrossDevice
+  pub moves_across : crosses directory d e ≡ true → moves s changes directory i d old e new ≡ refuses errors.CrossDevice
   unfolding moves
   moves_across h = ap (λ b. cond b (refuses errors.CrossDevice) moving) h
 
-  module _ (other : Bool) (j : ℕ) where
+  module _ (kept : Kept) (other : Bool) (j : ℕ) where
     abbrev replacing : Doing
     replacing =
-        path_in s e new (λ path. asks_done (removes_as directory path) (loses j e new (moves (noted (Lost j (named e new) ∷ []) [] s) directory i d old e new)))
+        path_in s e new (λ path. asks_done (removes_as directory path)
+        (Notes (Lost j (named e new) ∷ []) (marks kept s j) (moves (noted (Lost j (named e new) ∷ []) (marks kept s j) s) changes directory i d old e new)))
 
     pub replaces_on : {T : Type 0} (o : Result T Errno) (b : Bool) → b ≡ other → ((next : Doing) → if_fits directory b d e next ≡ go_on o next)
-        → replaces s directory other i d old j e new ≡ go_on o replacing
+        → replaces kept s changes directory other i d old j e new ≡ go_on o replacing
     unfolding replaces
     replaces_on o b same h = ap (λ x. if_fits directory x d e replacing) (sym same) ∙ h replacing
 
     pub replaces_refused : {T : Type 0} (o : Result T Errno) (b : Bool) → b ≡ other → ((next : Doing) → if_fits directory b d e next ≡ go_on o next)
-        → (error : Errno) → o ≡ Err error → replaces s directory other i d old j e new ≡ refuses error
+        → (error : Errno) → o ≡ Err error → replaces kept s changes directory other i d old j e new ≡ refuses error
     replaces_refused o b same h error is = replaces_on o b same h ∙ ap (λ (o : Result _ Errno). go_on o replacing) is
 
     pub replaces_fits : {T : Type 0} (o : Result T Errno) (b : Bool) → b ≡ other → ((next : Doing) → if_fits directory b d e next ≡ go_on o next)
-        → (x : T) → o ≡ Ok x → replaces s directory other i d old j e new ≡ replacing
+        → (x : T) → o ≡ Ok x → replaces kept s changes directory other i d old j e new ≡ replacing
     replaces_fits o b same h x is = replaces_on o b same h ∙ ap (λ (o : Result _ Errno). go_on o replacing) is
 
+module _ (s : Session) (directory : Bool) (i d : ℕ) (old : List ℕ) (e : ℕ) (new : List ℕ) where
   module _ (kept : Kept) (spares : Bool) where
-    pub renames_none : renames_to kept s spares directory i d old e new None ≡ moves s directory i d old e new
+    pub renames_none : renames_to kept s spares directory i d old e new None ≡ moves s (moved kept s i d e) directory i d old e new
     unfolding renames_to
     renames_none = refl
 
     module _ (j : ℕ) where
       abbrev taking : Doing
-      taking = replaces s directory (is_directory kept j) i d old j e new
+      taking = replaces kept s (moved kept s i d e) directory (is_directory kept j) i d old j e new
 
       pub renames_same : j ≡ i → renames_to kept s spares directory i d old e new (Some j) ≡ says_done
       unfolding renames_to
@@ -221,10 +227,17 @@ pub renames_nowhere : (kept : Kept) (s : Session) (spares : Bool) (i d : ℕ) (o
 unfolding renames_at
 renames_nowhere kept s spares i d old e new error at leads = at _ ∙ leads _
 
-pub links_in : (s : Session) (d : ℕ) (name : List ℕ) (i : ℕ)
-    → links_at s d name i ≡ at_path s i (λ own. path_in s d name (λ path. asks_done (command.Link own path) (tells s d name i bodies.Entry)))
+pub links_in : (kept : Kept) (s : Session) (d : ℕ) (name : List ℕ) (i : ℕ)
+    → links_at kept s d name i ≡ at_path s i (λ own. path_in s d name (λ path.
+    asks_done (command.Link own path) (Notes [] (gains kept s i d) (tells (noted [] (gains kept s i d) s) d name i bodies.Entry))))
 unfolding links_at
-links_in s d name i = refl
+links_in kept s d name i = refl
+
+-- what is worked out for a move is what is noted
+pub changes_so : (kept : Kept) (s : Session) (m : Moved) → IsSoAfter kept s m → changes_of s m ≡ moved kept s m.number m.from.directory m.to.directory
+changes_so kept s m so =
+    ap₂ (λ (xs ys : List Change). xs ++ ys) (ap (notes s m.from.directory) so.left)
+    (ap₂ (λ (xs ys : List Change). xs ++ ys) (ap (notes s m.to.directory) so.reached) (ap (notes s m.number) so.own))
 
 -- ---- sessions
 
@@ -233,14 +246,12 @@ with_nodes s t = record s { nodes = t }
 
 -- ---- kinds
 
-pub node_made : (kept : Kept) (s : Session) (node : NodeId) (name : List ℕ) (mode : ℕ) → bit_and mode 61440 ≡ 32768
-    → makes_node kept s node name mode ≡ makes kept s node name mode file_at
-node_made kept s node name mode e =
-    ap (λ b. cond b (makes kept s node name mode file_at) (refuses errors.NotPermitted)) (eq-eqb (bit_and mode 61440) 32768 e)
+module _ (kept : Kept) (s : Session) (node : NodeId) (name : List ℕ) (new : New) where
+  pub node_made : may_make s.rules (new.mode / 4096) ≡ true → makes_node kept s node name new ≡ makes kept s node name new command.Create
+  node_made may = ap (λ b. cond b (makes kept s node name new command.Create) (refuses errors.NotPermitted)) may
 
-pub node_of_kind : (kept : Kept) (s : Session) (node : NodeId) (name : List ℕ) (mode : ℕ) → (bit_and mode 61440 ≡ 32768 → ⊥) → makes_node kept s node name mode ≡ refuses errors.NotPermitted
-node_of_kind kept s node name mode apart =
-    ap (λ b. cond b (makes kept s node name mode file_at) (refuses errors.NotPermitted)) (ne_eqb (bit_and mode 61440) 32768 apart)
+  pub node_of_kind : may_make s.rules (new.mode / 4096) ≡ false → makes_node kept s node name new ≡ refuses errors.NotPermitted
+  node_of_kind may = ap (λ b. cond b (makes kept s node name new command.Create) (refuses errors.NotPermitted)) may
 
 -- ---- looks at an inode
 
@@ -254,11 +265,11 @@ module _ (kept : Kept) (s : Session) (node : NodeId) (i : ℕ) (at : (next : ℕ
 
 module _ (kept : Kept) (s : Session) (node file : NodeId) (name : List ℕ) (d i : ℕ) (at_d : (next : ℕ → Doing) → at_directory kept s node next ≡ next d)
     (at_i : (next : ℕ → Doing) → at_node s file next ≡ next i) where
-  pub links_file : is_directory kept i ≡ false → links kept s node file name ≡ links_at s d name i
-  links_file is = at_d _ ∙ at_i _ ∙ ap (λ b. cond b (refuses errors.NotPermitted) (links_at s d name i)) is
+  pub links_file : is_directory kept i ≡ false → links kept s node file name ≡ links_at kept s d name i
+  links_file is = at_d _ ∙ at_i _ ∙ ap (λ b. cond b (refuses errors.NotPermitted) (links_at kept s d name i)) is
 
   pub links_directory : is_directory kept i ≡ true → links kept s node file name ≡ refuses errors.NotPermitted
-  links_directory is = at_d _ ∙ at_i _ ∙ ap (λ b. cond b (refuses errors.NotPermitted) (links_at s d name i)) is
+  links_directory is = at_d _ ∙ at_i _ ∙ ap (λ b. cond b (refuses errors.NotPermitted) (links_at kept s d name i)) is
 
 module _ (kept : Kept) (s : Session) (node : NodeId) (from size d : ℕ) (at_d : (next : ℕ → Doing) → at_directory kept s node next ≡ next d) where
   abbrev listing : Doing

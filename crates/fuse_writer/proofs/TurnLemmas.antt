@@ -15,12 +15,12 @@ use Rattle.fuse_writer.specs.Saying.{said_done}
 use Rattle.fuse_writer.specs.Turns.{Turn}
 
 module _ {D T E : Type 0} (head : Head) (asked : Asked) (old : Turn D) (s : Session) (outcome : Result T E) (reply : List ℕ) (new : Turn D) (s' : Session) where
-  pub turn_does : (a : Asked) (doing : Doing) → asked ≡ a → doing_of old.volume.kept s head.node a ≡ doing → is_sync a ≡ false → (said : Said) → Does doing old s said new s'
+  pub turn_does : (a : Asked) (doing : Doing) → asked ≡ a → doing_of old.volume.kept s head a ≡ doing → is_sync a ≡ false → (said : Said) → Does doing old s said new s'
       → OnOk outcome (reply ≡ spelled head.unique said) → IsTurn head asked old s outcome reply new s'
   turn_does a doing e is none said does spells = record {
     synced = λ sync _. let other : is_sync asked ≡ false = ap is_sync e ∙ none in absurd cc;
     said = said;
-    comes = subst (λ (d : Doing). Does d old s said new s') (sym (ap (doing_of old.volume.kept s head.node) e ∙ is)) does;
+    comes = subst (λ (d : Doing). Does d old s said new s') (sym (ap (doing_of old.volume.kept s head) e ∙ is)) does;
     spells = spells;
   }
 
@@ -30,7 +30,7 @@ module _ {D T E : Type 0} (head : Head) (asked : Asked) (old : Turn D) (s : Sess
     by_done (Ok x) all is = all
     by_done (Err e) all is = absurd cc
 
-    pub turn_syncs : (doing : Doing) → doing_of old.volume.kept s head.node asked ≡ doing → Does doing old s (said_done r) new s'
+    pub turn_syncs : (doing : Doing) → doing_of old.volume.kept s head asked ≡ doing → Does doing old s (said_done r) new s'
         → OnOk outcome (reply ≡ spelled head.unique (said_done r)) → IsTurn head asked old s outcome reply new s'
     turn_syncs doing is comes spells = record {
       said = said_done r;

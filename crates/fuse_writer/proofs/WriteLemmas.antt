@@ -1,5 +1,5 @@
 -- The steps of writes.
-use Rattle.std.proofs.Common.{◌≡◌, ◌<◌, ◌≤◌, ◌+◌, ◌-◌, ◌/◌, min, true, false, ℕ, suc, cond, eq-eqb, List, ◌++◌, length, take, drop, replicate, Result, Ok, Err, refl, sym, ap, subst, ◌∙◌}
+use Rattle.std.proofs.Common.{◌≡◌, ◌<◌, ◌≤◌, ◌+◌, ◌-◌, ◌/◌, min, true, false, ℕ, suc, cond, eq-eqb, List, [], ◌++◌, length, take, drop, replicate, Result, Ok, Err, refl, sym, ap, subst, ◌∙◌}
 use Rattle.std.proofs.lemmas.Bool.{le-leb, le-ltb, lt-leb, lt-ltb, ne_eqb}
 use Rattle.frozen.specs.Kept.{Kept, frozen_view}
 use Rattle.fuse_wire.specs.declared.bodies.Body.TheVariants as bodies
@@ -14,7 +14,8 @@ use Rattle.snapshot.specs.declared.command.Command.{Command}
 use Rattle.fuse_reader.specs.Said.{Said, Refused, told}
 use Rattle.fuse_writer.specs.declared.granted.Rules.{Rules}
 use Rattle.fuse_writer.specs.declared.session.Session.{Session}
-use Rattle.fuse_writer.specs.Doings.{Asks, Does, Doing, IsBytes, IsDone, LeadsOn, Says, WasAsked, go_on_or, if_done_or, items_of, refuses}
+use Rattle.fuse_writer.specs.Ahead.{touches}
+use Rattle.fuse_writer.specs.Doings.{Asks, Does, Doing, IsBytes, IsDone, LeadsOn, Notes, Says, WasAsked, go_on_or, if_done_or, items_of, refuses}
 use Rattle.fuse_writer.specs.Replied.{bytes_in}
 use Rattle.fuse_writer.specs.Requests.{at_handle, at_node, count_in, filled, fills_blocks, fills_to, if_block, place_in, writes, writes_between, writes_blocks, writes_part, writes_piece, wrote}
 use Rattle.fuse_writer.specs.Turns.{Turn}
@@ -158,13 +159,14 @@ module _ (rules : Rules) (handle own size : ℕ) (next : Doing) (refused : Errno
 module _ (kept : Kept) (s : Session) (node : NodeId) (offset : ℕ) (bytes : List ℕ) (i handle : ℕ) (at : (next : ℕ → Doing) → at_node s node next ≡ next i)
     (has : (next : ℕ → Doing) → at_handle s i next ≡ next handle) where
   abbrev writing : Doing
-  writing = fills_to s.rules handle ((frozen_view kept).inode i).size offset (writes_between handle offset (offset + length bytes) bytes) refuses
+  writing = Notes [] (touches kept s i) (fills_to s.rules handle ((frozen_view kept).inode i).size offset (writes_between handle offset (offset + length bytes) bytes) refuses)
 
   pub writes_some : offset + length bytes < 4294967296 → (own : ℕ) → own ≡ ((frozen_view kept).inode i).size
-      → writes kept s node offset bytes ≡ fills_to s.rules handle own offset (writes_between handle offset (offset + length bytes) bytes) refuses
+      → writes kept s node offset bytes
+      ≡ Notes [] (touches kept s i) (fills_to s.rules handle own offset (writes_between handle offset (offset + length bytes) bytes) refuses)
   writes_some small own is =
       at _ ∙ has _ ∙ ap (λ b. cond b writing (refuses errors.TooBig)) (lt-ltb (offset + length bytes) 4294967296 small)
-      ∙ ap (λ n. fills_to s.rules handle n offset (writes_between handle offset (offset + length bytes) bytes) refuses) (sym is)
+      ∙ ap (λ n. Notes [] (touches kept s i) (fills_to s.rules handle n offset (writes_between handle offset (offset + length bytes) bytes) refuses)) (sym is)
 
   pub writes_large : 4294967296 ≤ offset + length bytes → writes kept s node offset bytes ≡ refuses errors.TooBig
   writes_large large = at _ ∙ has _ ∙ ap (λ b. cond b writing (refuses errors.TooBig)) (le-ltb (offset + length bytes) 4294967296 large)

@@ -1,6 +1,8 @@
 -- What a request leads to: commands that the volume is asked, each chosen by the replies to those before, and in the end what is said.
-use Rattle.std.specs.Prelude.{◌≡◌, ◌⊎◌, ℕ, List, [], ◌∷◌, ◌++◌, slice_set, Ok, Err, Result}
+use Rattle.std.specs.Prelude.{◌≡◌, ◌⊎◌, ℕ, List, [], ◌∷◌, ◌++◌, slice_set, Ok, Err, Option, Result}
+use Rattle.attributes.specs.declared.Attributes.{Attributes}
 use Rattle.layout.specs.declared.refusal.Refusal.{Refusal}
+use Rattle.layout.specs.declared.refusal.Refusal.TheVariants as refusals
 use Rattle.frozen.specs.Kept.{Kept}
 use Rattle.fuse_wire.specs.declared.bodies.Body.{Body}
 use Rattle.fuse_wire.specs.declared.bodies.Body.TheVariants.{Empty}
@@ -13,22 +15,21 @@ use Rattle.snapshot.specs.Asked.{asked}
 use Rattle.snapshot.specs.declared.answer.Answer.{Answer}
 use Rattle.snapshot.specs.declared.command.Command.{Command}
 use Rattle.fuse_reader.specs.Said.{Said, Refused, told}
-use Rattle.fuse_writer.specs.declared.attributes.Set.{Set}
 use Rattle.fuse_writer.specs.declared.session.Session.{Session}
 use Rattle.fuse_writer.specs.Replied.{bytes_in, errno_of, number_in}
 use Rattle.fuse_writer.specs.Turns.{Call, Turn}
 
--- attributes of an inode are set
+-- these attributes are ahead of the record of an inode from now on, or none are
 pub record Change : Type 0 where
   pub number : ℕ
-  pub set : Set
+  pub ahead : Option Attributes
 
 pub data Doing : Type 0 where
   -- this is said, as it shows with the metadata that users see then
   Says : (Kept → Said) → Doing
   -- the volume is asked, and its reply tells how it goes on
   Asks : Request → (Result Answer Refusal → Doing) → Doing
-  -- the kernel was told and forgot, names and handles came and went, and attributes were set
+  -- the kernel was told and forgot, names and handles came and went, and attributes came before their records and were settled
   Notes : List Event → List Change → Doing → Doing
   -- memory is needed: it goes on so if there is some, and so if there is none
   IfMemory : Doing → Doing → Doing
@@ -56,6 +57,12 @@ if_done reply next = if_done_or reply next refuses
 abbrev pub asks_done : Request → Doing → Doing
 asks_done request next = Asks request (λ reply. if_done reply next)
 
+-- It was asked to give an inode its attributes: where the inode is gone there is nothing to give.
+abbrev pub if_settled : Result Answer Refusal → Doing → (Errno → Doing) → Doing
+if_settled (Ok answer) done refused = done
+if_settled (Err refusals.NotFound) done refused = done
+if_settled (Err r) done refused = refused (errno_of r)
+
 -- the same, by the number that it answers
 abbrev pub if_number : Result ℕ Errno → (ℕ → Doing) → Doing
 if_number (Ok n) next = next n
@@ -64,22 +71,14 @@ if_number (Err error) next = refuses error
 abbrev pub asks_number : Request → (ℕ → Doing) → Doing
 asks_number request next = Asks request (λ reply. if_number (number_in reply) next)
 
--- and by bytes
-abbrev pub if_bytes : Result (List ℕ) Errno → (List ℕ → Doing) → Doing
-if_bytes (Ok bytes) next = next bytes
-if_bytes (Err error) next = refuses error
-
-abbrev pub asks_bytes : Request → (List ℕ → Doing) → Doing
-asks_bytes request next = Asks request (λ reply. if_bytes (bytes_in reply) next)
-
 -- ---- what came of it
 
-abbrev pub set_all : List Change → List Set → List Set
-set_all [] sets = sets
-set_all (change ∷ changes) sets = set_all changes (slice_set sets change.number change.set)
+abbrev pub set_all : List Change → List (Option Attributes) → List (Option Attributes)
+set_all [] all = all
+set_all (change ∷ changes) all = set_all changes (slice_set all change.number change.ahead)
 
 abbrev pub noted : List Event → List Change → Session → Session
-noted events changes s = record s { nodes = after_all events s.nodes; attributes = set_all changes s.attributes }
+noted events changes s = record s { nodes = after_all events s.nodes; ahead = set_all changes s.ahead }
 
 -- These are its calls, each with the reply that it got; with these metadata in the end this is said, and the session was the first and is the second.
 unfoldable pub Leads : Doing → Kept → Session → List Call → Said → Session → Type 0
@@ -108,6 +107,10 @@ Gives {T} (Err error) doing = (next : T → Doing) → doing next ≡ refuses er
 pub record MayGoOn (doing next : Doing) : Type 0 where
   pub goes : (kept : Kept) (s : Session) (calls : List Call) (said : Said) (s' : Session) → Leads next kept s calls said s' → Leads doing kept s calls said s'
 
+-- the same from a later session, to which no command led
+pub record MayLead (doing : Doing) (s : Session) (next : Doing) (t : Session) : Type 0 where
+  pub leads : (kept : Kept) (calls : List Call) (said : Said) (last : Session) → Leads next kept t calls said last → Leads doing kept s calls said last
+
 -- the same of a path, for which there may be no memory
 abbrev pub GivesPath : {V : Type 0} → (V → List ℕ) → Result V Errno → ((List ℕ → Doing) → Doing) → Type 0
 GivesPath items (Ok path) doing = (next : List ℕ → Doing) → MayGoOn (doing next) (next (items path))
@@ -124,11 +127,19 @@ abbrev pub go_on_or : {T : Type 0} → Result T Errno → Doing → (Errno → D
 go_on_or (Ok x) done refused = done
 go_on_or (Err error) done refused = refused error
 
+-- the same from the session that it came to
+abbrev pub go_on_at : {T : Type 0} → Result T Errno → (Session → Doing) → (Session → Errno → Doing) → Session → Doing
+go_on_at (Ok x) done refused s = done s
+go_on_at (Err error) done refused s = refused s error
+
 abbrev pub go_on : {T : Type 0} → Result T Errno → Doing → Doing
 go_on outcome next = go_on_or outcome next refuses
 
 abbrev pub IsDone : {T : Type 0} → Result T Errno → Result Answer Refusal → Type 0
 IsDone outcome reply = (done : Doing) (refused : Errno → Doing) → if_done_or reply done refused ≡ go_on_or outcome done refused
+
+abbrev pub IsSettled : {T : Type 0} → Result T Errno → Result Answer Refusal → Type 0
+IsSettled outcome reply = (done : Doing) (refused : Errno → Doing) → if_settled reply done refused ≡ go_on_or outcome done refused
 
 abbrev pub IsNumber : Result ℕ Errno → Result Answer Refusal → Type 0
 IsNumber outcome reply = outcome ≡ number_in reply

@@ -1,8 +1,9 @@
 pub mod Turns
 pub mod Replied
-pub mod Set
+pub mod Ahead
 pub mod Desks
 pub mod Doings
 pub mod Requests
+pub mod Moves
 pub mod Saying
 pub mod Answers

@@ -1,6 +1,8 @@
 -- What each request leads to.
-use Rattle.std.specs.Prelude.{ℕ, drop, take, min, ◌/◌, ◌-◌, ◌*◌, ◌+◌, suc, zero, ◌^◌, ◌==◌, ◌&&◌, ◌||◌, not, Bool, nat_le, nat_lt, bit_and, bit_or, if◌then◌else◌, List, [], ◌∷◌, ◌++◌, length, Option, Some, None, is_some, option_map, Ok, Err, Result, slice_index_or, unwrap_or, replicate}
-use Rattle.std.specs.Option.{option_or}
+use Rattle.std.specs.Prelude.{ℕ, drop, take, min, ◌/◌, ◌-◌, ◌*◌, ◌+◌, suc, zero, ◌^◌, ◌==◌, ◌&&◌, ◌||◌, not, Bool, nat_le, nat_lt, bit_and, bit_or, if◌then◌else◌, List, [], ◌∷◌, ◌++◌, length, Option, Some, None, option_map, Ok, Err, Result, slice_index_or, replicate}
+use Rattle.attributes.specs.Kinds as kinds
+use Rattle.attributes.specs.Words.{words_of}
+use Rattle.attributes.specs.declared.Attributes.{Attributes as Own}
 use Rattle.frozen.specs.Kept.{Kept, frozen_view}
 use Rattle.fuse_wire.specs.declared.bodies.Attributes.{Attributes}
 use Rattle.fuse_wire.specs.declared.bodies.Body.{Body}
@@ -12,8 +14,6 @@ use Rattle.fuse_wire.specs.declared.errors.Errno.TheVariants as errors
 use Rattle.fuse_wire.specs.declared.numbers.NodeId.{NodeId}
 use Rattle.fuse_wire.specs.declared.numbers.Time.{Time}
 use Rattle.fuse_wire.specs.declared.requests.Changes.{Changes}
-use Rattle.fuse_wire.specs.declared.requests.Moment.{Moment}
-use Rattle.fuse_wire.specs.declared.requests.Moment.TheVariants as moments
 use Rattle.machine.specs.Command as command
 use Rattle.machine.specs.Paths.{lookup}
 use Rattle.model.specs.Layout.{inode_count}
@@ -21,49 +21,38 @@ use Rattle.model.specs.Uses.{blocks_of, is_directory_at}
 use Rattle.fuse_nodes.specs.Known.{named, released_by}
 use Rattle.fuse_nodes.specs.Table.{Born, Closed, Got, Lost, Opened as WasOpened, Told as WasTold, found, id_of, known, path_of}
 use Rattle.fuse_nodes.specs.declared.known.Open.{Open}
-use Rattle.fuse_reader.specs.Listings.{listing_from}
+use Rattle.fuse_reader.specs.Listings.{listed_name, listing_from, slots_of}
 use Rattle.fuse_reader.specs.Pieces.{piece_end}
+use Rattle.fuse_wire.specs.Replies.{entry_bytes}
+use Rattle.model.specs.Slots.{Slot, Good, slot}
 use Rattle.fuse_reader.specs.Said as said
 use Rattle.fuse_reader.specs.Said.{told}
-use Rattle.fuse_reader.specs.Shown.{attributes_of as own_attributes, room_of}
-use Rattle.fuse_writer.specs.declared.attributes.Set.{Set}
+use Rattle.fuse_reader.specs.Shown.{room_of, shown_by}
+use Rattle.fuse_writer.specs.declared.making.New.{New}
 use Rattle.fuse_writer.specs.declared.granted.Rules.{Rules}
 use Rattle.fuse_writer.specs.declared.session.Session.{Session}
-use Rattle.fuse_writer.specs.Doings.{Change, Doing, Says, Asks, IfMemory, Notes, asks_bytes, asks_done, asks_number, noted, refuses, says_done, if_done_or, with_memory}
+use Rattle.fuse_writer.specs.Ahead.{attributes_of, has_attributes, marks, notes, settled, touches, with_changes, words_for}
+use Rattle.fuse_writer.specs.Doings.{Change, Doing, Says, Asks, IfMemory, Notes, asks_done, asks_number, noted, refuses, says_done, if_done_or, if_settled, with_memory}
 use Rattle.fuse_writer.specs.Replied.{bytes_in, number_in}
-use Rattle.fuse_writer.specs.Set.{none_set}
 
 -- ---- what is shown
 
 abbrev pub hour : Time
 hour = record { seconds = 3600; nanoseconds = 0 }
 
--- repairs change links, so attributes are kept for a second
 abbrev pub second : Time
 second = record { seconds = 1; nanoseconds = 0 }
 
--- a mode that was set, of the kind that the inode is, which the upper four bits of 16 tell
-abbrev pub mode_of : ℕ → Option ℕ → ℕ
-mode_of own None = own
-mode_of own (Some mode) = bit_or (bit_and own 61440) (bit_and mode 4294905855)
-
--- attributes, with those that were set
-unfoldable pub with_set : Attributes → Set → Attributes
-with_set own set = record own {
-  accessed = unwrap_or set.accessed own.accessed;
-  modified = unwrap_or set.modified own.modified;
-  changed = unwrap_or set.changed own.changed;
-  mode = mode_of own.mode set.mode;
-  user = unwrap_or set.user own.user;
-  group = unwrap_or set.group own.group;
-}
+-- how long the kernel may keep attributes: while repairs may change links for a second alone
+abbrev pub kept_for : Session → Time
+kept_for s = if s.links_stay then hour else second
 
 abbrev pub shown_of : Kept → Session → ℕ → Attributes
-shown_of kept s i = with_set (own_attributes kept.geometry (frozen_view kept) s.owner i) (slice_index_or s.attributes i none_set)
+shown_of kept s i = shown_by kept.geometry (frozen_view kept) i (attributes_of kept s i)
 
 -- what a name leads to that leads to inode i
 abbrev pub entry_of : Kept → Session → ℕ → Entry
-entry_of kept s i = record { node = record { 0 = id_of s.nodes i }; generation = 0; name_kept = hour; attributes_kept = second; attributes = shown_of kept s i }
+entry_of kept s i = record { node = record { 0 = id_of s.nodes i }; generation = 0; name_kept = hour; attributes_kept = kept_for s; attributes = shown_of kept s i }
 
 -- ---- nodes, names and paths
 
@@ -128,7 +117,7 @@ abbrev pub looks_up : Kept → Session → NodeId → List ℕ → Doing
 looks_up kept s node name = at_directory kept s node (λ d. where_leads kept d name (found_there s d name))
 
 abbrev pub says_shown : ℕ → Session → Doing
-says_shown i s = Says (λ kept. told (bodies.Attributes second (shown_of kept s i)))
+says_shown i s = Says (λ kept. told (bodies.Attributes (kept_for s) (shown_of kept s i)))
 
 abbrev pub shows_attributes : Session → NodeId → Doing
 shows_attributes s node = at_node s node (λ i. says_shown i s)
@@ -139,40 +128,84 @@ lists kept s node from size =
     at_directory kept s node (λ d.
     if nat_le size 1048576 then with_memory (Says (λ kept. said.Told (listing_from kept.geometry (frozen_view kept) d from size))) else refuses errors.Invalid)
 
+-- ---- listings that tell what names lead to
+
+-- The kernel may be told of the inode of a name in slot n, but of those of the dots, which stand in the first two slots.
+abbrev pub may_tell : Session → ℕ → ℕ → Bool
+may_tell s n i = nat_le 2 n && is_below_root s i
+
+-- what a name leads to of which the kernel is not told: it asks for it if it has to
+abbrev pub not_told : List ℕ
+not_told = replicate 128 0
+
+-- what is told of it, or not
+abbrev pub found_or_not : Option Entry → List ℕ
+found_or_not None = not_told
+found_or_not (Some entry) = entry_bytes entry
+
+-- it goes on if there was room, and ends if not
+abbrev pub if_room : Bool → Session → List ℕ → (Session → List ℕ → Doing) → Doing
+if_room goes_on s bytes next = if goes_on then next s bytes else Says (λ k. said.Told bytes)
+
+-- an entry is added behind what is listed so far
+abbrev pub adds : Session → List ℕ → List ℕ → List ℕ → (Session → List ℕ → Doing) → Doing
+adds s bytes found entry next = with_memory (next s (bytes ++ (found ++ entry)))
+
+-- The name of inode i in slot n of directory d: the kernel is told of it, if it may be, and there is memory for it.
+abbrev pub adds_name : Kept → Session → ℕ → ℕ → ℕ → List ℕ → List ℕ → List ℕ → (Session → List ℕ → Doing) → Doing
+adds_name kept s d n i name bytes entry next =
+    if may_tell s n i
+    then IfMemory (Notes (WasTold i (named d name) ∷ []) [] (adds (noted (WasTold i (named d name) ∷ []) [] s) bytes (entry_bytes (entry_of kept s i)) entry next))
+    (adds s bytes not_told entry next)
+    else adds s bytes not_told entry next
+
+-- The name in slot n of directory d, if one stands there, and there is room for it.
+abbrev pub adds_slot : Kept → Session → ℕ → ℕ → ℕ → Slot → List ℕ → (Session → List ℕ → Doing) → Doing
+adds_slot kept s d room n (Good i name) bytes next =
+    let entry = listed_name kept.geometry (frozen_view kept) n i name in
+    if nat_le (length bytes + (128 + length entry)) room then adds_name kept s d n i name bytes entry next else Says (λ k. said.Told bytes)
+adds_slot kept s d room n _ bytes next = next s bytes
+
+-- The names in so many slots from slot n on: none is left out before the first for which there is no room.
+unfoldable pub adds_slots : Kept → Session → ℕ → ℕ → ℕ → ℕ → List ℕ → Doing
+adds_slots kept s d room n zero bytes = Says (λ k. said.Told bytes)
+adds_slots kept s d room n (suc m) bytes =
+    adds_slot kept s d room n (slot kept.geometry (frozen_view kept) d n) bytes (λ t more. adds_slots kept t d room (n + 1) m more)
+
+abbrev pub lists_plus : Kept → Session → NodeId → ℕ → ℕ → Doing
+lists_plus kept s node from size =
+    at_directory kept s node (λ d.
+    if nat_le size 1048576 then adds_slots kept s d size from (slots_of (frozen_view kept) d - from) [] else refuses errors.Invalid)
+
 abbrev pub shows_room : Doing
 shows_room = Says (λ kept. told (bodies.Statistics (room_of kept.geometry (frozen_view kept))))
 
 -- ---- names
 
--- what is kept of the mode of a new inode
-abbrev pub new_set : Rules → ℕ → Set
-new_set rules mode = record none_set { mode = if rules.keeps_attributes then Some mode else None }
+-- what is noted where a number was given to a new inode of directory d
+abbrev pub births : Kept → Session → ℕ → ℕ → List Change
+births kept s d i = record { number = i; ahead = None } ∷ touches kept s d
 
--- this number was given to a new inode
-abbrev pub bears : ℕ → Rules → ℕ → Doing → Doing
-bears i rules mode next = Notes (Born i ∷ []) (record { number = i; set = new_set rules mode } ∷ []) next
+abbrev pub bears : Kept → Session → ℕ → ℕ → Doing → Doing
+bears kept s d i next = Notes (Born i ∷ []) (births kept s d i) next
 
-abbrev pub born : Session → ℕ → ℕ → Session
-born s i mode = noted (Born i ∷ []) (record { number = i; set = new_set s.rules mode } ∷ []) s
+abbrev pub born : Kept → Session → ℕ → ℕ → Session
+born kept s d i = noted (Born i ∷ []) (births kept s d i) s
 
--- the commands by which a file and a directory are made, without attributes
-abbrev pub file_at : List ℕ → command.Command
-file_at path = command.Create path command.no_attributes
-
-abbrev pub directory_at : List ℕ → command.Command
-directory_at path = command.Mkdir path command.no_attributes
-
-abbrev pub makes : Kept → Session → NodeId → List ℕ → ℕ → (List ℕ → command.Command) → Doing
-makes kept s node name mode request =
+abbrev pub makes : Kept → Session → NodeId → List ℕ → New → (List ℕ → List ℕ → command.Command) → Doing
+makes kept s node name new request =
     at_directory kept s node (λ d. path_in s d name (λ path.
-    asks_number (request path) (λ i. bears i s.rules mode (tells (born s i mode) d name i bodies.Entry))))
+    asks_number (request path (words_for kept s d new)) (λ i. bears kept s d i (tells (born kept s d i) d name i bodies.Entry))))
 
-abbrev pub makes_directory : Kept → Session → NodeId → List ℕ → ℕ → Doing
-makes_directory kept s node name mode = makes kept s node name mode directory_at
+abbrev pub makes_directory : Kept → Session → NodeId → List ℕ → New → Doing
+makes_directory kept s node name new = makes kept s node name new command.Mkdir
 
--- Of nodes the volume has files alone, the kind of which is 8 in the upper four bits of 16.
-abbrev pub makes_node : Kept → Session → NodeId → List ℕ → ℕ → Doing
-makes_node kept s node name mode = if bit_and mode 61440 == 32768 then makes kept s node name mode file_at else refuses errors.NotPermitted
+-- Of nodes a file may be made; where attributes are kept a fifo, a device or a socket too, which are files that say so.
+abbrev pub may_make : Rules → ℕ → Bool
+may_make rules kind = kind == 8 || (rules.keeps_attributes && ((kind == 1 || kind == 2) || (kind == 6 || kind == 12)))
+
+abbrev pub makes_node : Kept → Session → NodeId → List ℕ → New → Doing
+makes_node kept s node name new = if may_make s.rules (new.mode / 4096) then makes kept s node name new command.Create else refuses errors.NotPermitted
 
 -- a file is open by the handle that is its number, and the kernel keeps what it has of its contents
 abbrev pub open_file : ℕ → Opened
@@ -181,35 +214,45 @@ open_file i = record { handle = record { 0 = i }; flags = 2 }
 abbrev pub opened_by : Session → ℕ → ℕ → Session
 opened_by s i handle = noted (WasOpened i handle ∷ []) [] s
 
+-- a new name is taken away again, since what was to be behind it could not be
+abbrev pub takes_away : Session → ℕ → List ℕ → Errno → Doing
+takes_away s d name error = path_in s d name (λ path. asks_done (command.Unlink path) (refuses error))
+
 -- a new file is opened; if it cannot be, its name is taken away again
 abbrev pub if_opened : Session → ℕ → List ℕ → ℕ → Result ℕ Errno → Doing
 if_opened s d name i (Ok handle) = Notes (WasOpened i handle ∷ []) [] (tells (opened_by s i handle) d name i (λ entry. bodies.Created entry (open_file i)))
-if_opened s d name i (Err error) = path_in s d name (λ path. asks_done (command.Unlink path) (refuses error))
+if_opened s d name i (Err error) = takes_away s d name error
 
 unfoldable pub opens_new : Session → ℕ → List ℕ → ℕ → List ℕ → Doing
 opens_new s d name i path = Asks (command.Open path) (λ reply. if_opened s d name i (number_in reply))
 
 -- The path is needed twice.
-abbrev pub creates : Kept → Session → NodeId → List ℕ → ℕ → Doing
-creates kept s node name mode =
+abbrev pub creates : Kept → Session → NodeId → List ℕ → New → Doing
+creates kept s node name new =
     at_directory kept s node (λ d. path_in s d name (λ path. with_memory (
-    asks_number (file_at path) (λ i. bears i s.rules mode (opens_new (born s i mode) d name i path)))))
+    asks_number (command.Create path (words_for kept s d new)) (λ i. bears kept s d i (opens_new (born kept s d i) d name i path)))))
 
--- a name goes
-abbrev pub loses : ℕ → ℕ → List ℕ → Doing → Doing
-loses i d name next = Notes (Lost i (named d name) ∷ []) [] next
+-- a name goes: the directory is touched, and the inode marked, if it is still there
+abbrev pub loses : Kept → Session → ℕ → ℕ → List ℕ → Doing → Doing
+loses kept s i d name next = Notes (Lost i (named d name) ∷ []) (touches kept s d ++ marks kept s i) next
 
 abbrev pub removes : Kept → Session → NodeId → List ℕ → (List ℕ → command.Command) → Doing
 removes kept s node name request =
-    at_directory kept s node (λ d. at_name kept d name (λ i. path_in s d name (λ path. asks_done (request path) (loses i d name says_done))))
+    at_directory kept s node (λ d. at_name kept d name (λ i. path_in s d name (λ path. asks_done (request path) (loses kept s i d name says_done))))
 
-unfoldable pub links_at : Session → ℕ → List ℕ → ℕ → Doing
-links_at s d name i = at_path s i (λ own. path_in s d name (λ path. asks_done (command.Link own path) (tells s d name i bodies.Entry)))
+-- what is noted where inode i gets a name in directory d
+abbrev pub gains : Kept → Session → ℕ → ℕ → List Change
+gains kept s i d = touches kept s d ++ marks kept s i
+
+unfoldable pub links_at : Kept → Session → ℕ → List ℕ → ℕ → Doing
+links_at kept s d name i =
+    at_path s i (λ own. path_in s d name (λ path.
+    asks_done (command.Link own path) (Notes [] (gains kept s i d) (tells (noted [] (gains kept s i d) s) d name i bodies.Entry))))
 
 abbrev pub links : Kept → Session → NodeId → NodeId → List ℕ → Doing
 links kept s node file name =
     at_directory kept s node (λ d. at_node s file (λ i.
-    if is_directory kept i then refuses errors.NotPermitted else links_at s d name i))
+    if is_directory kept i then refuses errors.NotPermitted else links_at kept s d name i))
 
 -- ---- names that become others
 
@@ -217,12 +260,16 @@ links kept s node file name =
 abbrev pub crosses : Bool → ℕ → ℕ → Bool
 crosses directory d e = directory && not (d == e)
 
--- A name moves to where none stands. The new one is kept, so memory is needed for it.
-unfoldable pub moves : Session → Bool → ℕ → ℕ → List ℕ → ℕ → List ℕ → Doing
-moves s directory i d old e new =
+-- what is noted where inode i moves from directory d to directory e
+abbrev pub moved : Kept → Session → ℕ → ℕ → ℕ → List Change
+moved kept s i d e = touches kept s d ++ (touches kept s e ++ marks kept s i)
+
+-- A name moves to where none stands, and this is noted. The new one is kept, so memory is needed for it.
+unfoldable pub moves : Session → List Change → Bool → ℕ → ℕ → List ℕ → ℕ → List ℕ → Doing
+moves s changes directory i d old e new =
     if crosses directory d e then refuses errors.CrossDevice
     else path_in s d old (λ from. path_in s e new (λ to.
-    asks_done (command.Rename from to) (Notes (Lost i (named d old) ∷ []) [] (with_memory (Notes (Got i (named e new) ∷ []) [] says_done)))))
+    asks_done (command.Rename from to) (Notes (Lost i (named d old) ∷ []) changes (with_memory (Notes (Got i (named e new) ∷ []) [] says_done)))))
 
 abbrev pub removes_as : Bool → List ℕ → command.Command
 removes_as directory path = if directory then command.Rmdir path else command.Unlink path
@@ -235,17 +282,17 @@ if_fits directory other d e next =
     else (if crosses directory d e then refuses errors.CrossDevice else next))
 
 -- Inode j has the new name, and loses it.
-unfoldable pub replaces : Session → Bool → Bool → ℕ → ℕ → List ℕ → ℕ → ℕ → List ℕ → Doing
-replaces s directory other i d old j e new =
+unfoldable pub replaces : Kept → Session → List Change → Bool → Bool → ℕ → ℕ → List ℕ → ℕ → ℕ → List ℕ → Doing
+replaces kept s changes directory other i d old j e new =
     if_fits directory other d e (path_in s e new (λ path. asks_done (removes_as directory path)
-    (loses j e new (moves (noted (Lost j (named e new) ∷ []) [] s) directory i d old e new))))
+    (Notes (Lost j (named e new) ∷ []) (marks kept s j) (moves (noted (Lost j (named e new) ∷ []) (marks kept s j) s) changes directory i d old e new))))
 
 -- where the new name leads to now: a rename that spares, or a volume of which names are not to be replaced, refuses one that is there
 unfoldable pub renames_to : Kept → Session → Bool → Bool → ℕ → ℕ → List ℕ → ℕ → List ℕ → Option ℕ → Doing
-renames_to kept s spares directory i d old e new None = moves s directory i d old e new
+renames_to kept s spares directory i d old e new None = moves s (moved kept s i d e) directory i d old e new
 renames_to kept s spares directory i d old e new (Some j) =
     if j == i then says_done
-    else (if spares || not s.rules.replaces then refuses errors.Exists else replaces s directory (is_directory kept j) i d old j e new)
+    else (if spares || not s.rules.replaces then refuses errors.Exists else replaces kept s (moved kept s i d e) directory (is_directory kept j) i d old j e new)
 
 unfoldable pub renames_at : Kept → Session → Bool → ℕ → List ℕ → ℕ → List ℕ → Doing
 renames_at kept s spares d old e new =
@@ -307,19 +354,27 @@ place_in k at = min (at - k * 1024) 1024
 abbrev pub part_of : ℕ → ℕ → ℕ → List ℕ → List ℕ
 part_of k from to block = take (place_in k to - place_in k from) (drop (place_in k from) block)
 
+abbrev pub if_block : Result (List ℕ) Errno → (List ℕ → Doing) → (Errno → Doing) → Doing
+if_block (Ok block) next refused = next block
+if_block (Err error) next refused = refused error
+
 -- So many blocks are read from block k on, and what of them lies between two places is added to the bytes.
-unfoldable pub reads_blocks : ℕ → ℕ → ℕ → ℕ → ℕ → List ℕ → Doing
-reads_blocks handle from to k zero bytes = Says (λ kept. said.Told bytes)
-reads_blocks handle from to k (suc n) bytes =
-    asks_bytes (command.Read handle k) (λ block. with_memory (reads_blocks handle from to (k + 1) n (bytes ++ part_of k from to block)))
+unfoldable pub reads_blocks : ℕ → ℕ → ℕ → ℕ → ℕ → List ℕ → (List ℕ → Doing) → (Errno → Doing) → Doing
+reads_blocks handle from to k zero bytes next refused = next bytes
+reads_blocks handle from to k (suc n) bytes next refused =
+    Asks (command.Read handle k) (λ reply. if_block (bytes_in reply)
+    (λ block. IfMemory (reads_blocks handle from to (k + 1) n (bytes ++ part_of k from to block) next refused) (refused errors.NoMemory)) refused)
 
 -- the bytes between two places, by the blocks that they stand in
-abbrev pub reads_between : ℕ → ℕ → ℕ → Doing
-reads_between handle from to = reads_blocks handle from to (from / 1024) (blocks_of to - from / 1024) []
+abbrev pub reads_between : ℕ → ℕ → ℕ → (List ℕ → Doing) → (Errno → Doing) → Doing
+reads_between handle from to next refused = reads_blocks handle from to (from / 1024) (blocks_of to - from / 1024) [] next refused
+
+abbrev pub says_bytes : List ℕ → Doing
+says_bytes bytes = Says (λ kept. said.Told bytes)
 
 -- as many as the file has there; none is asked for where it ends before
 abbrev pub reads_piece : ℕ → ℕ → ℕ → Doing
-reads_piece handle from to = if nat_lt from to then reads_between handle from to else Says (λ kept. said.Told [])
+reads_piece handle from to = if nat_lt from to then reads_between handle from to says_bytes refuses else says_bytes []
 
 abbrev pub reads : Kept → Session → NodeId → ℕ → ℕ → Doing
 reads kept s node offset size =
@@ -334,10 +389,6 @@ writes_piece handle k piece done refused =
 -- what a block has before a place, with zeroes up to it
 abbrev pub filled : ℕ → List ℕ → List ℕ
 filled at block = take at block ++ replicate (at - length block) 0
-
-abbrev pub if_block : Result (List ℕ) Errno → (List ℕ → Doing) → (Errno → Doing) → Doing
-if_block (Ok block) next refused = next block
-if_block (Err error) next refused = refused error
 
 -- Bytes are written into block k from a place of it on: what stands before is read, and written with them.
 unfoldable pub writes_part : ℕ → ℕ → ℕ → List ℕ → Doing → (Errno → Doing) → Doing
@@ -375,21 +426,114 @@ writes_blocks handle from to k (suc n) rest done =
 abbrev pub writes_between : ℕ → ℕ → ℕ → List ℕ → Doing
 writes_between handle from to bytes = writes_blocks handle from to (from / 1024) (blocks_of to - from / 1024) bytes 0
 
--- Bytes are written into an open file at an offset. Zeroes are written before where it ends before.
+-- Bytes are written into an open file at an offset. Zeroes are written before where it ends before. The file is touched even if no block is written in the end.
 abbrev pub writes_at : Kept → Session → ℕ → ℕ → List ℕ → ℕ → Doing
 writes_at kept s i offset bytes handle =
     if nat_lt (offset + length bytes) (2 ^ 32)
-    then fills_to s.rules handle ((frozen_view kept).inode i).size offset (writes_between handle offset (offset + length bytes) bytes) refuses
+    then Notes [] (touches kept s i) (fills_to s.rules handle ((frozen_view kept).inode i).size offset (writes_between handle offset (offset + length bytes) bytes) refuses)
     else refuses errors.TooBig
 
 abbrev pub writes : Kept → Session → NodeId → ℕ → List ℕ → Doing
 writes kept s node offset bytes = at_node s node (λ i. at_handle s i (writes_at kept s i offset bytes))
+
+-- A file of this size is lengthened by zeroes to another one; where one of them is refused, it gets its size back.
+unfoldable pub lengthens : Rules → ℕ → ℕ → ℕ → Doing → Doing
+lengthens rules handle own size next =
+    fills_to rules handle own size next (λ error. Asks (command.Truncate handle own) (λ reply. refuses error))
+
+-- An open file has room up to a place: its blocks are there up to its end, so it gets zeroes behind it.
+abbrev pub allocates_to : Kept → Session → ℕ → ℕ → ℕ → Doing
+allocates_to kept s i end handle =
+    let own = ((frozen_view kept).inode i).size in
+    if nat_lt end (2 ^ 32)
+    then (if nat_le end own then says_done else lengthens s.rules handle own end (Notes [] (touches kept s i) says_done))
+    else refuses errors.TooBig
+
+-- there is no room behind the end of a file, and no hole in it
+abbrev pub allocates : Kept → Session → NodeId → ℕ → ℕ → ℕ → Doing
+allocates kept s node offset bytes mode =
+    if mode == 0 then at_node s node (λ i. at_handle s i (allocates_to kept s i (offset + bytes))) else refuses errors.NotSupported
+
+-- ---- symbolic links
+
+-- what inode i is, as a number
+abbrev pub kind_at : Kept → Session → ℕ → ℕ
+kind_at kept s i = kinds.kind_of (is_directory kept i) (attributes_of kept s i).mode
+
+-- The file of a link is opened and read, and closed in any case. Linux takes 4,095 bytes.
+unfoldable pub reads_target : Kept → Session → ℕ → Doing
+reads_target kept s i =
+    at_path s i (λ path. asks_number (command.Open path) (λ handle.
+    reads_between handle 0 (min ((frozen_view kept).inode i).size 4095) (λ bytes. asks_done (command.Close handle) (says_bytes bytes))
+    (λ error. Asks (command.Close handle) (λ reply. refuses error))))
+
+abbrev pub reads_link : Kept → Session → NodeId → Doing
+reads_link kept s node = at_node s node (λ i. if kind_at kept s i == 10 then reads_target kept s i else refuses errors.Invalid)
+
+-- So many blocks of an open file from block k on get what is left of the bytes, which begin there.
+unfoldable pub puts_blocks : ℕ → ℕ → ℕ → List ℕ → Doing → (Errno → Doing) → Doing
+puts_blocks handle k zero rest next refused = next
+puts_blocks handle k (suc n) rest next refused = writes_piece handle k (take 1024 rest) (puts_blocks handle (k + 1) n (drop 1024 rest) next refused) refused
+
+-- A new link gets its target as its bytes, and is closed; if it cannot have them, its name is taken away again.
+unfoldable pub puts_target : Session → ℕ → List ℕ → ℕ → List ℕ → ℕ → Doing
+puts_target s d name i target handle =
+    puts_blocks handle 0 (blocks_of (length target)) target
+    (Asks (command.Close handle) (λ reply. if_done_or reply (tells s d name i bodies.Entry) (takes_away s d name)))
+    (λ error. Asks (command.Close handle) (λ reply. takes_away s d name error))
+
+abbrev pub if_link_opened : Session → ℕ → List ℕ → ℕ → List ℕ → Result ℕ Errno → Doing
+if_link_opened s d name i target (Ok handle) = puts_target s d name i target handle
+if_link_opened s d name i target (Err error) = takes_away s d name error
+
+unfoldable pub opens_link : Session → ℕ → List ℕ → ℕ → List ℕ → List ℕ → Doing
+opens_link s d name i target path = Asks (command.Open path) (λ reply. if_link_opened s d name i target (number_in reply))
+
+-- a target has 1 to 4,095 bytes
+abbrev pub if_target : List ℕ → Doing → Doing
+if_target target next = if length target == 0 then refuses errors.Invalid else (if nat_le (length target) 4095 then next else refuses errors.NameTooLong)
+
+abbrev pub makes_link : Kept → Session → NodeId → List ℕ → List ℕ → New → Doing
+makes_link kept s node name target new =
+    if s.rules.keeps_attributes
+    then if_target target (at_directory kept s node (λ d. path_in s d name (λ path. with_memory (
+    asks_number (command.Create path (words_for kept s d new)) (λ i. bears kept s d i (opens_link (born kept s d i) d name i target path))))))
+    else refuses errors.NotPermitted
 
 -- ---- the medium
 
 -- All is written, and the medium is waited for.
 abbrev pub syncs : Doing
 syncs = asks_done command.Sync says_done
+
+-- The record of an inode gets what is ahead of it. An inode that is gone has nothing to get.
+abbrev pub settles_by : Session → ℕ → Option Own → (Session → Doing) → (Errno → Doing) → Doing
+settles_by s i None next refused = next s
+settles_by s i (Some own) next refused =
+    Asks (command.SetAttributes i (words_of own)) (λ reply. if_settled reply (Notes [] (settled i) (next (noted [] (settled i) s))) refused)
+
+unfoldable pub settles : Session → ℕ → (Session → Doing) → (Errno → Doing) → Doing
+settles s i next refused = settles_by s i (slice_index_or s.ahead i None) next refused
+
+-- and so do those of so many numbers from k on, up to the first refusal
+unfoldable pub settles_all : Session → ℕ → ℕ → (Session → Doing) → (Session → Errno → Doing) → Doing
+settles_all s k zero next refused = next s
+settles_all s k (suc n) next refused = settles s k (λ t. settles_all t (k + 1) n next refused) (refused s)
+
+-- A file or a directory is settled before, unless its data alone are meant.
+abbrev pub settles_found : Session → Option ℕ → Doing
+settles_found s None = syncs
+settles_found s (Some i) = settles s i (λ t. syncs) refuses
+
+abbrev pub syncs_node : Session → NodeId → Bool → Doing
+syncs_node s node data_only = if data_only then syncs else settles_found s (found s.nodes node.0)
+
+abbrev pub syncs_all : Kept → Session → Doing
+syncs_all kept s = settles_all s 0 (inode_count kept.geometry) (λ t. syncs) (λ t. refuses)
+
+-- so many numbers from one on are settled between two turns
+abbrev pub settles_some : Session → ℕ → ℕ → Doing
+settles_some s from count = settles_all s from count (λ t. says_done) (λ t. refuses)
 
 -- ---- attributes that are set
 
@@ -416,41 +560,20 @@ sets_size kept s i (Some size) next =
     if is_directory kept i then refuses errors.IsDirectory
     else (if nat_lt size (2 ^ 32) then resizes_known s i ((frozen_view kept).inode i).size size (known s.nodes i).open_by next else refuses errors.TooBig)
 
--- what the volume has no command for
-abbrev pub is_kept_elsewhere : Changes → Bool
-is_kept_elsewhere changes =
-    (((is_some changes.mode || is_some changes.user) || is_some changes.group) || is_some changes.accessed) || is_some changes.modified
+-- The inode has these attributes from now on, if they are kept: its record gets them, or, where the size alone was set, will get them.
+unfoldable pub keeps : Session → ℕ → Changes → Own → (Session → Doing) → Doing
+keeps s i changes own next =
+    if not s.rules.keeps_attributes then next s
+    else (if has_attributes changes
+    then asks_done (command.SetAttributes i (words_of own)) (Notes [] (settled i) (next (noted [] (settled i) s)))
+    else Notes [] (notes s i own) (next (noted [] (notes s i own) s)))
 
--- the time that is meant: for that of the call, the one of the volume's owner
-abbrev pub moment_of : Time → Option Moment → Option Time
-moment_of own None = None
-moment_of own (Some moments.Now) = Some own
-moment_of own (Some (moments.At time)) = Some time
-
-unfoldable pub changed_by : Changes → Time → Set → Set
-changed_by changes own set = record {
-  mode = option_or changes.mode set.mode;
-  user = option_or changes.user set.user;
-  group = option_or changes.group set.group;
-  accessed = option_or (moment_of own changes.accessed) set.accessed;
-  modified = option_or (moment_of own changes.modified) set.modified;
-  changed = option_or changes.changed set.changed;
-}
-
--- what becomes of those that were set
-abbrev pub change_of : Session → ℕ → Changes → Change
-change_of s i changes = record { number = i; set = changed_by changes s.owner.changed (slice_index_or s.attributes i none_set) }
-
--- They last until the volume is unmounted, if that is allowed.
-unfoldable pub keeps : Session → ℕ → Changes → (Session → Doing) → Doing
-keeps s i changes next =
-    if s.rules.keeps_attributes then Notes [] (change_of s i changes ∷ []) (next (noted [] (change_of s i changes ∷ []) s)) else next s
-
+-- They are those that it had before its size was set, with the changes.
 abbrev pub sets_attributes : Kept → Session → NodeId → Changes → Doing
 sets_attributes kept s node changes =
     at_node s node (λ i.
-    if is_kept_elsewhere changes && not s.rules.keeps_attributes then refuses errors.NotPermitted
-    else sets_size kept s i changes.size (keeps s i changes (says_shown i)))
+    if has_attributes changes && not s.rules.keeps_attributes then refuses errors.NotPermitted
+    else sets_size kept s i changes.size (keeps s i changes (with_changes s.time changes (attributes_of kept s i)) (says_shown i)))
 
 -- ---- the unmount
 
@@ -469,6 +592,12 @@ unfoldable pub closes_all : Session → ℕ → ℕ → Doing → (Errno → Doi
 closes_all s k zero next refused = next
 closes_all s k (suc n) next refused = closes_often s k (opened_often (known s.nodes k).open_by) (λ t. closes_all t (k + 1) n next refused) refused
 
--- All files are closed, as far as that is not refused, and all is written in any case. The first refusal is told.
+-- the first refusal is told, but all is written in any case
+abbrev pub syncs_still : Errno → Doing
+syncs_still error = Asks command.Sync (λ reply. refuses error)
+
+-- All is settled and all files are closed, each as far as that is not refused, and all is written in any case. The first refusal is told.
 abbrev pub ends : Kept → Session → Doing
-ends kept s = closes_all s 0 (inode_count kept.geometry) syncs (λ error. Asks command.Sync (λ reply. refuses error))
+ends kept s =
+    let all = inode_count kept.geometry in
+    settles_all s 0 all (λ t. closes_all t 0 all syncs syncs_still) (λ t error. closes_all t 0 all (syncs_still error) (λ later. syncs_still error))

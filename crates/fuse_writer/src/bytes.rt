@@ -1,11 +1,10 @@
 //! The bytes of files: read, written, and lengthened by zeroes.
-ghost use Rattle.std.specs.Prelude.{◌≡◌, ◌≤◌, ◌<◌, ◌+◌, ◌-◌, ◌/◌, ◌++◌, ◌^◌, ℕ, suc, IfErr, IfOk, OnOk, length};
+ghost use Rattle.std.specs.Prelude.{◌≡◌, ◌≤◌, ◌<◌, ◌+◌, ◌-◌, ◌/◌, ◌++◌, ◌^◌, ℕ, suc, IfErr, IfOk, List, OnOk, length};
 ghost use Rattle.fuse_wire.specs.declared.bodies.Body.TheVariants.{Written};
 ghost use Rattle.fuse_wire.specs.declared.errors.Errno.{Errno as Number};
 ghost use Rattle.model.specs.Uses.{blocks_of};
-ghost use Rattle.fuse_reader.specs.Said.{Refused};
-ghost use Rattle.fuse_writer.specs.Doings.{Does, Doing, LeadsOn, go_on_or, said_by};
-ghost use Rattle.fuse_writer.specs.Requests.{count_in, filled, fills_blocks, fills_to, place_in, reads, reads_between, reads_blocks, writes, writes_between, writes_part, writes_piece};
+ghost use Rattle.fuse_writer.specs.Doings.{Does, Doing, LeadsOn, go_on_or, items_of, said_by};
+ghost use Rattle.fuse_writer.specs.Requests.{count_in, filled, fills_blocks, fills_to, if_block, place_in, reads, reads_between, reads_blocks, writes, writes_between, writes_part, writes_piece};
 ghost use Rattle.fuse_writer.specs.Saying.{said_bytes};
 
 use crate::mounted::Mounted;
@@ -63,26 +62,25 @@ pub(crate) fn read<D: Device>(
     if offset >= end {
         return Ok(Vec::new(mounted.alloc));
     }
-    let span = Span {
-        from: offset as u32,
-        to: end as u32,
-    };
-    read_between(mounted, handle, span)
+    read_between(mounted, handle, offset as u32, end as u32)
 }
 
 /// The bytes of an open file between two places.
-fn read_between<D: Device>(
+pub(crate) fn read_between<D: Device>(
     mounted: &mut Mounted<D>,
     handle: u32,
-    span: Span,
+    from: u32,
+    to: u32,
 ) -> Result<Vec<u8>, Errno>
-    requires ordered { span.from ≤ span.to }
-    requires small { span.to ≤ span.from + 2 ^ 20 }
+    requires ordered { from ≤ to }
+    requires small { to ≤ from + 2 ^ 20 }
     ensures start { mounted.new.asking.start ≡ mounted.old.asking.start }
-    ensures does { Does (reads_between handle span.from span.to)
-        mounted.old.asking mounted.old.session (said_bytes (λ bytes. bytes.items) result) mounted.new.asking mounted.new.session }
+    ensures session { mounted.new.session ≡ mounted.old.session }
+    ensures does { (next : List ℕ → Doing) (refused : Number → Doing) → LeadsOn (reads_between handle from to next refused)
+        mounted.old.asking mounted.old.session (if_block (items_of (λ bytes. bytes.items) result) next refused) mounted.new.asking mounted.new.session }
     ensures few { IfOk result (λ bytes. length bytes.items ≤ 2 ^ 21) }
 {
+    let span = Span { from, to };
     let mut bytes = Vec::new(mounted.alloc);
     let first = span.from / BLOCK_BYTES as u32;
     let last = blocks_of_size(span.to);
@@ -101,10 +99,13 @@ fn read_part<D: Device>(
     bytes: &mut Vec<u8>,
 ) -> Result<(), Errno>
     ensures start { mounted.new.asking.start ≡ mounted.old.asking.start }
-    ensures read { OnOk result ((n : ℕ) → LeadsOn (reads_blocks handle span.from span.to index (suc n) bytes.old.items)
-        mounted.old.asking mounted.old.session (reads_blocks handle span.from span.to (index + 1) n bytes.new.items) mounted.new.asking mounted.new.session) }
-    ensures refused { IfErr result (λ error. (n : ℕ) → Does (reads_blocks handle span.from span.to index (suc n) bytes.old.items)
-        mounted.old.asking mounted.old.session (Refused error) mounted.new.asking mounted.new.session) }
+    ensures session { mounted.new.session ≡ mounted.old.session }
+    ensures read { OnOk result ((n : ℕ) (next : List ℕ → Doing) (refused : Number → Doing)
+        → LeadsOn (reads_blocks handle span.from span.to index (suc n) bytes.old.items next refused) mounted.old.asking mounted.old.session
+        (reads_blocks handle span.from span.to (index + 1) n bytes.new.items next refused) mounted.new.asking mounted.new.session) }
+    ensures refused { IfErr result (λ error. (n : ℕ) (next : List ℕ → Doing) (refused : Number → Doing)
+        → LeadsOn (reads_blocks handle span.from span.to index (suc n) bytes.old.items next refused)
+        mounted.old.asking mounted.old.session (refused error) mounted.new.asking mounted.new.session) }
     ensures few { OnOk result (length bytes.new.items ≤ length bytes.old.items + 1024) }
 {
     let block = mounted.ask_bytes(Command::Read { handle, index })?;
@@ -118,7 +119,7 @@ fn read_part<D: Device>(
 }
 
 /// Writes bytes into an open file at an offset, and tells how many: less than all where a later block was refused. Behind the end of
-/// the file zeroes are written before, if that is allowed.
+/// the file zeroes are written before, if that is allowed. The file is touched before, as in Linux's own file systems.
 pub(crate) fn write<D: Device>(
     mounted: &mut Mounted<D>,
     node: NodeId,
@@ -139,6 +140,8 @@ pub(crate) fn write<D: Device>(
         from: offset as u32,
         to: offset as u32 + bytes.len() as u32,
     };
+    let touched = mounted.touched(number);
+    mounted.note(number, touched);
     fill_to(mounted, handle, own, span.from)?;
     write_between(mounted, handle, span, bytes)
 }
@@ -225,7 +228,7 @@ fn filled(block: Vec<u8>, at: usize, bytes: &[u8]) -> Result<Vec<u8>, AllocError
 }
 
 /// Writes a piece to the start of a block of an open file.
-fn write_piece<D: Device>(
+pub(crate) fn write_piece<D: Device>(
     mounted: &mut Mounted<D>,
     handle: u32,
     index: u32,

@@ -1,5 +1,5 @@
 //! Laws of turns.
-ghost use Rattle.std.specs.Prelude.{◌≡◌, ◌⊎◌, ◌<◌, ◌≤◌, ◌-◌, ◌^◌, ℕ, Bool, false, IsTrue, List, [], length, map};
+ghost use Rattle.std.specs.Prelude.{◌≡◌, ◌⊎◌, ◌<◌, ◌≤◌, ◌-◌, ◌^◌, ℕ, Bool, false, IsTrue, List, [], None, Some, length, map, slice_index_or};
 ghost use Rattle.machine.specs.Command.{Reply};
 ghost use Rattle.softdep.specs.Queued.{unsynced_of};
 ghost use Rattle.snapshot.specs.Alive.{Alive};
@@ -11,10 +11,20 @@ ghost use Rattle.snapshot.specs.Synced.{HasFile, KeepsFiles};
 ghost use Rattle.fuse_wire.specs.declared.errors.Errno.TheVariants.{Stale};
 ghost use Rattle.fuse_nodes.specs.Table.{id_of, known};
 ghost use Rattle.fuse_writer.specs.declared.session.Session.{Session};
-ghost use Rattle.fuse_writer.specs.Answers.{ByTurns};
-ghost use Rattle.fuse_writer.specs.Doings.{Doing, refuses};
-ghost use Rattle.fuse_writer.specs.Requests.{at_node};
+ghost use Rattle.fuse_writer.specs.Answers.{ByTurns, Settles, doing_of};
+ghost use Rattle.fuse_writer.specs.Doings.{Doing, Leads, noted, refuses};
+ghost use Rattle.fuse_writer.specs.Requests.{at_node, shown_of};
+ghost use Rattle.attributes.specs.Words.{Fits, words_of};
+ghost use Rattle.attributes.specs.declared.Attributes.{Attributes};
+ghost use Rattle.frozen.specs.Kept.{Kept, frozen_view};
+ghost use Rattle.fuse_reader.specs.Said.{told};
+ghost use Rattle.fuse_wire.specs.Requests.{Asked};
+ghost use Rattle.fuse_wire.specs.declared.bodies.Body.TheVariants.{Empty};
+ghost use Rattle.fuse_wire.specs.declared.requests.Head.{Head};
+ghost use Rattle.fuse_writer.specs.Ahead.{settled};
 ghost use Rattle.fuse_writer.specs.Turns.{Call, GoesBy, IsStageOf};
+ghost use Rattle.model.specs.Layout.{inode_count};
+ghost use Rattle.model.specs.View.{with_attributes};
 
 use device::Device;
 
@@ -43,3 +53,17 @@ pub fn what_fsync_answered_outlives_power_cuts<D: Device>()
 {
     snapshot::what_a_sync_has_seen_outlives_power_cuts::<D>();
 }
+
+/// Where a sync is answered without an error nothing is ahead of the record of the inode that it is about, and where that of a volume is,
+/// of none: their records have got what users saw.
+pub fn what_a_sync_answered_is_settled()
+    ensures { (kept last : Kept) (s t : Session) (head : Head) (request : Asked) (calls : List Call)
+        → Leads (doing_of kept s head request) last s calls (told Empty) t → Settles (inode_count kept.geometry) s head request t }
+{}
+
+/// What users see of an inode is the same once its record has got what is ahead of it.
+pub fn settling_shows_the_same()
+    ensures { (kept then : Kept) (s : Session) (i : ℕ) (own : Attributes) → slice_index_or s.ahead i None ≡ Some own → Fits own → then.geometry ≡ kept.geometry
+        → (frozen_view then).inode i ≡ with_attributes ((frozen_view kept).inode i) (words_of own)
+        → shown_of then (noted [] (settled i) s) i ≡ shown_of kept s i }
+{}

@@ -1,20 +1,25 @@
 //! Names: what they lead to, new ones, and names that go.
-ghost use Rattle.std.specs.Prelude.{◌≡◌};
+ghost use Rattle.std.specs.Prelude.{◌≡◌, ◌∷◌, [], None};
+ghost use Rattle.attributes.specs.declared.Attributes.{Attributes as Own};
 ghost use Rattle.fuse_wire.specs.declared.bodies.Body.TheVariants as bodies;
 ghost use Rattle.machine.specs.Command.{Rmdir, Unlink};
-ghost use Rattle.fuse_writer.specs.Doings.{Does, Gives, said_by};
-ghost use Rattle.fuse_writer.specs.Requests.{at_name, born, creates, links, links_at, looks_up, makes_directory, makes_node, opens_new, removes, where_leads};
+ghost use Rattle.fuse_nodes.specs.Table.{Born};
+ghost use Rattle.fuse_writer.specs.Ahead.{notes};
+ghost use Rattle.fuse_writer.specs.Doings.{Does, Gives, noted, said_by};
+ghost use Rattle.fuse_writer.specs.Requests.{at_name, creates, links, links_at, looks_up, makes_directory, makes_node, opens_new, removes, takes_away, where_leads};
 ghost use Rattle.fuse_writer.specs.Saying.{said_created, said_done, said_found};
+ghost use Rattle.fuse_reader.specs.Said.{Refused};
 
-use crate::attributes::Set;
+use crate::making::{New, may_make, words_for};
 use crate::mounted::Mounted;
 use crate::opening::opened_file;
 use crate::paths::{path_in, path_of};
-use crate::showing::{FILE_KIND, KIND, tell_of};
+use crate::showing::tell_of;
+use attributes::Attributes;
 use device::Device;
 use dirent::NAME_BYTES;
 use fuse_wire::{Entry, Errno, NodeId, Opened};
-use snapshot::{Command, NO_ATTRIBUTES};
+use snapshot::Command;
 
 /// The number that a name in a directory leads to.
 pub(crate) fn leads_to<D: Device>(
@@ -66,39 +71,41 @@ pub(crate) fn make_directory<D: Device>(
     mounted: &mut Mounted<D>,
     parent: NodeId,
     name: &[u8],
-    mode: u32,
+    new: New,
 ) -> Result<Entry, Errno>
     ensures start { mounted.new.asking.start ≡ mounted.old.asking.start }
-    ensures does { Does (makes_directory mounted.old.asking.volume.kept mounted.old.session parent name.now mode)
+    ensures does { Does (makes_directory mounted.old.asking.volume.kept mounted.old.session parent name.now new)
         mounted.old.asking mounted.old.session (said_by bodies.Entry result) mounted.new.asking mounted.new.session }
 {
     let directory = mounted.directory(parent)?;
     let path = path_in(mounted, directory, name)?;
-    let attributes = NO_ATTRIBUTES;
+    let attributes = words_for(mounted, directory, new);
+    let touched = mounted.touched(directory);
     let number = mounted.ask_number(Command::Mkdir { path, attributes })?;
-    bear(mounted, number, mode);
+    bear(mounted, number, directory, touched);
     tell_of(mounted, directory, name, number)
 }
 
-/// Makes a file. Nodes of other kinds the volume does not have.
+/// Makes a file; where attributes are kept a fifo, a device or a socket too, which are files that say so.
 pub(crate) fn make_node<D: Device>(
     mounted: &mut Mounted<D>,
     parent: NodeId,
     name: &[u8],
-    mode: u32,
+    new: New,
 ) -> Result<Entry, Errno>
     ensures start { mounted.new.asking.start ≡ mounted.old.asking.start }
-    ensures does { Does (makes_node mounted.old.asking.volume.kept mounted.old.session parent name.now mode)
+    ensures does { Does (makes_node mounted.old.asking.volume.kept mounted.old.session parent name.now new)
         mounted.old.asking mounted.old.session (said_by bodies.Entry result) mounted.new.asking mounted.new.session }
 {
-    if mode & KIND != FILE_KIND {
+    if !may_make(mounted.session.rules, new.kind()) {
         return Err(Errno::NotPermitted);
     }
     let directory = mounted.directory(parent)?;
     let path = path_in(mounted, directory, name)?;
-    let attributes = NO_ATTRIBUTES;
+    let attributes = words_for(mounted, directory, new);
+    let touched = mounted.touched(directory);
     let number = mounted.ask_number(Command::Create { path, attributes })?;
-    bear(mounted, number, mode);
+    bear(mounted, number, directory, touched);
     tell_of(mounted, directory, name, number)
 }
 
@@ -107,10 +114,10 @@ pub(crate) fn create<D: Device>(
     mounted: &mut Mounted<D>,
     parent: NodeId,
     name: &[u8],
-    mode: u32,
+    new: New,
 ) -> Result<(Entry, Opened), Errno>
     ensures start { mounted.new.asking.start ≡ mounted.old.asking.start }
-    ensures does { Does (creates mounted.old.asking.volume.kept mounted.old.session parent name.now mode)
+    ensures does { Does (creates mounted.old.asking.volume.kept mounted.old.session parent name.now new)
         mounted.old.asking mounted.old.session (said_created result) mounted.new.asking mounted.new.session }
 {
     let directory = mounted.directory(parent)?;
@@ -118,9 +125,10 @@ pub(crate) fn create<D: Device>(
     let Ok(again) = Vec::from_slice(mounted.alloc, path.as_slice()) else {
         return Err(Errno::NoMemory);
     };
-    let attributes = NO_ATTRIBUTES;
+    let attributes = words_for(mounted, directory, new);
+    let touched = mounted.touched(directory);
     let number = mounted.ask_number(Command::Create { path, attributes })?;
-    bear(mounted, number, mode);
+    bear(mounted, number, directory, touched);
     open_new(mounted, directory, name, number, again)
 }
 
@@ -142,24 +150,46 @@ fn open_new<D: Device>(
             let entry = tell_of(mounted, directory, name, number)?;
             Ok((entry, opened_file(number)))
         }
-        Err(error) => {
-            let path = path_in(mounted, directory, name)?;
-            mounted.ask_done(Command::Unlink(path))?;
-            Err(error)
-        }
+        Err(error) => Err(take_away(mounted, directory, name, error)),
     }
 }
 
-/// This number was given to a new inode, which is to have this mode.
-fn bear<D: Device>(mounted: &mut Mounted<D>, number: u32, mode: u32)
+/// Takes a new name away again, since of what was to be behind it something was refused. Gives that refusal, or the one of the removal.
+pub(crate) fn take_away<D: Device>(
+    mounted: &mut Mounted<D>,
+    directory: u32,
+    name: &[u8],
+    error: Errno,
+) -> Errno
+    ensures start { mounted.new.asking.start ≡ mounted.old.asking.start }
+    ensures session { mounted.new.session ≡ mounted.old.session }
+    ensures does { Does (takes_away mounted.old.session directory name.now error)
+        mounted.old.asking mounted.old.session (Refused result) mounted.new.asking mounted.new.session }
+{
+    let path = match path_in(mounted, directory, name) {
+        Ok(path) => path,
+        Err(other) => return other,
+    };
+    match mounted.ask_done(Command::Unlink(path)) {
+        Ok(()) => error,
+        Err(other) => other,
+    }
+}
+
+/// This number was given to a new inode of a directory, which is touched, and has these attributes.
+pub(crate) fn bear<D: Device>(
+    mounted: &mut Mounted<D>,
+    number: u32,
+    directory: u32,
+    touched: Attributes,
+)
     ensures asking { mounted.new.asking ≡ mounted.old.asking }
-    ensures session { mounted.new.session ≡ born mounted.old.session number mode }
+    ensures session { mounted.new.session ≡ noted (Born number ∷ [])
+        (record { number = number; ahead = None } ∷ notes mounted.old.session directory touched) mounted.old.session }
 {
     mounted.session.nodes.bear(number);
-    mounted
-        .session
-        .attributes
-        .set(number, Set::of_new(mounted.session.rules, mode));
+    mounted.clear(number);
+    mounted.note(directory, touched);
 }
 
 /// Gives a file one more name.
@@ -189,12 +219,16 @@ fn link_at<D: Device>(
     number: u32,
 ) -> Result<Entry, Errno>
     ensures start { mounted.new.asking.start ≡ mounted.old.asking.start }
-    ensures does { Does (links_at mounted.old.session directory name.now number)
+    ensures does { Does (links_at mounted.old.asking.volume.kept mounted.old.session directory name.now number)
         mounted.old.asking mounted.old.session (said_by bodies.Entry result) mounted.new.asking mounted.new.session }
 {
     let own = path_of(mounted, number)?;
     let path = path_in(mounted, directory, name)?;
+    let touched = mounted.touched(directory);
+    let marked = mounted.marked(number);
     mounted.ask_done(Command::Link(own, path))?;
+    mounted.note(directory, touched);
+    mounted.note(number, marked);
     tell_of(mounted, directory, name, number)
 }
 
@@ -211,8 +245,12 @@ pub(crate) fn unlink<D: Device>(
     let directory = mounted.directory(parent)?;
     let number = number_at(mounted, directory, name)?;
     let path = path_in(mounted, directory, name)?;
+    let touched = mounted.touched(directory);
+    let marked = mounted.marked(number);
     mounted.ask_done(Command::Unlink(path))?;
     mounted.session.nodes.remove_name(number, directory, name);
+    mounted.note(directory, touched);
+    mounted.note(number, marked);
     Ok(())
 }
 
@@ -229,7 +267,11 @@ pub(crate) fn remove_directory<D: Device>(
     let directory = mounted.directory(parent)?;
     let number = number_at(mounted, directory, name)?;
     let path = path_in(mounted, directory, name)?;
+    let touched = mounted.touched(directory);
+    let marked = mounted.marked(number);
     mounted.ask_done(Command::Rmdir(path))?;
     mounted.session.nodes.remove_name(number, directory, name);
+    mounted.note(directory, touched);
+    mounted.note(number, marked);
     Ok(())
 }

@@ -1,15 +1,18 @@
 //! Names that become others.
-ghost use Rattle.std.specs.Prelude.{◌≡◌, ◌||◌, not};
+ghost use Rattle.std.specs.Prelude.{◌≡◌, ◌||◌, ◌++◌, not};
 ghost use Rattle.model.specs.Layout.{Geometry};
 ghost use Rattle.snapshot.specs.Asked.{asked};
+ghost use Rattle.fuse_writer.specs.Ahead.{notes};
 ghost use Rattle.fuse_writer.specs.Doings.{Does, Doing, go_on};
 ghost use Rattle.fuse_writer.specs.Requests.{crosses, if_fits, is_directory, moves, renames, renames_at, renames_to, removes_as, replaces};
+ghost use Rattle.fuse_writer.specs.Moves.{IsSoAfter, changes_of};
 ghost use Rattle.fuse_writer.specs.Saying.{said_done};
 
 use crate::granted::Rules;
 use crate::mounted::Mounted;
 use crate::naming::{leads_to, number_at};
 use crate::paths::path_in;
+use attributes::Attributes;
 use device::Device;
 use fuse_wire::{Errno, NodeId, flags};
 use snapshot::Command;
@@ -17,18 +20,28 @@ use std::alloc::AllocError;
 
 /// A name in a directory.
 #[derive(Clone, Copy)]
-struct Place<'a> {
+pub(crate) struct Place<'a> {
     directory: u32,
     name: &'a [u8],
 }
 
 /// An inode, and which of its names is to become another one.
 #[derive(Clone, Copy)]
-struct Moved<'a> {
+pub(crate) struct Moved<'a> {
     number: u32,
     is_directory: bool,
     from: Place<'a>,
     to: Place<'a>,
+    /// What the directories and the inode have once it is done.
+    after: After,
+}
+
+/// The attributes of the directory that it leaves, of the one that it gets to, and of an inode, once that has moved.
+#[derive(Clone, Copy)]
+pub(crate) struct After {
+    left: Attributes,
+    reached: Attributes,
+    own: Attributes,
 }
 
 /// Gives a name of an inode another one. A file that has the new name loses it, and an empty directory goes, if that is allowed;
@@ -74,11 +87,17 @@ fn rename_at<D: Device>(
     let number = number_at(mounted, from.directory, from.name)?;
     let other = leads_to(mounted, to.directory, to.name)?;
     let is_directory = mounted.metadata().is_directory_at(number);
+    let after = After {
+        left: mounted.touched(from.directory),
+        reached: mounted.touched(to.directory),
+        own: mounted.marked(number),
+    };
     let moved = Moved {
         number,
         is_directory,
         from,
         to,
+        after,
     };
     rename_to(mounted, moved, other, spares)
 }
@@ -90,6 +109,7 @@ fn rename_to<D: Device>(
     other: Option<u32>,
     spares: bool,
 ) -> Result<(), Errno>
+    requires { IsSoAfter mounted.old.asking.volume.kept mounted.old.session moved }
     ensures start { mounted.new.asking.start ≡ mounted.old.asking.start }
     ensures does { Does (renames_to mounted.old.asking.volume.kept mounted.old.session spares moved.entry.is_directory
         moved.entry.number moved.entry.from.directory moved.entry.from.name.now moved.entry.to.directory moved.entry.to.name.now other)
@@ -110,7 +130,8 @@ fn rename_to<D: Device>(
 /// Takes the new name from the inode that has it, and moves the old one there.
 fn replace<D: Device>(mounted: &mut Mounted<D>, moved: Moved<'_>, other: u32) -> Result<(), Errno>
     ensures start { mounted.new.asking.start ≡ mounted.old.asking.start }
-    ensures does { Does (replaces mounted.old.session moved.entry.is_directory (is_directory mounted.old.asking.volume.kept other)
+    ensures does { Does (replaces mounted.old.asking.volume.kept mounted.old.session (changes_of mounted.old.session moved.entry)
+        moved.entry.is_directory (is_directory mounted.old.asking.volume.kept other)
         moved.entry.number moved.entry.from.directory moved.entry.from.name.now other moved.entry.to.directory moved.entry.to.name.now)
         mounted.old.asking mounted.old.session (said_done result) mounted.new.asking mounted.new.session }
 {
@@ -118,11 +139,13 @@ fn replace<D: Device>(mounted: &mut Mounted<D>, moved: Moved<'_>, other: u32) ->
     let is_other_directory = mounted.metadata().is_directory_at(other);
     check_fits(moved, is_other_directory)?;
     let path = path_in(mounted, to.directory, to.name)?;
+    let marked = mounted.marked(other);
     mounted.ask_done(removal(moved.is_directory, path))?;
     mounted
         .session
         .nodes
         .remove_name(other, to.directory, to.name);
+    mounted.note(other, marked);
     move_name(mounted, moved)
 }
 
@@ -172,7 +195,7 @@ fn removal(is_directory: bool, path: Vec<u8>) -> Command
 /// Moves a name of an inode to where none stands.
 fn move_name<D: Device>(mounted: &mut Mounted<D>, moved: Moved<'_>) -> Result<(), Errno>
     ensures start { mounted.new.asking.start ≡ mounted.old.asking.start }
-    ensures does { Does (moves mounted.old.session moved.entry.is_directory
+    ensures does { Does (moves mounted.old.session (changes_of mounted.old.session moved.entry) moved.entry.is_directory
         moved.entry.number moved.entry.from.directory moved.entry.from.name.now moved.entry.to.directory moved.entry.to.name.now)
         mounted.old.asking mounted.old.session (said_done result) mounted.new.asking mounted.new.session }
 {
@@ -180,6 +203,7 @@ fn move_name<D: Device>(mounted: &mut Mounted<D>, moved: Moved<'_>) -> Result<()
         number,
         from,
         to,
+        after,
         ..
     } = moved;
     if crosses(moved) {
@@ -192,6 +216,9 @@ fn move_name<D: Device>(mounted: &mut Mounted<D>, moved: Moved<'_>) -> Result<()
         .session
         .nodes
         .remove_name(number, from.directory, from.name);
+    mounted.note(from.directory, after.left);
+    mounted.note(to.directory, after.reached);
+    mounted.note(number, after.own);
     match mounted
         .session
         .nodes

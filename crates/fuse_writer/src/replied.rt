@@ -1,6 +1,6 @@
 //! What a reply of the volume is to Linux.
 ghost use Rattle.std.specs.Prelude.{◌≡◌, is_ok};
-ghost use Rattle.fuse_writer.specs.Doings.{IsBytes, IsDone};
+ghost use Rattle.fuse_writer.specs.Doings.{IsBytes, IsDone, IsSettled};
 ghost use Rattle.fuse_writer.specs.Replied.{errno_of, number_in};
 
 use fuse_wire::Errno;
@@ -36,6 +36,16 @@ pub(crate) fn done_in(reply: Reply) -> Result<(), Errno>
 {
     match reply {
         Ok(_) => Ok(()),
+        Err(refusal) => Err(errno_of(refusal)),
+    }
+}
+
+/// Whether an inode got its attributes, or is gone.
+pub(crate) fn settled_in(reply: Reply) -> Result<(), Errno>
+    ensures { IsSettled result reply }
+{
+    match reply {
+        Ok(_) | Err(Refusal::NotFound) => Ok(()),
         Err(refusal) => Err(errno_of(refusal)),
     }
 }

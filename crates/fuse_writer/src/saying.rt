@@ -3,12 +3,11 @@ ghost use Rattle.std.specs.Prelude.{◌≡◌, ◌≤◌, ◌^◌, IfOk, OnOk, l
 ghost use Rattle.fuse_wire.specs.declared.bodies.Body.TheVariants as bodies;
 ghost use Rattle.fuse_reader.specs.Said.{spelled};
 ghost use Rattle.fuse_writer.specs.Doings.{said_by};
-ghost use Rattle.fuse_writer.specs.Requests.{second};
 ghost use Rattle.fuse_writer.specs.Saying.{said_bytes, said_created, said_done, said_found};
 
-use crate::showing::{ATTRIBUTES_KEPT, NAME_KEPT};
+use crate::showing::NAME_KEPT;
 use fuse_reader::{refuse, tell, tell_bytes};
-use fuse_wire::{Attributes, Body, Entry, Errno, Opened, Unique};
+use fuse_wire::{Attributes, Body, Entry, Errno, Opened, Time, Unique};
 use std::alloc::AllocError;
 
 /// That a call was done of which there is nothing to tell.
@@ -71,24 +70,18 @@ pub(crate) fn say_created(
     }
 }
 
-/// The attributes of an inode.
+/// The attributes of an inode, and how long the kernel may keep them.
 #[tactic(auto, unfolding(fuse_wire::specs::Replies::told_bytes, fuse_wire::specs::Replies::attributes_bytes))]
 pub(crate) fn say_attributes(
     reply: &mut Vec<u8>,
     unique: Unique,
+    kept: Time,
     outcome: Result<Attributes, Errno>,
 ) -> Result<(), AllocError>
-    ensures { OnOk result (reply.new.items ≡ spelled unique (said_by (bodies.Attributes second) outcome)) }
+    ensures { OnOk result (reply.new.items ≡ spelled unique (said_by (bodies.Attributes kept) outcome)) }
 {
     match outcome {
-        Ok(attributes) => tell(
-            reply,
-            unique,
-            Body::Attributes {
-                kept: ATTRIBUTES_KEPT,
-                attributes,
-            },
-        ),
+        Ok(attributes) => tell(reply, unique, Body::Attributes { kept, attributes }),
         Err(error) => refuse(reply, unique, error),
     }
 }

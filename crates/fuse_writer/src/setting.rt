@@ -4,20 +4,21 @@ ghost use Rattle.fuse_wire.specs.declared.bodies.Body.TheVariants as bodies;
 ghost use Rattle.fuse_wire.specs.declared.errors.Errno.{Errno as Number};
 ghost use Rattle.fuse_writer.specs.declared.session.Session.{Session};
 ghost use Rattle.fuse_writer.specs.Doings.{Does, Doing, LeadsOn, go_on, go_on_or, said_by};
-ghost use Rattle.fuse_writer.specs.Requests.{changed_by, is_kept_elsewhere, keeps, moment_of, resizes, resizes_by_path, second, sets_attributes, sets_size};
+ghost use Rattle.fuse_writer.specs.Ahead.{has_attributes};
+ghost use Rattle.fuse_writer.specs.Requests.{keeps, resizes, kept_for, resizes_by_path, sets_attributes, sets_size};
 
-use crate::attributes::Set;
+use crate::ahead::{has_attributes, with_changes};
 use crate::bytes::fill_to;
 use crate::granted::Rules;
 use crate::mounted::Mounted;
 use crate::paths::path_of;
 use crate::showing::shown_of;
 use device::Device;
-use fuse_wire::{Attributes, Changes, Errno, Moment, NodeId, Time};
+use fuse_wire::{Attributes, Changes, Errno, NodeId};
 use reading::record_of;
 use snapshot::Command;
 
-/// Sets attributes of an inode: its size first, and then those that the volume does not keep.
+/// Sets attributes of an inode: its size first, and then the others, with the time as that of the last change.
 pub(crate) fn set_attributes<D: Device>(
     mounted: &mut Mounted<D>,
     node: NodeId,
@@ -25,50 +26,51 @@ pub(crate) fn set_attributes<D: Device>(
 ) -> Result<Attributes, Errno>
     ensures start { mounted.new.asking.start ≡ mounted.old.asking.start }
     ensures does { Does (sets_attributes mounted.old.asking.volume.kept mounted.old.session node changes.now)
-        mounted.old.asking mounted.old.session (said_by (bodies.Attributes second) result) mounted.new.asking mounted.new.session }
+        mounted.old.asking mounted.old.session (said_by (bodies.Attributes (kept_for mounted.new.session)) result) mounted.new.asking mounted.new.session }
 {
     let number = mounted.inode(node)?;
     if is_forbidden(mounted.session.rules, changes) {
         return Err(Errno::NotPermitted);
     }
+    let own = mounted.attributes_of(number);
+    let attributes = with_changes(mounted.session.time, changes, own);
     set_size(mounted, number, changes.size)?;
-    keep(mounted, number, changes);
+    keep(mounted, number, changes, attributes)?;
     Ok(shown_of(mounted, number))
 }
 
-/// Keeps attributes that are set, if that is allowed.
-fn keep<D: Device>(mounted: &mut Mounted<D>, number: u32, changes: &Changes)
+/// An inode has these attributes from now on, if they are kept: its record gets them at once if a program set more than the size, and
+/// later if not.
+fn keep<D: Device>(
+    mounted: &mut Mounted<D>,
+    number: u32,
+    changes: &Changes,
+    attributes: attributes::Attributes,
+) -> Result<(), Errno>
     ensures start { mounted.new.asking.start ≡ mounted.old.asking.start }
-    ensures does { (next : Session → Doing) → LeadsOn (keeps mounted.old.session number changes.now next)
-        mounted.old.asking mounted.old.session (next mounted.new.session) mounted.new.asking mounted.new.session }
+    ensures does { (next : Session → Doing) → LeadsOn (keeps mounted.old.session number changes.now attributes next)
+        mounted.old.asking mounted.old.session (go_on result (next mounted.new.session)) mounted.new.asking mounted.new.session }
 {
     if !mounted.session.rules.keeps_attributes {
-        return;
+        return Ok(());
     }
-    let set = with_changes(
-        mounted.session.attributes.of(number),
-        changes,
-        mounted.session.owner.changed,
-    );
-    mounted.session.attributes.set(number, set);
+    if !has_attributes(changes) {
+        mounted.note(number, attributes);
+        return Ok(());
+    }
+    mounted.ask_done(Command::SetAttributes {
+        inode: number,
+        attributes: attributes.write(),
+    })?;
+    mounted.clear(number);
+    Ok(())
 }
 
-/// Whether something is to be set for which the volume has no command, and that is not kept elsewhere.
+/// Whether attributes are to be set that are not kept.
 fn is_forbidden(rules: Rules, changes: &Changes) -> bool
-    ensures { result ≡ (is_kept_elsewhere changes.now && not rules.keeps_attributes) }
+    ensures { result ≡ (has_attributes changes.now && not rules.keeps_attributes) }
 {
-    is_kept_elsewhere(changes) && !rules.keeps_attributes
-}
-
-/// Whether something is to be set for which the volume has no command.
-fn is_kept_elsewhere(changes: &Changes) -> bool
-    ensures { result ≡ is_kept_elsewhere changes.now }
-{
-    changes.mode.is_some()
-        || changes.user.is_some()
-        || changes.group.is_some()
-        || changes.accessed.is_some()
-        || changes.modified.is_some()
+    has_attributes(changes) && !rules.keeps_attributes
 }
 
 /// Sets the size of a file, if it is to be set.
@@ -134,30 +136,4 @@ fn resize<D: Device>(
         return mounted.ask_done(Command::Truncate { handle, size });
     }
     fill_to(mounted, handle, own, size)
-}
-
-/// What is set then.
-#[tactic(auto, unfolding(crate::specs::Requests::changed_by))]
-fn with_changes(set: Set, changes: &Changes, own: Time) -> Set
-    ensures { result ≡ changed_by changes.now own set }
-{
-    Set {
-        mode: changes.mode.or(set.mode),
-        user: changes.user.or(set.user),
-        group: changes.group.or(set.group),
-        accessed: moment(changes.accessed, own).or(set.accessed),
-        modified: moment(changes.modified, own).or(set.modified),
-        changed: changes.changed.or(set.changed),
-    }
-}
-
-/// The time that is meant: for that of the call, the one of the volume's owner, since the desk has no clock.
-fn moment(moment: Option<Moment>, own: Time) -> Option<Time>
-    ensures { result ≡ moment_of own moment }
-{
-    match moment {
-        Some(Moment::Now) => Some(own),
-        Some(Moment::At(time)) => Some(time),
-        None => None,
-    }
 }

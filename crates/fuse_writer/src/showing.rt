@@ -4,13 +4,14 @@ ghost use Rattle.frozen.specs.Kept.{Kept};
 ghost use Rattle.fuse_wire.specs.declared.bodies.Body.{Body};
 ghost use Rattle.fuse_wire.specs.declared.bodies.Entry.{Entry as Shown};
 ghost use Rattle.fuse_nodes.specs.Table.{id_of};
-ghost use Rattle.fuse_writer.specs.declared.session.Session.{Session};
+ghost use Rattle.fuse_writer.specs.declared.session.Session.{Session as Lasting};
 ghost use Rattle.fuse_writer.specs.Doings.{Does, said_by};
-ghost use Rattle.fuse_writer.specs.Requests.{entry_of, is_below_root, mode_of, shown_of, tells, with_set};
+ghost use Rattle.fuse_writer.specs.Requests.{entry_of, is_below_root, kept_for, shown_of, tells};
 
-use crate::attributes::Set;
 use crate::mounted::Mounted;
+use crate::session::Session;
 use device::Device;
+use fuse_reader::shown_by;
 use fuse_wire::{Attributes, Entry, Errno, NodeId, Time};
 use layout::ROOT;
 
@@ -20,49 +21,28 @@ pub(crate) const NAME_KEPT: Time = Time {
     nanoseconds: 0,
 };
 
-/// How long it may keep attributes: repairs change links.
-pub(crate) const ATTRIBUTES_KEPT: Time = Time {
+/// How long it may keep attributes while repairs may change links.
+const SECOND: Time = Time {
     seconds: 1,
     nanoseconds: 0,
 };
 
-/// The bits of a mode that tell its kind, and those of a file.
-pub(crate) const KIND: u32 = 0o170_000;
+/// How long the kernel may keep attributes.
+pub(crate) fn kept_for(session: &Session) -> Time
+    ensures { result ≡ kept_for session.now }
+{
+    if session.links_stay {
+        NAME_KEPT
+    } else {
+        SECOND
+    }
+}
 
-pub(crate) const FILE_KIND: u32 = 0o100_000;
-
-/// The attributes of an inode, with those that were set.
+/// What is shown of an inode.
 pub(crate) fn shown_of<D: Device>(mounted: &Mounted<D>, number: u32) -> Attributes
     ensures { result ≡ shown_of mounted.now.asking.volume.kept mounted.now.session number }
 {
-    let own = fuse_reader::attributes_of(mounted.metadata(), mounted.session.owner, number);
-    with_set(own, mounted.session.attributes.of(number))
-}
-
-/// Attributes, with those that were set.
-#[tactic(auto, unfolding(crate::specs::Requests::with_set))]
-fn with_set(own: Attributes, set: Set) -> Attributes
-    ensures { result ≡ with_set own set }
-{
-    Attributes {
-        accessed: set.accessed.unwrap_or(own.accessed),
-        modified: set.modified.unwrap_or(own.modified),
-        changed: set.changed.unwrap_or(own.changed),
-        mode: mode_of(own.mode, set.mode),
-        user: set.user.unwrap_or(own.user),
-        group: set.group.unwrap_or(own.group),
-        ..own
-    }
-}
-
-/// The mode that was set, of the kind that it is.
-fn mode_of(own: u32, set: Option<u32>) -> u32
-    ensures { result ≡ mode_of own set }
-{
-    match set {
-        Some(mode) => own & KIND | mode & !KIND,
-        None => own,
-    }
+    shown_by(mounted.metadata(), number, mounted.attributes_of(number))
 }
 
 /// Tells the kernel of the inode to which a name in a directory leads.
@@ -76,7 +56,7 @@ pub(crate) fn tell_of<D: Device>(
     ensures does { (body : Shown → Body) → Does (tells mounted.old.session directory name.now number body)
         mounted.old.asking mounted.old.session (said_by body result) mounted.new.asking mounted.new.session }
 {
-    if !is_below_root(mounted, number) {
+    if !is_below_root(&mounted.session, number) {
         return Err(Errno::Device);
     }
     let attributes = shown_of(mounted, number);
@@ -84,26 +64,27 @@ pub(crate) fn tell_of<D: Device>(
     let Ok(node) = mounted.session.nodes.tell(number, directory, name) else {
         return Err(Errno::NoMemory);
     };
-    Ok(entry_of(node, attributes))
+    Ok(entry_of(node, kept_for(&mounted.session), attributes))
 }
 
 /// Whether a name may lead to this number: one of the volume, and not the root's.
-fn is_below_root<D: Device>(mounted: &Mounted<D>, number: u32) -> bool
-    ensures { result ≡ is_below_root mounted.now.session number }
+pub(crate) fn is_below_root(session: &Session, number: u32) -> bool
+    ensures { result ≡ is_below_root session.now number }
 {
-    number > ROOT && mounted.session.nodes.has(number)
+    number > ROOT && session.nodes.has(number)
 }
 
 /// What a name leads to that leads to an inode with these attributes, which the kernel knows by this node.
-fn entry_of(node: NodeId, attributes: Attributes) -> Entry
-    ensures { (kept : Kept) (s : Session) (number : ℕ) → node.0 ≡ id_of s.nodes number → attributes ≡ shown_of kept s number
+pub(crate) fn entry_of(node: NodeId, attributes_kept: Time, attributes: Attributes) -> Entry
+    ensures { (kept : Kept) (s : Lasting) (number : ℕ) → node.0 ≡ id_of s.nodes number → attributes_kept ≡ kept_for s
+        → attributes ≡ shown_of kept s number
         → result ≡ entry_of kept s number }
 {
     Entry {
         node,
         generation: 0,
         name_kept: NAME_KEPT,
-        attributes_kept: ATTRIBUTES_KEPT,
+        attributes_kept,
         attributes,
     }
 }

@@ -1,28 +1,50 @@
 -- What was put into a volume, block by block and item by item.
-use Rattle.std.proofs.Common.{◌≡◌, ◌<◌, ◌≤◌, ◌+◌, ◌*◌, ℕ, suc, List, [], ◌∷◌, ◌++◌, get_or, length, map, take, All, refl, sym, ap, ap₂, ◌∙◌, subst, arith}
+use Rattle.std.proofs.Common.{◌≡◌, ◌<◌, ◌≤◌, ◌+◌, ◌*◌, ℕ, suc, List, [], ◌∷◌, ◌++◌, Bool, true, false, get_or, length, map, take, All, refl, sym, ap, ap₂, ◌∙◌, subst, arith}
 use Rattle.std.specs.Fork.{slice_chunk}
 use Rattle.std.proofs.lemmas.List.Elements.{All-nil, All-push}
 use Rattle.std.proofs.lemmas.List.{append-nil, length-append, map-append, take_more}
+use Rattle.archives.specs.declared.entries.Kind.{Kind}
 use Rattle.archives.specs.declared.entries.Kind.TheVariants as kind
+use Rattle.archived_attributes.specs.Links.{is_hard_link}
 use Rattle.snapshot.specs.Alive.{Alive}
-use Rattle.machine.specs.Command.{Command as Request, Create, Mkdir, no_attributes, Open, Write, Close, Flush, Sync}
+use Rattle.machine.specs.Command.{Command as Request, Create, Link, Mkdir, Open, Write, Close, Flush, Sync}
 use Rattle.model.specs.Uses.{blocks_of}
 use Rattle.device.specs.Media.{Held}
 use Rattle.image_changes.specs.Asking.{Adds, AddsFlushes}
 use Rattle.image_changes.proofs.AskingLemmas.{adds_none, adds_then, went_nowhere}
-use Rattle.import_tree.specs.Putting.{AddsBlocks, AddsItems, AddsPart, Nothing, Folder, File, Flushed, Written, MakesFile, Empty, Full, IsTrueReading, NextBlock, NoBlock, Reading, ThenFlushed, TookIn, WerePut, WriteBlocks, item_of}
+use Rattle.import_tree.specs.Putting.{AddsBlocks, AddsItems, AddsPart, Nothing, Folder, File, Bare, Linked, Flushed, Written, FillsFile, MakesFile, Empty, Full, IsTrueReading, NextBlock, NoBlock, Reading, ThenFlushed, TookIn, WerePut, WriteBlocks, has_bytes, is_bare, item_of}
 use Rattle.import_tree.specs.declared.items.Item.{Item}
 use Rattle.import_tree.proofs.CutLemmas.{chunk_before, chunk_behind}
 
+-- ---- kinds
+
+folder_is_left : (k : Kind) → has_bytes k ≡ false → is_bare k ≡ false → is_hard_link k ≡ false → k ≡ kind.Folder
+folder_is_left kind.File h b l = absurd cc
+folder_is_left kind.Folder h b l = refl
+folder_is_left kind.HardLink h b l = absurd cc
+folder_is_left kind.SymbolicLink h b l = absurd cc
+folder_is_left kind.CharacterDevice h b l = absurd cc
+folder_is_left kind.BlockDevice h b l = absurd cc
+folder_is_left kind.Fifo h b l = absurd cc
+
+hard_link_is : (k : Kind) → is_hard_link k ≡ true → k ≡ kind.HardLink
+hard_link_is kind.File l = absurd cc
+hard_link_is kind.Folder l = absurd cc
+hard_link_is kind.HardLink l = refl
+hard_link_is kind.SymbolicLink l = absurd cc
+hard_link_is kind.CharacterDevice l = absurd cc
+hard_link_is kind.BlockDevice l = absurd cc
+hard_link_is kind.Fifo l = absurd cc
+
 module _ {D : Type 0} (held held' : Held) (image image' : List (List ℕ)) (old new : Alive D) where
-  folder_at : (item : Item) (read : List ℕ) → item.kind ≡ kind.Folder → Adds held image old (Mkdir item.path.items no_attributes ∷ []) held' image' new → AddsItems ((item, read) ∷ []) held image old held' image' new
+  folder_at : (item : Item) (read : List ℕ) → item.kind ≡ kind.Folder → Adds held image old (Mkdir item.path.items item.attributes ∷ []) held' image' new → AddsItems ((item, read) ∷ []) held image old held' image' new
   folder_at item read is adds before held₀ image₀ start put = record {
-    requests = put.requests ++ Mkdir item.path.items no_attributes ∷ [];
+    requests = put.requests ++ Mkdir item.path.items item.attributes ∷ [];
     put = Folder before put.requests item read put.put is;
     went = adds held₀ image₀ start put.requests put.went;
   }
 
-  file_at : (item : Item) (read : List ℕ) → item.kind ≡ kind.File → (more : List Request) × MakesFile item.path.items read more × Adds held image old more held' image' new
+  file_at : (item : Item) (read : List ℕ) → has_bytes item.kind ≡ true → (more : List Request) × MakesFile item.path.items item.attributes read more × Adds held image old more held' image' new
       → AddsItems ((item, read) ∷ []) held image old held' image' new
   file_at item read is made before held₀ image₀ start put = record {
     requests = put.requests ++ made.0;
@@ -30,13 +52,35 @@ module _ {D : Type 0} (held held' : Held) (image image' : List (List ℕ)) (old 
     went = made.2 held₀ image₀ start put.requests put.went;
   }
 
-  pub adds_folder : (item : Item) (read : List ℕ) (path : List ℕ) → path ≡ item.path.items → item.kind ≡ kind.Folder → Adds held image old (Mkdir path no_attributes ∷ []) held' image' new
-      → AddsItems ((item, read) ∷ []) held image old held' image' new
-  adds_folder item read path at is adds = folder_at item read is (subst (λ p. Adds held image old (Mkdir p no_attributes ∷ []) held' image' new) at adds)
+  bare_at : (item : Item) (read : List ℕ) → is_bare item.kind ≡ true → Adds held image old (Create item.path.items item.attributes ∷ []) held' image' new → AddsItems ((item, read) ∷ []) held image old held' image' new
+  bare_at item read is adds before held₀ image₀ start put = record {
+    requests = put.requests ++ Create item.path.items item.attributes ∷ [];
+    put = Bare before put.requests item read put.put is;
+    went = adds held₀ image₀ start put.requests put.went;
+  }
 
-  pub adds_file : (item : Item) (read path : List ℕ) → path ≡ item.path.items → item.kind ≡ kind.File
-      → (more : List Request) × MakesFile path read more × Adds held image old more held' image' new → AddsItems ((item, read) ∷ []) held image old held' image' new
-  adds_file item read path at is made = file_at item read is (subst (λ p. (more : List Request) × MakesFile p read more × Adds held image old more held' image' new) at made)
+  link_at : (item : Item) (read : List ℕ) → item.kind ≡ kind.HardLink → Adds held image old (Link read item.path.items ∷ []) held' image' new → AddsItems ((item, read) ∷ []) held image old held' image' new
+  link_at item read is adds before held₀ image₀ start put = record {
+    requests = put.requests ++ Link read item.path.items ∷ [];
+    put = Linked before put.requests item read put.put is;
+    went = adds held₀ image₀ start put.requests put.went;
+  }
+
+  pub adds_folder : (item : Item) (read : List ℕ) (path : List ℕ) → path ≡ item.path.items → has_bytes item.kind ≡ false → is_bare item.kind ≡ false → is_hard_link item.kind ≡ false
+      → Adds held image old (Mkdir path item.attributes ∷ []) held' image' new → AddsItems ((item, read) ∷ []) held image old held' image' new
+  adds_folder item read path at h b l adds = folder_at item read (folder_is_left item.kind h b l) (subst (λ p. Adds held image old (Mkdir p item.attributes ∷ []) held' image' new) at adds)
+
+  pub adds_bare : (item : Item) (read : List ℕ) (path : List ℕ) → path ≡ item.path.items → is_bare item.kind ≡ true → Adds held image old (Create path item.attributes ∷ []) held' image' new
+      → AddsItems ((item, read) ∷ []) held image old held' image' new
+  adds_bare item read path at is adds = bare_at item read is (subst (λ p. Adds held image old (Create p item.attributes ∷ []) held' image' new) at adds)
+
+  pub adds_link : (item : Item) (read path : List ℕ) → path ≡ item.path.items → is_hard_link item.kind ≡ true → Adds held image old (Link read path ∷ []) held' image' new
+      → AddsItems ((item, read) ∷ []) held image old held' image' new
+  adds_link item read path at is adds = link_at item read (hard_link_is item.kind is) (subst (λ p. Adds held image old (Link read p ∷ []) held' image' new) at adds)
+
+  pub adds_file : (item : Item) (read path : List ℕ) → path ≡ item.path.items → has_bytes item.kind ≡ true
+      → (more : List Request) × MakesFile path item.attributes read more × Adds held image old more held' image' new → AddsItems ((item, read) ∷ []) held image old held' image' new
+  adds_file item read path at is made = file_at item read is (subst (λ p. (more : List Request) × MakesFile p item.attributes read more × Adds held image old more held' image' new) at made)
 
   pub adds_sync : Adds held image old (Sync ∷ []) held' image' new → AddsItems [] held image old held' image' new
   adds_sync adds before held₀ image₀ start put = subst (λ readings. WerePut readings held₀ image₀ start held' image' new) (sym (append-nil before)) (record {
@@ -90,8 +134,8 @@ module _ {D : Type 0} (held : Held) (image : List (List ℕ)) (live : Alive D) w
         adds = wrote.adds;
       })
 
-  pub fills_nothing : (path bytes : List ℕ) → bytes ≡ [] → (more : List Request) × MakesFile path bytes (Create path no_attributes ∷ more) × Adds held image live more held image live
-  fills_nothing path bytes none = ([], Empty none refl, adds_none held image live)
+  pub fills_nothing : (path bytes : List ℕ) → bytes ≡ [] → (more : List Request) × FillsFile path bytes more × Adds held image live more held image live
+  fills_nothing path bytes none = ([], λ words. Empty none refl, adds_none held image live)
 
 module _ {D : Type 0} (held held' : Held) (image image' : List (List ℕ)) (old new : Alive D) where
   -- a part that begins a file
@@ -138,17 +182,17 @@ module _ {D : Type 0} (held held' held'' : Held) (image image' image'' : List (L
         adds = adds_then held₀ held' held'' image₀ image' image'' start mid new then.requests (map Flush flushes.addresses) then.adds flushes.adds;
       }
 
-  pub creates : (path bytes : List ℕ) → Adds held image old (Create path no_attributes ∷ []) held' image' mid
-      → (more : List Request) × MakesFile path bytes (Create path no_attributes ∷ more) × Adds held' image' mid more held'' image'' new
-      → (more : List Request) × MakesFile path bytes more × Adds held image old more held'' image'' new
-  creates path bytes adds filled = (Create path no_attributes ∷ filled.0, filled.1, adds_then held held' held'' image image' image'' old mid new (Create path no_attributes ∷ []) filled.0 adds filled.2)
+  pub creates : (path words bytes : List ℕ) → Adds held image old (Create path words ∷ []) held' image' mid
+      → (more : List Request) × FillsFile path bytes more × Adds held' image' mid more held'' image'' new
+      → (more : List Request) × MakesFile path words bytes more × Adds held image old more held'' image'' new
+  creates path words bytes adds filled = (Create path words ∷ filled.0, filled.1 words, adds_then held held' held'' image image' image'' old mid new (Create path words ∷ []) filled.0 adds filled.2)
 
 module _ {D : Type 0} (held₀ held₁ held₂ held₃ : Held) (image₀ image₁ image₂ image₃ : List (List ℕ)) (v₀ v₁ v₂ v₃ : Alive D) where
   pub fills : (path bytes : List ℕ) (handle : ℕ) → Adds held₀ image₀ v₀ (Open path ∷ []) held₁ image₁ v₁ → AddsBlocks handle bytes (blocks_of (length bytes)) held₁ image₁ v₁ held₂ image₂ v₂
-      → Adds held₂ image₂ v₂ (Close handle ∷ []) held₃ image₃ v₃ → (more : List Request) × MakesFile path bytes (Create path no_attributes ∷ more) × Adds held₀ image₀ v₀ more held₃ image₃ v₃
+      → Adds held₂ image₂ v₂ (Close handle ∷ []) held₃ image₃ v₃ → (more : List Request) × FillsFile path bytes more × Adds held₀ image₀ v₀ more held₃ image₃ v₃
   fills path bytes handle opens wrote closes = (
     Open path ∷ (wrote.requests ++ Close handle ∷ []),
-    Full handle wrote.requests wrote.write refl,
+    λ words. Full handle wrote.requests wrote.write refl,
     adds_then held₀ held₂ held₃ image₀ image₂ image₃ v₀ v₂ v₃ (Open path ∷ wrote.requests) (Close handle ∷ [])
         (adds_then held₀ held₁ held₂ image₀ image₁ image₂ v₀ v₁ v₂ (Open path ∷ []) wrote.requests opens wrote.adds) closes,
   )

@@ -1,12 +1,13 @@
 -- What a volume went through into which files and folders of the host were put.
-use Rattle.std.specs.Prelude.{◌≡◌, ℕ, ◌+◌, ◌*◌, suc, List, [], ◌∷◌, ◌++◌, length, map}
+use Rattle.std.specs.Prelude.{◌≡◌, ℕ, ◌+◌, ◌*◌, suc, List, [], ◌∷◌, ◌++◌, length, map, Bool, true, false}
 use Rattle.std.specs.Fork.{slice_chunk}
+use Rattle.archives.specs.declared.entries.Kind.{Kind}
 use Rattle.archives.specs.declared.entries.Kind.TheVariants as kind
 use Rattle.device.specs.Media.{Held as Media}
 use Rattle.snapshot.specs.Alive.{Alive}
 use Rattle.snapshot.specs.Mounting.{IsMountable}
 use Rattle.live_states.specs.Holdings.{IsIdle}
-use Rattle.machine.specs.Command.{Command as Request, Create, Mkdir, no_attributes, Open, Write, Close, Flush, Sync}
+use Rattle.machine.specs.Command.{Command as Request, Create, Mkdir, Link, Open, Write, Close, Flush, Sync}
 use Rattle.model.specs.Uses.{blocks_of}
 use Rattle.softdep.specs.Queued.{fresh_queue, pending_of}
 use Rattle.image_changes.specs.Asking.{Adds, Went}
@@ -20,10 +21,14 @@ pub data WriteBlocks (handle : ℕ) (bytes : List ℕ) : ℕ → List Request �
   NextBlock : (n : ℕ) (requests : List Request) → WriteBlocks handle bytes n requests → WriteBlocks handle bytes (suc n) (requests ++ Write handle n (slice_chunk bytes 1024 n) ∷ [])
   ThenFlushed : (n : ℕ) (requests : List Request) (addresses : List ℕ) → WriteBlocks handle bytes n requests → WriteBlocks handle bytes n (requests ++ map Flush addresses)
 
--- what makes a file of these bytes: it is created, and if it has any it is opened, each block is written, and it is closed
-pub data MakesFile (path bytes : List ℕ) (requests : List Request) : Type 0 where
-  Empty : bytes ≡ [] → requests ≡ Create path no_attributes ∷ [] → MakesFile path bytes requests
-  Full : (handle : ℕ) (writes : List Request) → WriteBlocks handle bytes (blocks_of (length bytes)) writes → requests ≡ Create path no_attributes ∷ Open path ∷ (writes ++ Close handle ∷ []) → MakesFile path bytes requests
+-- what makes a file of these attributes and bytes: it is created, and if it has any bytes it is opened, each block is written, and it is closed
+pub data MakesFile (path words bytes : List ℕ) (requests : List Request) : Type 0 where
+  Empty : bytes ≡ [] → requests ≡ Create path words ∷ [] → MakesFile path words bytes requests
+  Full : (handle : ℕ) (writes : List Request) → WriteBlocks handle bytes (blocks_of (length bytes)) writes → requests ≡ Create path words ∷ Open path ∷ (writes ++ Close handle ∷ []) → MakesFile path words bytes requests
+
+-- what gives an empty file these bytes, whatever attributes it has
+abbrev pub FillsFile : List ℕ → List ℕ → List Request → Type 0
+FillsFile path bytes more = (words : List ℕ) → MakesFile path words bytes (Create path words ∷ more)
 
 -- The first n blocks of a file of these bytes are written next, by a handle.
 pub record AddsBlocks {D : Type 0} (handle : ℕ) (bytes : List ℕ) (n : ℕ) (held : Media) (image : List (List ℕ)) (old : Alive D) (held' : Media) (image' : List (List ℕ)) (new : Alive D) : Type 0 where
@@ -51,11 +56,26 @@ IsTrueTo (Held held) bytes = bytes ≡ held.items
 abbrev pub IsTrueReading : Reading → Type 0
 IsTrueReading reading = IsTrueTo reading.0.source reading.1
 
--- These requests put these items, one after another; between them blocks may be flushed, and all that waits may be written.
+-- The bytes of a file, and what a symbolic link leads to, are written to it.
+abbrev pub has_bytes : Kind → Bool
+has_bytes kind.File = true
+has_bytes kind.SymbolicLink = true
+has_bytes other = false
+
+-- a device or a fifo is its attributes alone
+abbrev pub is_bare : Kind → Bool
+is_bare kind.CharacterDevice = true
+is_bare kind.BlockDevice = true
+is_bare kind.Fifo = true
+is_bare other = false
+
+-- These requests put these items, one after another; between them blocks may be flushed, and all that waits may be written. The bytes of a hard link are the path that it is one more name of.
 pub data ArePut : List Reading → List Request → Type 0 where
   Nothing : ArePut [] []
-  Folder : (readings : List Reading) (requests : List Request) (item : Item) (read : List ℕ) → ArePut readings requests → item.kind ≡ kind.Folder → ArePut (readings ++ (item, read) ∷ []) (requests ++ Mkdir item.path.items no_attributes ∷ [])
-  File : (readings : List Reading) (requests more : List Request) (item : Item) (read : List ℕ) → ArePut readings requests → item.kind ≡ kind.File → MakesFile item.path.items read more → ArePut (readings ++ (item, read) ∷ []) (requests ++ more)
+  Folder : (readings : List Reading) (requests : List Request) (item : Item) (read : List ℕ) → ArePut readings requests → item.kind ≡ kind.Folder → ArePut (readings ++ (item, read) ∷ []) (requests ++ Mkdir item.path.items item.attributes ∷ [])
+  File : (readings : List Reading) (requests more : List Request) (item : Item) (read : List ℕ) → ArePut readings requests → has_bytes item.kind ≡ true → MakesFile item.path.items item.attributes read more → ArePut (readings ++ (item, read) ∷ []) (requests ++ more)
+  Bare : (readings : List Reading) (requests : List Request) (item : Item) (read : List ℕ) → ArePut readings requests → is_bare item.kind ≡ true → ArePut (readings ++ (item, read) ∷ []) (requests ++ Create item.path.items item.attributes ∷ [])
+  Linked : (readings : List Reading) (requests : List Request) (item : Item) (read : List ℕ) → ArePut readings requests → item.kind ≡ kind.HardLink → ArePut (readings ++ (item, read) ∷ []) (requests ++ Link read item.path.items ∷ [])
   Flushed : (readings : List Reading) (requests : List Request) (addresses : List ℕ) → ArePut readings requests → ArePut readings (requests ++ map Flush addresses)
   Written : (readings : List Reading) (requests : List Request) → ArePut readings requests → ArePut readings (requests ++ Sync ∷ [])
 

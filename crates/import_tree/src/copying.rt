@@ -3,10 +3,10 @@ ghost use Rattle.std.specs.Prelude.{◌≡◌, ◌≢◌, ◌++◌, ◌≤◌, �
 ghost use Rattle.std.specs.Io.KnownBytes.{Consumes, IsAtEnd};
 ghost use Rattle.std.specs.IoError.{error_kind};
 ghost use Rattle.std.specs.declared.io.ErrorKind.TheVariants.{Interrupted};
-ghost use Rattle.machine.specs.Command.{Command as Request, Create as AsksCreate, no_attributes};
+ghost use Rattle.machine.specs.Command.{Command as Request};
 ghost use Rattle.model.specs.Uses.{blocks_of};
 ghost use Rattle.image_changes.specs.Asking.{Adds};
-ghost use Rattle.import_tree.specs.Putting.{AddsBlocks, MakesFile};
+ghost use Rattle.import_tree.specs.Putting.{AddsBlocks, FillsFile, MakesFile};
 
 use crate::given::Given;
 use crate::making::{close, create, open, write_blocks};
@@ -14,6 +14,7 @@ use crate::writing::Turns;
 use device::Device;
 use failures::Failure;
 use image_changes::ask;
+use inode::ATTRIBUTES;
 use layout::Refusal;
 use snapshot::{Command, Volume};
 use std::alloc::{AllocError, Global};
@@ -57,24 +58,25 @@ fn unread(alloc: Global, host: &str, error: &io::Error) -> Stop {
     Stop::Host(Failure::of_call(alloc, error, host))
 }
 
-/// Makes a file with the bytes of a file of the host, which are read into this room, and gives them. What cannot be read leaves no
-/// file behind.
+/// Makes a file with these attributes and the bytes of a file of the host, which are read into this room, and gives them. What cannot
+/// be read leaves no file behind.
 pub(crate) fn copy_file<R: Files + AllocGlobal, D: Device>(
     rt: &R,
     volume: &mut Volume<D>,
     path: &[u8],
+    attributes: [u32; ATTRIBUTES],
     host: &str,
     room: &mut Vec<u8>,
     turns: &mut Turns<'_>,
 ) -> Result<Given, Stop>
     requires room { length room.old.items ≡ 131072 }
-    ensures made { IfOk result (λ given. D.honest volume.new.device → (more : List Request) × MakesFile path.now given more
+    ensures made { IfOk result (λ given. D.honest volume.new.device → (more : List Request) × MakesFile path.now attributes given more
         × Adds (D.held volume.old.device) (D.image volume.old.device) volume.old more (D.held volume.new.device) (D.image volume.new.device) volume.new) }
     ensures honest { D.honest volume.new.device → D.honest volume.old.device }
     ensures room { length room.new.items ≡ 131072 }
 {
     match fs::open(rt, host) {
-        Ok(mut file) => copy(volume, path, host, &mut file, room, turns),
+        Ok(mut file) => copy(volume, path, attributes, host, &mut file, room, turns),
         Err(error) => Err(unread(rt.alloc(), host, &error)),
     }
 }
@@ -84,6 +86,7 @@ pub(crate) fn copy_file<R: Files + AllocGlobal, D: Device>(
 fn copy<F: Read, D: Device>(
     volume: &mut Volume<D>,
     path: &[u8],
+    attributes: [u32; ATTRIBUTES],
     host: &str,
     reader: &mut F,
     room: &mut Vec<u8>,
@@ -92,7 +95,7 @@ fn copy<F: Read, D: Device>(
     requires room { length room.old.items ≡ 131072 }
     ensures all { IfOk result (λ given. IfSome (F.remaining reader.old) (λ left. given ≡ left)) }
     ensures end { OnOk result (IsAtEnd (F.remaining reader.new)) }
-    ensures made { IfOk result (λ given. D.honest volume.new.device → (more : List Request) × MakesFile path.now given more
+    ensures made { IfOk result (λ given. D.honest volume.new.device → (more : List Request) × MakesFile path.now attributes given more
         × Adds (D.held volume.old.device) (D.image volume.old.device) volume.old more (D.held volume.new.device) (D.image volume.new.device) volume.new) }
     ensures honest { D.honest volume.new.device → D.honest volume.old.device }
     ensures room { length room.new.items ≡ 131072 }
@@ -102,7 +105,7 @@ fn copy<F: Read, D: Device>(
         Ok(count) => count,
         Err(error) => return Err(unread(alloc, host, &error)),
     };
-    create(alloc, volume, path)?;
+    create(alloc, volume, path, attributes)?;
     match fill_from(volume, path, host, reader, room, count, turns) {
         Ok(given) => Ok(given),
         Err(stop) => {
@@ -128,7 +131,7 @@ fn fill_from<F: Read, D: Device>(
     ensures all { IfOk result (λ given. (left : Option (List ℕ)) → Consumes left (F.remaining reader.old) (take count room.old.items)
         → Consumes left (F.remaining reader.new) given) }
     ensures end { OnOk result (IsAtEnd (F.remaining reader.new)) }
-    ensures filled { IfOk result (λ given. D.honest volume.new.device → (more : List Request) × MakesFile path.now given (AsksCreate path.now no_attributes ∷ more)
+    ensures filled { IfOk result (λ given. D.honest volume.new.device → (more : List Request) × FillsFile path.now given more
         × Adds (D.held volume.old.device) (D.image volume.old.device) volume.old more (D.held volume.new.device) (D.image volume.new.device) volume.new) }
     ensures honest { D.honest volume.new.device → D.honest volume.old.device }
     ensures room { length room.new.items ≡ 131072 }

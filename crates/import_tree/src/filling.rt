@@ -1,23 +1,26 @@
 //! How items of the host go into a mounted volume.
 ghost use Rattle.std.specs.Prelude.{◌≡◌, ◌++◌, ℕ, List, [], ◌∷◌, All, IfOk, None, length, map};
+ghost use Rattle.archived_attributes.specs.Links.{is_hard_link};
 ghost use Rattle.image_changes.specs.Asking.{Adds};
-ghost use Rattle.machine.specs.Command.{Command as Request};
-ghost use Rattle.import_tree.specs.Putting.{AddsItems, IsTrueReading, IsTrueTo, MakesFile, PutMounted, TookIn, item_of};
+ghost use Rattle.machine.specs.Command.{Command as Request, Create as AsksCreate, Link as AsksLink, Mkdir as AsksMkdir};
+ghost use Rattle.import_tree.specs.Putting.{AddsItems, IsTrueReading, IsTrueTo, MakesFile, PutMounted, TookIn, has_bytes, is_bare, item_of};
 
 use crate::copying::{Stop, copy_file, room_for_parts};
 use crate::given::Given;
 use crate::items::{Item, Source};
-use crate::making::{make_file, make_folder};
+use crate::making::{create, make_file, make_folder, make_link};
 use crate::writing::{Turns, write_rest};
 use archives::Kind;
 use device::Device;
 use failures::Failure;
 use http_server::Log;
 use image_changes::{flush_in_passes, mount, write_all};
+use inode::ATTRIBUTES;
 use layout::Refusal;
 use outcomes::with;
 use progress::{Tally, Watcher};
 use snapshot::Volume;
+use std::alloc::Global;
 use std::rt::Files;
 use write_behind::Pusher;
 
@@ -159,37 +162,133 @@ fn make_item<R: Files + AllocGlobal, D: Device>(
     ensures honest { D.honest volume.new.device → D.honest volume.old.device }
     ensures room { length room.new.items ≡ 131072 }
 {
-    match item.kind {
-        Kind::Folder => {
-            make_folder(rt.alloc(), volume, item.path.as_slice())?;
-            Ok(held_in(&item.source))
-        }
-        Kind::File => {
-            make_file_from(rt, volume, item.path.as_slice(), &item.source, room, turns)
-        }
+    let path = item.path.as_slice();
+    let source = &item.source;
+    if has_bytes(item.kind) {
+        return make_file_from(rt, volume, path, item.attributes, source, room, turns);
+    }
+    if is_bare(item.kind) {
+        return make_bare(rt.alloc(), volume, path, item.attributes, source);
+    }
+    if is_hard_link(item.kind) {
+        return make_link_from(rt.alloc(), volume, source, path);
+    }
+    make_empty_folder(rt.alloc(), volume, path, item.attributes, source)
+}
+
+/// Whether the bytes of what is of this kind are written to a file.
+fn has_bytes(kind: Kind) -> bool
+    ensures { result ≡ has_bytes kind }
+{
+    match kind {
+        Kind::File | Kind::SymbolicLink => true,
+        _ => false,
     }
 }
 
-/// Makes a file with the bytes of this source, and gives them.
+/// Whether what is of this kind is its attributes alone.
+fn is_bare(kind: Kind) -> bool
+    ensures { result ≡ is_bare kind }
+{
+    match kind {
+        Kind::CharacterDevice | Kind::BlockDevice | Kind::Fifo => true,
+        _ => false,
+    }
+}
+
+/// Whether what is of this kind is one more name of a file.
+fn is_hard_link(kind: Kind) -> bool
+    ensures { result ≡ is_hard_link kind }
+{
+    match kind {
+        Kind::HardLink => true,
+        _ => false,
+    }
+}
+
+/// Makes a directory with these attributes, and gives what this source holds.
+fn make_empty_folder<D: Device>(
+    alloc: Global,
+    volume: &mut Volume<D>,
+    path: &[u8],
+    attributes: [u32; ATTRIBUTES],
+    source: &Source,
+) -> Result<Given, Stop>
+    ensures source { IfOk result (λ given. IsTrueTo source.now given) }
+    ensures made { IfOk result (λ _. D.honest volume.new.device
+        → Adds (D.held volume.old.device) (D.image volume.old.device) volume.old (AsksMkdir path.now attributes ∷ []) (D.held volume.new.device) (D.image volume.new.device) volume.new) }
+    ensures honest { D.honest volume.new.device → D.honest volume.old.device }
+{
+    make_folder(alloc, volume, path, attributes)?;
+    Ok(held_in(source))
+}
+
+/// Makes a file with these attributes and no bytes, and gives what this source holds.
+fn make_bare<D: Device>(
+    alloc: Global,
+    volume: &mut Volume<D>,
+    path: &[u8],
+    attributes: [u32; ATTRIBUTES],
+    source: &Source,
+) -> Result<Given, Stop>
+    ensures source { IfOk result (λ given. IsTrueTo source.now given) }
+    ensures made { IfOk result (λ _. D.honest volume.new.device
+        → Adds (D.held volume.old.device) (D.image volume.old.device) volume.old (AsksCreate path.now attributes ∷ []) (D.held volume.new.device) (D.image volume.new.device) volume.new) }
+    ensures honest { D.honest volume.new.device → D.honest volume.old.device }
+{
+    create(alloc, volume, path, attributes)?;
+    Ok(held_in(source))
+}
+
+/// Gives the file one more name of which this source holds the path, and gives that path.
+fn make_link_from<D: Device>(
+    alloc: Global,
+    volume: &mut Volume<D>,
+    source: &Source,
+    name: &[u8],
+) -> Result<Given, Stop>
+    ensures source { IfOk result (λ given. IsTrueTo source.now given) }
+    ensures made { IfOk result (λ given. D.honest volume.new.device
+        → Adds (D.held volume.old.device) (D.image volume.old.device) volume.old (AsksLink given name.now ∷ []) (D.held volume.new.device) (D.image volume.new.device) volume.new) }
+    ensures honest { D.honest volume.new.device → D.honest volume.old.device }
+{
+    match source {
+        Source::Held(path) => {
+            make_link(alloc, volume, path.as_slice(), name)?;
+            Ok(Given::all(path))
+        }
+        Source::Host(_) => Err(Stop::Image(Refusal::NotFound)),
+    }
+}
+
+/// Makes a file with these attributes and the bytes of this source, and gives them.
 fn make_file_from<R: Files + AllocGlobal, D: Device>(
     rt: &R,
     volume: &mut Volume<D>,
     path: &[u8],
+    attributes: [u32; ATTRIBUTES],
     source: &Source,
     room: &mut Vec<u8>,
     turns: &mut Turns<'_>,
 ) -> Result<Given, Stop>
     requires room { length room.old.items ≡ 131072 }
     ensures source { IfOk result (λ given. IsTrueTo source.now given) }
-    ensures made { IfOk result (λ given. D.honest volume.new.device → (more : List Request) × MakesFile path.now given more
+    ensures made { IfOk result (λ given. D.honest volume.new.device → (more : List Request) × MakesFile path.now attributes given more
         × Adds (D.held volume.old.device) (D.image volume.old.device) volume.old more (D.held volume.new.device) (D.image volume.new.device) volume.new) }
     ensures honest { D.honest volume.new.device → D.honest volume.old.device }
     ensures room { length room.new.items ≡ 131072 }
 {
     match source {
-        Source::Host(host) => copy_file(rt, volume, path, host.as_str(), room, turns),
+        Source::Host(host) => copy_file(rt, volume, path, attributes, host.as_str(), room, turns),
         Source::Held(bytes) => {
-            make_file(rt.alloc(), volume, path, bytes.as_slice(), turns)?;
+            make_file(
+                rt.alloc(),
+                volume,
+                path,
+                attributes,
+                bytes.as_slice(),
+                turns,
+            )?;
             Ok(Given::all(bytes))
         }
     }

@@ -3,11 +3,13 @@ ghost use Rattle.std.specs.Prelude.{OnOk};
 ghost use Rattle.std.specs.List.{All};
 ghost use Rattle.import_tree.specs.Placing.{IsNew};
 
+use crate::hosted;
 use crate::limits::{Destination, allow_length};
 use archives::Kind;
 use dirent::NAME_BYTES;
 use failures::Failure;
 use frozen::Frozen;
+use inode::ATTRIBUTES;
 use layout::Refusal;
 use reading::{joined, stat};
 use std::alloc::Global;
@@ -22,24 +24,26 @@ pub(crate) const PATH_BYTES: usize = 4_096;
 /// Where the bytes of an item come from.
 #[derive(Debug, Drop)]
 pub enum Source {
-    /// From the file at this path of the host, once the item's turn comes; none, where a folder stands there.
+    /// From the file at this path of the host, once the item's turn comes; none, where no file stands there.
     Host(String),
-    /// They are here.
+    /// They are here: of a symbolic link where it leads, of a hard link the path in the image that it is one more name of.
     Held(Vec<u8>),
 }
 
-/// A file or folder, and the path in the image that it is to have.
+/// What goes into an image, and the path that it is to have there.
 #[derive(Debug, Drop)]
 pub struct Item {
     pub source: Source,
     pub path: Vec<u8>,
     pub kind: Kind,
+    /// Its attributes in the image. A hard link has those of its file.
+    pub attributes: [u32; ATTRIBUTES],
 }
 
 /// What stands at a path of the host, and all below it, each folder before what it holds, and the names in a folder in the
 /// order of their bytes. The first one gets this path in the image, and is left out where that is `/`. Links are not
 /// followed, but for the first one. Refused is a name or a path that no image can have, a file that is too long for the image that
-/// they go to, and what is neither file nor folder.
+/// they go to, a socket, and a device for whose number an image has no room.
 pub fn items_of<R: Files + AllocGlobal + Clone + Drop>(
     rt: &R,
     host: &str,
@@ -54,16 +58,12 @@ where
         Ok(metadata) => metadata,
         Err(error) => return Err(Failure::of_call(alloc, &error, host)),
     };
-    let kind = kind_of(rt, &metadata, host, to)?;
-    let first = Item {
-        source: Source::Host(String::from_str(alloc, host)?),
-        path: path.to_vec(alloc)?,
-        kind,
-    };
+    let host = String::from_str(alloc, host)?;
+    let first = item_of(rt, host, path.to_vec(alloc)?, &metadata, to)?;
     if path != b"/".as_slice() {
         return with_all_below(rt, first, to);
     }
-    if kind == Kind::File {
+    if first.kind != Kind::Folder {
         return Err(Failure::from(Refusal::IsRoot).in_image(alloc, path));
     }
     let mut items = with_all_below(rt, first, to)?;
@@ -140,34 +140,74 @@ where
         Ok(metadata) => metadata,
         Err(error) => return Err(Failure::of_call(alloc, &error, host.as_str())),
     };
-    let kind = kind_of(rt, &metadata, host.as_str(), to)?;
+    item_of(rt, host, path, &metadata, to)
+}
+
+/// The item of what stands at a path of the host, and gets this path in the image.
+fn item_of<R: Files + AllocGlobal>(
+    rt: &R,
+    host: String,
+    path: Vec<u8>,
+    metadata: &Metadata,
+    to: Destination<'_>,
+) -> Result<Item, Failure>
+where
+    R::File: FileExt,
+{
+    let (kind, attributes) = told_of(rt, metadata, host.as_str(), to)?;
     Ok(Item {
-        source: Source::Host(host),
+        source: source_of(rt, kind, host)?,
         path,
         kind,
+        attributes,
     })
 }
 
-/// The kind of what stands at a path of the host, and is to go there.
-fn kind_of<R: Files + AllocGlobal>(
+/// The kind and the attributes of what stands at a path of the host, and is to go there.
+fn told_of<R: Files + AllocGlobal>(
     rt: &R,
     metadata: &Metadata,
     host: &str,
     to: Destination<'_>,
-) -> Result<Kind, Failure>
+) -> Result<(Kind, [u32; ATTRIBUTES]), Failure>
 where
     R::File: FileExt,
 {
-    if metadata.is_dir() {
-        return Ok(Kind::Folder);
+    let kind = hosted::kind_of(metadata);
+    if kind == Some(Kind::File) {
+        allow_file(rt, metadata.len(), host, to)?;
     }
-    if !metadata.is_file() {
-        return Err(Failure::from(Refusal::BadName).at(rt.alloc(), host));
+    let told = kind.and_then(|kind| Some((kind, hosted::words_of(kind, metadata)?)));
+    match told {
+        Some(told) => Ok(told),
+        None => Err(Failure::from(Refusal::BadName).at(rt.alloc(), host)),
     }
-    let length = metadata.len();
+}
+
+/// Refuses a file of the host of so many bytes, if it is too long for where it goes.
+fn allow_file<R: Files + AllocGlobal>(
+    rt: &R,
+    length: u64,
+    host: &str,
+    to: Destination<'_>,
+) -> Result<(), Failure>
+where
+    R::File: FileExt,
+{
     match allow_length(length, to.most_bytes(rt, length)?) {
-        Ok(()) => Ok(Kind::File),
+        Ok(()) => Ok(()),
         Err(cause) => Err(Failure::from(cause).at(rt.alloc(), host)),
+    }
+}
+
+/// Where the bytes of what stands at a path of the host come from.
+fn source_of<R: Files + AllocGlobal>(rt: &R, kind: Kind, host: String) -> Result<Source, Failure> {
+    if kind != Kind::SymbolicLink {
+        return Ok(Source::Host(host));
+    }
+    match fs::read_link(rt, host.as_str()) {
+        Ok(target) => Ok(Source::Held(target.as_str().as_bytes().to_vec(rt.alloc())?)),
+        Err(error) => Err(Failure::of_call(rt.alloc(), &error, host.as_str())),
     }
 }
 

@@ -1,13 +1,14 @@
 //! How a file of the host, or a whole tree of them, or what stands in a tar archive goes into an image. All names are looked at
-//! before anything is written, since a name in an image has at most 56 bytes, and an image has files and directories alone: what
-//! it cannot have is refused by its path, and so is a file that is longer than the version of its layout allows. What was there is not
-//! replaced.
+//! before anything is written, since a name in an image has at most 56 bytes: what an image cannot have is refused by its path, and
+//! so is a file that is longer than the version of its layout allows. What was there is not replaced. Modes, owners and times go with
+//! it, and so do symbolic links, devices and FIFOs.
 #![tactic(auto)]
 
 mod archived;
 mod copying;
 mod filling;
 mod given;
+mod hosted;
 mod items;
 mod limits;
 mod lines;

@@ -1,43 +1,47 @@
 //! How a file is made in a mounted volume.
 ghost use Rattle.std.specs.Prelude.{◌≡◌, ◌+◌, ◌++◌, List, [], ◌∷◌, IfOk, OnOk, length};
-ghost use Rattle.machine.specs.Command.{Command as Request, Close as AsksClose, Create as AsksCreate, no_attributes, Mkdir as AsksMkdir, Open as AsksOpen, Write as AsksWrite};
+ghost use Rattle.machine.specs.Command.{Command as Request, Close as AsksClose, Create as AsksCreate, Link as AsksLink, Mkdir as AsksMkdir, Open as AsksOpen, Write as AsksWrite};
 ghost use Rattle.model.specs.Uses.{blocks_of};
 ghost use Rattle.image_changes.specs.Asking.{Adds};
-ghost use Rattle.import_tree.specs.Putting.{AddsPart, MakesFile};
+ghost use Rattle.import_tree.specs.Putting.{AddsPart, FillsFile, MakesFile};
 
 use crate::writing::Turns;
 use device::Device;
 use image_changes::{answer_to, ask};
+use inode::ATTRIBUTES;
 use layout::{BLOCK_BYTES, Refusal};
 use snapshot::{Answer, Command, Volume};
 use std::alloc::Global;
 
-/// Makes a directory.
+/// Makes a directory with these attributes.
 pub(crate) fn make_folder<D: Device>(
     alloc: Global,
     volume: &mut Volume<D>,
     path: &[u8],
+    attributes: [u32; ATTRIBUTES],
 ) -> Result<(), Refusal>
     ensures made { OnOk result (D.honest volume.new.device
-        → Adds (D.held volume.old.device) (D.image volume.old.device) volume.old (AsksMkdir path.now no_attributes ∷ []) (D.held volume.new.device) (D.image volume.new.device) volume.new) }
+        → Adds (D.held volume.old.device) (D.image volume.old.device) volume.old (AsksMkdir path.now attributes ∷ []) (D.held volume.new.device) (D.image volume.new.device) volume.new) }
     ensures honest { D.honest volume.new.device → D.honest volume.old.device }
 {
-    ask(alloc, volume, &Command::mkdir(path.to_vec(alloc)?))
+    let path = path.to_vec(alloc)?;
+    ask(alloc, volume, &Command::Mkdir { path, attributes })
 }
 
-/// Makes a file with these bytes. It is taken away again where they are refused.
+/// Makes a file with these attributes and bytes. It is taken away again where the bytes are refused.
 pub(crate) fn make_file<D: Device>(
     alloc: Global,
     volume: &mut Volume<D>,
     path: &[u8],
+    attributes: [u32; ATTRIBUTES],
     bytes: &[u8],
     turns: &mut Turns<'_>,
 ) -> Result<(), Refusal>
-    ensures made { OnOk result (D.honest volume.new.device → (more : List Request) × MakesFile path.now bytes.now more
+    ensures made { OnOk result (D.honest volume.new.device → (more : List Request) × MakesFile path.now attributes bytes.now more
         × Adds (D.held volume.old.device) (D.image volume.old.device) volume.old more (D.held volume.new.device) (D.image volume.new.device) volume.new) }
     ensures honest { D.honest volume.new.device → D.honest volume.old.device }
 {
-    create(alloc, volume, path)?;
+    create(alloc, volume, path, attributes)?;
     match fill(alloc, volume, path, bytes, turns) {
         Ok(()) => Ok(()),
         Err(refusal) => {
@@ -47,17 +51,35 @@ pub(crate) fn make_file<D: Device>(
     }
 }
 
-/// Makes a file without bytes.
+/// Makes a file with these attributes, without bytes.
 pub(crate) fn create<D: Device>(
     alloc: Global,
     volume: &mut Volume<D>,
     path: &[u8],
+    attributes: [u32; ATTRIBUTES],
 ) -> Result<(), Refusal>
     ensures made { OnOk result (D.honest volume.new.device
-        → Adds (D.held volume.old.device) (D.image volume.old.device) volume.old (AsksCreate path.now no_attributes ∷ []) (D.held volume.new.device) (D.image volume.new.device) volume.new) }
+        → Adds (D.held volume.old.device) (D.image volume.old.device) volume.old (AsksCreate path.now attributes ∷ []) (D.held volume.new.device) (D.image volume.new.device) volume.new) }
     ensures honest { D.honest volume.new.device → D.honest volume.old.device }
 {
-    ask(alloc, volume, &Command::create(path.to_vec(alloc)?))
+    let path = path.to_vec(alloc)?;
+    ask(alloc, volume, &Command::Create { path, attributes })
+}
+
+/// Gives the file at a path one more name.
+pub(crate) fn make_link<D: Device>(
+    alloc: Global,
+    volume: &mut Volume<D>,
+    path: &[u8],
+    name: &[u8],
+) -> Result<(), Refusal>
+    ensures made { OnOk result (D.honest volume.new.device
+        → Adds (D.held volume.old.device) (D.image volume.old.device) volume.old (AsksLink path.now name.now ∷ []) (D.held volume.new.device) (D.image volume.new.device) volume.new) }
+    ensures honest { D.honest volume.new.device → D.honest volume.old.device }
+{
+    let path = path.to_vec(alloc)?;
+    let name = name.to_vec(alloc)?;
+    ask(alloc, volume, &Command::Link(path, name))
 }
 
 /// Gives an empty file its bytes.
@@ -68,7 +90,7 @@ fn fill<D: Device>(
     bytes: &[u8],
     turns: &mut Turns<'_>,
 ) -> Result<(), Refusal>
-    ensures filled { OnOk result (D.honest volume.new.device → (more : List Request) × MakesFile path.now bytes.now (AsksCreate path.now no_attributes ∷ more)
+    ensures filled { OnOk result (D.honest volume.new.device → (more : List Request) × FillsFile path.now bytes.now more
         × Adds (D.held volume.old.device) (D.image volume.old.device) volume.old more (D.held volume.new.device) (D.image volume.new.device) volume.new) }
     ensures honest { D.honest volume.new.device → D.honest volume.old.device }
 {

@@ -1,4 +1,4 @@
-//! Whose the files of a volume are, which keeps no owners.
+//! Whose the files of a volume are of which no owner is kept.
 use command_line::Failure;
 use file_device::OpenError;
 use fuse_reader::Owner;
@@ -34,7 +34,8 @@ pub fn numbers_of(word: &str) -> Option<Numbers> {
     })
 }
 
-/// The owner of all files: the one whose numbers are given, and else that of the image's file. They were changed when it was.
+/// The owner of files of which none is kept: the one whose numbers are given, and else that of the image's file. They were changed when
+/// it was.
 pub(crate) fn owner_of<R: Files>(
     rt: &R,
     image: &str,

@@ -26,7 +26,7 @@ use workers::Workers;
 #[derive(Clone, Copy)]
 pub struct ServeLine<'a> {
     pub image: &'a str,
-    /// Whose all files are: the numbers of a user and a group. Without them they are whose the image's file is.
+    /// Whose the files are of which no owner is kept: the numbers of a user and a group. Without them they are whose the image's file is.
     pub owner: Option<&'a str>,
     pub access: Access,
 }
@@ -86,7 +86,7 @@ pub fn command<'a>(alloc: Global) -> Result<Command<'a>, AllocError> {
     line.arg(strict(
         alloc,
         "strict-attributes",
-        "Refuses to set modes, owners and times, which else last until the volume is unmounted",
+        "Refuses to set modes, owners and times, and makes files and directories alone, which have none",
     ))?
     .arg(strict(
         alloc,
@@ -108,12 +108,14 @@ fn read_only<'a>(alloc: Global) -> Arg<'a> {
         .help("Changes nothing; the words below --owner say nothing then")
 }
 
-/// Whose all files are.
+/// Whose the files are of which no owner is kept.
 fn owner<'a>(alloc: Global) -> Arg<'a> {
     Arg::new(alloc, "owner")
         .long("owner")
         .value_name("USER:GROUP")
-        .help("Whose all files are, as 1000:1000; without it, the image's owner and group")
+        .help(
+            "Whose the files are that keep no owner, as 1000:1000; without it, the image's owner and group",
+        )
 }
 
 /// How many workers check the volume.

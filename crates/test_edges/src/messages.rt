@@ -1,7 +1,8 @@
 use crate::expect::{holds, same};
 use fuse_wire::{
-    Agreement, Attributes, Body, Changes, DirectoryEntry, Entry, Errno, Handle, Kind, NodeId,
-    Offer, Request, Statistics, Time, Unique, flags, push_entry, push_entry_plus, read, write,
+    Agreement, Attributes, Body, Changes, DirectoryEntry, Entry, Errno, Handle, Kind, Moment,
+    NodeId, Offer, Request, Statistics, Time, Unique, flags, push_entry, push_entry_plus, read,
+    write,
 };
 use std::test::*;
 
@@ -78,6 +79,39 @@ const LISTED: [u8; 160] = [
     0, 0, 0,
 ];
 
+// Requests of attributes and links, and the attributes of a device, as the header has them.
+
+const READ_LINK: [u8; 40] = [
+    40, 0, 0, 0, 5, 0, 0, 0, 70, 0, 0, 0, 0, 0, 0, 0, 9, 0, 0, 0, 0, 0, 0, 0, 232, 3, 0, 0, 100, 0,
+    0, 0, 5, 0, 0, 0, 0, 0, 0, 0,
+];
+
+const MAKE_LINK: [u8; 46] = [
+    46, 0, 0, 0, 6, 0, 0, 0, 72, 0, 0, 0, 0, 0, 0, 0, 1, 0, 0, 0, 0, 0, 0, 0, 232, 3, 0, 0, 100, 0,
+    0, 0, 5, 0, 0, 0, 0, 0, 0, 0, 108, 0, 97, 47, 98, 0,
+];
+
+const MAKE_DEVICE: [u8; 58] = [
+    58, 0, 0, 0, 8, 0, 0, 0, 74, 0, 0, 0, 0, 0, 0, 0, 1, 0, 0, 0, 0, 0, 0, 0, 232, 3, 0, 0, 100, 0,
+    0, 0, 5, 0, 0, 0, 0, 0, 0, 0, 160, 97, 0, 0, 1, 8, 0, 0, 18, 0, 0, 0, 0, 0, 0, 0, 100, 0,
+];
+
+const SET_ALL: [u8; 128] = [
+    128, 0, 0, 0, 4, 0, 0, 0, 76, 0, 0, 0, 0, 0, 0, 0, 2, 0, 0, 0, 0, 0, 0, 0, 232, 3, 0, 0, 100,
+    0, 0, 0, 5, 0, 0, 0, 0, 0, 0, 0, 183, 0, 0, 0, 0, 0, 0, 0, 0, 0, 0, 0, 0, 0, 0, 0, 0, 0, 0, 0,
+    0, 0, 0, 0, 0, 0, 0, 0, 0, 0, 0, 0, 0, 0, 0, 0, 0, 0, 0, 0, 255, 255, 255, 255, 255, 255, 255,
+    255, 0, 0, 0, 0, 0, 0, 0, 0, 0, 0, 0, 0, 5, 0, 0, 0, 0, 0, 0, 0, 237, 137, 0, 0, 0, 0, 0, 0,
+    232, 3, 0, 0, 100, 0, 0, 0, 0, 0, 0, 0,
+];
+
+const DEVICE: [u8; 120] = [
+    120, 0, 0, 0, 0, 0, 0, 0, 78, 0, 0, 0, 0, 0, 0, 0, 1, 0, 0, 0, 0, 0, 0, 0, 0, 0, 0, 0, 0, 0, 0,
+    0, 9, 0, 0, 0, 0, 0, 0, 0, 0, 0, 0, 0, 0, 0, 0, 0, 0, 0, 0, 0, 0, 0, 0, 0, 1, 0, 0, 0, 0, 0, 0,
+    0, 255, 255, 255, 255, 255, 255, 255, 255, 3, 0, 0, 0, 0, 0, 0, 0, 4, 0, 0, 0, 5, 0, 0, 0, 6,
+    0, 0, 0, 160, 97, 0, 0, 1, 0, 0, 0, 232, 3, 0, 0, 100, 0, 0, 0, 1, 8, 0, 0, 0, 4, 0, 0, 0, 0,
+    0, 0,
+];
+
 const NEVER: Time = Time {
     seconds: 0,
     nanoseconds: 0,
@@ -96,7 +130,15 @@ fn attributes(inode: u64, mode: u32, links: u32) -> Attributes {
         links,
         user: 0,
         group: 0,
+        device: 0,
         block_bytes: 1024,
+    }
+}
+
+fn at(seconds: u64, nanoseconds: u32) -> Time {
+    Time {
+        seconds,
+        nanoseconds,
     }
 }
 
@@ -178,6 +220,29 @@ fn requests_are_read(rt: HostRuntime) {
 }
 
 #[test]
+fn links_and_devices_are_read(rt: HostRuntime) -> Result<(), Fail> {
+    let (head, asked) = read(&READ_LINK).ok_or("a request")?;
+    same(&rt, "its node", head.node, NodeId(9));
+    same(&rt, "who asks", (head.user, head.group), (1000, 100));
+    holds(&rt, "read", asked == Request::ReadSymbolicLink);
+    let made = Request::MakeSymbolicLink {
+        name: b"l".as_slice(),
+        target: b"a/b".as_slice(),
+    };
+    holds(&rt, "made", request(&MAKE_LINK) == Some(made));
+    // Without the end of its target it is none.
+    holds(&rt, "cut off", request(&MAKE_LINK[..45]).is_none());
+    let device = Request::MakeNode {
+        mode: 0o60_640,
+        device: 0x801,
+        umask: 0o22,
+        name: b"d".as_slice(),
+    };
+    holds(&rt, "a device", request(&MAKE_DEVICE) == Some(device));
+    Ok(())
+}
+
+#[test]
 fn attributes_are_read(rt: HostRuntime) {
     let changes = Changes {
         handle: Some(Handle(2)),
@@ -193,6 +258,25 @@ fn attributes_are_read(rt: HostRuntime) {
         &rt,
         "truncate",
         request(&TRUNCATE) == Some(Request::SetAttributes(changes)),
+    );
+    // The time of the call for one, and for the other a second before 1970 and 5 nanoseconds.
+    let all = Changes {
+        handle: None,
+        size: None,
+        mode: Some(0o104_755),
+        user: Some(1000),
+        group: Some(100),
+        accessed: Some(Moment::Now),
+        modified: Some(Moment::At(Time {
+            seconds: u64::MAX,
+            nanoseconds: 5,
+        })),
+        changed: None,
+    };
+    holds(
+        &rt,
+        "all but the size",
+        request(&SET_ALL) == Some(Request::SetAttributes(all)),
     );
 }
 
@@ -223,6 +307,28 @@ fn replies_are_written(rt: HostRuntime) -> Result<(), Fail> {
         out.as_slice(),
         [16, 0, 0, 0, 254, 255, 255, 255, 7, 0, 0, 0, 0, 0, 0, 0].as_slice(),
     );
+    Ok(())
+}
+
+#[test]
+fn the_number_of_a_device_is_written(rt: HostRuntime) -> Result<(), Fail> {
+    let mut out = Vec::new(rt.alloc());
+    let device = Attributes {
+        blocks: 0,
+        accessed: at(1, 4),
+        modified: at(u64::MAX, 5),
+        changed: at(3, 6),
+        user: 1000,
+        group: 100,
+        device: 0x801,
+        ..attributes(9, 0o60_640, 1)
+    };
+    let told = Body::Attributes {
+        kept: at(1, 0),
+        attributes: device,
+    };
+    write(&mut out, Unique(78), Ok(told))?;
+    same(&rt, "a device", out.as_slice(), DEVICE.as_slice());
     Ok(())
 }
 

@@ -1,14 +1,16 @@
 //! The lines that move files and folders between the host and an image.
 use crate::reports::CLEAN_REPORT;
 use crate::trying::Wanted::{Printed, Refused};
-use crate::trying::{Row, give, gives, holds, made_small, writes};
+use crate::trying::{Row, changed, give, gives, holds, is_missing, made_small, writes};
 use export_host::get_from_file;
 use layout::Refusal;
 use progress::{Step, Watcher};
 use std::fs;
-use std::os::unix::fs::symlink;
+use std::fs::{FileTimes, OpenFile, Permissions};
+use std::os::unix::fs::{MetadataExt, PermissionsExt, symlink};
 use std::process::Abort;
 use std::rt::Files;
+use std::time::{Duration, UNIX_EPOCH};
 
 /// Makes a folder of the host with a file of three bytes in it.
 pub(crate) fn made_folder<R: Files + AllocGlobal + Abort>(rt: &R, folder: &str, file: &str) {
@@ -123,17 +125,12 @@ fn what_is_too_large_is_not_left_in_part(rt: HostRuntime) {
 
 /// Lines on a fresh image, and a folder with a link to a file outside of it.
 const LINKED: &[Row<'static>] = &[
-    (
-        "put",
-        " /d",
-        "rows_hosts_linked",
-        Refused("refused 12 BadName\nat rows_hosts_linked/b\n", 3),
-    ),
-    ("ls", "", "/", Printed("", 0)),
+    ("put", " /d", "rows_hosts_linked", Printed("", 0)),
+    ("cat", "", "/d/b", Printed("../rows_hosts_outside", 0)),
 ];
 
 #[test]
-fn a_link_in_a_folder_is_told_and_not_followed(rt: HostRuntime) {
+fn a_link_in_a_folder_goes_in_and_is_not_followed(rt: HostRuntime) {
     let image = "rows_hosts_linked.img";
     made_small(&rt, image);
     writes(&rt, "rows_hosts_outside", b"not to be read");
@@ -171,6 +168,83 @@ fn what_stands_on_the_host_stays(rt: HostRuntime) {
     holds(&rt, "get", "rows_hosts_stays", b"theirs");
     let is_made = fs::metadata(&rt, "rows_hosts_nowhere").is_ok();
     assert!(&rt; !is_made);
+}
+
+/// Sets who may use what stands at a path of the host, and when it was changed, in seconds since 1970.
+fn settles<R: Files + Abort>(rt: &R, path: &str, mode: u32, seconds: u64) {
+    let file = fs::open(rt, path).expect(rt, path);
+    let time = UNIX_EPOCH
+        .checked_add(Duration::from_secs(seconds))
+        .expect(rt, "a time");
+    file.set_permissions(Permissions::from_mode(mode))
+        .expect(rt, path);
+    file.set_times(FileTimes::new().set_modified(time))
+        .expect(rt, path);
+}
+
+/// What stands at a path of the host has this mode, and was changed then.
+fn is_settled<R: Files + Abort>(rt: &R, path: &str, mode: u32, seconds: i64) {
+    let metadata = fs::symlink_metadata(rt, path).expect(rt, path);
+    assert_eq!(rt; metadata.mode(), mode, "{path}");
+    assert_eq!(rt; metadata.mtime(), seconds, "{path}");
+}
+
+/// Lines on a fresh image: a tree goes in, and comes out, and what came out goes in.
+const KEPT: &[Row<'static>] = &[
+    ("put", " /d", "rows_hosts_kept", Printed("", 0)),
+    ("get", " /d", "rows_hosts_again", Printed("", 0)),
+    ("put", " /e", "rows_hosts_again", Printed("", 0)),
+    ("cat", "", "/e/b", Printed("../nowhere", 0)),
+];
+
+#[test]
+fn rights_times_and_links_come_out_as_they_went_in(rt: HostRuntime) {
+    let image = "rows_hosts_kept.img";
+    made_small(&rt, image);
+    made_folder(&rt, "rows_hosts_kept", "rows_hosts_kept/a");
+    symlink(&rt, "../nowhere", "rows_hosts_kept/b").expect(&rt, "a link");
+    settles(&rt, "rows_hosts_kept/a", 0o4640, 1_000_000_000);
+    settles(&rt, "rows_hosts_kept", 0o1750, 2_000_000_000);
+    let _ = fs::remove_dir_all(&rt, "rows_hosts_again");
+    give(&rt, image, KEPT);
+    is_settled(&rt, "rows_hosts_again/a", 0o104_640, 1_000_000_000);
+    is_settled(&rt, "rows_hosts_again", 0o041_750, 2_000_000_000);
+    holds(&rt, "get", "rows_hosts_again/a", b"abc");
+}
+
+/// Where the record of the first file in the first directory of a small image has the upper half of its mode, and that of a FIFO.
+const FIFO: (usize, u8) = (2_629, 17);
+
+/// Lines on an image with a FIFO.
+const LEFT_OUT: &[Row<'static>] = &[(
+    "get",
+    " /d",
+    "rows_hosts_but",
+    Refused("refused 12 BadName\nat /d/a\ndone 2 of 3\n", 3),
+)];
+
+#[test]
+fn a_fifo_is_left_out_and_all_else_comes_out(rt: HostRuntime) {
+    let image = "rows_hosts_fifo.img";
+    made_small(&rt, image);
+    made_folder(&rt, "rows_hosts_fifo", "rows_hosts_fifo/a");
+    writes(&rt, "rows_hosts_fifo/b", b"def");
+    gives(
+        &rt,
+        "put rows_hosts_fifo.img /d",
+        "rows_hosts_fifo",
+        Printed("", 0),
+    );
+    let bytes = fs::read(&rt, image).expect(&rt, image);
+    writes(
+        &rt,
+        image,
+        changed(&rt, bytes.as_slice(), &[FIFO]).as_slice(),
+    );
+    let _ = fs::remove_dir_all(&rt, "rows_hosts_but");
+    give(&rt, image, LEFT_OUT);
+    holds(&rt, "get", "rows_hosts_but/b", b"def");
+    is_missing(&rt, "get", "rows_hosts_but/a");
 }
 
 /// Another program, which makes a file on the host as soon as something was made there.

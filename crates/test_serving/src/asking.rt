@@ -1,8 +1,9 @@
 //! Sessions as they are made up: the requests, and the replies that are wanted.
 use crate::served::Messages;
 use crate::spelling::{
-    CREATE, DESTROY, Field, GET_ATTRIBUTES, INIT, LINK, MAKE_DIRECTORY, MAKE_NODE, OPEN, READ,
-    RELEASE, RENAME, RENAME_2, SET_ATTRIBUTES, STALE, STATISTICS, UNLINK, WRITE, reply, request,
+    CREATE, DESTROY, Field, GET_ATTRIBUTES, INIT, LINK, MAKE_DIRECTORY, MAKE_LINK, MAKE_NODE, OPEN,
+    READ, READ_LINK, RELEASE, RENAME, RENAME_2, SET_ATTRIBUTES, STALE, STATISTICS, UNLINK, WRITE,
+    reply, request,
 };
 use Field::{Bytes, Long, Name, Short, Word, Zeroes};
 use std::alloc::{AllocError, Global};
@@ -30,6 +31,9 @@ pub(crate) struct Shown {
     pub(crate) blocks: u64,
     pub(crate) mode: u32,
     pub(crate) links: u32,
+    pub(crate) group: u32,
+    /// The number of a device.
+    pub(crate) device: u32,
 }
 
 impl Session {
@@ -61,7 +65,7 @@ impl Session {
                 Word(7),
                 Word(31),
                 Word(131_072),
-                Word(0x44_0021),
+                Word(0x44_2021),
                 Short(12),
                 Short(9),
                 Word(131_072),
@@ -203,6 +207,23 @@ impl Session {
     pub(crate) fn makes_file(&mut self, name: &[u8], node: u64, shown: Shown) {
         let fields = [Word(FILE_MODE), Word(0), Word(0), Word(0), Name(name)];
         self.finds(MAKE_NODE, ROOT, &fields, node, shown, &[]);
+    }
+
+    /// A node of this mode is made, with the number of a device.
+    pub(crate) fn makes_node(&mut self, name: &[u8], node: u64, device: u32, shown: Shown) {
+        let fields = [Word(shown.mode), Word(device), Word(0), Word(0), Name(name)];
+        self.finds(MAKE_NODE, ROOT, &fields, node, shown, &[]);
+    }
+
+    /// A symbolic link is made.
+    pub(crate) fn makes_link(&mut self, name: &[u8], target: &[u8], node: u64, shown: Shown) {
+        let fields = [Name(name), Name(target)];
+        self.finds(MAKE_LINK, ROOT, &fields, node, shown, &[]);
+    }
+
+    /// A symbolic link leads there.
+    pub(crate) fn reads_link(&mut self, node: u64, target: &[u8]) {
+        self.asks(READ_LINK, node, &[], &[Bytes(target)]);
     }
 
     /// A directory without names is made.
@@ -367,8 +388,8 @@ impl Shown {
             Word(self.mode),
             Word(self.links),
             Word(7),
-            Word(8),
-            Word(0),
+            Word(self.group),
+            Word(self.device),
             Word(1024),
             Word(0),
         ]
@@ -379,7 +400,7 @@ impl Shown {
 const FILE_MODE: u32 = 0o100_640;
 
 /// What asks for a new file of this name, that is open.
-fn made(name: &[u8]) -> [Field<'_>; 5] {
+pub(crate) fn made(name: &[u8]) -> [Field<'_>; 5] {
     [
         Word(0o101),
         Word(FILE_MODE),
@@ -400,7 +421,7 @@ fn opened(number: u64) -> [Field<'static>; 3] {
 }
 
 /// The fields of a write.
-fn written(handle: u64, offset: u64, bytes: &[u8]) -> [Field<'_>; 5] {
+pub(crate) fn written(handle: u64, offset: u64, bytes: &[u8]) -> [Field<'_>; 5] {
     let size = u32::try_from(bytes.len()).unwrap_or(u32::MAX);
     [
         Long(handle),
@@ -416,6 +437,18 @@ fn sized(size: u64) -> [Field<'static>; 5] {
     [Word(8), Word(0), Long(0), Long(size), Zeroes(64)]
 }
 
+/// The fields that set a mode and a group.
+pub(crate) fn grouped(mode: u32, group: u32) -> [Field<'static>; 6] {
+    [
+        Word(5),
+        Zeroes(64),
+        Word(mode),
+        Zeroes(8),
+        Word(group),
+        Zeroes(4),
+    ]
+}
+
 /// The fields that set a mode.
 pub(crate) fn moded(mode: u32) -> [Field<'static>; 4] {
     [Word(1), Zeroes(64), Word(mode), Zeroes(16)]
@@ -429,6 +462,8 @@ pub(crate) fn file(number: u64, size: u64, blocks: u64) -> Shown {
         blocks,
         mode: FILE_MODE,
         links: 1,
+        group: 8,
+        device: 0,
     }
 }
 
@@ -448,5 +483,15 @@ pub(crate) fn directory(number: u64, links: u32) -> Shown {
         blocks: 2,
         mode: 0o40_755,
         links,
+        group: 8,
+        device: 0,
+    }
+}
+
+/// A symbolic link of this number, with a target of so many bytes.
+pub(crate) fn symbolic_link(number: u64, size: u64) -> Shown {
+    Shown {
+        mode: 0o120_777,
+        ..file(number, size, 2 * size.div_ceil(1024))
     }
 }

@@ -4,6 +4,8 @@
 #[cfg(test)]
 mod asking;
 #[cfg(test)]
+mod keeping;
+#[cfg(test)]
 mod served;
 #[cfg(test)]
 mod sessions;

@@ -10,6 +10,10 @@ pub(crate) const GET_ATTRIBUTES: u32 = 3;
 
 pub(crate) const SET_ATTRIBUTES: u32 = 4;
 
+pub(crate) const READ_LINK: u32 = 5;
+
+pub(crate) const MAKE_LINK: u32 = 6;
+
 pub(crate) const MAKE_NODE: u32 = 8;
 
 pub(crate) const MAKE_DIRECTORY: u32 = 9;
@@ -42,9 +46,15 @@ pub(crate) const OPEN_DIRECTORY: u32 = 27;
 
 pub(crate) const READ_DIRECTORY: u32 = 28;
 
+pub(crate) const SYNC_DIRECTORY: u32 = 30;
+
 pub(crate) const CREATE: u32 = 35;
 
 pub(crate) const DESTROY: u32 = 38;
+
+pub(crate) const ALLOCATE: u32 = 43;
+
+pub(crate) const READ_DIRECTORY_PLUS: u32 = 44;
 
 pub(crate) const RENAME_2: u32 = 45;
 
@@ -72,6 +82,8 @@ pub(crate) const NO_SPACE: u32 = 28;
 pub(crate) const NAME_TOO_LONG: u32 = 36;
 
 pub(crate) const NOT_IMPLEMENTED: u32 = 38;
+
+pub(crate) const NOT_SUPPORTED: u32 = 95;
 
 pub(crate) const NOT_EMPTY: u32 = 39;
 
@@ -131,7 +143,7 @@ fn with_length(alloc: Global, behind: &[u8]) -> Result<Vec<u8>, AllocError> {
     Ok(all)
 }
 
-/// A request: its kind, its number, its node, and its fields.
+/// A request of user 7 and group 8: its kind, its number, its node, and its fields.
 pub(crate) fn request(
     alloc: Global,
     kind: u32,
@@ -144,7 +156,9 @@ pub(crate) fn request(
         Field::Word(kind),
         Field::Long(unique),
         Field::Long(node),
-        Field::Zeroes(16),
+        Field::Word(7),
+        Field::Word(8),
+        Field::Zeroes(8),
     ];
     put(&mut behind, &head)?;
     put(&mut behind, fields)?;

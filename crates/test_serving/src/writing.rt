@@ -20,14 +20,14 @@ use std::thread::Threads;
 use test_mounted::{found_on, mounted_of};
 
 /// All that is done beyond the volume's commands.
-const FREE: Rules = Rules {
+pub(crate) const FREE: Rules = Rules {
     keeps_attributes: true,
     fills: true,
     replaces: true,
 };
 
 /// Nothing of that.
-const STRICT: Rules = Rules {
+pub(crate) const STRICT: Rules = Rules {
     keeps_attributes: false,
     fills: false,
     replaces: false,
@@ -47,23 +47,26 @@ const OWNER: Owner = Owner {
 const AGAIN: u64 = 1 << 32;
 
 /// The nodes of the first inodes that are made.
-const A: u64 = AGAIN + 3;
+pub(crate) const A: u64 = AGAIN + 3;
 
-const D: u64 = AGAIN + 4;
+pub(crate) const D: u64 = AGAIN + 4;
 
-const C: u64 = AGAIN + 5;
+pub(crate) const C: u64 = AGAIN + 5;
 
 /// That of the next one with the number of the first.
 const E: u64 = 2 * AGAIN + 3;
 
 /// A desk with a fresh volume of two groups of 16 blocks and 16 inodes.
-fn desk(alloc: Global, rules: Rules) -> Result<Desk<MemDevice>, Refusal> {
+pub(crate) fn desk(alloc: Global, rules: Rules) -> Result<Desk<MemDevice>, Refusal> {
     let volume = mounted_of(alloc, SINGLE, 2, 16, &[])?;
     Ok(Desk::new(alloc, volume, OWNER, rules)?)
 }
 
 /// A desk with the volume of what the device of another one holds.
-fn mounted_again(alloc: Global, desk: &Desk<MemDevice>) -> Result<Desk<MemDevice>, Refusal> {
+pub(crate) fn mounted_again(
+    alloc: Global,
+    desk: &Desk<MemDevice>,
+) -> Result<Desk<MemDevice>, Refusal> {
     let device = desk.volume().live().device();
     let volume = mount(alloc, device.image_after(alloc, device.writes())?)?;
     Ok(Desk::new(alloc, volume, OWNER, FREE)?)
@@ -94,7 +97,7 @@ fn is_served_whole<R: Abort + Threads + Sync>(
 }
 
 /// So does a desk with a fresh volume.
-fn is_served_afresh<R: Abort + Threads + Sync>(
+pub(crate) fn is_served_afresh<R: Abort + Threads + Sync>(
     rt: &R,
     alloc: Global,
     messages: Messages,
@@ -234,8 +237,8 @@ fn is_not_made(session: &mut Session) {
     session.creates_not(A, b"a", NOT_DIRECTORY);
     session.makes_no_directory(b"d", EXISTS);
     session.makes_no_directory(&[b'n'; 57], NAME_TOO_LONG);
-    let pipe = [Word(0o10_644), Word(0), Word(0), Word(0), Name(b"p")];
-    session.is_refused(MAKE_NODE, ROOT, &pipe, NOT_PERMITTED);
+    let none = [Word(0o30_644), Word(0), Word(0), Word(0), Name(b"p")];
+    session.is_refused(MAKE_NODE, ROOT, &none, NOT_PERMITTED);
 }
 
 fn is_not_unlinked(session: &mut Session) {
@@ -328,7 +331,7 @@ fn what_was_written_is_there_once_it_is_mounted_again(rt: HostRuntime) -> Result
 }
 
 /// A desk with a fresh volume, and then one with what its device holds, answer a session each.
-fn is_served_twice<R: Abort + Threads + Sync>(
+pub(crate) fn is_served_twice<R: Abort + Threads + Sync>(
     rt: &R,
     alloc: Global,
     messages: Messages,
@@ -363,10 +366,10 @@ fn is_moved(session: &mut Session) {
     session.moves(ROOT, b"a", D, b"b");
 }
 
-/// Nothing was born since, and modes do not last.
+/// Nothing was born since, and attributes are as they were.
 fn is_there(session: &mut Session) {
     session.finds(LOOKUP, ROOT, &[Name(b"d")], 4, directory(4, 2), &[]);
-    session.finds(LOOKUP, 4, &[Name(b"b")], 3, plain(3, 5, 2), &[]);
+    session.finds(LOOKUP, 4, &[Name(b"b")], 3, file(3, 5, 2), &[]);
     session.opens(3, 0, 3);
     session.reads(3, 3, 0, 9, b"hello");
 }

@@ -1,7 +1,7 @@
 use Rattle.std.proofs.Common.{length, sym, ap, ◌∙◌, subst}
 use Rattle.frozen.specs.Kept.{IsKeptOf}
 use Rattle.model.specs.Image.{image_view}
-use Rattle.export_host.specs.Copies.{MadeMore}
+use Rattle.export_host.specs.Copies.{AreCopies, MadeMore}
 use Rattle.export_host.proofs.CopyLemmas.{made_all}
 use Rattle.export_host.proofs.getting.get.Goals as goal
 
@@ -16,6 +16,6 @@ returns-clause-copies g c = λ honest.
     let new = c.get_part.new.copies.files.items in (
       geo,
       kept.is_image,
-      made_all geo (image_view geo (g.D.Device.image c.args.device.now)) c.new.result.items new c.new.ensures
-          (subst (λ image. MadeMore geo (image_view geo image) c.new.result.items new) c.load.ensures.reads.same (c.in_ok-get_part.ensures.more honest (subst (IsKeptOf frozen) (sym c.load.ensures.reads.same) kept))),
+      subst (AreCopies geo (image_view geo (g.D.Device.image c.args.device.now))) (sym c.end.ensures) (made_all geo (image_view geo (g.D.Device.image c.args.device.now)) c.new.result.items new c.new.ensures
+          (subst (λ image. MadeMore geo (image_view geo image) c.new.result.items new) c.load.ensures.reads.same (c.in_ok-get_part.ensures.more honest (subst (IsKeptOf frozen) (sym c.load.ensures.reads.same) kept)))),
     )

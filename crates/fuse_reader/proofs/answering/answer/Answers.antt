@@ -5,7 +5,7 @@ use Rattle.fuse_wire.specs.Requests.{seen}
 use Rattle.fuse_reader.specs.Said.{Refused, told}
 use Rattle.fuse_reader.specs.Turns.{answer, events_of}
 use Rattle.fuse_reader.proofs.SameLemmas.{on_err, on_ok, on_ok_both}
-use Rattle.fuse_reader.proofs.TurnLemmas.{attributes_turn, batch_forget_turn, forget_turn, init_turn, interrupt_turn, list_turn, lookup_known, lookup_turn, open_directory_turn, open_turn, read_turn, shows, statistics_turn}
+use Rattle.fuse_reader.proofs.TurnLemmas.{attributes_turn, batch_forget_turn, forget_turn, init_turn, interrupt_turn, link_turn, list_turn, lookup_known, lookup_turn, open_directory_turn, open_turn, read_turn, shows, statistics_turn}
 use Rattle.fuse_reader.proofs.answering.answer.Goals as goal
 
 pub returns-in-Init-clause-turn : goal.returns-in-Init-clause-turn
@@ -27,6 +27,9 @@ returns-in-BatchForget-clause-turn g c = λ honest is. batch_forget_turn _ _ _ _
 
 pub returns-in-GetAttributes-clause-turn : goal.returns-in-GetAttributes-clause-turn
 returns-in-GetAttributes-clause-turn g c = on_ok c.tell_attributes.result c.tell_attributes.ensures (λ r honest is. attributes_turn _ _ _ _ _ _ _ is _ _ c.find-number.result (ap seen c.in-GetAttributes.is) c.find-number.ensures r)
+
+pub returns-in-ReadSymbolicLink-clause-turn : goal.returns-in-ReadSymbolicLink-clause-turn
+returns-in-ReadSymbolicLink-clause-turn g c = on_ok c.read_link.result c.read_link.ensures.told (λ r honest is. link_turn _ _ _ _ _ _ _ is _ c.find-number.result (ap seen c.in-ReadSymbolicLink.is) c.find-number.ensures (r honest is))
 
 pub returns-in-Open-clause-turn : goal.returns-in-Open-clause-turn
 returns-in-Open-clause-turn g c = on_ok c.open.result c.open.ensures (λ r honest is. open_turn _ _ _ _ _ _ _ is _ c.in-Open.flags c.find-number.result (ap seen c.in-Open.is) c.find-number.ensures r)
@@ -80,20 +83,26 @@ unfolding answer events_of
 returns-in-SetAttributes-clause-turn g c = on_ok c.refuse-in-SetAttributes.result c.refuse-in-SetAttributes.ensures (λ r honest is. elim c.in-SetAttributes.is [
   | inl h ↦ shows _ _ _ _ _ _ _ _ _ (Refused errors.ReadOnly) (ap seen h.1) refl refl r
   | inr rest ↦ elim rest [
-    | inl h ↦ shows _ _ _ _ _ _ _ _ _ (Refused errors.ReadOnly) (ap seen h.4) refl refl r
+    | inl h ↦ shows _ _ _ _ _ _ _ _ _ (Refused errors.ReadOnly) (ap seen h.2) refl refl r
     | inr rest ↦ elim rest [
-      | inl h ↦ shows _ _ _ _ _ _ _ _ _ (Refused errors.ReadOnly) (ap seen h.3) refl refl r
+      | inl h ↦ shows _ _ _ _ _ _ _ _ _ (Refused errors.ReadOnly) (ap seen h.4) refl refl r
       | inr rest ↦ elim rest [
-        | inl h ↦ shows _ _ _ _ _ _ _ _ _ (Refused errors.ReadOnly) (ap seen h.1) refl refl r
+        | inl h ↦ shows _ _ _ _ _ _ _ _ _ (Refused errors.ReadOnly) (ap seen h.3) refl refl r
         | inr rest ↦ elim rest [
           | inl h ↦ shows _ _ _ _ _ _ _ _ _ (Refused errors.ReadOnly) (ap seen h.1) refl refl r
           | inr rest ↦ elim rest [
-            | inl h ↦ shows _ _ _ _ _ _ _ _ _ (Refused errors.ReadOnly) (ap seen h.4) refl refl r
+            | inl h ↦ shows _ _ _ _ _ _ _ _ _ (Refused errors.ReadOnly) (ap seen h.1) refl refl r
             | inr rest ↦ elim rest [
-              | inl h ↦ shows _ _ _ _ _ _ _ _ _ (Refused errors.ReadOnly) (ap seen h.2) refl refl r
+              | inl h ↦ shows _ _ _ _ _ _ _ _ _ (Refused errors.ReadOnly) (ap seen h.4) refl refl r
               | inr rest ↦ elim rest [
-                | inl h ↦ shows _ _ _ _ _ _ _ _ _ (Refused errors.ReadOnly) (ap seen h.3) refl refl r
-                | inr rest ↦ shows _ _ _ _ _ _ _ _ _ (Refused errors.ReadOnly) (ap seen rest.4) refl refl r
+                | inl h ↦ shows _ _ _ _ _ _ _ _ _ (Refused errors.ReadOnly) (ap seen h.2) refl refl r
+                | inr rest ↦ elim rest [
+                  | inl h ↦ shows _ _ _ _ _ _ _ _ _ (Refused errors.ReadOnly) (ap seen h.3) refl refl r
+                  | inr rest ↦ elim rest [
+                    | inl h ↦ shows _ _ _ _ _ _ _ _ _ (Refused errors.ReadOnly) (ap seen h.4) refl refl r
+                    | inr rest ↦ shows _ _ _ _ _ _ _ _ _ (Refused errors.ReadOnly) (ap seen rest.4) refl refl r
+                  ]
+                ]
               ]
             ]
           ]

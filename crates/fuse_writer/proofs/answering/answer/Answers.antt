@@ -1,22 +1,29 @@
-use Rattle.std.proofs.Common.{refl, ap, inl, inr}
+use Rattle.std.proofs.Common.{◌≡◌, ◌⊎◌, Bool, refl, ap, inl, inr, ◌∙◌}
 use Rattle.fuse_wire.specs.declared.bodies.Body.TheVariants as bodies
 use Rattle.fuse_wire.specs.declared.errors.Errno.TheVariants as errors
+use Rattle.frozen.specs.Kept.{Kept}
+use Rattle.fuse_wire.specs.declared.numbers.Handle.{Handle}
+use Rattle.fuse_wire.specs.declared.requests.Head.{Head}
+use Rattle.fuse_wire.specs.declared.requests.Request.{Request}
+use Rattle.fuse_wire.specs.declared.requests.Request.TheVariants.{Sync, SyncDirectory}
+use Rattle.fuse_writer.specs.declared.session.Session.{Session}
 use Rattle.fuse_wire.specs.Requests as asked
 use Rattle.fuse_wire.specs.Requests.{seen}
 use Rattle.fuse_reader.specs.Said.{Nothing, Refused, told}
 use Rattle.fuse_reader.specs.Turns.{agreed}
-use Rattle.fuse_writer.specs.Answers.{doing_of}
+use Rattle.fuse_writer.specs.Answers.{doing_of, served}
 use Rattle.fuse_writer.specs.Doings.{said_by}
-use Rattle.fuse_writer.specs.Requests.{second}
+use Rattle.fuse_writer.specs.Requests.{kept_for, syncs_node}
 use Rattle.fuse_writer.specs.Saying.{said_bytes, said_created, said_done, said_found}
 use Rattle.fuse_writer.proofs.DoingLemmas.{does_note, does_say}
 use Rattle.fuse_writer.proofs.TurnLemmas.{turn_does, turn_syncs}
 use Rattle.fuse_writer.proofs.answering.answer.Goals as goal
+use Rattle.fuse_writer.proofs.answering.answer.Goals.{in-Sync, in-Sync-2}
 
 pub returns-in-Init-clause-turn : goal.returns-in-Init-clause-turn
 unfolding doing_of
 returns-in-Init-clause-turn g c =
-    turn_does _ _ _ _ _ _ _ _ (asked.Init c.in-Init.offer) _ (ap seen c.in-Init.is) refl refl (agreed c.in-Init.offer) (does_say _ _ _ _ _ _ refl refl refl) c.agree.ensures
+    turn_does _ _ _ _ _ _ _ _ (asked.Init c.in-Init.offer) _ (ap seen c.in-Init.is) refl refl (agreed served c.in-Init.offer) (does_say _ _ _ _ _ _ refl refl refl) c.agree.ensures
 
 pub returns-in-Lookup-clause-turn : goal.returns-in-Lookup-clause-turn
 unfolding doing_of
@@ -36,22 +43,22 @@ returns-in-BatchForget-clause-turn g c =
 pub returns-in-GetAttributes-clause-turn : goal.returns-in-GetAttributes-clause-turn
 unfolding doing_of
 returns-in-GetAttributes-clause-turn g c =
-    turn_does _ _ _ _ _ _ _ _ (asked.GetAttributes _) _ (ap seen c.in-GetAttributes.is) refl refl (said_by (bodies.Attributes second) c.attributes_at.result) c.attributes_at.ensures c.say_attributes.ensures
+    turn_does _ _ _ _ _ _ _ _ (asked.GetAttributes _) _ (ap seen c.in-GetAttributes.is) refl refl (said_by (bodies.Attributes (kept_for c.args.mounted.now.session)) c.attributes_at.result) c.attributes_at.ensures (rw c.kept_for-kept.ensures at c.say_attributes.ensures)
 
 pub returns-in-SetAttributes-clause-turn : goal.returns-in-SetAttributes-clause-turn
 unfolding doing_of
 returns-in-SetAttributes-clause-turn g c =
-    turn_does _ _ _ _ _ _ _ _ (asked.SetAttributes c.in-SetAttributes.changes) _ (ap seen c.in-SetAttributes.is) refl refl (said_by (bodies.Attributes second) c.set_attributes.result) c.set_attributes.ensures.does c.say_attributes-in-SetAttributes.ensures
+    turn_does _ _ _ _ _ _ _ _ (asked.SetAttributes c.in-SetAttributes.changes) _ (ap seen c.in-SetAttributes.is) refl refl (said_by (bodies.Attributes (kept_for c.set_attributes-outcome.new.mounted.session)) c.set_attributes-outcome.result) c.set_attributes-outcome.ensures.does (rw c.kept_for-kept-in-SetAttributes.ensures at c.say_attributes-in-SetAttributes.ensures)
 
 pub returns-in-MakeNode-clause-turn : goal.returns-in-MakeNode-clause-turn
 unfolding doing_of
 returns-in-MakeNode-clause-turn g c =
-    turn_does _ _ _ _ _ _ _ _ (asked.MakeNode c.in-MakeNode.mode _ _ c.in-MakeNode.name.now) _ (ap seen c.in-MakeNode.is) refl refl (said_by bodies.Entry c.make_node.result) c.make_node.ensures.does c.say_entry.ensures
+    turn_does _ _ _ _ _ _ _ _ (asked.MakeNode c.in-MakeNode.mode c.in-MakeNode.device _ c.in-MakeNode.name.now) _ (ap seen c.in-MakeNode.is) refl refl (said_by bodies.Entry c.make_node.result) (rw c.node.ensures at c.make_node.ensures.does) c.say_entry-in-MakeNode.ensures
 
 pub returns-in-MakeDirectory-clause-turn : goal.returns-in-MakeDirectory-clause-turn
 unfolding doing_of
 returns-in-MakeDirectory-clause-turn g c =
-    turn_does _ _ _ _ _ _ _ _ (asked.MakeDirectory c.in-MakeDirectory.mode _ c.in-MakeDirectory.name.now) _ (ap seen c.in-MakeDirectory.is) refl refl (said_by bodies.Entry c.make_directory.result) c.make_directory.ensures.does c.say_entry-in-MakeDirectory.ensures
+    turn_does _ _ _ _ _ _ _ _ (asked.MakeDirectory c.in-MakeDirectory.mode _ c.in-MakeDirectory.name.now) _ (ap seen c.in-MakeDirectory.is) refl refl (said_by bodies.Entry c.make_directory.result) (rw c.directory.ensures at c.make_directory.ensures.does) c.say_entry-in-MakeDirectory.ensures
 
 pub returns-in-Unlink-clause-turn : goal.returns-in-Unlink-clause-turn
 unfolding doing_of
@@ -71,7 +78,7 @@ returns-in-Rename-clause-turn g c =
 pub returns-in-Link-clause-turn : goal.returns-in-Link-clause-turn
 unfolding doing_of
 returns-in-Link-clause-turn g c =
-    turn_does _ _ _ _ _ _ _ _ (asked.Link c.in-Link.file c.in-Link.name.now) _ (ap seen c.in-Link.is) refl refl (said_by bodies.Entry c.link.result) c.link.ensures.does c.say_entry-in-Link.ensures
+    turn_does _ _ _ _ _ _ _ _ (asked.Link c.in-Link.file c.in-Link.name.now) _ (ap seen c.in-Link.is) refl refl (said_by bodies.Entry c.link-in-Link.result) c.link-in-Link.ensures.does c.say_entry-in-Link.ensures
 
 pub returns-in-Open-clause-turn : goal.returns-in-Open-clause-turn
 unfolding doing_of
@@ -81,12 +88,12 @@ returns-in-Open-clause-turn g c =
 pub returns-in-Create-clause-turn : goal.returns-in-Create-clause-turn
 unfolding doing_of
 returns-in-Create-clause-turn g c =
-    turn_does _ _ _ _ _ _ _ _ (asked.Create _ c.in-Create.mode _ c.in-Create.name.now) _ (ap seen c.in-Create.is) refl refl (said_created c.create.result) c.create.ensures.does c.say_created.ensures
+    turn_does _ _ _ _ _ _ _ _ (asked.Create _ c.in-Create.mode _ c.in-Create.name.now) _ (ap seen c.in-Create.is) refl refl (said_created c.create.result) (rw c.file.ensures at c.create.ensures.does) c.say_created.ensures
 
 pub returns-in-Read-clause-turn : goal.returns-in-Read-clause-turn
 unfolding doing_of
 returns-in-Read-clause-turn g c =
-    turn_does _ _ _ _ _ _ _ _ (asked.Read _ c.in-Read.offset c.in-Read.size) _ (ap seen c.in-Read.is) refl refl (said_bytes (λ bytes. bytes.items) c.read.result) c.read.ensures.does c.say_bytes.ensures
+    turn_does _ _ _ _ _ _ _ _ (asked.Read _ c.in-Read.offset c.in-Read.size) _ (ap seen c.in-Read.is) refl refl (said_bytes (λ bytes. bytes.items) c.read.result) c.read.ensures.does c.say_bytes-in-Read.ensures
 
 pub returns-in-Write-clause-turn : goal.returns-in-Write-clause-turn
 unfolding doing_of
@@ -126,25 +133,63 @@ returns-in-ReleaseDirectory-clause-turn g c =
 pub returns-in-Destroy-clause-turn : goal.returns-in-Destroy-clause-turn
 unfolding doing_of
 returns-in-Destroy-clause-turn g c =
-    turn_syncs _ _ _ _ _ _ _ _ c.end.result c.end.ensures.synced _ (ap (doing_of c.args.mounted.now.asking.volume.kept c.args.mounted.now.session c.args.head.node) (ap seen c.in-Destroy.is))
+    turn_syncs _ _ _ _ _ _ _ _ c.end.result c.end.ensures.synced _ (ap (doing_of c.args.mounted.now.asking.volume.kept c.args.mounted.now.session c.args.head) (ap seen c.in-Destroy.is))
     c.end.ensures.does c.say_done-in-Destroy.ensures
 
-pub returns-in-Sync-clause-turn : goal.returns-in-Sync-clause-turn
+-- a sync of a file and one of a directory lead to the same
+syncs_either : (kept : Kept) (s : Session) (head : Head) (request : Request) (data_only : Bool)
+    → ((handle : Handle) × request ≡ Sync handle data_only) ⊎ ((handle : Handle) × request ≡ SyncDirectory handle data_only)
+    → doing_of kept s head (seen request) ≡ syncs_node s head.node data_only
 unfolding doing_of
-returns-in-Sync-clause-turn g c = elim c.in-Sync.is [
-  | inl h ↦ turn_syncs _ _ _ _ _ _ _ _ c.sync.result c.sync.ensures.synced _ (ap (doing_of c.args.mounted.now.asking.volume.kept c.args.mounted.now.session c.args.head.node) (ap seen h.2)) c.sync.ensures.does c.say_done-in-Sync.ensures
-  | inr rest ↦ elim rest [
-    | inl h ↦ turn_syncs _ _ _ _ _ _ _ _ c.sync.result c.sync.ensures.synced _ (ap (doing_of c.args.mounted.now.asking.volume.kept c.args.mounted.now.session c.args.head.node) (ap seen h.2)) c.sync.ensures.does c.say_done-in-Sync.ensures
-    | inr h ↦ turn_syncs _ _ _ _ _ _ _ _ c.sync.result c.sync.ensures.synced _ (ap (doing_of c.args.mounted.now.asking.volume.kept c.args.mounted.now.session c.args.head.node) (ap seen h)) c.sync.ensures.does c.say_done-in-Sync.ensures
-  ]
-]
+syncs_either kept s head request data_only (inl h) = ap (λ (r : Request). doing_of kept s head (seen r)) h.1
+syncs_either kept s head request data_only (inr h) = ap (λ (r : Request). doing_of kept s head (seen r)) h.1
+
+pub returns-in-Sync-clause-turn : goal.returns-in-Sync-clause-turn
+returns-in-Sync-clause-turn g c =
+    let kept = c.args.mounted.now.asking.volume.kept in
+    let s = c.args.mounted.now.session in
+    let head = c.args.head in
+    elim c.in-Sync-1.branch [
+      | in-Sync w ↦
+          let same : w.in-Sync.data_only ≡ c.in-Sync-1.data_only = cc in
+          turn_syncs _ _ _ _ _ _ _ _ c.sync_node.result c.sync_node.ensures.synced _ (syncs_either kept s head c.args.request w.in-Sync.data_only w.in-Sync.is ∙ ap (syncs_node s head.node) same)
+          c.sync_node.ensures.does c.say_done-in-Sync.ensures
+      | in-Sync-2 w ↦
+          let same : w.in-Sync.data_only ≡ c.in-Sync-1.data_only = cc in
+          turn_syncs _ _ _ _ _ _ _ _ c.sync_node.result c.sync_node.ensures.synced _ (syncs_either kept s head c.args.request w.in-Sync.data_only w.in-Sync.is ∙ ap (syncs_node s head.node) same)
+          c.sync_node.ensures.does c.say_done-in-Sync.ensures
+    ]
+
+pub returns-in-SyncVolume-clause-turn : goal.returns-in-SyncVolume-clause-turn
+unfolding doing_of
+returns-in-SyncVolume-clause-turn g c =
+    turn_syncs _ _ _ _ _ _ _ _ c.sync_all.result c.sync_all.ensures.synced _ (ap (doing_of c.args.mounted.now.asking.volume.kept c.args.mounted.now.session c.args.head) (ap seen c.in-SyncVolume.is))
+    c.sync_all.ensures.does c.say_done-in-SyncVolume.ensures
+
+pub returns-in-ReadSymbolicLink-clause-turn : goal.returns-in-ReadSymbolicLink-clause-turn
+unfolding doing_of
+returns-in-ReadSymbolicLink-clause-turn g c =
+    turn_does _ _ _ _ _ _ _ _ (asked.ReadSymbolicLink) _ (ap seen c.in-ReadSymbolicLink.is) refl refl (said_bytes (λ bytes. bytes.items) c.read_link.result) c.read_link.ensures.does c.say_bytes.ensures
+
+pub returns-in-MakeSymbolicLink-clause-turn : goal.returns-in-MakeSymbolicLink-clause-turn
+unfolding doing_of
+returns-in-MakeSymbolicLink-clause-turn g c =
+    turn_does _ _ _ _ _ _ _ _ (asked.MakeSymbolicLink c.in-MakeSymbolicLink.name.now c.in-MakeSymbolicLink.target.now) _ (ap seen c.in-MakeSymbolicLink.is) refl refl (said_by bodies.Entry c.make_link.result)
+    (rw c.link.ensures at c.make_link.ensures.does) c.say_entry.ensures
 
 pub returns-in-Flush-clause-turn : goal.returns-in-Flush-clause-turn
 unfolding doing_of
 returns-in-Flush-clause-turn g c = elim c.in-Flush.is [
   | inl h ↦ turn_does _ _ _ _ _ _ _ _ _ _ (ap seen h.1) refl refl (Refused errors.NotImplemented) (does_say _ _ _ _ _ _ refl refl refl) c.refuse.ensures
-  | inr rest ↦ elim rest [
-    | inl h ↦ turn_does _ _ _ _ _ _ _ _ _ _ (ap seen h.3) refl refl (Refused errors.NotImplemented) (does_say _ _ _ _ _ _ refl refl refl) c.refuse.ensures
-    | inr h ↦ turn_does _ _ _ _ _ _ _ _ _ _ (ap seen h.1) refl refl (Refused errors.NotImplemented) (does_say _ _ _ _ _ _ refl refl refl) c.refuse.ensures
-  ]
+  | inr h ↦ turn_does _ _ _ _ _ _ _ _ _ _ (ap seen h.1) refl refl (Refused errors.NotImplemented) (does_say _ _ _ _ _ _ refl refl refl) c.refuse.ensures
 ]
+
+pub returns-in-ReadDirectoryPlus-clause-turn : goal.returns-in-ReadDirectoryPlus-clause-turn
+unfolding doing_of
+returns-in-ReadDirectoryPlus-clause-turn g c =
+    turn_does _ _ _ _ _ _ _ _ (asked.ReadDirectoryPlus _ c.in-ReadDirectoryPlus.offset c.in-ReadDirectoryPlus.size) _ (ap seen c.in-ReadDirectoryPlus.is) refl refl (said_bytes (λ bytes. bytes.items) c.list_plus.result) c.list_plus.ensures.does c.say_bytes-in-ReadDirectoryPlus.ensures
+
+pub returns-in-Allocate-clause-turn : goal.returns-in-Allocate-clause-turn
+unfolding doing_of
+returns-in-Allocate-clause-turn g c =
+    turn_does _ _ _ _ _ _ _ _ (asked.Allocate _ c.in-Allocate.offset c.in-Allocate.bytes c.in-Allocate.mode) _ (ap seen c.in-Allocate.is) refl refl (said_done c.allocate.result) c.allocate.ensures.does c.say_done-in-Allocate.ensures

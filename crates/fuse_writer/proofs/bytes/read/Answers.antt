@@ -4,8 +4,10 @@ use Rattle.frozen.specs.Kept.{Kept, frozen_view}
 use Rattle.model.specs.View.{Inode}
 use Rattle.fuse_reader.specs.Pieces.{piece_end}
 use Rattle.fuse_reader.specs.Said as said
-use Rattle.fuse_writer.proofs.BytesLemmas.{reads_large, reads_none, reads_small, reads_some}
+use Rattle.fuse_writer.proofs.BytesLemmas.{ends_bytes, reads_large, reads_none, reads_small, reads_some}
 use Rattle.fuse_writer.proofs.DoingLemmas.{does_same, does_say, listing_left}
+use Rattle.fuse_writer.specs.Doings.{refuses}
+use Rattle.fuse_writer.specs.Requests.{says_bytes}
 use Rattle.fuse_writer.proofs.bytes.read.Goals as goal
 
 pub returns-in_err-number-clause-does : goal.returns-in_err-number-clause-does
@@ -41,4 +43,9 @@ returns-clause-does g c =
     c.end_of-end.ensures ∙ ap (min (c.args.offset + c.args.size)) c.from.ensures ∙ ap (λ (r : Inode). min (c.args.offset + c.args.size) r.size) (c.file.view_is ∙ c.record_of.ensures)
     ∙ ap (λ (k : Kept). piece_end (frozen_view k) i c.args.offset c.args.size) c.metadata.ensures in
     does_same _ _ _ _ _ _ _ (reads_some kept c.args.mounted.now.session c.args.node c.args.offset c.args.size _ c.in_ok-number.ensures
-    (omega (arith, c.if-size-gt-MOST_BYTES.false)) _ c.in_ok-handle.ensures c.end_of-end.result end c.if-offset-end.false) c.read_between.ensures.does
+    (omega (arith, c.if-size-gt-MOST_BYTES.false)) _ c.in_ok-handle.ensures c.end_of-end.result end c.if-offset-end.false)
+    (ends_bytes _ _ _ _ (λ bytes. bytes.items) c.read_between.result _ (c.read_between.ensures.does says_bytes refuses))
+
+pub read_between-requires : goal.read_between-requires
+read_between-requires g c =
+    record { ordered = omega (arith, c.if-offset-end.false); small = omega (arith, c.end_of-end.ensures, c.if-size-gt-MOST_BYTES.false) }

@@ -1,9 +1,9 @@
-use Rattle.std.proofs.Common.{◌≡◌, ◌+◌, ◌<◌, ap, refl, arith, length, ◌∙◌}
+use Rattle.std.proofs.Common.{◌≡◌, ◌+◌, ◌<◌, [], ap, refl, arith, length, ◌∙◌}
 use Rattle.std.proofs.lemmas.Result.{err_from_is_err_and}
 use Rattle.frozen.specs.Kept.{Kept, frozen_view}
 use Rattle.fuse_wire.specs.declared.bodies.Body.TheVariants as bodies
 use Rattle.model.specs.View.{Inode}
-use Rattle.fuse_writer.proofs.DoingLemmas.{does_same, does_say, ends_err, exit_early, on_err, on_ok}
+use Rattle.fuse_writer.proofs.DoingLemmas.{does_note, does_same, does_say, ends_err, exit_early, on_err, on_ok}
 use Rattle.fuse_writer.specs.Doings.{refuses}
 use Rattle.fuse_writer.specs.Requests.{writes_between}
 use Rattle.fuse_writer.proofs.WriteLemmas.{writes_large, writes_some}
@@ -32,9 +32,9 @@ returns-in_err-fill_to-clause-does g c =
     let small : c.args.offset + length c.args.bytes.now < 4294967296 = omega (arith, c.if-saturating_add-from.false, c.from.ensures, c.saturating_add.ensures) in
     let e = writes_some kept c.args.mounted.now.session c.args.node c.args.offset c.args.bytes.now i c.in_ok-handle.handle c.in_ok-number.ensures c.in_ok-handle.ensures small
     c.own.inside.size own in
-    does_same _ _ _ _ _ _ _ e (ends_err _ _ _ _ bodies.Written _ _ _ (err_from_is_err_and c.from_residual-in_err-fill_to.result c.from_residual-in_err-fill_to.ensures.1)
+    does_same _ _ _ _ _ _ _ e (does_note _ _ _ _ _ [] _ _ (ends_err _ _ _ _ bodies.Written _ _ _ (err_from_is_err_and c.from_residual-in_err-fill_to.result c.from_residual-in_err-fill_to.ensures.1)
     (on_err _ _ _ _ _ _ _ _ _ c.in_err-fill_to.was
-    (c.fill_to.ensures.filled (writes_between c.in_ok-handle.handle c.args.offset (c.args.offset + length c.args.bytes.now) c.args.bytes.now) refuses)))
+    (rw (c.note.ensures.session, c.note.ensures.asking, c.touched-touched.ensures) at (c.fill_to.ensures.filled (writes_between c.in_ok-handle.handle c.args.offset (c.args.offset + length c.args.bytes.now) c.args.bytes.now) refuses)))))
 
 pub returns-clause-does : goal.returns-clause-does
 returns-clause-does g c =
@@ -45,5 +45,5 @@ returns-clause-does g c =
     let small : c.args.offset + length c.args.bytes.now < 4294967296 = omega (arith, c.if-saturating_add-from.false, c.from.ensures, c.saturating_add.ensures) in
     let e = writes_some kept c.args.mounted.now.session c.args.node c.args.offset c.args.bytes.now i c.in_ok-handle.handle c.in_ok-number.ensures c.in_ok-handle.ensures small
     c.own.inside.size own in
-    does_same _ _ _ _ _ _ _ e (on_ok _ _ _ _ _ _ _ _ _ c.in_ok-fill_to.was
-    (c.fill_to.ensures.filled (writes_between c.in_ok-handle.handle c.args.offset (c.args.offset + length c.args.bytes.now) c.args.bytes.now) refuses) _ _ _ c.write_between.ensures.does)
+    does_same _ _ _ _ _ _ _ e (does_note _ _ _ _ _ [] _ _ (on_ok _ _ _ _ _ _ _ _ _ c.in_ok-fill_to.was
+    (rw (c.note.ensures.session, c.note.ensures.asking, c.touched-touched.ensures) at (c.fill_to.ensures.filled (writes_between c.in_ok-handle.handle c.args.offset (c.args.offset + length c.args.bytes.now) c.args.bytes.now) refuses)) _ _ _ c.write_between.ensures.does))

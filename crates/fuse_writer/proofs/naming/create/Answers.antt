@@ -1,6 +1,7 @@
-use Rattle.std.proofs.Common.{◌≡◌, refl, rules}
+use Rattle.std.proofs.Common.{◌≡◌, ap, refl, rules}
 use Rattle.std.proofs.lemmas.Result.{err_from_is_err_and}
 use Rattle.fuse_wire.specs.declared.bodies.Body.TheVariants as bodies
+use Rattle.machine.specs.Command.{Create}
 use Rattle.fuse_writer.proofs.DoingLemmas.{after_number, does_no_memory, does_note, does_on, exit_early, exit_number, exit_path, goes_memory, goes_same, goes_then}
 use Rattle.fuse_writer.proofs.naming.create.Goals as goal
 
@@ -18,12 +19,12 @@ returns-in_default-clause-does g c =
 
 pub returns-in_err-number-clause-does : goal.returns-in_err-number-clause-does
 returns-in_err-number-clause-does g c =
-    exit_number _ _ _ _ (λ made. bodies.Created made.0 made.1) _ _ (err_from_is_err_and c.from_residual-in_err-number.result c.from_residual-in_err-number.ensures.1) c.ask_number.ensures.session _ _ _ _ _ c.ask_number.ensures.asked refl c.in_err-number.was (goes_then (goes_same (c.in_ok-directory.ensures _)) (goes_then (c.in_ok-path.ensures _) goes_memory))
+    exit_number _ _ _ _ (λ made. bodies.Created made.0 made.1) _ _ (err_from_is_err_and c.from_residual-in_err-number.result c.from_residual-in_err-number.ensures.1) c.ask_number.ensures.session _ _ _ _ _ c.ask_number.ensures.asked (ap (Create c.in_ok-path.path.items) c.words_for-attributes.ensures) c.in_err-number.was (goes_then (goes_same (c.in_ok-directory.ensures _)) (goes_then (c.in_ok-path.ensures _) goes_memory))
 
 pub returns-clause-does : goal.returns-clause-does
 returns-clause-does g c =
     let mid = c.ask_number.new.self in
     let same : c.in-Ok.again.items ≡ c.in_ok-path.path.items = search rules in
-    let h = rw (c.bear.ensures.session, c.ask_number.ensures.session, c.bear.ensures.asking, same) at c.open_new.ensures.does in
-    after_number _ mid.asking _ _ _ _ _ _ _ _ _ _ c.ask_number.ensures.asked refl c.in_ok-number.was (goes_then (goes_same (c.in_ok-directory.ensures _)) (goes_then (c.in_ok-path.ensures _) goes_memory))
+    let h = rw (c.bear.ensures.session, c.touched-touched.ensures, c.ask_number.ensures.session, c.bear.ensures.asking, same) at c.open_new.ensures.does in
+    after_number _ mid.asking _ _ _ _ _ _ _ _ _ _ c.ask_number.ensures.asked (ap (Create c.in_ok-path.path.items) c.words_for-attributes.ensures) c.in_ok-number.was (goes_then (goes_same (c.in_ok-directory.ensures _)) (goes_then (c.in_ok-path.ensures _) goes_memory))
     (does_note _ _ _ _ _ _ _ _ h)

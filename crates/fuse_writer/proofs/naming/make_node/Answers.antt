@@ -1,29 +1,30 @@
-use Rattle.std.proofs.Common.{◌∙◌, refl}
+use Rattle.std.proofs.Common.{◌∙◌, ap, refl, sym}
 use Rattle.std.proofs.lemmas.Result.{err_from_is_err_and}
 use Rattle.fuse_wire.specs.declared.bodies.Body.TheVariants as bodies
+use Rattle.machine.specs.Command.{Create}
 use Rattle.fuse_writer.proofs.DoingLemmas.{after_number, does_note, does_same, does_say, exit_early, exit_number, exit_path, goes_same, goes_then}
 use Rattle.fuse_writer.proofs.RequestLemmas.{node_made, node_of_kind}
 use Rattle.fuse_writer.proofs.naming.make_node.Goals as goal
 
 pub returns-in_err-directory-clause-does : goal.returns-in_err-directory-clause-does
 returns-in_err-directory-clause-does g c =
-    exit_early _ _ _ _ (bodies.Entry) _ _ (err_from_is_err_and c.from_residual.result c.from_residual.ensures.1) refl _ refl (node_made c.args.mounted.now.asking.volume.kept c.args.mounted.now.session c.args.parent c.args.name.now c.args.mode c.if-mode-ne-FILE_KIND.false ∙ c.in_err-directory.ensures _)
+    exit_early _ _ _ _ (bodies.Entry) _ _ (err_from_is_err_and c.from_residual.result c.from_residual.ensures.1) refl _ refl (node_made c.args.mounted.now.asking.volume.kept c.args.mounted.now.session c.args.parent c.args.name.now c.args.new (rw c.kind.ensures at (sym c.may_make.ensures ∙ c.if-not-may_make.false)) ∙ c.in_err-directory.ensures _)
 
 pub returns-in_err-path-clause-does : goal.returns-in_err-path-clause-does
 returns-in_err-path-clause-does g c =
-    exit_path _ _ _ _ (bodies.Entry) _ _ (err_from_is_err_and c.from_residual-in_err-path.result c.from_residual-in_err-path.ensures.1) refl _ refl (goes_then (goes_same (node_made c.args.mounted.now.asking.volume.kept c.args.mounted.now.session c.args.parent c.args.name.now c.args.mode c.if-mode-ne-FILE_KIND.false ∙ c.in_ok-directory.ensures _)) (c.in_err-path.ensures _))
+    exit_path _ _ _ _ (bodies.Entry) _ _ (err_from_is_err_and c.from_residual-in_err-path.result c.from_residual-in_err-path.ensures.1) refl _ refl (goes_then (goes_same (node_made c.args.mounted.now.asking.volume.kept c.args.mounted.now.session c.args.parent c.args.name.now c.args.new (rw c.kind.ensures at (sym c.may_make.ensures ∙ c.if-not-may_make.false)) ∙ c.in_ok-directory.ensures _)) (c.in_err-path.ensures _))
 
 pub returns-in_err-number-clause-does : goal.returns-in_err-number-clause-does
 returns-in_err-number-clause-does g c =
-    exit_number _ _ _ _ (bodies.Entry) _ _ (err_from_is_err_and c.from_residual-in_err-number.result c.from_residual-in_err-number.ensures.1) c.ask_number.ensures.session _ _ _ _ _ c.ask_number.ensures.asked refl c.in_err-number.was (goes_then (goes_same (node_made c.args.mounted.now.asking.volume.kept c.args.mounted.now.session c.args.parent c.args.name.now c.args.mode c.if-mode-ne-FILE_KIND.false ∙ c.in_ok-directory.ensures _)) (c.in_ok-path.ensures _))
+    exit_number _ _ _ _ (bodies.Entry) _ _ (err_from_is_err_and c.from_residual-in_err-number.result c.from_residual-in_err-number.ensures.1) c.ask_number.ensures.session _ _ _ _ _ c.ask_number.ensures.asked (ap (Create c.in_ok-path.path.items) c.words_for-attributes.ensures) c.in_err-number.was (goes_then (goes_same (node_made c.args.mounted.now.asking.volume.kept c.args.mounted.now.session c.args.parent c.args.name.now c.args.new (rw c.kind.ensures at (sym c.may_make.ensures ∙ c.if-not-may_make.false)) ∙ c.in_ok-directory.ensures _)) (c.in_ok-path.ensures _))
 
 pub returns-clause-does : goal.returns-clause-does
 returns-clause-does g c =
     let mid = c.ask_number.new.self in
-    let h = rw (c.bear.ensures.session, c.ask_number.ensures.session, c.bear.ensures.asking) at (c.tell_of.ensures.does bodies.Entry) in
-    after_number _ mid.asking _ _ _ _ _ _ _ _ _ _ c.ask_number.ensures.asked refl c.in_ok-number.was (goes_then (goes_same (node_made c.args.mounted.now.asking.volume.kept c.args.mounted.now.session c.args.parent c.args.name.now c.args.mode c.if-mode-ne-FILE_KIND.false ∙ c.in_ok-directory.ensures _)) (c.in_ok-path.ensures _))
+    let h = rw (c.bear.ensures.session, c.touched-touched.ensures, c.ask_number.ensures.session, c.bear.ensures.asking) at (c.tell_of.ensures.does bodies.Entry) in
+    after_number _ mid.asking _ _ _ _ _ _ _ _ _ _ c.ask_number.ensures.asked (ap (Create c.in_ok-path.path.items) c.words_for-attributes.ensures) c.in_ok-number.was (goes_then (goes_same (node_made c.args.mounted.now.asking.volume.kept c.args.mounted.now.session c.args.parent c.args.name.now c.args.new (rw c.kind.ensures at (sym c.may_make.ensures ∙ c.if-not-may_make.false)) ∙ c.in_ok-directory.ensures _)) (c.in_ok-path.ensures _))
     (does_note _ _ _ _ _ _ _ _ h)
 
-pub returns-then-mode-ne-FILE_KIND-clause-does : goal.returns-then-mode-ne-FILE_KIND-clause-does
-returns-then-mode-ne-FILE_KIND-clause-does g c =
-    does_same _ _ _ _ _ _ _ (node_of_kind c.args.mounted.now.asking.volume.kept c.args.mounted.now.session c.args.parent c.args.name.now c.args.mode c.if-mode-ne-FILE_KIND.true) (does_say _ _ _ _ _ _ refl refl refl)
+pub returns-then-not-may_make-clause-does : goal.returns-then-not-may_make-clause-does
+returns-then-not-may_make-clause-does g c =
+    does_same _ _ _ _ _ _ _ (node_of_kind c.args.mounted.now.asking.volume.kept c.args.mounted.now.session c.args.parent c.args.name.now c.args.new (rw c.kind.ensures at (sym c.may_make.ensures ∙ c.if-not-may_make.true))) (does_say _ _ _ _ _ _ refl refl refl)

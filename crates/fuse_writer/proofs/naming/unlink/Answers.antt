@@ -1,7 +1,11 @@
-use Rattle.std.proofs.Common.{◌∙◌, refl}
+use Rattle.std.proofs.Common.{ap, ◌∙◌, refl}
 use Rattle.std.proofs.lemmas.Result.{err_from_is_err_and}
 use Rattle.fuse_wire.specs.declared.bodies.Body.TheVariants as bodies
-use Rattle.fuse_writer.proofs.DoingLemmas.{after_done, does_note, does_say, exit_done, exit_early, exit_path, goes_same, goes_then}
+use Rattle.fuse_nodes.specs.Known.{named}
+use Rattle.fuse_nodes.specs.Table.{Lost}
+use Rattle.fuse_writer.specs.Ahead.{marks, touches}
+use Rattle.fuse_writer.specs.Turns.{Turn}
+use Rattle.fuse_writer.proofs.DoingLemmas.{after_done, does_note, does_say, exit_done, exit_early, exit_path, goes_same, goes_then, noted_both}
 use Rattle.fuse_writer.proofs.naming.unlink.Goals as goal
 
 pub returns-in_err-directory-clause-does : goal.returns-in_err-directory-clause-does
@@ -22,6 +26,9 @@ returns-in_err-ask_done-clause-does g c =
 
 pub returns-clause-does : goal.returns-clause-does
 returns-clause-does g c =
+    let kept = c.args.mounted.now.asking.volume.kept in
+    let s = c.args.mounted.now.session in
     let mid = c.ask_done.new.self in
     after_done _ mid.asking _ _ _ _ _ _ _ _ _ _ c.ask_done.ensures.asked refl c.in_ok-ask_done.was (goes_then (goes_same (c.in_ok-directory.ensures _ ∙ c.in_ok-number.ensures _)) (c.in_ok-path.ensures _))
-    (does_note _ _ _ _ _ _ _ _ (does_say _ _ _ _ _ _ refl refl (rw (c.remove_name.ensures, c.ask_done.ensures.session) refl)))
+    (does_note _ _ _ _ _ _ _ _ (does_say _ _ _ _ _ _ (ap (λ (t : Turn _). t.calls) (c.note-2.ensures.asking ∙ c.note.ensures.asking)) refl (rw (c.note-2.ensures.session, c.marked-marked.ensures, c.note.ensures.session, c.touched-touched.ensures, c.remove_name.ensures, c.ask_done.ensures.session)
+    (noted_both (Lost c.in_ok-number.number (named c.in_ok-directory.directory c.args.name.now)) (touches kept s c.in_ok-directory.directory) (marks kept s c.in_ok-number.number) s))))

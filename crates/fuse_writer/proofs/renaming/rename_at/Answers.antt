@@ -19,3 +19,6 @@ pub returns-clause-does : goal.returns-clause-does
 returns-clause-does g c =
     let is = c.is_directory_at-is_directory.ensures ∙ ap (λ (k : Kept). is_directory k c.in_ok-number.number) c.metadata.ensures in
     does_same _ _ _ _ _ _ _ (renames_by c.args.mounted.now.asking.volume.kept c.args.mounted.now.session c.args.spares c.in_ok-number.number c.args.from.directory c.args.from.name.now c.args.to.directory c.args.to.name.now _ c.in_ok-number.ensures c.in_ok-other.ensures) (rw is at c.rename_to.ensures.does)
+
+pub rename_to-requires : goal.rename_to-requires
+rename_to-requires g c = record { left = c.touched.ensures; reached = c.touched-2.ensures; own = c.marked.ensures }

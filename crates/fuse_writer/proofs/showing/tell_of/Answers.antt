@@ -20,6 +20,6 @@ pub returns-clause-does : goal.returns-clause-does
 returns-clause-does g c = λ body.
     let s = c.args.mounted.now.session in
     let i = c.args.number in
-    let shown = c.entry_of.ensures c.args.mounted.now.asking.volume.kept s i c.in-Ok.ensures.node c.shown_of-attributes.ensures in
+    let shown = c.entry_of.ensures c.args.mounted.now.asking.volume.kept s i c.in-Ok.ensures.node c.kept_for.ensures c.shown_of-attributes.ensures in
     does_same _ _ _ _ _ _ _ (tells_below s c.args.directory c.args.name.now i body (sym c.is_below_root.ensures ∙ c.if-not-is_below_root.false))
     (does_memory _ _ _ _ _ _ _ (does_note _ _ _ _ _ _ _ _ (does_say _ _ _ _ _ _ refl (ap (λ (e : Entry). told (body e)) shown) (ap (with_nodes s) c.in-Ok.ensures.told))))

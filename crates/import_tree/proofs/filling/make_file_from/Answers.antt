@@ -10,5 +10,5 @@ returns-in_ok-make_file-in-Held-clause-made g c = λ honest.
     let image = g.D.Device.image in
     let old = c.args.volume.now in
     let new = c.make_file.new.volume in
-    subst (λ bytes. (more : List Command) × MakesFile c.args.path.now bytes more × Adds (held old.device) (image old.device) old more (held new.device) (image new.device) new)
+    subst (λ bytes. (more : List Command) × MakesFile c.args.path.now c.args.attributes bytes more × Adds (held old.device) (image old.device) old more (held new.device) (image new.device) new)
     (c.as_slice.ensures.value ∙ sym c.all.ensures) (c.in_ok-make_file-in-Held.ensures.made honest)

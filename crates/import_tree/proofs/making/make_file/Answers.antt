@@ -8,5 +8,5 @@ returns-in-Ok-clause-made g c = λ honest.
     let old = c.args.volume.now in
     let mid = c.create.new.volume in
     let new = c.fill.new.volume in
-    creates (held old.device) (held mid.device) (held new.device) (image old.device) (image mid.device) (image new.device) old mid new c.args.path.now c.args.bytes.now
+    creates (held old.device) (held mid.device) (held new.device) (image old.device) (image mid.device) (image new.device) old mid new c.args.path.now c.args.attributes c.args.bytes.now
     (c.in_ok-create.ensures.made (c.fill.ensures.honest honest)) (c.in-Ok.ensures.filled honest)
